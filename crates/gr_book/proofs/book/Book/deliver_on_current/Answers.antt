@@ -48,7 +48,8 @@ enter_delivery-requires c =
     let event : Event = Deliver c.args.job c.args.built in
     let same : length mid ≡ length c.self.inside.journal.items = ap (λ (j : List Entry). length j) c.make_room.ensures.items in
     let due : length mid + length old.out.jobs ≤ most = omega (arith, same, c.self.invariant.4, c.make_room.ensures.grows) in
-    let place = place_now most (length mid + length old.out.jobs) old.out event c.asked_of-asked.result.is_out c.asked_of-asked.ensures.out c.in-Ok.ensures.ok in
+    let place = place_now most (length mid + length old.out.jobs) old.out event c.asked_of-asked.result.is_out c.asked_of-asked.ensures.out
+    c.in-Ok.ensures.ok in
     record {
       brings = subst (λ (m : Machine). BringsCurrent m.current.files c.args.job c.args.built) (sym c.self.view_is) c.requires;
       room = place_for_one most (length mid) old.out event due place;
