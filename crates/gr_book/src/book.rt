@@ -5,10 +5,14 @@ ghost use Rattle.gr_machine.specs.Machine.{content, opening};
 ghost use Rattle.gr_machine.specs.Kept.{StepKept};
 ghost use Rattle.gr_machine.specs.Run.{IsReplay};
 ghost use Rattle.gr_machine.specs.Step.{Step, done, entries_due};
-ghost use Rattle.gr_machine.specs.declared.event.Event.TheVariants.{Commit};
+ghost use Rattle.gr_machine.specs.declared.event.Event.TheVariants.{Commit, Deliver};
+ghost use Rattle.gr_content.specs.Current.{BringsCurrent};
+ghost use Rattle.gr_content.specs.Handed.{handed};
 
 use crate::changing::enter_on_current;
-use gr_content::{Asked, Content, Question, answer};
+use crate::handing::{asked_of, enter_delivery};
+use gr_compile::{Built, Job};
+use gr_content::{Asked, Content, Handed, Question, answer};
 use gr_graph::Graph;
 use gr_machine::{Entry, EntryKind};
 use gr_space::MadeChange;
@@ -136,6 +140,22 @@ impl Book {
         match make_room(&mut self.journal, &self.content, &asked) {
             Err(_) => Err(Refusal::Memory),
             Ok(()) => enter_on_current(&mut self.content, &mut self.journal, basis, change),
+        }
+    }
+
+    /// The step that a `HandingIn::Deliver` is, for a Job and what was built that are known to bring the inputs of the package in the
+    /// current files: their numbers and packages are compared with what is current, and no text.
+    pub fn deliver_on_current(&mut self, job: Job, built: Built) -> Handed
+        requires { BringsCurrent self.old.current.files job built }
+        ensures { Step self.old (Deliver job built) (handed result) self.new }
+    {
+        let asked = asked_of(EntryKind::Deliver, &job, &self.content);
+        if !self.has_room(asked.entries_needed()) {
+            return Handed::Back(Refusal::JournalFull, job, Some(built));
+        }
+        match make_room(&mut self.journal, &self.content, &asked) {
+            Err(_) => Handed::Back(Refusal::Memory, job, Some(built)),
+            Ok(()) => enter_delivery(&mut self.content, &mut self.journal, job, built),
         }
     }
 

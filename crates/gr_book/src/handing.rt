@@ -1,13 +1,16 @@
 //! The questions that bring a Job back.
-ghost use Rattle.std.specs.Prelude.{◌≡◌, ◌↔◌, IsTrue, None, Some};
+ghost use Rattle.std.specs.Prelude.{◌≡◌, ◌+◌, ◌≤◌, ◌↔◌, IsTrue, None, Some, length, vec_capacity};
 ghost use Rattle.gr_compile.specs.Jobs.{IsOut};
 ghost use Rattle.gr_machine.specs.Journal.{subject_after, told_of};
+ghost use Rattle.gr_machine.specs.Step.{AnswersOrLacks, Keeps};
+ghost use Rattle.gr_machine.specs.declared.event.Event.TheVariants.{Deliver};
+ghost use Rattle.gr_content.specs.Current.{BringsCurrent};
 ghost use Rattle.gr_content.specs.Handed.{handed};
 ghost use Rattle.gr_book.specs.Questions.{handing_event};
 
 use crate::told::refusal_told;
 use gr_compile::{Built, Job};
-use gr_content::{Answered, Asked, Content, Handed, Question};
+use gr_content::{Answered, Asked, Content, Handed, Question, enter};
 use gr_machine::{Entry, EntryKind, Told};
 use gr_text::Refusal;
 
@@ -19,7 +22,7 @@ pub enum HandingIn {
 }
 
 /// What is known of a Job that is handed in.
-fn asked_of(kind: EntryKind, job: &Job, content: &Content) -> Asked
+pub(crate) fn asked_of(kind: EntryKind, job: &Job, content: &Content) -> Asked
     ensures kind { result.kind ≡ kind }
     ensures basis { result.basis ≡ job.now.number }
     ensures out { IsTrue result.is_out ↔ IsOut content.now.out job.now }
@@ -52,6 +55,37 @@ fn answered(ticket: u64, outcome: Handed) -> Answered<Handed>
             Answered::new(Handed::Back(refusal, job, built), out, subject)
         }
     }
+}
+
+/// Answers a delivery that is known to bring the inputs of its package in the current files.
+fn deliver_on_current(content: &mut Content, job: Job, built: Built) -> Answered<Handed>
+    requires { BringsCurrent content.old.current.files job built }
+    ensures answer { AnswersOrLacks content.old (Deliver job built) (handed result.answer) content.new }
+    ensures out { result.out ≡ told_of (handed result.answer) }
+    ensures subject { result.subject ≡ subject_after (Some job.ticket) (handed result.answer) }
+    ensures made { result.made ≡ None }
+{
+    let ticket = job.ticket();
+    answered(ticket, content.deliver_on_current(job, built))
+}
+
+/// Answers such a delivery, and adds its entry to the journal, in which there is room for it.
+pub(crate) fn enter_delivery(
+    content: &mut Content,
+    journal: &mut Vec<Entry>,
+    job: Job,
+    built: Built,
+) -> Handed
+    requires brings { BringsCurrent content.old.current.files job built }
+    requires room { length journal.old.items + 1 ≤ vec_capacity journal.old }
+    ensures keeps { Keeps content.old journal.old.items (Deliver job built) (handed result) content.new journal.new.items }
+    ensures capacity { vec_capacity journal.new ≡ vec_capacity journal.old }
+{
+    let asked = asked_of(EntryKind::Deliver, &job, content);
+    let answered = deliver_on_current(content, job, built);
+    let (answer, kept) = enter(journal, asked, answered);
+    drop(kept);
+    answer
 }
 
 impl Question for HandingIn {

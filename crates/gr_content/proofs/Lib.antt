@@ -2,3 +2,4 @@
 pub mod Settled
 pub mod NoPackages
 pub mod Entered
+pub mod Comes

@@ -4,3 +4,4 @@ pub mod Needed
 pub mod Handed
 pub mod Following
 pub mod Entered
+pub mod Current

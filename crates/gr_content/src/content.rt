@@ -3,11 +3,13 @@ ghost use Rattle.std.specs.Prelude.{◌≡◌, ◌+◌, ◌≤◌, ◌↔◌, If
 ghost use Rattle.gr_verdict.specs.Found.{KnowsVerdicts};
 ghost use Rattle.gr_compile.specs.Jobs.{IsOut};
 ghost use Rattle.gr_machine.specs.Machine.{HasNumbers, changed, content, newest, opening};
+ghost use Rattle.gr_content.specs.Current.{BringsCurrent};
 ghost use Rattle.gr_content.specs.Handed.{handed};
+ghost use Rattle.gr_content.specs.Outcomes.{ComesTo};
 ghost use Rattle.gr_machine.specs.Step.{AnswersOrLacks, committed, done, looked, taken};
 ghost use Rattle.gr_machine.specs.declared.event.Event.TheVariants.{Commit, Deliver, GiveBack, Look, Redo, Take, Undo};
 
-use crate::deliveries::outcome_of;
+use crate::deliveries::{Outcome, outcome_of, outcome_on_current};
 use crate::following::state_after;
 use crate::handed::{Handed, take_in};
 use gr_compile::{Built, Job, Out, SharedPath};
@@ -257,11 +259,12 @@ impl Content {
         Ok(job)
     }
 
-    /// Takes in a delivery, if its Job is out.
-    fn enter(&mut self, job: Job, built: Built) -> Handed
+    /// Takes in what a delivery comes to, if its Job is out.
+    fn enter(&mut self, job: Job, built: Built, outcome: Result<Outcome, AllocError>) -> Handed
+        requires { IfOk outcome (ComesTo self.old.current job built) }
         ensures { AnswersOrLacks self.old (Deliver job built) (handed result) self.new }
     {
-        match outcome_of(self.alloc, &self.current, &job, &built) {
+        match outcome {
             Err(_) => Handed::Back(Refusal::Memory, job, Some(built)),
             Ok(outcome) => match self.out.take_back(job) {
                 Err(job) => Handed::Back(Refusal::NoJob, job, Some(built)),
@@ -281,7 +284,17 @@ impl Content {
         if !self.out.is_out(&job) {
             return Handed::Back(Refusal::NoJob, job, Some(built));
         }
-        self.enter(job, built)
+        let outcome = outcome_of(self.alloc, &self.current, &job, &built);
+        self.enter(job, built, outcome)
+    }
+
+    /// The same for a delivery that is known to bring the inputs of its package in the current files: no text is compared.
+    pub fn deliver_on_current(&mut self, job: Job, built: Built) -> Handed
+        requires { BringsCurrent self.old.current.files job built }
+        ensures { AnswersOrLacks self.old (Deliver job built) (handed result) self.new }
+    {
+        let outcome = outcome_on_current(self.alloc, &self.current, &job, &built);
+        self.enter(job, built, outcome)
     }
 
     /// It takes no memory, and always succeeds for a Job that is out.

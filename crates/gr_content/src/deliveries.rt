@@ -1,12 +1,14 @@
 //! What a delivery comes to.
-ghost use Rattle.std.specs.Prelude.{◌≡◌, ◌<◌, ◌↔◌, ℕ, Contains, IfOk, IsTrue, List, length};
+ghost use Rattle.std.specs.Prelude.{◌≡◌, ◌<◌, ◌↔◌, ℕ, Contains, IfOk, IsTrue, List, MatchOption, Some, length, slice_get};
 ghost use Rattle.std.specs.List.{All};
 ghost use Rattle.std.specs.List.Sorted.{IsStrictlyIncreasing};
 ghost use Rattle.gr_text.specs.Packages.{package_paths};
 ghost use Rattle.gr_graph.specs.Graphs.{HoldsPackages};
 ghost use Rattle.gr_graph.specs.Packages.{IsInClosure};
 ghost use Rattle.gr_compile.specs.Inputs.{AreInputs};
-ghost use Rattle.gr_content.specs.Outcomes.{ComesTo, FindsFresh};
+ghost use Rattle.gr_machine.specs.Deliveries.{IsFresh};
+ghost use Rattle.gr_content.specs.Current.{BringsCurrent};
+ghost use Rattle.gr_content.specs.Outcomes.{AreOfState, ComesTo, FindsFresh, FinishesIn};
 
 use gr_compile::{Built, Job};
 use gr_finished::{Finished, SharedKnown};
@@ -41,6 +43,20 @@ fn have_inputs(files: &Graph, closure: &[usize], job: &Job, built: &Built) -> bo
     are_inputs_of_both(files, closure, job.inputs(), built.inputs())
 }
 
+/// The number of a Job's package, where what was built is of this package too, and both are of the state by their numbers.
+fn number_of(state: &State, job: &Job, built: &Built) -> Option<usize>
+    ensures { MatchOption result (IsFresh state.now job.now built.now → ⊥) (AreOfState state.now job.now built.now) }
+{
+    let built_number = built.number();
+    if job.number() != state.number
+        || built_number != state.number
+        || !is_same_package(job, built)
+    {
+        return None;
+    }
+    state.files.number_of(job.package().path())
+}
+
 /// The number of the package, where what was built may enter the state.
 fn fresh_number(
     alloc: Global,
@@ -50,14 +66,7 @@ fn fresh_number(
 ) -> Result<Option<usize>, AllocError>
     ensures { IfOk result (FindsFresh state.now job.now built.now) }
 {
-    let built_number = built.number();
-    if job.number() != state.number
-        || built_number != state.number
-        || !is_same_package(job, built)
-    {
-        return Ok(None);
-    }
-    let Some(number) = state.files.number_of(job.package().path()) else {
+    let Some(number) = number_of(state, job, built) else {
         return Ok(None);
     };
     let closure = state.files.closure(alloc, number)?;
@@ -68,18 +77,17 @@ fn fresh_number(
     }
 }
 
-/// What a delivery to a state comes to.
-pub(crate) fn outcome_of(
+/// What a delivery comes to, where the package that was built has this number, and its inputs are those that it was built from.
+fn outcome_at(
     alloc: Global,
     state: &State,
-    job: &Job,
+    number: usize,
     built: &Built,
 ) -> Result<Outcome, AllocError>
-    ensures { IfOk result (ComesTo state.now job.now built.now) }
+    requires number { slice_get (package_paths state.now.files) number ≡ Some built.now.package }
+    requires inputs { AreInputs state.now.files built.now.package built.now.inputs }
+    ensures { IfOk result (FinishesIn state.now built.now) }
 {
-    let Some(number) = fresh_number(alloc, state, job, built)? else {
-        return Ok(Outcome::Late);
-    };
     if state.finished.get(number).is_some() {
         return Ok(Outcome::Known);
     }
@@ -95,4 +103,35 @@ pub(crate) fn outcome_of(
         built.known(),
     )?;
     Ok(Outcome::Entered(finished, known))
+}
+
+/// What a delivery to a state comes to: the texts of the package's closure are compared.
+pub(crate) fn outcome_of(
+    alloc: Global,
+    state: &State,
+    job: &Job,
+    built: &Built,
+) -> Result<Outcome, AllocError>
+    ensures { IfOk result (ComesTo state.now job.now built.now) }
+{
+    let Some(number) = fresh_number(alloc, state, job, built)? else {
+        return Ok(Outcome::Late);
+    };
+    outcome_at(alloc, state, number, built)
+}
+
+/// The same of a delivery that is known to bring the package's inputs: no text is compared.
+pub(crate) fn outcome_on_current(
+    alloc: Global,
+    state: &State,
+    job: &Job,
+    built: &Built,
+) -> Result<Outcome, AllocError>
+    requires { BringsCurrent state.now.files job.now built.now }
+    ensures { IfOk result (ComesTo state.now job.now built.now) }
+{
+    let Some(number) = number_of(state, job, built) else {
+        return Ok(Outcome::Late);
+    };
+    outcome_at(alloc, state, number, built)
 }

@@ -2,15 +2,19 @@
 ghost use Rattle.std.specs.Prelude.{◌≡◌, ℕ, IfOk, Result};
 ghost use Rattle.gr_text.specs.Workspace.{Workspace};
 ghost use Rattle.gr_text.specs.declared.refusal.Refusal.{Refusal as WhyRefused};
-ghost use Rattle.gr_machine.specs.Step.{done, looked};
+ghost use Rattle.gr_compile.specs.Builds.{IsBuiltOf};
+ghost use Rattle.gr_compile.specs.declared.job.JobRecord.{JobRecord};
+ghost use Rattle.gr_machine.specs.Step.{done, looked, taken};
 ghost use Rattle.gr_machine.specs.declared.event.Event.{Event};
-ghost use Rattle.gr_machine.specs.declared.event.Event.TheVariants.{Commit, Look};
+ghost use Rattle.gr_machine.specs.declared.event.Event.TheVariants.{Commit, Deliver, Look, Take};
 ghost use Rattle.gr_machine.specs.declared.event.Reply.{Reply};
 ghost use Rattle.gr_machine.specs.MayReply.{MayReply};
+ghost use Rattle.gr_content.specs.Handed.{handed};
 ghost use Rattle.gr_verdict.specs.Found.{KnowsVerdicts};
 
-use gr_book::{Book, Looking};
-use gr_content::Question;
+use gr_book::{Book, Looking, Taking};
+use gr_compile::{Built, Job};
+use gr_content::{Handed, Question};
 use gr_graph::Graph;
 use gr_machine::View;
 use gr_space::MadeChange;
@@ -30,6 +34,9 @@ pub trait Desk {
     /// What is known of the current files, once a look has shown these.
     ghost sees: { Self → Workspace → Type 0 };
 
+    /// What is known of a Job that was taken here, until the next event.
+    ghost brings: { Self → JobRecord → Type 0 };
+
     /// One event. The type of the answer tells which replies it may get.
     fn step<Q: Question>(&mut self, question: Q) -> Q::Answer
         ensures step { steps self.old (Q.event question) (Q.reply result) self.new }
@@ -45,6 +52,17 @@ pub trait Desk {
         requires { sees self.old change.base }
         ensures step { steps self.old (Commit basis change) (done result) self.new }
         ensures sees { IfOk result (λ _. sees self.new change.files) };
+
+    /// A Job of the first package that waits to be built. What is known of it then holds until the next event.
+    fn take(&mut self) -> Result<Job, Refusal>
+        ensures step { steps self.old Take (taken result) self.new }
+        ensures brings { IfOk result (λ job. brings self.new job) };
+
+    /// A Job that was taken here, with what was built of it.
+    fn deliver(&mut self, job: Job, built: Built) -> Handed
+        requires brings { brings self.old job }
+        requires built { IsBuiltOf job built }
+        ensures { steps self.old (Deliver job built) (handed result) self.new };
 
     /// Waits until every package of the current state is finished.
     fn wait(&mut self) -> Result<u64, Refusal>
@@ -94,6 +112,7 @@ impl Solo {
 
 impl Desk for Solo {
     ghost use Rattle.std.specs.Prelude.{◌≡◌};
+    ghost use Rattle.gr_compile.specs.Inputs.{AreInputs};
     ghost use Rattle.gr_machine.specs.Step.{Step};
     ghost use Rattle.gr_desk.specs.Wait.{RefusesWait};
 
@@ -103,6 +122,9 @@ impl Desk for Solo {
 
     // No one else changes the book, so these are the current files.
     ghost sees = { λ machine files. files ≡ machine.current.files };
+
+    // And the Job has the inputs of its package in these.
+    ghost brings = { λ machine job. AreInputs machine.current.files job.package job.inputs };
 
     fn step<Q: Question>(&mut self, question: Q) -> Q::Answer {
         self.book.step(question)
@@ -115,6 +137,15 @@ impl Desk for Solo {
     /// Nothing need be compared but the basis.
     fn commit(&mut self, basis: u64, change: MadeChange) -> Result<u64, Refusal> {
         self.book.commit_on_current(basis, change)
+    }
+
+    fn take(&mut self) -> Result<Job, Refusal> {
+        self.book.step(Taking)
+    }
+
+    /// No text need be compared.
+    fn deliver(&mut self, job: Job, built: Built) -> Handed {
+        self.book.deliver_on_current(job, built)
     }
 
     /// No one else builds.

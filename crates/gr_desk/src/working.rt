@@ -5,7 +5,7 @@ ghost use Rattle.gr_desk.specs.Work.{Builds, Delivers, GivesBack, Works};
 
 use crate::desk::Desk;
 use crate::response::Response;
-use gr_book::{HandingIn, Taking};
+use gr_book::HandingIn;
 use gr_compile::{Built, Job, build};
 use gr_content::Handed;
 use gr_expr::symbol::SharedPath;
@@ -38,10 +38,12 @@ fn made_of(alloc: Global, job: &Job) -> Result<(Built, SharedPath), AllocError>
 
 /// Delivers what was built. A Job that comes back is given back.
 fn deliver<D: Desk>(desk: &mut D, job: Job, built: Built, path: SharedPath) -> Response
-    requires { path ≡ job.package }
+    requires brings { D.brings desk.old job }
+    requires built { IsBuiltOf job built }
+    requires path { path ≡ job.package }
     ensures { Delivers D.steps desk.old job built result desk.new }
 {
-    match desk.step(HandingIn::Deliver(job, built)) {
+    match desk.deliver(job, built) {
         Handed::Done(number) => Response::Built {
             number,
             package: path,
@@ -57,6 +59,7 @@ fn deliver<D: Desk>(desk: &mut D, job: Job, built: Built, path: SharedPath) -> R
 
 /// Builds what a Job is of, and delivers it. For want of memory the Job is given back.
 fn build_in<D: Desk>(alloc: Global, desk: &mut D, job: Job) -> Response
+    requires { D.brings desk.old job }
     ensures { Builds D.steps desk.old job result desk.new }
 {
     match made_of(alloc, &job) {
@@ -74,7 +77,7 @@ fn build_in<D: Desk>(alloc: Global, desk: &mut D, job: Job) -> Response
 pub(crate) fn work<D: Desk>(alloc: Global, desk: &mut D) -> Response
     ensures { Works D.steps desk.old result desk.new }
 {
-    match desk.step(Taking) {
+    match desk.take() {
         Ok(job) => build_in(alloc, desk, job),
         Err(refusal) => Response::Refused { refusal },
     }

@@ -1,6 +1,7 @@
 //! A desk at a seat.
-use gr_book::{Changing, Looking};
-use gr_content::Question;
+use gr_book::{Changing, HandingIn, Looking, Taking};
+use gr_compile::{Built, Job};
+use gr_content::{Handed, Question};
 use gr_desk::Desk;
 use gr_graph::Graph;
 use gr_machine::View;
@@ -32,6 +33,8 @@ impl<'a, L: Opening, R: Wait> Desk for Held<'a, L, R> {
     // Others change the book too, so nothing is known of what is current.
     ghost sees = { λ _ _. ⊤ };
 
+    ghost brings = { λ _ _. ⊤ };
+
     fn step<Q: Question>(&mut self, question: Q) -> Q::Answer {
         self.shared.call(self.rt, self.seat, question).0
     }
@@ -43,6 +46,15 @@ impl<'a, L: Opening, R: Wait> Desk for Held<'a, L, R> {
     /// Under the lock its base is compared with the current files.
     fn commit(&mut self, basis: u64, change: MadeChange) -> Result<u64, Refusal> {
         self.step(Changing::Commit(basis, change))
+    }
+
+    fn take(&mut self) -> Result<Job, Refusal> {
+        self.step(Taking)
+    }
+
+    /// Under the lock the inputs of the Job, and of what was built, are compared with the current files.
+    fn deliver(&mut self, job: Job, built: Built) -> Handed {
+        self.step(HandingIn::Deliver(job, built))
     }
 
     fn wait(&mut self) -> Result<u64, Refusal> {

@@ -1,66 +1,21 @@
--- The package is finished already, or is finished with the unit that was built.
-use Rattle.std.proofs.Common.{◌≡◌, ℕ, ◌<◌, length, Some, slice_get, sym, ap, subst, ◌∙◌}
-use Rattle.std.proofs.Math.ListN.{set}
-use Rattle.std.proofs.lemmas.List.{length-set}
-use Rattle.std.proofs.lemmas.Option.{slice_get_within}
-use Rattle.gr_text.specs.Packages.{package_paths}
-use Rattle.gr_text.specs.Workspace.{Workspace}
-use Rattle.gr_verdict.specs.Found.{KnowsVerdicts}
-use Rattle.gr_compile.specs.declared.unit.Unit.{Unit as PackageUnit}
-use Rattle.gr_finished.specs.Finished.{Table}
-use Rattle.gr_machine.specs.State.{State}
-use Rattle.gr_inputs.specs.Knowing.{HasClosuresOf}
+-- What is fresh comes to what its number tells.
+use Rattle.std.proofs.Common.{List, ℕ, Some, sym, ap, subst, ◌∙◌}
+use Rattle.gr_compile.specs.Inputs.{AreInputs}
 use Rattle.gr_content.specs.Outcomes.{FindsFresh}
-use Rattle.gr_inputs.proofs.LearnedVerdicts.{inputs_closures}
-use Rattle.gr_machine.proofs.Fresh.{is_there, not_there, no_unit}
+use Rattle.gr_content.proofs.Comes.{if_comes}
 use Rattle.gr_content.proofs.deliveries.outcome_of.Goals as goal
 
-pub returns-then-is_some : goal.returns-then-is_some
-returns-then-is_some c =
-    let n = c.in-Some.number in
-    let told = subst (FindsFresh c.args.state.now c.args.job.now c.args.built.now) c.in-Some.is c.in_ok-number.ensures in
-    let found = is_there c.state.inside.finished n c.get.result (sym c.if-is_some.true ∙ c.is_some.ensures) c.get.ensures in
-    (told.0, (found.0, (n, told.1, subst (λ (x : State). slice_get x.finished n ≡ Some (Some found.0)) c.state.view_is found.1)))
-
-pub with_unit-requires : goal.with_unit-requires
-with_unit-requires c =
-    let n = c.in-Some.number in
-    let told = subst (FindsFresh c.args.state.now c.args.job.now c.args.built.now) c.in-Some.is c.in_ok-number.ensures in
-    let at : slice_get (package_paths c.state.inside.files) n ≡ Some c.args.job.now.package =
-    subst (λ (x : State). slice_get (package_paths x.files) n ≡ Some c.args.job.now.package) (sym c.state.view_is) told.1 in
-    let size : length c.state.inside.finished ≡ length (package_paths c.state.inside.files) = c.state.invariant.0 in
-    subst (λ (k : ℕ). n < k) (sym size) (slice_get_within (package_paths c.state.inside.files) n c.args.job.now.package at)
-
-pub learned-requires : goal.learned-requires
-learned-requires c =
-    let told = subst (FindsFresh c.args.state.now c.args.job.now c.args.built.now) c.in-Some.is c.in_ok-number.ensures in
-    let inputs : c.inputs.result.now ≡ c.args.built.now.inputs = c.inputs.ensures in
-    let closures : HasClosuresOf c.args.state.now.files c.args.built.now.inputs =
-    inputs_closures c.args.state.now.files c.args.job.now.package c.args.built.now.inputs told.0.built_inputs in
+pub outcome_at-requires : goal.outcome_at-requires
+outcome_at-requires c =
+    let state = c.args.state.now in
+    let built = c.args.built.now in
+    let told = subst (FindsFresh state c.args.job.now built) c.in-Some.is c.in_ok-number.ensures in
     record {
-      own = c.state.invariant.1;
-      others = subst (λ (x : Workspace). KnowsVerdicts x c.known.result.now) (sym inputs) c.known.ensures;
-      closures = subst (λ (x : State). HasClosuresOf x.files c.inputs.result.now) (sym c.state.view_is)
-          (subst (HasClosuresOf c.args.state.now.files) (sym inputs) closures);
+      number = told.1 ∙ ap Some (sym told.0.same_package);
+      inputs = subst (λ (p : List ℕ). AreInputs state.files p built.inputs) (sym told.0.same_package) told.0.built_inputs;
     }
 
 pub returns : goal.returns
 returns c =
-    let n = c.in-Some.number in
-    let state = c.args.state.now in
-    let p = c.args.job.now.package in
-    let told = subst (FindsFresh state c.args.job.now c.args.built.now) c.in-Some.is c.in_ok-number.ensures in
-    let none : (unit : PackageUnit) → slice_get state.finished n ≡ Some (Some unit) → ⊥ =
-    subst (λ (x : State). (unit : PackageUnit) → slice_get x.finished n ≡ Some (Some unit) → ⊥) c.state.view_is
-    (not_there c.state.inside.finished n c.get.result (sym c.if-is_some.false ∙ c.is_some.ensures) c.get.ensures) in
-    let size : length c.state.inside.finished ≡ length (package_paths c.state.inside.files) = c.state.invariant.0 in
-    let is : c.in_ok-finished.finished ≡ set c.state.inside.finished n (Some c.in_ok-unit.unit) = c.in_ok-finished.ensures in
-    let gains : c.in_ok-finished.finished ≡ set state.finished n (Some c.args.built.now.unit) =
-    is ∙ ap (λ (x : State). set x.finished n (Some c.in_ok-unit.unit)) c.state.view_is ∙
-    ap (λ (u : PackageUnit). set state.finished n (Some u)) (c.in_ok-unit.ensures.cases ∙ c.unit-made.ensures) in
-    let sized : length c.in_ok-finished.finished ≡ length (package_paths state.files) =
-    ap (λ (t : Table). length t) is ∙ length-set c.state.inside.finished n (Some c.in_ok-unit.unit) ∙ size ∙
-    ap (λ (x : State). length (package_paths x.files)) c.state.view_is in
-    let known : KnowsVerdicts state.files c.in_ok-known.known =
-    subst (λ (x : State). KnowsVerdicts x.files c.in_ok-known.known) c.state.view_is c.in_ok-known.ensures in
-    (told.0, no_unit state p n told.1 none, (n, told.1, gains), sized, c.is_right.ensures, known)
+    let told = subst (FindsFresh c.args.state.now c.args.job.now c.args.built.now) c.in-Some.is c.in_ok-number.ensures in
+    if_comes c.args.state.now c.args.job.now c.args.built.now told.0 c.outcome_at.result c.outcome_at.ensures

@@ -1,15 +1,27 @@
 -- The Job is out no more, and the current state takes in what the delivery came to.
-use Rattle.std.proofs.Common.{subst}
+use Rattle.std.proofs.Common.{sym, subst}
+use Rattle.std.proofs.lemmas.Result.{IfOk-at_ok}
 use Rattle.gr_machine.specs.Machine.{Content}
 use Rattle.gr_content.specs.Handed.{handed}
+use Rattle.gr_content.specs.Outcomes.{ComesTo}
 use Rattle.gr_machine.specs.Step.{AnswersOrLacks}
 use Rattle.gr_machine.specs.declared.event.Event.TheVariants.{Deliver}
+use Rattle.gr_content.proofs.Comes.{has_table}
 use Rattle.gr_content.proofs.Settled.{settled}
 use Rattle.gr_content.proofs.content.Content.enter.Goals as goal
+
+pub take_in-requires : goal.take_in-requires
+take_in-requires c =
+    let job = c.args.job in
+    let built = c.args.built in
+    let comes = IfOk-at_ok (ComesTo c.args.self.now.current job built) c.in-Ok.is c.requires in
+    has_table c.self.inside.current job built c.in-Ok.outcome
+    (subst (λ (x : Content). ComesTo x.current job built c.in-Ok.outcome) (sym c.self.view_is) comes)
 
 pub returns-in-Ok-take_back : goal.returns-in-Ok-take_back
 returns-in-Ok-take_back c =
     let job = c.args.job in
+    let built = c.args.built in
     let old : Content = record {
       limits = c.self.inside.limits;
       earlier = c.self.inside.earlier.items;
@@ -21,7 +33,8 @@ returns-in-Ok-take_back c =
       out = c.self.inside.out;
     } in
     let new : Content = record old { current = c.take_in.new.current; out = c.take_back.new.self } in
-    subst (λ (x : Content). AnswersOrLacks x (Deliver job c.args.built) (handed c.take_in.result) new) c.self.view_is
-    (settled old job c.args.built c.take_back.new.self c.in-Ok-take_back.ensures.1 c.in-Ok.outcome (handed c.take_in.result) c.take_in.new.current
-    c.in-Ok.ensures
+    let comes = IfOk-at_ok (ComesTo c.args.self.now.current job built) c.in-Ok.is c.requires in
+    let here = subst (λ (x : Content). ComesTo x.current job built c.in-Ok.outcome) (sym c.self.view_is) comes in
+    subst (λ (x : Content). AnswersOrLacks x (Deliver job built) (handed c.take_in.result) new) c.self.view_is
+    (settled old job built c.take_back.new.self c.in-Ok-take_back.ensures.1 c.in-Ok.outcome (handed c.take_in.result) c.take_in.new.current here
     c.take_in.ensures)
