@@ -1,6 +1,6 @@
 -- Importers that are chained.
-use Rattle.std.proofs.Common.{◌≡◌, ℕ, ◌+◌, ◌-◌, ◌<◌, ◌≤◌, List, [], ◌∷◌, ◌++◌, Some, slice_get, length, get_or, take, reverse, refl, sym, ap, subst, ◌∙◌}
-use Rattle.std.proofs.Common.{inl, inr, ⊎_elim, append_assoc, arith}
+use Rattle.std.proofs.Common.{◌≡◌, ℕ, ◌+◌, ◌-◌, ◌<◌, ◌≤◌, List, [], ◌∷◌, ◌++◌, Some, slice_get, length, get_or, reverse, refl, sym, ap, subst, ◌∙◌}
+use Rattle.std.proofs.Common.{⊎_elim, append_assoc, arith}
 use Rattle.std.proofs.Math.ListN.{set, replicate}
 use Rattle.std.proofs.lemmas.Bool.{cases_eq}
 use Rattle.std.proofs.lemmas.List.{
@@ -94,8 +94,10 @@ chained_more old new lists number importer within are noted latest =
       each = λ q lt.
           rw (noted, latest) (⊎_elim
           (λ (e : q ≡ number).
-          rw e (rw (get_or-set_same old.latest.items number (length old.noted.items + 1) 0 within,
-          get_or-set_same lists number longer [] (omega arith))
+          rw e (rw (
+            get_or-set_same old.latest.items number (length old.noted.items + 1) 0 within,
+            get_or-set_same lists number longer [] (omega arith),
+          )
           (chain_more old.noted.items m (imports_of lists number) (are.each number (omega arith)))))
           (λ (ne : q ≡ number → ⊥).
           rw (get_or-set_other old.latest.items number q (length old.noted.items + 1) 0 ne, get_or-set_other lists number q longer [] ne)

@@ -4,7 +4,7 @@ use Rattle.std.proofs.Common.{arith}
 use Rattle.std.specs.List.{slice_range}
 use Rattle.std.proofs.Math.Seq.{drop-append_seam}
 use Rattle.std.proofs.lemmas.Bool.{cases_lt}
-use Rattle.std.proofs.lemmas.List.{drop-append-le, get_or_append_left, get_or_push, length-drop, length-take-le, length_push, take-append-drop}
+use Rattle.std.proofs.lemmas.List.{drop-append-le, length-drop, length-take-le, take-append-drop}
 use Rattle.std.proofs.lemmas.List.{take-append-le, take_all}
 use Rattle.gr_graph.specs.Imports.{Links, imports_of}
 use Rattle.gr_graph.specs.LinkRows.{rows_of, last_bound, AreBounds}
@@ -76,34 +76,3 @@ pub row_added : (bs ns row : List ℕ) → AreBounds bs ns →
 row_added bs ns row are =
     let some = are.some in
     rows_push bs ns row (last_bound bs) are.some refl are.within (λ i lt. are.rising i (length bs - 1) (omega arith) (omega arith))
-
--- one bound more
-pub bounds_push : (bs ns ms : List ℕ) (end : ℕ) → AreBounds bs ns → last_bound bs ≤ end → end ≤ length ms → AreBounds (bs ++ end ∷ []) ms
-bounds_push bs ns ms end are ends within =
-    let some = are.some in
-    let size = length_push bs end in
-    let last : get_or (bs ++ end ∷ []) (length bs) 0 ≡ end = get_or_push bs end 0 (length bs) (omega arith) in
-    record {
-      some = omega arith;
-      rising = λ i j le lt. elim (cases_lt j (length bs)) [
-        | inl before ↦ (let low = get_or_append_left bs (end ∷ []) 0 i (omega arith) in
-            let high = get_or_append_left bs (end ∷ []) 0 j before in
-            let up = are.rising i j le before in
-            omega arith)
-        | inr there ↦ (let at : length bs ≡ j = omega arith in
-            let high : get_or (bs ++ end ∷ []) j 0 ≡ end = subst (λ k. get_or (bs ++ end ∷ []) k 0 ≡ end) at last in
-            elim (cases_lt i (length bs)) [
-              | inl before ↦ (let low = get_or_append_left bs (end ∷ []) 0 i before in
-                  let up = are.rising i (length bs - 1) (omega arith) (omega arith) in
-                  omega arith)
-              | inr here ↦ (let same : i ≡ j = omega arith in let equal = ap (λ k. get_or (bs ++ end ∷ []) k 0) same in omega arith)
-            ])
-      ];
-      within = (let e : length (bs ++ end ∷ []) - 1 ≡ length bs = omega arith in
-          let at = ap (λ k. get_or (bs ++ end ∷ []) k 0) e in
-          omega arith);
-    }
-
--- bounds stay bounds of a list that is long enough
-pub bounds_kept : (bs ns ms : List ℕ) → AreBounds bs ns → last_bound bs ≤ length ms → AreBounds bs ms
-bounds_kept bs ns ms are within = record { some = are.some; rising = are.rising; within = within }

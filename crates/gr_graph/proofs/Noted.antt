@@ -3,7 +3,7 @@ use Rattle.std.proofs.Common.{◌≡◌, ℕ, ◌+◌, ◌<◌, ◌≤◌, List,
 use Rattle.std.proofs.Math.ListN.{set}
 use Rattle.std.specs.List.{Contains}
 use Rattle.std.proofs.lemmas.Bool.{cases_lt, cases_eq}
-use Rattle.std.proofs.lemmas.List.{get_or-set_same, get_or-set_other, length-set, take_more, get_or_append_left, get_or_push, get_or_past, length_push}
+use Rattle.std.proofs.lemmas.List.{get_or-set_same, get_or-set_other, length-set, take_more}
 use Rattle.std.proofs.lemmas.List.Elements.{Contains-push, Contains-push_cases, Contains-append_left}
 use Rattle.std.specs.List.Sorted.{IsStrictlyIncreasing}
 use Rattle.gr_graph.specs.Imports.{Links, Imports, imports_of, NotesRow, HoldImporters}
@@ -81,14 +81,3 @@ HoldImporters-more g old new n s r =
       );
       rising = λ ups. r.rising (ups n) (λ q p c. ((s.each q p).0 c).0) (s.rising ups);
     }
-
--- one more empty list
-pub empty_push : (xs : Links) → ((q : ℕ) → imports_of xs q ≡ []) → (q : ℕ) → imports_of (xs ++ [] ∷ []) q ≡ []
-empty_push xs h q =
-    ⊎_elim
-    (λ (b : q < length xs). get_or_append_left xs ([] ∷ []) [] q b ∙ h q)
-    (λ (b : length xs ≤ q). ⊎_elim
-    (λ (c : length xs < q). get_or_past (xs ++ [] ∷ []) q [] (omega (arith, length_push xs [])))
-    (λ (c : q ≤ length xs). get_or_push xs [] [] q (omega arith))
-    (cases_lt (length xs) q))
-    (cases_lt q (length xs))

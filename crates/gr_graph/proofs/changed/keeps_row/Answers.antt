@@ -26,6 +26,6 @@ returns c = λ t n at.
     let same : n ≡ c.in-Some.number = one_number paths c.requires.sorted n c.in-Some.number c.path.result.now (at ∙ path) c.in-Some.ensures in
     let trees = c.args.one.now.trees.items in
     let row : c.fill_row.new.row.items ≡ imports_of c.args.links.now c.in-Some.number = sym c.as_slice.ensures.value ∙
-        (bytes_decides _ _).0 (sym c.eq.ensures ∙ t) ∙
+    (bytes_decides _ _).0 (sym c.eq.ensures ∙ t) ∙
     c.imports-earlier.ensures in
     subst (λ (k : ℕ). IsRow paths trees (imports_of c.args.links.now k)) (sym same) (subst (IsRow paths trees) row c.in_ok-fill_row.ensures)

@@ -26,7 +26,7 @@ returns c =
     let g = c.args.imports.now in
     let first = c.in_ok-marks.marks.items in
     let none = none_in first (length g) (subst (λ (n : ℕ). c.in_ok-marks.marks.items ≡ replicate n false) c.len.ensures
-        (c.in_ok-marks.ensures.items_if_clones_equal (search rules))) in
+    (c.in_ok-marks.ensures.items_if_clones_equal (search rules))) in
     let marks = c.reach.new.marks.items in
     IfOk-weaker c.marked.result (HoldsMarked c.deref.result.now (length c.deref.result.now)) (IsClosed g c.args.number)
     (λ numbers held. closed_is g c.args.number marks numbers (reached_alone g c.args.number first marks none c.in_ok-reach.ensures.reached)

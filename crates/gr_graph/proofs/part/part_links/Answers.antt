@@ -39,9 +39,9 @@ loop-number-preserved c =
     let row : IsAmongPlaces (imports_of g (get_or ns k 0)) places (length ns) c.among_places.new.row.items =
     subst (λ (l : List ℕ). IsAmongPlaces l places (length ns) c.among_places.new.row.items) c.imports.ensures
     (subst (λ (l : List ℕ). IsAmongPlaces c.imports.result.now l (length ns) c.among_places.new.row.items) c.deref.ensures.value
-        c.in_ok-among_places.ensures) in
+    c.in_ok-among_places.ensures) in
     rw (c.in_ok-add_row.ensures, c.deref-in-loop-number.ensures.value)
-        (part_more g ns places c.requires.linked c.requires.rising (λ i lt. c.requires.numbers i 0 lt) are k
+    (part_more g ns places c.requires.linked c.requires.rising (λ i lt. c.requires.numbers i 0 lt) are k
     c.loop-number.part c.among_places.new.row.items (omega arith) row c.loop-number.invariant)
 
 pub returns : goal.returns

@@ -17,5 +17,5 @@ loop-package-preserved c =
     let R : ParsedPackage → List ℕ → Type 0 = λ p row. IsRow (paths_of all) p.trees.items row in
     let here : R item row = c.in_ok-fill_row.ensures in
     rw (c.in_ok-add_row.ensures, c.deref.ensures.value)
-        (subst (λ ps. AllZip R ps (c.loop-package.rows ++ row ∷ [])) (sym (take_more all k item c.loop-package-test.true))
+    (subst (λ ps. AllZip R ps (c.loop-package.rows ++ row ∷ [])) (sym (take_more all k item c.loop-package-test.true))
     (zip_push R (take k all) c.loop-package.rows (get_or all k item) row c.loop-package.invariant (subst (λ p. R p row) c.package-item.is here)))

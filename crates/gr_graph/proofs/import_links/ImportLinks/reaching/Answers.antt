@@ -24,4 +24,4 @@ returns c =
     (λ found. AreReaching c.args.self.now marks found.items)
     (λ found are. subst (λ (h : Links). AreReaching h marks found.items) c.self.view_is
     (are_reaching g noted c.self.invariant.linked c.self.invariant.importers marks found.items (c.requires ∙ sym (ap length c.self.view_is)) are))
-        c.reached_by.ensures
+    c.reached_by.ensures
