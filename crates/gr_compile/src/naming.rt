@@ -1,14 +1,16 @@
 //! What the declarations of the packages in a closure are called.
-ghost use Rattle.std.specs.Prelude.{◌<◌, length, map, IfOk};
+ghost use Rattle.std.specs.Prelude.{◌≡◌, ◌<◌, ℕ, List, None, length, map, IfOk};
 ghost use Rattle.gr_text.specs.Packages.{package_paths};
 ghost use Rattle.gr_tree.specs.SourceFile.{source_of};
 ghost use Rattle.gr_graph.specs.Graphs.{OfPackage};
 ghost use Rattle.gr_object.specs.NamesView.{AreNamesOf};
+ghost use Rattle.gr_object.specs.PackagesView.{package_in};
 ghost use Rattle.gr_compile.specs.Compiling.{HaveNamesBelow};
 
 use gr_expr::symbol::SharedPath;
 use gr_graph::{Graph, ParsedPackage};
 use gr_object::packages::{CalledNames, CalledPackages};
+use gr_path_table::PathTable;
 use std::alloc::{AllocError, Global};
 
 /// Whether a package imports another directly.
@@ -44,6 +46,14 @@ fn names_of(alloc: Global, files: &ParsedPackage, near: bool) -> Result<CalledNa
     }
 }
 
+/// No names, with room for those of so many packages.
+fn no_names<'a>(alloc: Global, count: usize) -> Result<CalledPackages<'a>, AllocError>
+    ensures { IfOk result (λ packages. (path : List ℕ) → package_in packages path ≡ None) }
+{
+    let names = PathTable::with_capacity(alloc, count)?;
+    Ok(CalledPackages { names })
+}
+
 /// What the declarations of a package are called, and of all that it imports, directly or indirectly.
 pub(crate) fn names_below<'a>(
     alloc: Global,
@@ -53,8 +63,8 @@ pub(crate) fn names_below<'a>(
     requires { number < length (package_paths graph.now) }
     ensures { IfOk result (λ packages. OfPackage graph.now number (λ p. HaveNamesBelow graph.now p packages)) }
 {
-    let mut packages = CalledPackages::new(alloc);
     let closure = graph.closure(alloc, number)?;
+    let mut packages = no_names(alloc, closure.as_slice().len())?;
     for other in closure.as_slice() {
         let files = graph.package(*other);
         let path = SharedPath::new(alloc, &files.path)?;

@@ -124,7 +124,7 @@ pub fn learned(
         graph: inputs,
         known: others,
     };
-    let mut known = Known::new(alloc);
+    let mut known = Known::with_capacity(alloc, files.len())?;
     let mut place = 0;
     for number in 0..files.len() {
         let verdict = learned_verdict(files, number, own.get(), brought, place)?;

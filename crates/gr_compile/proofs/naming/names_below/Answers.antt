@@ -15,7 +15,7 @@ use Rattle.gr_compile.proofs.Named.{AreNamed, IsCalled, none_named, named_next, 
 use Rattle.gr_compile.proofs.naming.names_below.Goals as goal
 
 pub loop-other-init : goal.loop-other-init
-loop-other-init c = none_named c.args.graph.now _ c.new-packages.result refl c.new-packages.ensures
+loop-other-init c = none_named c.args.graph.now _ c.in_ok-packages.packages refl c.in_ok-packages.ensures
 
 pub package-files-requires : goal.package-files-requires
 package-files-requires c =

@@ -6,7 +6,7 @@ use Rattle.gr_verdict.proofs.Telling.{nothing_told, told_next, known_still}
 use Rattle.gr_inputs.proofs.learning.learned.Goals as goal
 
 pub loop-number-init : goal.loop-number-init
-loop-number-init c = nothing_told c.new-known.result c.new-known.ensures.nothing c.args.files.now
+loop-number-init c = nothing_told c.in_ok-known.known c.in_ok-known.ensures.nothing c.args.files.now
 
 pub loop-number-preserved : goal.loop-number-preserved
 loop-number-preserved c =
