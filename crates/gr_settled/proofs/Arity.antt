@@ -19,11 +19,11 @@ use Rattle.gr_verdict.proofs.OnePackage.{one_checked}
 use Rattle.gr_object.specs.Lines.{GlobalName, FunctionName, Plain, Method, Initializer}
 use Rattle.gr_object.specs.Names.{spelled_in, is_named_init, is_initializer, receiver_called, function_named, function_behind, initializers_with}
 use Rattle.gr_object.specs.Names.{functions_behind, function_names}
-use Rattle.gr_balance.specs.Stack.{Arity}
+use Rattle.gr_settled.specs.Stack.{Arity}
 use Rattle.gr_bound.specs.Uses.{IsPackage}
-use Rattle.gr_worlds.proofs.Worlds.{own_package}
+use Rattle.gr_settled.proofs.PackageWorlds.{own_package}
 use Rattle.gr_settled.specs.Arities.{written_arity, AreArities}
-use Rattle.gr_settled.proofs.Functions.{IsInFile, in_file_of, called_as, behind_at}
+use Rattle.gr_settled.proofs.FunctionsSettled.{IsInFile, in_file_of, called_as, behind_at}
 use Rattle.gr_settled.proofs.Names.{plain_apart, methods_apart}
 
 -- names are the same or not

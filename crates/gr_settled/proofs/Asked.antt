@@ -19,17 +19,17 @@ use Rattle.gr_scope.specs.FileSites.{receiver_sites, param_sites, result_sites, 
 use Rattle.gr_expr.specs.Types.{PlainType, Meaning}
 use Rattle.gr_expr.specs.World.{World, Locals}
 use Rattle.gr_statement_rules.specs.Simple.{LocalIsTyped}
-use Rattle.gr_balance.specs.Asked.{Question, OfInteger, OfText, OfName, OfExport, OfMember, OfDeclared, OfLeft, Asks, for_integer, for_text, for_name}
-use Rattle.gr_balance.specs.Asked.{in_composite, in_paren, in_prefix, in_address, in_chain, in_links, in_binary, in_operands, LinksAsk, for_member}
-use Rattle.gr_balance.specs.Asked.{for_export, behind_selector, in_index, behind_index, in_arguments, behind_call, OperandsAsk, in_operand}
-use Rattle.gr_balance.specs.Asked.{in_later_operand, ArgumentsAsk, in_argument, in_later_argument, LiteralAsks, in_elements, ElementsAsk, for_key}
-use Rattle.gr_balance.specs.Asked.{in_element, in_later_element}
-use Rattle.gr_balance.specs.StatementsAsked.{AskInTurn, this_item, later_item, AskInGroup, asks_alone, asks_together, AskIfPresent, asks_present, AnyAsks}
-use Rattle.gr_balance.specs.StatementsAsked.{this_one, a_later_one, IsLeft, this_left, a_later_left, SimpleAsks, in_call, in_step, in_updated, in_update}
-use Rattle.gr_balance.specs.StatementsAsked.{in_assigned, in_assignment, for_left, in_definition, LocalAsks, for_declared, in_values, InitAsks, in_init}
-use Rattle.gr_balance.specs.StatementsAsked.{HeaderAsks, in_while, in_first, in_test, in_post, StatementAsks, in_declaration, in_simple, in_inner, in_choice}
-use Rattle.gr_balance.specs.StatementsAsked.{in_header, in_loop, in_return, BlockAsks, in_block, StatementsAsk, this_statement, later_statement, IfAsks}
-use Rattle.gr_balance.specs.StatementsAsked.{before_condition, in_condition, in_then, in_otherwise, ElseAsks, in_else_if, in_else, FunctionAsks, in_body}
+use Rattle.gr_settled.specs.Asked.{Question, OfInteger, OfText, OfName, OfExport, OfMember, OfDeclared, OfLeft, Asks, for_integer, for_text, for_name}
+use Rattle.gr_settled.specs.Asked.{in_composite, in_paren, in_prefix, in_address, in_chain, in_links, in_binary, in_operands, LinksAsk, for_member}
+use Rattle.gr_settled.specs.Asked.{for_export, behind_selector, in_index, behind_index, in_arguments, behind_call, OperandsAsk, in_operand}
+use Rattle.gr_settled.specs.Asked.{in_later_operand, ArgumentsAsk, in_argument, in_later_argument, LiteralAsks, in_elements, ElementsAsk, for_key}
+use Rattle.gr_settled.specs.Asked.{in_element, in_later_element}
+use Rattle.gr_settled.specs.StatementsAsked.{AskInTurn, this_item, later_item, AskInGroup, asks_alone, asks_together, AskIfPresent, asks_present, AnyAsks}
+use Rattle.gr_settled.specs.StatementsAsked.{this_one, a_later_one, IsLeft, this_left, a_later_left, SimpleAsks, in_call, in_step, in_updated, in_update}
+use Rattle.gr_settled.specs.StatementsAsked.{in_assigned, in_assignment, for_left, in_definition, LocalAsks, for_declared, in_values, InitAsks, in_init}
+use Rattle.gr_settled.specs.StatementsAsked.{HeaderAsks, in_while, in_first, in_test, in_post, StatementAsks, in_declaration, in_simple, in_inner, in_choice}
+use Rattle.gr_settled.specs.StatementsAsked.{in_header, in_loop, in_return, BlockAsks, in_block, StatementsAsk, this_statement, later_statement, IfAsks}
+use Rattle.gr_settled.specs.StatementsAsked.{before_condition, in_condition, in_then, in_otherwise, ElseAsks, in_else_if, in_else, FunctionAsks, in_body}
 use Rattle.gr_settled.proofs.Reaching.{Lies}
 
 abbrev pub StandsIn : (Site → Type 0) → List Site → Type 0

@@ -10,12 +10,12 @@ use Rattle.gr_verdict.proofs.Alike.{package_as}
 use Rattle.gr_verdict.proofs.OneVerdict.{right_alike, right_below}
 use Rattle.gr_object.specs.Lines.{FunctionName}
 use Rattle.gr_object.specs.Objects.{Function, FunctionOf}
-use Rattle.gr_balance.specs.Stack.{Arity, IsBalanced}
+use Rattle.gr_settled.specs.Stack.{Arity, IsBalanced}
 use Rattle.gr_bound.specs.Uses.{IsPackage}
 use Rattle.gr_compile.specs.Units.{AreFilesBelow, IsCompiled}
 use Rattle.gr_settled.specs.Arities.{AreArities}
 use Rattle.gr_settled.proofs.Objects.{object_good}
-use Rattle.gr_settled.proofs.Settled.{function_settled}
+use Rattle.gr_settled.proofs.SettledQuestions.{function_settled}
 
 pub compiled_balanced : (w : Workspace) → ListsFaults w [] → (known : Verdicts) → AreVerdicts w known → (arity : FunctionName → Arity) →
     AreArities w known arity → (p : List ℕ) → Contains (package_paths w) p → (i : Interface) (text : List ℕ) (u : IsCompiled w p i text) (f : Function) →

@@ -37,14 +37,14 @@ use Rattle.gr_verdict.proofs.OnePackage.{files_in_order}
 use Rattle.gr_bound.specs.Uses.{IsPackage}
 use Rattle.gr_unique.proofs.Faultless.{no_fault_later}
 use Rattle.gr_unique.proofs.MembersApart.{one_function}
-use Rattle.gr_all_bound.proofs.Lists.{all_flat}
-use Rattle.gr_all_bound.proofs.Scoped.{in_order}
-use Rattle.gr_all_bound.proofs.Types.{Kept, all_kept}
-use Rattle.gr_all_bound.proofs.Whole.{method_of}
-use Rattle.gr_worlds.proofs.Declared.{may_within}
-use Rattle.gr_worlds.proofs.NamesMean.{declared_counts}
-use Rattle.gr_worlds.proofs.Worlds.{have_worlds}
-use Rattle.gr_settled.proofs.Functions.{IsInFile, in_file_of, function_kept, function_name_kept, no_import_role, spelled_told}
+use Rattle.gr_settled.proofs.Lists.{all_flat}
+use Rattle.gr_settled.proofs.Scoped.{in_order}
+use Rattle.gr_settled.proofs.TypesBound.{Kept, all_kept}
+use Rattle.gr_settled.proofs.WholeBound.{method_of}
+use Rattle.gr_settled.proofs.Declared.{may_within}
+use Rattle.gr_settled.proofs.NamesMean.{declared_counts}
+use Rattle.gr_settled.proofs.PackageWorlds.{have_worlds}
+use Rattle.gr_settled.proofs.FunctionsSettled.{IsInFile, in_file_of, function_kept, function_name_kept, no_import_role, spelled_told}
 
 -- the name of a type definition is one of the identifiers of its file
 

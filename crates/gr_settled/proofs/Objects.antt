@@ -16,7 +16,7 @@ use Rattle.gr_object.specs.Objects.{other_initials, variables_of, declared_varia
 use Rattle.gr_object.specs.Objects.{names_behind_all, declared_from, definition_of}
 use Rattle.gr_object.specs.Source.{Source}
 use Rattle.gr_object.specs.Sources.{IsSourceOf, IsObjectOf}
-use Rattle.gr_all_bound.proofs.Lists.{all_held, contained}
+use Rattle.gr_settled.proofs.Lists.{all_held, contained}
 
 module _ (P : List Line → Type 0) where
   abbrev Good : Declaration → Type 0

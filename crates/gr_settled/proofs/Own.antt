@@ -33,15 +33,15 @@ use Rattle.gr_verdict.proofs.OnePackage.{layout_formed, files_in_order}
 use Rattle.gr_object.specs.Slots.{slots_of}
 use Rattle.gr_order.proofs.OwnPaths.{part_at}
 use Rattle.gr_asked.proofs.OnePlace.{same_size, same_files}
-use Rattle.gr_decided.proofs.Files.{IsGlobal}
-use Rattle.gr_decided.proofs.Numbers.{OfKind, IsTold, IsKept, universal, plain, laid, kept_at}
-use Rattle.gr_all_bound.specs.Scopes.{may_be_local}
-use Rattle.gr_all_bound.proofs.Links.{source_is}
-use Rattle.gr_all_bound.proofs.Scoped.{local_role, found_first}
-use Rattle.gr_all_bound.proofs.Sites.{files_among}
-use Rattle.gr_worlds.proofs.Declared.{told_identifies, given, sites, old_site, new_site, role_is, place_is, kept, may_within, file_of_told}
+use Rattle.gr_settled.proofs.FilesDecided.{IsGlobal}
+use Rattle.gr_settled.proofs.Numbers.{OfKind, IsTold, IsKept, universal, plain, laid, kept_at}
+use Rattle.gr_settled.specs.Scopes.{may_be_local}
+use Rattle.gr_settled.proofs.LinksBound.{source_is}
+use Rattle.gr_settled.proofs.Scoped.{local_role, found_first}
+use Rattle.gr_settled.proofs.Sites.{files_among}
+use Rattle.gr_settled.proofs.Declared.{told_identifies, given, sites, old_site, new_site, role_is, place_is, kept, may_within, file_of_told}
 use Rattle.gr_settled.proofs.Reaching.{Lies, Reaches, file_only}
-use Rattle.gr_settled.proofs.Slots.{function_slotted}
+use Rattle.gr_settled.proofs.SlotsSettled.{function_slotted}
 
 -- what declares inside of a file does so in a block of the file
 abbrev IsFramed : ℕ → Role → Type 0
@@ -146,7 +146,7 @@ module _ (w : Workspace) (known : Verdicts) (path : List ℕ) (p : Package) (h :
         let fits = file_fits source m.0 s.0.tree (source_is w known path p h F s.0 s.1).is_tree.well_formed m.1 in
         inner_at F s.0 s.1 (λ i r. IsFramed F r) (all_framed F 0 m.0 0 m.0 (file_sites source s.0.tree) fits.0) d f a c may block refl may f a c block
 
-  -- the names of a file, worded as in gr_all_bound, whose module takes a file that is judged and unbroken: here none is asked to be unbroken
+  -- the names of a file, worded as in Scoped, whose module takes a file that is judged and unbroken: here none is asked to be unbroken
 
   module _ (file : ℕ) (s : SourceFile) (at : slice_get p.files file ≡ Some s) (v : World) (judged : IsWorldOf p file s v) where
     -- the block and the place of a local

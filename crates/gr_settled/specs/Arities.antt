@@ -7,7 +7,7 @@ use Rattle.gr_declared.specs.Package.{Package, PlacedFunction, package_functions
 use Rattle.gr_verdict.specs.Verdicts.{Verdicts}
 use Rattle.gr_object.specs.Lines.{FunctionName}
 use Rattle.gr_object.specs.Names.{function_names}
-use Rattle.gr_balance.specs.Stack.{Arity}
+use Rattle.gr_settled.specs.Stack.{Arity}
 use Rattle.gr_bound.specs.Uses.{IsPackage}
 
 -- a receiver is one value more

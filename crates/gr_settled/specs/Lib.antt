@@ -1,3 +1,19 @@
 -- The definitions of this crate.
+pub mod Linked
+pub mod MemberNames
+pub mod Worlds
+pub mod Unbroken
+pub mod Scopes
+pub mod Names
+pub mod Strings
+pub mod Roles
+pub mod Stack
+pub mod Asked
+pub mod Answered
+pub mod StatementsAsked
+pub mod Machine
+pub mod Files
+pub mod Called
+pub mod Open
 pub mod Arities
 pub mod Known

@@ -1,4 +1,11 @@
-//! In a workspace without faults all that the code of packages asks for is known: laws alone.
+//! In a workspace without faults names stand for something and members are bound; all that the code of packages asks for is known, and this
+//! code is balanced. Laws alone.
 #![tactic(auto)]
 
-pub mod laws;
+pub mod all_bound;
+pub mod all_used;
+pub mod balance;
+pub mod decided;
+pub mod known;
+pub mod settled;
+pub mod worlds;

@@ -1,6 +1,0 @@
--- The answers to the goals of `laws::links_of_typed_files_are_used`.
-use Rattle.gr_all_used.proofs.Files.{all_linked}
-use Rattle.gr_all_used.proofs.laws.links_of_typed_files_are_used.Goals as goal
-
-pub returns : goal.returns
-returns c = λ w is_init f is typed s. all_linked w is_init f is typed s

@@ -1,6 +1,0 @@
--- The answers to the goals of `laws::member_names_are_bound`.
-use Rattle.gr_worlds.proofs.Bound.{member_name_bound}
-use Rattle.gr_worlds.proofs.laws.member_names_are_bound.Goals as goal
-
-pub returns : goal.returns
-returns c = λ w sound known right p is u stands name. member_name_bound w sound known right p is u stands name
