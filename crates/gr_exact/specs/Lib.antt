@@ -1,3 +1,5 @@
 -- The definitions of this crate.
+pub mod Own
+pub mod Restored
 pub mod Renames
 pub mod Moves

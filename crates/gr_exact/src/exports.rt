@@ -4,7 +4,7 @@ ghost use Rattle.gr_text.specs.Workspace.{Workspace};
 ghost use Rattle.gr_declared.specs.Package.{Interface};
 ghost use Rattle.gr_verdict.specs.Verdicts.{Verdicts, HasInterface};
 ghost use Rattle.gr_compile.specs.Units.{IsUnitValue, Done};
-ghost use Rattle.gr_exports.specs.Own.{AreOwn};
+ghost use Rattle.gr_exact.specs.Own.{AreOwn};
 
 /// What other packages see of a package is its own: each exported name is one that it declares, and each field and method has
 /// one of its symbols.

@@ -5,7 +5,7 @@ use Rattle.gr_machine.proofs.RunLaws.{undo_restores, redo_restores}
 use Rattle.gr_machine.specs.State.{State}
 use Rattle.gr_machine.specs.declared.event.Reply.TheVariants.{Done}
 use Rattle.gr_standing.proofs.Alike.{use_for}
-use Rattle.gr_restored.specs.Restored.{AreBoundAlike, UndoRestoresBindings, RedoRestoresBindings}
+use Rattle.gr_exact.specs.Restored.{AreBoundAlike, UndoRestoresBindings, RedoRestoresBindings}
 
 bound_alike : (w x : Workspace) → w ≡ x → AreBoundAlike w x
 bound_alike w x e =

@@ -10,7 +10,7 @@ use Rattle.gr_declared.specs.Package.{Package, Export, Interface, PlacedType, pa
 use Rattle.gr_declared.specs.Definitions.{IsField, IsMethod}
 use Rattle.gr_types.specs.Interfaces.{IsExport, IsExported, IsInterface}
 use Rattle.gr_verdict.specs.Verdicts.{Verdicts, IsPackageIn}
-use Rattle.gr_exports.specs.Own.{Exports, AreOwn}
+use Rattle.gr_exact.specs.Own.{Exports, AreOwn}
 
 checked_path : {w : Workspace} {known : Verdicts} {p : List ℕ} {checked : Package} (is : IsPackageIn w known p checked) → checked.path ≡ p
 checked_path is = ap (λ (z : Package). z.path) is.is_package.is_package

@@ -1,4 +1,0 @@
-//! What undo and redo leave bound as before: laws alone.
-#![tactic(auto)]
-
-pub mod laws;
