@@ -1,7 +1,7 @@
 -- No package that was passed is finished.
-use Rattle.std.proofs.Common.{◌≡◌, Some, inl, inr, subst, arith}
+use Rattle.std.proofs.Common.{◌≡◌, Some, inl, inr, sym, subst, ◌∙◌, arith}
 use Rattle.std.specs.Prelude.{slice_get}
-use Rattle.std.proofs.lemmas.Bool.{cases_lt}
+use Rattle.std.proofs.lemmas.Bool.{cases_lt, false≢true}
 use Rattle.std.proofs.lemmas.Option.{slice_get_within}
 use Rattle.gr_finished.proofs.finished.has_none.Goals as goal
 
@@ -12,7 +12,7 @@ loop-number-preserved c = λ i lt unit is.
       | inl before ↦ c.loop-number.invariant i before unit is
       | inr past ↦ (
           let e : i ≡ k = omega arith in
-          c.has_unit.ensures c.if-has_unit.false unit (subst (λ j. slice_get c.args.units.now j ≡ Some (Some unit)) e is))
+          c.has_unit.ensures (λ t. false≢true (sym c.if-has_unit.false ∙ t)) unit (subst (λ j. slice_get c.args.units.now j ≡ Some (Some unit)) e is))
     ]
 
 pub returns : goal.returns
