@@ -1,6 +1,4 @@
 -- What was known before changes nothing of what is known.
-use Rattle.std.proofs.lemmas.Result.{IfOk-weaker}
-use Rattle.gr_verdict.specs.Found.{KnowsVerdicts}
 use Rattle.gr_verdict.proofs.Telling.{known_still}
 use Rattle.gr_keep.proofs.knowing.kept_verdicts.Goals as goal
 
