@@ -1,9 +1,9 @@
-//! An assertion as a call: the macro is many steps to a prover, a call is one. And what each test begins with.
+//! An assertion as a call: the macro is many steps to a prover, a call is one. And what tests begin with.
 ghost use Rattle.std.specs.Prelude.{IsTrue};
 
 use gr_book::Book;
 use gr_desk::Solo;
-use gr_text::Limits;
+use gr_text::{FileText, Limits};
 use std::alloc::{AllocError, Global};
 use std::process::Abort;
 
@@ -22,4 +22,10 @@ pub(crate) fn book(rt: &(impl Abort + AllocGlobal)) -> Book {
 pub(crate) fn opened(alloc: Global) -> Result<Solo, AllocError> {
     let book = Book::new(alloc, Limits::FULL)?;
     Ok(Solo::new(book))
+}
+
+/// A text as a file has it.
+pub(crate) fn file(rt: &impl Abort, alloc: Global, text: &[u8]) -> FileText {
+    let bytes = text.to_vec(alloc).expect(rt, "memory");
+    FileText::new(alloc, bytes).expect(rt, "memory")
 }
