@@ -6,7 +6,8 @@ Want of memory is `AllocError`, a variant `Memory` or `NoRoom`. A place may make
 
 - in a conversion from an allocation that was refused (`impl From<AllocError> for ..`),
 - in the arm of a match whose pattern is want of memory itself (`ErrorKind::OutOfMemory` as `clap` calls it),
-- in the arm `Err(_)` of a match on a call that fails for want of memory alone, or by `map_err` behind such a call,
+- in the arm `Err(_)` of a match on a call that fails for want of memory alone, or on what a function is given of such a call, as its
+  type tells, or by `map_err` behind such a call,
 - where a thread could not be made (`if !are_made`), for which a server has no other fault,
 - for a sum of lengths that passes what can be addressed (`checked_add(..).ok_or(AllocError)`), as the library does where it grows.
 
@@ -68,6 +69,13 @@ def around(lines, number):
             yield lines[at].strip()
 
 
+def is_given(lines, number, name):
+    """Whether the function in which the line stands is given under that name what fails for want of memory alone."""
+    begin = next((at for at in range(number, -1, -1) if re.search(r"\bfn \w+", lines[at])), 0)
+    signature = " ".join(lines[begin:number]).partition("->")[0]
+    return bool(re.search(rf"\b{name}: Result<[^()]*\bAllocError>\s*[,)]", signature))
+
+
 def is_sound(lines, number, crate, answers):
     """Whether the place on the line makes want of memory of an allocation that was refused."""
     if re.search(r"\.checked_add\(.*\)\.ok_or\(AllocError\)(\?;)?$", lines[number].strip()):
@@ -82,7 +90,11 @@ def is_sound(lines, number, crate, answers):
             return True
         is_failed = is_failed or pattern in ("Err(_)", "Err(_e)")
         if is_failed and "match " in line:
-            return any(lacks_memory_alone(call, crate, answers) for call in CALL.findall(line.rpartition("match ")[2]))
+            subject = line.rpartition("match ")[2]
+            given = re.fullmatch(r"(\w+) \{", subject)
+            if given:
+                return is_given(lines, number, given[1])
+            return any(lacks_memory_alone(call, crate, answers) for call in CALL.findall(subject))
         if line.startswith("impl"):
             return bool(re.search(REFUSED, line))
     return False
