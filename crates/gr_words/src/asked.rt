@@ -1,5 +1,5 @@
 //! What words ask.
-ghost use Rattle.std.specs.Prelude.{◌≡◌, option_map};
+ghost use Rattle.std.specs.Prelude.{◌≡◌, Some, codes, option_map};
 ghost use Rattle.clap.specs.Words.{found_of, rows_of, subcommand_rows_of};
 ghost use Rattle.gr_words.specs.Asked.{TellsAsked, TellsNumber, TellsServe, TellsStop};
 
@@ -7,7 +7,7 @@ use clap::ArgMatches;
 
 /// How to serve: where the socket is made, how many threads build packages and how many serve connections, and after how many
 /// connections to end.
-#[derive(Debug, Clone, Copy, PartialEq, Eq)]
+#[derive(Clone, Copy)]
 pub struct ServeWords<'a> {
     pub socket: &'a str,
     pub workers: u32,
@@ -16,7 +16,7 @@ pub struct ServeWords<'a> {
 }
 
 /// What the words of a command line ask.
-#[derive(Debug, Clone, Copy, PartialEq, Eq)]
+#[derive(Clone, Copy)]
 pub enum Words<'a> {
     /// One session from standard input to standard output.
     Run,
@@ -69,14 +69,31 @@ fn named<'a, 'b>(matches: &'b ArgMatches<'a>) -> Option<(&'a str, &'b ArgMatches
     matches.subcommand()
 }
 
+/// What the options of `serve` ask.
+fn serve_asked<'a>(matches: &ArgMatches<'a>) -> Option<Words<'a>>
+    ensures { TellsAsked (Some (codes "serve", rows_of (found_of matches.now))) result }
+{
+    match serve_words(matches) {
+        Some(words) => Some(Words::Serve(words)),
+        None => None,
+    }
+}
+
+/// What the subcommand of this name asks.
+fn asked_by<'a>(name: &str, matches: &ArgMatches<'a>) -> Option<Words<'a>>
+    ensures { TellsAsked (Some (name.now, rows_of (found_of matches.now))) result }
+{
+    match name {
+        "run" => Some(Words::Run),
+        "serve" => serve_asked(matches),
+        _ => None,
+    }
+}
+
 /// What was asked by the matches of the command line.
 pub(crate) fn asked<'a>(matches: &ArgMatches<'a>) -> Option<Words<'a>>
     ensures { TellsAsked (subcommand_rows_of matches.now) result }
 {
     let (name, found) = named(matches)?;
-    match name {
-        "run" => Some(Words::Run),
-        "serve" => Some(Words::Serve(serve_words(found)?)),
-        _ => None,
-    }
+    asked_by(name, found)
 }

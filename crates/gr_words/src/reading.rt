@@ -11,7 +11,7 @@ use clap::{ArgMatches, Error};
 use std::alloc::{AllocError, Global};
 
 /// Why words ask nothing that the program does.
-#[derive(Debug, Drop)]
+#[derive(Drop)]
 pub enum WordsFault {
     /// There is no memory to read them.
     Memory,
@@ -55,7 +55,8 @@ fn parse<'a>(alloc: Global, words: &'a [String]) -> Result<ArgMatches<'a>, Error
     ensures found { IfOk result (λ matches. subcommand_rows_of matches ≡ subcommand_of gorefd (map string_bytes words.now)) }
     ensures fails { FailsBy (fault_of gorefd (map string_bytes words.now)) result }
 {
-    command_line(alloc)?.try_get_matches_from(words)
+    let line = command_line(alloc)?;
+    line.try_get_matches_from(words)
 }
 
 /// What the words of a command line ask, of which the first is the program's name.
