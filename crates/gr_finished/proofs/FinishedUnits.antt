@@ -1,14 +1,14 @@
--- Where the unit of a finished package stands, and a number below which each package is finished.
-use Rattle.std.proofs.Common.{◌≡◌, ℕ, ◌+◌, ◌<◌, List, length, get_or, None, Some, slice_get, sym, ap, subst, ◌∙◌, inl, inr, arith}
+-- Where the unit of a finished package stands, a number below which each package is finished, and tables in which none is.
+use Rattle.std.proofs.Common.{◌≡◌, ℕ, ◌+◌, ◌<◌, List, Option, length, replicate, None, Some, slice_get, sym, ap, subst, ◌∙◌, inl, inr, arith}
 use Rattle.std.proofs.Math.ListN.{set}
 use Rattle.std.proofs.lemmas.Bool.{cases_eq, cases_lt}
-use Rattle.std.proofs.lemmas.List.{get_or-set_same, get_or-set_other, length-set}
-use Rattle.std.proofs.lemmas.Option.{slice_get-get_or, slice_get_within}
+use Rattle.std.proofs.lemmas.List.{get_or-set_same, get_or-set_other, length-set, get_or-replicate, length-replicate}
+use Rattle.std.proofs.lemmas.Option.{none-some, same_Some, slice_get-get_or, slice_get_within}
 use Rattle.gr_text.specs.Packages.{package_paths}
 use Rattle.gr_text.specs.Workspace.{Workspace}
 use Rattle.gr_graph.proofs.PackagePaths.{one_number, paths_sorted}
 use Rattle.gr_compile.specs.declared.unit.Unit.{Unit as PackageUnit}
-use Rattle.gr_finished.specs.Finished.{Table, AreFinishedBelow, IsFinished}
+use Rattle.gr_finished.specs.Finished.{Table, AreFinishedBelow, HasNone, IsFinished}
 
 -- at the package's number, and nowhere else
 pub unit_at : (w : Workspace) (table : Table) (p : List ℕ) (unit : PackageUnit) (n : ℕ) → slice_get (package_paths w) n ≡ Some p →
@@ -23,6 +23,12 @@ finished_more table n unit at below i lt = elim (cases_lt i n) [
   | inr last ↦ (let is : n ≡ i = omega (arith, lt, last) in (unit, subst (λ (k : ℕ). slice_get table k ≡ Some (Some unit)) is at))
 ]
 
+-- the package is finished whose unit was put in
+pub finished_here : (table : Table) (n : ℕ) (unit : PackageUnit) → n < length table → slice_get (set table n (Some unit)) n ≡ Some (Some unit)
+finished_here table n unit within =
+    slice_get-get_or (set table n (Some unit)) n None (omega (arith, within, length-set table n (Some unit)))
+    ∙ ap Some (get_or-set_same table n (Some unit) None within)
+
 -- one more finished unit takes none away
 pub finished_still : (table : Table) (n front : ℕ) (unit : PackageUnit) → n < length table → AreFinishedBelow table front →
     AreFinishedBelow (set table n (Some unit)) front
@@ -32,9 +38,16 @@ finished_still table n front unit within below i lt =
     let long : i < length (set table n (Some unit)) = omega (arith, inside, length-set table n (Some unit)) in
     let here = slice_get-get_or (set table n (Some unit)) i None long in
     elim (cases_eq i n) [
-      | inl same ↦ (
-        unit,
-        here ∙ ap Some (ap (λ k. get_or (set table n (Some unit)) k None) same ∙ get_or-set_same table n (Some unit) None within),
-      )
+      | inl same ↦ (unit, subst (λ (k : ℕ). slice_get (set table n (Some unit)) k ≡ Some (Some unit)) (sym same) (finished_here table n unit within))
       | inr apart ↦ (r.0, here ∙ ap Some (get_or-set_other table n i (Some unit) None apart) ∙ sym (slice_get-get_or table i None inside) ∙ r.1)
     ]
+
+-- ---- where none is finished
+pub none_in : (count : ℕ) → HasNone (replicate count None)
+none_in count i unit is =
+    let nothing : Option PackageUnit = None in
+    let table : Table = replicate count nothing in
+    let within : i < length table = slice_get_within table i (Some unit) is in
+    let below : i < count = omega (arith, within, length-replicate count nothing) in
+    none-some unit (same_Some nothing (Some unit)
+    (ap Some (sym (get_or-replicate count i nothing nothing below)) ∙ sym (slice_get-get_or table i nothing within) ∙ is))

@@ -1,5 +1,5 @@
 //! The packages of a workspace that are finished, with their units.
-ghost use Rattle.std.specs.Prelude.{◌≡◌, ◌<◌, [], IfOk, IsTrue, MatchOption, Some, length, slice_get, slice_set};
+ghost use Rattle.std.specs.Prelude.{◌≡◌, ◌<◌, ◌↔◌, [], IfOk, IsTrue, MatchOption, None, Some, length, replicate, slice_get, slice_set};
 ghost use Rattle.gr_compile.specs.declared.unit.Unit.{Unit as PackageUnit};
 ghost use Rattle.gr_finished.specs.Finished.{AreFinishedBelow, HasNone};
 
@@ -35,7 +35,7 @@ impl Model for Finished {
     ghost use Rattle.std.specs.Coded.{codes};
     ghost use Rattle.gr_compile.specs.Codes.{unit_code};
     ghost use Rattle.gr_compile.specs.declared.unit.Unit.{Unit as PackageUnit};
-    ghost use Rattle.std.specs.Prelude.{IsTrue};
+    ghost use Rattle.std.specs.Prelude.{◌↔◌, IsTrue};
     ghost use Rattle.gr_finished.specs.Finished.{AreFinishedBelow, HasNone};
 
     ghost Value = { List (Option PackageUnit) };
@@ -44,7 +44,7 @@ impl Model for Finished {
 
     ghost view = { λ a. arc_value a.units };
 
-    ghost invariant = { λ a. AreFinishedBelow (arc_value a.units) a.front × (IsTrue a.is_empty → HasNone (arc_value a.units)) };
+    ghost invariant = { λ a. AreFinishedBelow (arc_value a.units) a.front × (IsTrue a.is_empty ↔ HasNone (arc_value a.units)) };
 }
 
 /// The unit of a package, if it is finished.
@@ -72,7 +72,7 @@ fn front_from(units: &SharedList<Option<Unit>>, least: usize) -> usize
 
 /// Whether a package is finished.
 fn has_unit(units: &SharedList<Option<Unit>>, number: usize) -> bool
-    ensures { (IsTrue result → ⊥) → (unit : PackageUnit) → slice_get units.now number ≡ Some (Some unit) → ⊥ }
+    ensures { IsTrue result ↔ ((unit : PackageUnit) × (slice_get units.now number ≡ Some (Some unit))) }
 {
     match unit_at(units, number) {
         Some(_) => true,
@@ -82,7 +82,7 @@ fn has_unit(units: &SharedList<Option<Unit>>, number: usize) -> bool
 
 /// Whether no package is finished.
 fn has_none(units: &SharedList<Option<Unit>>) -> bool
-    ensures { IsTrue result → HasNone units.now }
+    ensures { IsTrue result ↔ HasNone units.now }
 {
     for number in 0..units.len() {
         if has_unit(units, number) {
@@ -90,6 +90,17 @@ fn has_none(units: &SharedList<Option<Unit>>) -> bool
         }
     }
     true
+}
+
+/// A place for each of so many packages, of which none is finished.
+fn no_units(alloc: Global, count: usize) -> Result<SharedList<Option<Unit>>, AllocError>
+    ensures { IfOk result (λ units. units ≡ replicate count None) }
+{
+    let mut units = SharedList::new(alloc);
+    for _number in 0..count {
+        units.push(None)?;
+    }
+    Ok(units)
 }
 
 impl Finished {
@@ -109,6 +120,14 @@ impl Finished {
         Finished::shared(alloc, units, front, is_empty)
     }
 
+    /// The table of so many packages, of which none is finished.
+    fn none(alloc: Global, count: usize) -> Result<Finished, AllocError>
+        ensures { IfOk result (λ table. table ≡ replicate count None) }
+    {
+        let units = no_units(alloc, count)?;
+        Finished::shared(alloc, units, 0, true)
+    }
+
     fn shared(
         alloc: Global,
         units: SharedList<Option<Unit>>,
@@ -116,7 +135,7 @@ impl Finished {
         is_empty: bool,
     ) -> Result<Finished, AllocError>
         requires front { AreFinishedBelow units front }
-        requires empty { IsTrue is_empty → HasNone units }
+        requires empty { IsTrue is_empty ↔ HasNone units }
         ensures { IfOk result (λ table. table ≡ units) }
     {
         let units = Arc::new(alloc, units)?;
@@ -143,9 +162,22 @@ impl Finished {
 
     /// Whether no package is finished.
     pub fn is_empty(&self) -> bool
-        ensures { IsTrue result → HasNone self.now }
+        ensures { IsTrue result ↔ HasNone self.now }
     {
         self.is_empty
+    }
+
+    /// The table of so many packages where none is finished, as none is in this one. It is shared if it is of as many.
+    pub fn unfinished(&self, alloc: Global, count: usize) -> Result<Finished, AllocError>
+        requires { HasNone self.now }
+        ensures size { IfOk result (λ table. length table ≡ count) }
+        ensures none { IfOk result HasNone }
+    {
+        if self.units.len() == count {
+            let shared = self.clone()?;
+            return Ok(shared);
+        }
+        Finished::none(alloc, count)
     }
 
     /// The table in which one package more is finished.

@@ -27,7 +27,7 @@ use Rattle.gr_graph.proofs.Collected.{none_held}
 use Rattle.gr_graph.proofs.Filled.{path_at, set_there, set_elsewhere}
 use Rattle.gr_graph.proofs.Linked.{package_at, row_imports}
 use Rattle.gr_graph.proofs.PackagePaths.{exact_names, has_folder, one_number, paths_are, paths_sorted}
-use Rattle.gr_graph.proofs.PartPackages.{folder_found}
+use Rattle.gr_graph.proofs.FoundFolders.{folder_found}
 use Rattle.gr_graph.proofs.SameFiles.{same_files}
 use Rattle.gr_graph.proofs.StayingPackages.{any_of}
 

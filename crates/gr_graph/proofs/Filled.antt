@@ -18,7 +18,6 @@ use Rattle.gr_graph.specs.Parsed.{AreParsed, IsParsedAs, none, tree, fault}
 use Rattle.gr_text.specs.Packages.{files_in}
 use Rattle.gr_graph.specs.Filling.{IsWithFile, AddsFile, AreFilled}
 use Rattle.gr_graph.specs.Graphs.{paths_of, IsEmpty}
-use Rattle.gr_graph.specs.Staying.{IsOfNone, IsOfOne}
 use Rattle.gr_graph.specs.declared.package.ParsedPackage.{ParsedPackage}
 use Rattle.gr_graph.specs.declared.parsed.ParsedFile.{ParsedFile}
 use Rattle.gr_graph.specs.declared.parsed.ParsedFile.TheVariants.{Sound, Faulty}
@@ -50,8 +49,8 @@ pub path_at : (ps : List ParsedPackage) (i : ℕ) (p : ParsedPackage) → slice_
 path_at ps i p h = slice_get-map (λ (q : ParsedPackage). q.path.items) ps i ∙ ap (option_map (λ (q : ParsedPackage). q.path.items)) h
 
 -- ---- nothing is there yet
-pub filled_start : (staying : List ParsedPackage) (all : List (List ℕ × List ℕ)) (ps : List ParsedPackage) → All IsEmpty ps → AreFilled staying all all ps
-filled_start staying all ps empty i p at apart_p ts fs parsed =
+pub filled_start : (all : List (List ℕ × List ℕ)) (ps : List ParsedPackage) → All IsEmpty ps → AreFilled all all ps
+filled_start all ps empty i p at ts fs parsed =
     let here : IsEmpty p = subst IsEmpty (get_or_from_slice_get ps i p p at) (empty i p (slice_get_within ps i p at)) in
     rw (here.0, here.1) parsed
 
@@ -87,13 +86,13 @@ not_in_folder e left path apart =
 pub paths_added : (n : ℕ) (file : ParsedFile) (old new : List ParsedPackage) → AddsFile n file old new → paths_of new ≡ paths_of old
 paths_added n file old new adds = ap paths_of adds.new_is ∙ paths_set old n adds.before adds.after adds.at (same_path file _ _ adds.with_file)
 
-pub filled_add : (staying : List ParsedPackage) (all : List (List ℕ × List ℕ)) (e : List ℕ × List ℕ) (left : List (List ℕ × List ℕ))
+pub filled_add : (all : List (List ℕ × List ℕ)) (e : List ℕ × List ℕ) (left : List (List ℕ × List ℕ))
     (old new : List ParsedPackage)
     (n : ℕ) (file : ParsedFile)
-    → IsStrictlySortedBy path_cmp (paths_of old) → IsOfNone staying e.0 → slice_get (paths_of old) n ≡ Some (folder e.0) → AddsFile n file old new →
+    → IsStrictlySortedBy path_cmp (paths_of old) → is_go e.0 ≡ true → slice_get (paths_of old) n ≡ Some (folder e.0) → AddsFile n file old new →
     IsParsedAs e.0 e.1 file
-    → AreFilled staying all (e ∷ left) old → AreFilled staying all left new
-filled_add staying all e left old new n file sorted of_none at adds is filled i p there apart_p =
+    → AreFilled all (e ∷ left) old → AreFilled all left new
+filled_add all e left old new n file sorted go at adds is filled i p there =
     let b = adds.before in
     let a = adds.after in
     let now : slice_get (set old n a) i ≡ Some p = subst (λ (ps : List ParsedPackage). slice_get ps i ≡ Some p) adds.new_is there in
@@ -103,8 +102,8 @@ filled_add staying all e left old new n file sorted of_none at adds is filled i 
     let is_a : a ≡ p = same_Some _ _ (sym (set_there old n b a adds.at) ∙ subst (λ (k : ℕ). slice_get (set old n a) k ≡ Some p) here now) in
     let folder_is : folder e.0 ≡ b.path.items = same_Some _ _ (sym at ∙ path_at old n b adds.at) in
     let gives = with_one (files_in b.path.items all) e (files_in b.path.items left) file b a adds.with_file is
-    (λ ts fs parsed. filled n b adds.at (λ stays. of_none.1 (subst (Contains (paths_of staying)) (sym folder_is) stays)) ts fs
-    (subst (λ es. AreParsed es ts fs) (sym (in_folder e left b.path.items of_none.0 folder_is)) parsed)) in
+    (λ ts fs parsed. filled n b adds.at ts fs
+    (subst (λ es. AreParsed es ts fs) (sym (in_folder e left b.path.items go folder_is)) parsed)) in
     subst (λ (q : ParsedPackage). (ts : List FileParts) (fs : List FaultyParts) → AreParsed (files_in q.path.items left) ts fs →
     AreParsed (files_in q.path.items all) (q.trees.items ++ ts) (q.faulty.items ++ fs)) is_a
     (subst (λ path. (ts : List FileParts) (fs : List FaultyParts) → AreParsed (files_in path.items left) ts fs →
@@ -113,44 +112,29 @@ filled_add staying all e left old new n file sorted of_none at adds is filled i 
     let was : slice_get old i ≡ Some p = sym (set_elsewhere old n i a other) ∙ now in
     let apart : folder e.0 ≡ p.path.items → ⊥ = λ same.
     other (one_number (paths_of old) sorted i n (folder e.0) (path_at old i p was ∙ ap Some (sym same)) at) in
-    λ ts fs parsed. filled i p was apart_p ts fs (subst (λ es. AreParsed es ts fs) (sym (not_in_folder e left p.path.items apart)) parsed))
+    λ ts fs parsed. filled i p was ts fs (subst (λ es. AreParsed es ts fs) (sym (not_in_folder e left p.path.items apart)) parsed))
     (cases_eq i n)
 
--- ---- a file that is of no package that is made anew
-pub filled_skip : (staying : List ParsedPackage) (all : List (List ℕ × List ℕ)) (e : List ℕ × List ℕ) (left : List (List ℕ × List ℕ))
-    (ps : List ParsedPackage) →
-    IsOfOne staying e.0 → AreFilled staying all (e ∷ left) ps → AreFilled staying all left ps
-filled_skip staying all e left ps of_one filled i p at apart_p ts fs parsed =
-    ⊎_elim
-    (λ (not_go : is_go e.0 ≡ false).
-    filled i p at apart_p ts fs (subst (λ (b : Bool). AreParsed
-    (cond (b && pointwise ◌==◌ (folder e.0) p.path.items) (e ∷ files_in p.path.items left) (files_in p.path.items left)) ts fs) (sym not_go) parsed))
-    (λ (stays : Contains (paths_of staying) (folder e.0)).
-    filled i p at apart_p ts fs (subst (λ es. AreParsed es ts fs)
-    (sym (not_in_folder e left p.path.items (λ same. apart_p (subst (Contains (paths_of staying)) same stays)))) parsed))
-    of_one
-
 -- ---- a file of another folder than those of the packages
-pub filled_other : (staying : List ParsedPackage) (all : List (List ℕ × List ℕ)) (e : List ℕ × List ℕ) (left : List (List ℕ × List ℕ))
+pub filled_other : (all : List (List ℕ × List ℕ)) (e : List ℕ × List ℕ) (left : List (List ℕ × List ℕ))
     (ps : List ParsedPackage) →
-    (Contains (paths_of ps) (folder e.0) → ⊥) → AreFilled staying all (e ∷ left) ps → AreFilled staying all left ps
-filled_other staying all e left ps never filled i p at apart_p ts fs parsed =
+    (Contains (paths_of ps) (folder e.0) → ⊥) → AreFilled all (e ∷ left) ps → AreFilled all left ps
+filled_other all e left ps never filled i p at ts fs parsed =
     let there : Contains (paths_of ps) p.path.items = (
       i,
       slice_get_within (paths_of ps) i p.path.items (path_at ps i p at),
       get_or_from_slice_get (paths_of ps) i p.path.items p.path.items (path_at ps i p at),
     ) in
-    filled i p at apart_p ts fs (subst (λ es. AreParsed es ts fs)
+    filled i p at ts fs (subst (λ es. AreParsed es ts fs)
     (sym (not_in_folder e left p.path.items (λ same. never (subst (Contains (paths_of ps)) (sym same) there)))) parsed)
 
 -- ---- nothing is left
-pub filled_end : (staying : List ParsedPackage) (all : List (List ℕ × List ℕ)) (ps : List ParsedPackage) → AreFilled staying all [] ps →
+pub filled_end : (all : List (List ℕ × List ℕ)) (ps : List ParsedPackage) → AreFilled all [] ps →
     (i : ℕ) (p : ParsedPackage) →
-    slice_get ps i ≡ Some p → (Contains (paths_of staying) p.path.items → ⊥)
-    → AreParsed (files_in p.path.items all) p.trees.items p.faulty.items
-filled_end staying all ps filled i p at apart_p =
+    slice_get ps i ≡ Some p → AreParsed (files_in p.path.items all) p.trees.items p.faulty.items
+filled_end all ps filled i p at =
     subst (λ ts. AreParsed (files_in p.path.items all) ts p.faulty.items) (append-nil p.trees.items)
-    (subst (λ fs. AreParsed (files_in p.path.items all) (p.trees.items ++ []) fs) (append-nil p.faulty.items) (filled i p at apart_p [] [] none))
+    (subst (λ fs. AreParsed (files_in p.path.items all) (p.trees.items ++ []) fs) (append-nil p.faulty.items) (filled i p at [] [] none))
 
 -- one more path
 pub paths_push : (ps : List ParsedPackage) (p : ParsedPackage) (rest : List (List ℕ)) → paths_of (ps ++ p ∷ []) ++ rest ≡ paths_of ps ++ p.path.items ∷ rest

@@ -1,5 +1,5 @@
 -- A list of packages in order, one package further.
-use Rattle.std.proofs.Common.{◌≡◌, ℕ, zero, suc, ◌+◌, ◌-◌, ◌<◌, ◌≤◌, List, [], ◌∷◌, ◌++◌, length, get_or, refl, ap, subst, ◌∙◌, ⊎_elim, arith}
+use Rattle.std.proofs.Common.{◌≡◌, ℕ, zero, suc, ◌+◌, ◌-◌, ◌<◌, ◌≤◌, List, [], ◌∷◌, ◌++◌, length, get_or, refl, sym, ap, subst, ◌∙◌, ⊎_elim, arith}
 use Rattle.std.specs.List.{Contains}
 use Rattle.std.specs.List.Sorted.{IsStrictlyIncreasing}
 use Rattle.std.proofs.lemmas.Bool.{cases_lt}
@@ -51,6 +51,13 @@ rising_push list n up below k h =
     let f = get_or_push list n 0 (k + 1) (omega arith) in
     omega (arith, below (get_or list k 0) (Contains-get_or list k 0 (omega arith))))
     (cases_lt (k + 1) (length list))
+
+-- no package yet
+pub HoldsBelow-none : (P : ℕ → Type 0) (list : List ℕ) → list ≡ [] → HoldsBelow P 0 list
+HoldsBelow-none P list is = subst (HoldsBelow P 0) (sym is) (record {
+  each = λ q. (λ has. absurd (omega (arith, has.1)), λ w. absurd (omega (arith, w.0)));
+  rising = λ k h. absurd (omega (arith, h));
+})
 
 -- the next package, of which it holds
 pub HoldsBelow-yes : (P : ℕ → Type 0) (list : List ℕ) (n : ℕ) → HoldsBelow P n list → P n → HoldsBelow P (n + 1) (list ++ n ∷ [])

@@ -1,12 +1,14 @@
 -- The paths that files import, collected in a set.
-use Rattle.std.proofs.Common.{ℕ, ◌≡◌, ◌↔◌, ◌⊎◌, ◌∷◌, ◌++◌, [], List, inl, inr, ⊎_elim, ap, sym, subst, ◌∙◌, refl, Global}
+use Rattle.std.proofs.Common.{ℕ, ◌≡◌, ◌↔◌, ◌⊎◌, ◌∷◌, ◌++◌, [], List, inl, inr, ⊎_elim, ap, sym, subst, ◌∙◌, refl, Global, true, ◌||◌, length, arith}
 use Rattle.std.specs.Prelude.{Option, Some, None, Vec}
 use Rattle.std.specs.declared.cmp.Ordering.{Ordering}
 use Rattle.std.specs.declared.cmp.Ordering.TheVariants.{Less, Equal, Greater}
-use Rattle.std.specs.Ordering.{match_ordering}
+use Rattle.std.specs.Ordering.{eq_by_cmp, match_ordering}
+use Rattle.std.specs.BTreeMap.{is_at}
 use Rattle.std.specs.BTreeSet.{insert_key}
-use Rattle.std.specs.List.{Contains}
+use Rattle.std.specs.List.{Contains, list_any}
 use Rattle.std.proofs.lemmas.List.Elements.{Contains-push, Contains-push_cases, Contains-append_left, Contains-append_right, Contains-append_cases}
+use Rattle.std.proofs.lemmas.Map.Views.{Contains-from_any}
 use Rattle.std.proofs.lemmas.Option.{same_Some}
 use Rattle.gr_text.specs.Workspace.{path_cmp}
 use Rattle.gr_text.proofs.WorkspaceLaws.{path_cmp_exact}
@@ -16,6 +18,8 @@ use Rattle.gr_graph.specs.Packages.{ImportsPath}
 use Rattle.gr_graph.specs.declared.file_imports.FileImport.{FileImport}
 use Rattle.gr_graph.proofs.Collected.{HasNumber, are_imports, none_held}
 use Rattle.gr_graph.specs.ImportPaths.{bytes_of_paths, AddsPaths, HoldsPaths, SomeStandFor, StandsFor}
+use Rattle.gr_graph.proofs.PackagePaths.{exact_names}
+use Rattle.gr_graph.proofs.StayingPackages.{any_of}
 
 -- a list with one more item before it
 
@@ -157,3 +161,21 @@ imports_are file imports lists q = (
   λ s. let w = (are_imports file (q ∷ []) imports lists 0).1 (s.0, s.1.0, stands_number q s.0.path s.1.1) in
       subst (ImportsPath (source_of file)) (sym (same_Some q w.0 w.1)) w.2,
 )
+
+-- ---- whether a path is among those of a set
+looked_for : (keys : List (Vec ℕ Global)) (path : List ℕ) →
+    list_any (is_at (λ (k : Vec ℕ Global). path_cmp path k.items)) keys ≡ list_any (eq_by_cmp path_cmp path) (bytes_of_paths keys)
+looked_for [] path = refl
+looked_for (k ∷ ks) path = ap (λ b. eq_by_cmp path_cmp path k.items || b) (looked_for ks path)
+
+pub paths_among : (keys : List (Vec ℕ Global)) (path : List ℕ) → list_any (is_at (λ (k : Vec ℕ Global). path_cmp path k.items)) keys ≡ true →
+    Contains (bytes_of_paths keys) path
+paths_among keys path found = Contains-from_any exact_names path (bytes_of_paths keys) (sym (looked_for keys path) ∙ found)
+
+pub among_paths : (keys : List (Vec ℕ Global)) (path : List ℕ) → Contains (bytes_of_paths keys) path →
+    list_any (is_at (λ (k : Vec ℕ Global). path_cmp path k.items)) keys ≡ true
+among_paths keys path has = looked_for keys path ∙ any_of path (bytes_of_paths keys) has
+
+pub none_among : (keys : List (Vec ℕ Global)) (path : List ℕ) → length keys ≡ 0 → Contains (bytes_of_paths keys) path → ⊥
+none_among [] path empty has = none_held path has
+none_among (k ∷ ks) path empty has = absurd (omega (arith, empty))

@@ -18,11 +18,13 @@ pub mod ImportedPaths
 pub mod Linked
 pub mod SameFiles
 pub mod StayingPackages
-pub mod PartPackages
-pub mod PartLinks
+pub mod FoundFolders
 pub mod Asked
 pub mod ChangedPackages
 pub mod NamedFiles
 pub mod UpdatedPackages
 pub mod Told
 pub mod Below
+pub mod Shifted
+pub mod GrownLinks
+pub mod GrownGraph

@@ -4,7 +4,7 @@ use Rattle.std.proofs.Common.{arith}
 use Rattle.std.specs.List.{slice_range}
 use Rattle.std.proofs.Math.Seq.{drop-append_seam}
 use Rattle.std.proofs.lemmas.Bool.{cases_lt}
-use Rattle.std.proofs.lemmas.List.{drop-append-le, length-drop, length-take-le, take-append-drop}
+use Rattle.std.proofs.lemmas.List.{drop-append-le, length-append, length-drop, length-take-le, take-append-drop}
 use Rattle.std.proofs.lemmas.List.{take-append-le, take_all}
 use Rattle.gr_graph.specs.Imports.{Links, imports_of}
 use Rattle.gr_graph.specs.LinkRows.{rows_of, last_bound, AreBounds}
@@ -76,3 +76,15 @@ pub row_added : (bs ns row : List ℕ) → AreBounds bs ns →
 row_added bs ns row are =
     let some = are.some in
     rows_push bs ns row (last_bound bs) are.some refl are.within (λ i lt. are.rising i (length bs - 1) (omega arith) (omega arith))
+
+-- the same, told by the numbers as they stand
+pub row_ends : (bs ns new row : List ℕ) (g : Links) (end : ℕ) → AreBounds bs ns → rows_of bs ns ≡ g → new ≡ take (last_bound bs) ns ++ row → end ≡ length new →
+    rows_of (bs ++ end ∷ []) new ≡ g ++ row ∷ []
+row_ends bs ns new row g end are view is at =
+    let size = length-take-le (last_bound bs) ns are.within in
+    let long = length-append (take (last_bound bs) ns) row in
+    let same = ap length is in
+    let last : end ≡ last_bound bs + length row = omega (arith, size, long, same, at) in
+    ap (λ (l : List ℕ). rows_of (bs ++ end ∷ []) l) is
+    ∙ (ap (λ (k : ℕ). rows_of (bs ++ k ∷ []) (take (last_bound bs) ns ++ row)) last
+    ∙ (row_added bs ns row are ∙ ap (λ h. h ++ row ∷ []) view))

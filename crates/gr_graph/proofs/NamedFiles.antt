@@ -34,7 +34,7 @@ use Rattle.gr_graph.proofs.ChangedPackages.{with_path}
 use Rattle.gr_graph.proofs.Collected.{none_held}
 use Rattle.gr_graph.proofs.Filled.{path_at}
 use Rattle.gr_graph.proofs.PackagePaths.{all_there, exact_names, folder_cmp, has_inserted, one_number}
-use Rattle.gr_graph.proofs.PartPackages.{not_true}
+use Rattle.gr_graph.proofs.FoundFolders.{not_true}
 use Rattle.gr_graph.proofs.SameFiles.{one_list}
 use Rattle.gr_graph.proofs.SortedLists.{first_in, first_or_later, later_in}
 use Rattle.gr_graph.proofs.StayingPackages.{any_of}

@@ -31,13 +31,13 @@ use Rattle.gr_graph.proofs.Collected.{none_held}
 use Rattle.gr_graph.proofs.Filled.{path_at}
 use Rattle.gr_graph.proofs.NamedFiles.{is_among, path_in}
 use Rattle.gr_graph.proofs.PackagePaths.{exact_names, has_folder, one_number, paths_are}
-use Rattle.gr_graph.proofs.PartPackages.{folder_found, not_true}
+use Rattle.gr_graph.proofs.FoundFolders.{folder_found, not_true}
 use Rattle.gr_graph.proofs.SameFiles.{same_files}
 use Rattle.gr_graph.proofs.SortedLists.{first_in, first_or_later, later_in}
 use Rattle.gr_graph.proofs.StayingPackages.{any_of}
 
 -- ---- paths of packages after an edit
-paths_insert : (ps : List ParsedPackage) (i : ℕ) (x : ParsedPackage) → paths_of (insert ps i x) ≡ insert (paths_of ps) i x.path.items
+pub paths_insert : (ps : List ParsedPackage) (i : ℕ) (x : ParsedPackage) → paths_of (insert ps i x) ≡ insert (paths_of ps) i x.path.items
 paths_insert [] zero x = refl
 paths_insert [] (suc i) x = refl
 paths_insert (p ∷ ps) zero x = refl
@@ -281,6 +281,14 @@ updated_more before fresh old new k x sorted below is so puts =
     early_path q among =
         let p = with_path first q among in
         subst (Contains (paths_of (first ++ x ∷ []))) p.2 (path_in (first ++ x ∷ []) p.0 (Contains-append_left first (x ∷ []) p.0 p.1))
+
+-- just one comes
+pub updated_one : (before : List ParsedPackage) (one : ParsedPackage) (place : ℕ) → IsStrictlySortedBy path_cmp (paths_of before) →
+    IsStrictlySortedBy path_cmp (paths_of (one ∷ [])) → has_file one ≡ true → IsPlace (paths_of before) one.path.items place →
+    AreUpdated before (one ∷ []) (insert before place one)
+updated_one before one place sorted alone file stands =
+    updated_more before (one ∷ []) before (insert before place one) 0 one alone (omega arith) refl (updated_none before before sorted refl)
+    (puts_one one before before place (none_out one.path.items before place sorted stands) (insert before place one) file refl)
 
 -- ---- all of them are those of the files
 module _ (v w : Workspace) (before fresh packages : List ParsedPackage) (are : ArePackages v before) (fresh_are : AreFresh v w fresh)

@@ -1,13 +1,11 @@
 -- How packages are filled with their files.
 use Rattle.std.specs.Prelude.{◌≡◌, ℕ, List, [], ◌∷◌, ◌++◌, Some, slice_get, map}
 use Rattle.std.specs.Borrow.{Bor}
-use Rattle.std.specs.List.{Contains}
 use Rattle.std.proofs.Math.ListN.{set}
 use Rattle.gr_tree.specs.SourceFile.{FileParts}
 use Rattle.gr_graph.specs.FaultyFiles.{FaultyParts}
 use Rattle.gr_text.specs.Packages.{files_in}
 use Rattle.gr_graph.specs.Parsed.{AreParsed}
-use Rattle.gr_graph.specs.Graphs.{paths_of}
 use Rattle.gr_graph.specs.declared.package.ParsedPackage.{ParsedPackage}
 use Rattle.gr_graph.specs.declared.parsed.ParsedFile.{ParsedFile}
 use Rattle.gr_graph.specs.declared.parsed.ParsedFile.TheVariants.{Sound, Faulty}
@@ -29,8 +27,8 @@ pub record AddsFile (number : ℕ) (file : ParsedFile) (old new : List ParsedPac
   pub with_file : IsWithFile file before after
   pub new_is : new ≡ set old number after
 
--- A package whose path is not among those of the packages that stay has, with the files that are left, all its files.
-abbrev pub AreFilled : List ParsedPackage → List (List ℕ × List ℕ) → List (List ℕ × List ℕ) → List ParsedPackage → Type 0
-AreFilled staying all left packages = (i : ℕ) (p : ParsedPackage) → slice_get packages i ≡ Some p → (Contains (paths_of staying) p.path.items → ⊥)
+-- with the files that are left, each package has all its files
+abbrev pub AreFilled : List (List ℕ × List ℕ) → List (List ℕ × List ℕ) → List ParsedPackage → Type 0
+AreFilled all left packages = (i : ℕ) (p : ParsedPackage) → slice_get packages i ≡ Some p
     → (ts : List FileParts) (fs : List FaultyParts) → AreParsed (files_in p.path.items left) ts fs
     → AreParsed (files_in p.path.items all) (p.trees.items ++ ts) (p.faulty.items ++ fs)

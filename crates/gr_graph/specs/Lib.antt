@@ -17,6 +17,7 @@ pub mod Staying
 pub mod NamedFiles
 pub mod Changed
 pub mod Updated
-pub mod Parts
 pub mod Reaching
 pub mod Orders
+pub mod Shifts
+pub mod Growth

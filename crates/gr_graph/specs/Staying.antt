@@ -1,12 +1,11 @@
 -- Which packages stay as they were when files change.
-use Rattle.std.specs.Prelude.{◌≡◌, ℕ, ◌⊎◌, true, false, List}
+use Rattle.std.specs.Prelude.{◌≡◌, ℕ, true, List}
 use Rattle.std.specs.FinMap as files
 use Rattle.std.specs.List.{Contains}
 use Rattle.gr_text.specs.Path.{folder}
 use Rattle.gr_text.specs.Packages.{is_go, package_files}
 use Rattle.gr_text.specs.Workspace.{Workspace}
 use Rattle.gr_graph.specs.Parsed.{AreParsed}
-use Rattle.gr_graph.specs.Graphs.{paths_of}
 use Rattle.gr_graph.specs.declared.package.ParsedPackage.{ParsedPackage}
 
 -- a Go file whose folder is not among these has the same text before and after, or is in neither
@@ -20,11 +19,3 @@ DiffersOnlyAt paths before after = (path : List ℕ) → is_go path ≡ true →
 -- the package has the files of its folder, parsed
 abbrev pub HasFiles : Workspace → ParsedPackage → Type 0
 HasFiles w p = AreParsed (package_files w p.path.items) p.trees.items p.faulty.items
-
--- a Go file of none of the packages
-abbrev pub IsOfNone : List ParsedPackage → List ℕ → Type 0
-IsOfNone packages path = (is_go path ≡ true) × (Contains (paths_of packages) (folder path) → ⊥)
-
--- no Go file, or one of the packages has its folder
-abbrev pub IsOfOne : List ParsedPackage → List ℕ → Type 0
-IsOfOne packages path = (is_go path ≡ false) ⊎ Contains (paths_of packages) (folder path)

@@ -12,23 +12,12 @@ ghost use Rattle.gr_graph.specs.Staying.{DiffersOnlyAt};
 use crate::import_links::ImportLinks;
 use crate::named_files::{files_at, folders_of, reset_paths};
 use crate::package::ParsedPackage;
-use crate::packages::{filled, packages_at};
+use crate::packages::{filled, packages_at, shared};
 use crate::rows::fill_row;
 use crate::shared_package::{SharedPackage, number_of};
 use gr_text::{Files, Path};
 use std::alloc::{AllocError, Global};
 use std::collections::BTreeSet;
-
-/// Packages that no longer change.
-fn shared(alloc: Global, drafts: Vec<ParsedPackage>) -> Result<Vec<SharedPackage>, AllocError>
-    ensures { IfOk result (λ packages. packages.items ≡ drafts.items) }
-{
-    let mut packages = Vec::new(alloc);
-    for draft in drafts {
-        packages.push(SharedPackage::new(alloc, draft)?)?;
-    }
-    Ok(packages)
-}
 
 /// The packages of files at some folders, which have no file where a folder has no Go file. What is among the packages before is not
 /// parsed again.
@@ -41,9 +30,8 @@ fn packages_of(
     requires { IsStrictlySortedBy path_cmp (paths_of before.now) }
     ensures { IfOk result (λ fresh. AreOfFolders (names folders.now.keys) files.now fresh.items) }
 {
-    let none = Vec::new(alloc);
     let empty = packages_at(alloc, folders)?;
-    let drafts = filled(alloc, before, &none, empty, files)?;
+    let drafts = filled(alloc, before, empty, files)?;
     shared(alloc, drafts)
 }
 

@@ -1,34 +1,36 @@
 //! The graph of a workspace: its packages with their parsed files, and which imports which.
-ghost use Rattle.std.specs.Prelude.{◌≡◌, ◌<◌, ℕ, length, IfOk, OnOk, MatchOption, Some, slice_get};
+ghost use Rattle.std.specs.Prelude.{◌≡◌, ◌<◌, ℕ, [], ◌∷◌, true, length, IfOk, OnOk, MatchOption, Some, slice_get};
 ghost use Rattle.std.specs.List.{All, Contains};
 ghost use Rattle.std.specs.List.Sorted.{IsStrictlyIncreasing};
 ghost use Rattle.gr_graph.specs.Imports.{imports_of};
 ghost use Rattle.gr_text.specs.Packages.{package_paths};
 ghost use Rattle.gr_graph.specs.Packages.{PackageImports, IsInClosure, AreLinksOf};
-ghost use Rattle.gr_graph.specs.Changed.{KeepsPath};
+ghost use Rattle.gr_graph.specs.Changed.{KeepsPath, has_file};
 ghost use Rattle.gr_graph.specs.Filling.{names};
-ghost use Rattle.gr_graph.specs.Parts.{HasFilesOf};
 ghost use Rattle.gr_graph.specs.Reaching.{AreBackMarks, AreMarkedAbove, BuildsOn, MarkImporting, MarkReaching, MarksAbove};
 ghost use Rattle.gr_graph.specs.Staying.{DiffersOnlyAt, DiffersOnlyIn, HasFiles};
 ghost use Rattle.gr_graph.specs.declared.package.ParsedPackage.{ParsedPackage};
+ghost use Rattle.gr_graph.specs.NamedFiles.{AreFresh};
+ghost use Rattle.gr_graph.specs.Updated.{IsPlace};
 ghost use Rattle.gr_graph.specs.Graphs.{
   paths_of,
+  IsGraph,
   IsPackage,
   OfPackage,
   HoldsPackages,
 };
 
 use crate::changed::{folder_packages, keep_paths, keep_rows, replaced};
+use crate::grown::{Grown, grown_links};
 use crate::import_links::ImportLinks;
 use crate::package::ParsedPackage;
 use crate::package_list::PackageList;
 use crate::packages::packages;
 use crate::packages_below::PackagesBelow;
-use crate::part::{numbered, part_links};
 use crate::rows::{EarlierGraph, rows};
 use crate::shared_links::SharedLinks;
 use crate::shared_package::{SharedPackage, number_of};
-use crate::updated::updated;
+use crate::updated::{Coming, one_that_comes, updated, with_coming};
 use gr_text::{Files, Path};
 use std::alloc::{AllocError, Global};
 use std::marker::Model;
@@ -98,7 +100,7 @@ impl Graph {
         ensures { IfOk result (λ graph. graph ≡ files) }
     {
         let none = Vec::new(alloc);
-        let packages = packages(alloc, &none, &none, &files)?;
+        let packages = packages(alloc, &none, &files)?;
         Graph::made(alloc, None, files, packages)
     }
 
@@ -118,8 +120,55 @@ impl Graph {
         if keep_paths(&old.packages, &fresh) {
             return Graph::replaced(alloc, before, &fresh, files);
         }
+        if let Some(coming) = one_that_comes(&old.packages, &fresh) {
+            return Graph::grown(alloc, before, coming, files);
+        }
         let packages = updated(&old.packages, &fresh)?;
         Graph::made(alloc, Some(old), files, packages)
+    }
+
+    /// The graph of other files, by the package of the only folder in which Go files differ, where this package comes.
+    fn grown(
+        alloc: Global,
+        before: &Graph,
+        coming: Coming<'_>,
+        files: Files,
+    ) -> Result<Graph, AllocError>
+        requires fresh { AreFresh before.now files (coming.one.now ∷ []) }
+        requires file { has_file coming.one.now ≡ true }
+        requires stands { IsPlace (package_paths before.now) coming.one.now.path.items coming.place }
+        ensures { IfOk result (λ graph. graph ≡ files) }
+    {
+        let old: &Parts = &before.parts;
+        let packages = with_coming(&old.packages, coming)?;
+        let grown = Grown {
+            packages: &packages,
+            links: old.links.links(),
+            place: coming.place,
+        };
+        let links = grown_links(alloc, grown)?;
+        Graph::joined(alloc, files, packages, links)
+    }
+
+    /// The graph of some files from their packages and the links of these.
+    fn joined(
+        alloc: Global,
+        files: Files,
+        packages: Vec<SharedPackage>,
+        links: ImportLinks,
+    ) -> Result<Graph, AllocError>
+        requires { IsGraph files packages.items links }
+        ensures { IfOk result (λ graph. graph ≡ files) }
+    {
+        let links = SharedLinks::new(alloc, links)?;
+        let parts = Parts {
+            files,
+            packages,
+            links,
+        };
+        Ok(Graph {
+            parts: Arc::new(alloc, parts)?,
+        })
     }
 
     /// The graph of other files, by the packages of the folders in which Go files differ, where no package comes and none goes.
@@ -140,33 +189,6 @@ impl Graph {
             return Graph::made(alloc, Some(old), files, packages);
         }
         let links = old.links.clone()?;
-        let parts = Parts {
-            files,
-            packages,
-            links,
-        };
-        Ok(Graph {
-            parts: Arc::new(alloc, parts)?,
-        })
-    }
-
-    /// The graph of a part of a workspace: its Go files are exactly those of the packages with some numbers. All packages are
-    /// shared, so no text is looked at and nothing is parsed, and which imports which is told by the numbers.
-    pub fn part(
-        alloc: Global,
-        whole: &Graph,
-        numbers: &[usize],
-        files: Files,
-    ) -> Result<Graph, AllocError>
-        requires numbers { All (λ number. number < length (package_paths whole.now)) numbers.now }
-        requires rising { IsStrictlyIncreasing numbers.now }
-        requires files { HasFilesOf whole.now numbers.now files }
-        ensures { IfOk result (λ graph. graph ≡ files) }
-    {
-        let whole = &whole.parts;
-        let packages = numbered(alloc, &whole.packages, numbers)?;
-        let rows = part_links(alloc, whole.links.links(), numbers)?;
-        let links = SharedLinks::of(alloc, Some(&whole.links), rows)?;
         let parts = Parts {
             files,
             packages,

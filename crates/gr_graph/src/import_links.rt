@@ -6,6 +6,7 @@ ghost use Rattle.gr_graph.specs.Orders.{IsOrder};
 ghost use Rattle.gr_graph.specs.Imports.{
   AreLinked,
   AreImporters,
+  HoldImporters,
   Imports,
   IsClosure,
   imports_of,
@@ -48,6 +49,15 @@ impl ImportLinks {
     {
         let importers = importers(alloc, &imports)?;
         Ok(ImportLinks { imports, importers })
+    }
+
+    /// Those of which it is known who imports each.
+    pub(crate) fn with_importers(imports: LinkRows, importers: LinkRows) -> ImportLinks
+        requires linked { AreLinked imports }
+        requires importers { HoldImporters imports (length imports) importers }
+        ensures { result ≡ imports }
+    {
+        ImportLinks { imports, importers }
     }
 
     /// How many packages there are.

@@ -1,7 +1,9 @@
 //! Links in two lists: the rows of all packages one behind another, and where each ends.
-ghost use Rattle.std.specs.Prelude.{◌≡◌, ◌<◌, ◌≤◌, ◌+◌, ◌++◌, [], ◌∷◌, length, slice_index_or, slice_range, IfOk, IsTrue, OnOk};
+ghost use Rattle.std.specs.Prelude.{◌≡◌, ◌<◌, ◌≤◌, ◌+◌, ◌^◌, ◌++◌, [], ◌∷◌, length, slice_index_or, slice_range, IfOk, IsTrue, OnOk};
+ghost use Rattle.std.specs.List.{All, insert};
 ghost use Rattle.gr_graph.specs.Imports.{imports_of};
 ghost use Rattle.gr_graph.specs.LinkRows.{last_bound};
+ghost use Rattle.gr_graph.specs.Shifts.{row_shifted, shifted};
 
 use std::alloc::{AllocError, Global};
 use std::marker::Model;
@@ -48,6 +50,55 @@ fn are_same(one: &[usize], other: &[usize]) -> bool
     one == other
 }
 
+/// Adds numbers at the end.
+fn push_all(numbers: &mut Vec<usize>, row: &[usize]) -> Result<(), AllocError>
+    ensures longer { length numbers.old.items ≤ length numbers.new.items }
+    ensures added { OnOk result (numbers.new.items ≡ numbers.old.items ++ row.now) }
+{
+    for number in row {
+        numbers.push(*number)?;
+    }
+    Ok(())
+}
+
+/// The number, after one came at a place, of what had a number before.
+fn shifted(number: usize, place: usize) -> usize
+    requires { number + 1 < 2 ^ 64 }
+    ensures { result ≡ shifted place number }
+{
+    if number < place { number } else { number + 1 }
+}
+
+/// Adds numbers at the end as they are after one came at a place.
+fn push_shifted(numbers: &mut Vec<usize>, row: &[usize], place: usize) -> Result<(), AllocError>
+    requires { All (λ number. number + 1 < 2 ^ 64) row.now }
+    ensures longer { length numbers.old.items ≤ length numbers.new.items }
+    ensures added { OnOk result (numbers.new.items ≡ numbers.old.items ++ row_shifted place row.now) }
+{
+    for number in row {
+        numbers.push(shifted(*number, place))?;
+    }
+    Ok(())
+}
+
+/// The same, and the place itself behind some of them.
+fn push_shifted_around(
+    numbers: &mut Vec<usize>,
+    row: &[usize],
+    place: usize,
+    below: usize,
+) -> Result<(), AllocError>
+    requires below { below ≤ length row.now }
+    requires small { All (λ number. number + 1 < 2 ^ 64) row.now }
+    ensures longer { length numbers.old.items ≤ length numbers.new.items }
+    ensures added { OnOk result (numbers.new.items ≡ numbers.old.items ++ insert (row_shifted place row.now) below place) }
+{
+    let (first, rest) = row.split_at(below);
+    push_shifted(numbers, first, place)?;
+    numbers.push(place)?;
+    push_shifted(numbers, rest, place)
+}
+
 impl LinkRows {
     /// No row, with room for the bounds of some.
     pub(crate) fn with_capacity(alloc: Global, count: usize) -> Result<LinkRows, AllocError>
@@ -81,7 +132,35 @@ impl LinkRows {
         ensures { OnOk result (self.new ≡ self.old ++ row.now ∷ []) }
     {
         self.numbers.truncate(last_of(&self.bounds));
-        self.numbers.extend_from_slice(row)?;
+        push_all(&mut self.numbers, row)?;
+        self.bounds.push(self.numbers.len())?;
+        Ok(())
+    }
+
+    /// Adds a row as it is after one came at a place.
+    pub(crate) fn add_shifted(&mut self, row: &[usize], place: usize) -> Result<(), AllocError>
+        requires { All (λ number. number + 1 < 2 ^ 64) row.now }
+        ensures { OnOk result (self.new ≡ self.old ++ row_shifted place row.now ∷ []) }
+    {
+        self.numbers.truncate(last_of(&self.bounds));
+        push_shifted(&mut self.numbers, row, place)?;
+        self.bounds.push(self.numbers.len())?;
+        Ok(())
+    }
+
+    /// The same, and the place itself behind some of its numbers.
+    pub(crate) fn add_shifted_around(
+        &mut self,
+        row: &[usize],
+        place: usize,
+        below: usize,
+    ) -> Result<(), AllocError>
+        requires below { below ≤ length row.now }
+        requires small { All (λ number. number + 1 < 2 ^ 64) row.now }
+        ensures { OnOk result (self.new ≡ self.old ++ insert (row_shifted place row.now) below place ∷ []) }
+    {
+        self.numbers.truncate(last_of(&self.bounds));
+        push_shifted_around(&mut self.numbers, row, place, below)?;
         self.bounds.push(self.numbers.len())?;
         Ok(())
     }

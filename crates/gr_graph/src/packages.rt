@@ -1,19 +1,19 @@
 //! The packages of a workspace with their files, parsed.
-ghost use Rattle.std.specs.Prelude.{◌≡◌, ◌<◌, ℕ, vec_len, IfOk, OnOk, Some, slice_get, MatchBool};
+ghost use Rattle.std.specs.Prelude.{◌≡◌, ◌<◌, ℕ, vec_len, IfOk, OnOk, Some, slice_get};
 ghost use Rattle.std.specs.List.Sorted.{IsStrictlySortedBy};
-ghost use Rattle.gr_text.specs.Workspace.{path_cmp, Workspace};
+ghost use Rattle.gr_text.specs.Workspace.{path_cmp};
 ghost use Rattle.gr_text.specs.Packages.{package_paths};
-ghost use Rattle.gr_graph.specs.Staying.{HasFiles, IsOfNone, IsOfOne};
+ghost use Rattle.gr_graph.specs.Staying.{HasFiles};
 ghost use Rattle.gr_graph.specs.Filling.{AddsFile, names};
 ghost use Rattle.gr_graph.specs.Graphs.{paths_of, IsEmpty};
 ghost use Rattle.gr_graph.specs.declared.package.ParsedPackage.{ParsedPackage};
-ghost use Rattle.std.specs.List.{All, Contains};
+ghost use Rattle.std.specs.List.{All};
 
 use crate::kept::parse_unless_kept;
 use crate::package::{ParsedPackage, draft_number};
 use crate::parsed::ParsedFile;
-use crate::shared_package::{SharedPackage, number_of};
-use gr_text::{Files, Path};
+use crate::shared_package::SharedPackage;
+use gr_text::Files;
 use std::alloc::{AllocError, Global};
 use std::collections::BTreeSet;
 
@@ -72,33 +72,23 @@ fn add_file(
     }
 }
 
-/// Whether a file is a Go file of none of some packages.
-fn is_of_none(packages: &[SharedPackage], path: &Path) -> bool
-    requires { IsStrictlySortedBy path_cmp (paths_of packages.now) }
-    ensures { MatchBool result (IsOfNone packages.now path.now) (IsOfOne packages.now path.now) }
-{
-    path.is_go() && number_of(packages, path.folder()).is_none()
-}
-
-/// Fills packages that have no file yet with the files that are in their folders, but only those that do not stay. What is among the
-/// packages before is not parsed again.
+/// Fills packages that have no file yet with the files that are in their folders. What is among the packages before is not parsed
+/// again.
 pub(crate) fn filled(
     alloc: Global,
     before: &[SharedPackage],
-    staying: &[SharedPackage],
     empty: Vec<ParsedPackage>,
     files: &Files,
 ) -> Result<Vec<ParsedPackage>, AllocError>
     requires before { IsStrictlySortedBy path_cmp (paths_of before.now) }
-    requires staying { IsStrictlySortedBy path_cmp (paths_of staying.now) }
     requires paths { IsStrictlySortedBy path_cmp (paths_of empty.items) }
     requires empty { All IsEmpty empty.items }
     ensures paths { IfOk result (λ filled. paths_of filled.items ≡ paths_of empty.items) }
-    ensures files { IfOk result (λ filled. (i : ℕ) (p : ParsedPackage) → slice_get filled.items i ≡ Some p → (Contains (paths_of staying.now) p.path.items → ⊥) → HasFiles files.now p) }
+    ensures files { IfOk result (λ filled. (i : ℕ) (p : ParsedPackage) → slice_get filled.items i ≡ Some p → HasFiles files.now p) }
 {
     let mut drafts = empty;
     for (path, text) in files.iter() {
-        if is_of_none(staying, path) {
+        if path.is_go() {
             if let Some(number) = draft_number(&drafts, path.folder()) {
                 let file = parse_unless_kept(alloc, before, path, text)?;
                 add_file(&mut drafts, number, file)?;
@@ -108,39 +98,31 @@ pub(crate) fn filled(
     Ok(drafts)
 }
 
-/// The package that stays, if one has the path of the draft, and otherwise the draft.
-fn staying_or(
+/// Packages that no longer change.
+pub(crate) fn shared(
     alloc: Global,
-    staying: &[SharedPackage],
-    draft: ParsedPackage,
-) -> Result<SharedPackage, AllocError>
-    requires { IsStrictlySortedBy path_cmp (paths_of staying.now) }
-    ensures path { IfOk result (λ shared. shared.path.items ≡ draft.path.items) }
-    ensures files { IfOk result (λ shared. (w : Workspace) → All (HasFiles w) staying.now → ((Contains (paths_of staying.now) draft.path.items → ⊥) → HasFiles w draft) → HasFiles w shared) }
+    drafts: Vec<ParsedPackage>,
+) -> Result<Vec<SharedPackage>, AllocError>
+    ensures { IfOk result (λ packages. packages.items ≡ drafts.items) }
 {
-    match number_of(staying, &draft.path) {
-        Some(number) => staying[number].clone(),
-        None => SharedPackage::new(alloc, draft),
+    let mut packages = Vec::new(alloc);
+    for draft in drafts {
+        packages.push(SharedPackage::new(alloc, draft)?)?;
     }
+    Ok(packages)
 }
 
-/// The packages of some files. Those that stay are shared, and what is among the packages before is not parsed again.
+/// The packages of some files. What is among the packages before is not parsed again.
 pub(crate) fn packages(
     alloc: Global,
     before: &[SharedPackage],
-    staying: &[SharedPackage],
     files: &Files,
 ) -> Result<Vec<SharedPackage>, AllocError>
-    requires before { IsStrictlySortedBy path_cmp (paths_of before.now) }
-    requires staying { IsStrictlySortedBy path_cmp (paths_of staying.now) }
-    requires files { All (HasFiles files.now) staying.now }
+    requires { IsStrictlySortedBy path_cmp (paths_of before.now) }
     ensures paths { IfOk result (λ packages. paths_of packages.items ≡ package_paths files.now) }
     ensures files { IfOk result (λ packages. (i : ℕ) (p : ParsedPackage) → slice_get packages.items i ≡ Some p → HasFiles files.now p) }
 {
-    let mut packages = Vec::new(alloc);
     let empty = empty_packages(alloc, files)?;
-    for draft in filled(alloc, before, staying, empty, files)? {
-        packages.push(staying_or(alloc, staying, draft)?)?;
-    }
-    Ok(packages)
+    let drafts = filled(alloc, before, empty, files)?;
+    shared(alloc, drafts)
 }

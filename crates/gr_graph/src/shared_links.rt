@@ -39,6 +39,12 @@ impl SharedLinks {
             }
         }
         let links = ImportLinks::new(alloc, rows)?;
+        SharedLinks::new(alloc, links)
+    }
+
+    pub(crate) fn new(alloc: Global, links: ImportLinks) -> Result<SharedLinks, AllocError>
+        ensures { IfOk result (λ shared. shared ≡ links) }
+    {
         let links = Arc::new(alloc, links)?;
         Ok(SharedLinks { links })
     }

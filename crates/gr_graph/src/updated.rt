@@ -1,8 +1,10 @@
 //! The packages after files changed: at some paths others than before, which come, or go where they have no file.
-ghost use Rattle.std.specs.Prelude.{◌≡◌, IfOk, OnOk, Some, slice_get, MatchResult};
+ghost use Rattle.std.specs.Prelude.{◌≡◌, ◌≤◌, IfOk, IfSome, OnOk, Some, length, slice_get, MatchResult};
+ghost use Rattle.std.specs.List.{insert};
 ghost use Rattle.std.specs.List.Sorted.{IsStrictlySortedBy};
 ghost use Rattle.gr_text.specs.Workspace.{path_cmp};
 ghost use Rattle.gr_graph.specs.Graphs.{paths_of};
+ghost use Rattle.gr_graph.specs.Growth.{ComesAlone};
 ghost use Rattle.gr_graph.specs.Updated.{AreUpdated, IsPlace, Puts, TakesOut};
 
 use crate::changed::has_file;
@@ -57,5 +59,46 @@ pub(crate) fn updated(
     for one in fresh {
         put(&mut packages, one)?;
     }
+    Ok(packages)
+}
+
+/// A package that comes among others, and the place where it stands among them.
+#[derive(Clone, Copy)]
+pub(crate) struct Coming<'a> {
+    pub(crate) one: &'a SharedPackage,
+    pub(crate) place: usize,
+}
+
+/// The only one of some packages, if it has a file and none before has its path.
+pub(crate) fn one_that_comes<'a>(
+    before: &[SharedPackage],
+    fresh: &'a [SharedPackage],
+) -> Option<Coming<'a>>
+    requires { IsStrictlySortedBy path_cmp (paths_of before.now) }
+    ensures { IfSome result (λ coming. ComesAlone before.now fresh.now coming.one.now coming.place) }
+{
+    if fresh.len() != 1 {
+        return None;
+    }
+    let one = &fresh[0];
+    if !has_file(one.package()) {
+        return None;
+    }
+    match place_of(before, one.path()) {
+        Ok(_) => None,
+        Err(place) => Some(Coming { one, place }),
+    }
+}
+
+/// The packages before, and the one that comes.
+pub(crate) fn with_coming(
+    before: &Vec<SharedPackage>,
+    coming: Coming<'_>,
+) -> Result<Vec<SharedPackage>, AllocError>
+    requires { coming.place ≤ length before.now.items }
+    ensures { IfOk result (λ packages. packages.items ≡ insert before.now.items coming.entry.place coming.entry.one.now) }
+{
+    let mut packages = before.clone()?;
+    packages.insert(coming.place, coming.one.clone()?)?;
     Ok(packages)
 }

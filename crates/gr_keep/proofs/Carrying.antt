@@ -13,7 +13,7 @@ use Rattle.gr_graph.proofs.Asked.{number, at_contains}
 use Rattle.gr_verdict.specs.Closures.{HasSameClosure}
 use Rattle.gr_verdict.proofs.Local.{same_back}
 use Rattle.gr_compile.specs.declared.unit.Unit.{Unit as PackageUnit}
-use Rattle.gr_finished.specs.Finished.{Table, IsFinished}
+use Rattle.gr_finished.specs.Finished.{Table, HasNone, IsFinished}
 use Rattle.gr_finished.proofs.FinishedUnits.{unit_at}
 use Rattle.gr_keep.specs.Carried.{IsCarried}
 use Rattle.gr_finished.specs.Changes.{AreMarks, KeepsUnit}
@@ -55,6 +55,17 @@ module _ (v : Workspace) (old : Table) (w : Workspace) (p : List ℕ) where
       λ is. ((n, at, subst (λ u. slice_get old n ≡ Some (Some u)) (same_Some unit other is) has), same p at),
       λ both. sym (same_Some _ _ (sym (unit_at v old p other n at both.0) ∙ has)),
     )
+
+-- ---- where none is finished before, none is afterwards
+pub carried_none : (v : Workspace) (old : Table) (w : Workspace) (new : Table) → HasNone old → length new ≡ length (package_paths w) → HasNone new →
+    IsCarried v old w new
+carried_none v old w new none size empty = record {
+  size = size;
+  each = λ p unit. (
+    λ finished. absurd (empty finished.0 unit finished.2),
+    λ both. absurd (none both.0.0 unit both.0.2),
+  );
+}
 
 -- ---- one package after another
 pub record AreKept (v : Workspace) (old : Table) (w : Workspace) (count : ℕ) (units : Table) : Type 0 where

@@ -1,9 +1,11 @@
 //! The finished units that a change carries over: those of the packages whose closure holds no changed package.
 ghost use Rattle.std.specs.Prelude.{◌<◌, IfOk, length};
 ghost use Rattle.gr_text.specs.Packages.{package_paths};
+ghost use Rattle.gr_text.specs.Workspace.{Workspace};
 ghost use Rattle.gr_graph.specs.Graphs.{OfPackage};
 ghost use Rattle.gr_keep.specs.Carried.{IsCarried, TellsKept};
 ghost use Rattle.gr_finished.specs.Changes.{AreMarks, KeepsUnit};
+ghost use Rattle.gr_finished.specs.Finished.{HasNone};
 
 use crate::changes::Marks;
 use crate::near::number_near;
@@ -41,9 +43,6 @@ fn kept_unit(
     requires after_marks { AreMarks after.now before.now marks.now.after.items }
     ensures { IfOk result (λ found. OfPackage after.now number (λ p. KeepsUnit before.now finished.now after.now p found)) }
 {
-    if finished.is_empty() {
-        return Ok(None);
-    }
     let path = &after.package(number).path;
     let Some(old) = number_near(before, path, number, after.len()) else {
         return Ok(None);
@@ -58,6 +57,19 @@ fn kept_unit(
     Ok(Some(unit))
 }
 
+/// The table after a change where no package is finished before it, in whatever workspace: none is.
+pub(crate) fn none_carried(
+    alloc: Global,
+    finished: &Finished,
+    after: &Graph,
+) -> Result<Finished, AllocError>
+    requires { HasNone finished.now }
+    ensures { IfOk result (λ table. (before : Workspace) → IsCarried before finished.now after.now table) }
+{
+    let table = finished.unfinished(alloc, after.len())?;
+    Ok(table)
+}
+
 /// The table of finished units that a change carries over. Nothing is built for it.
 pub fn carried_units(
     alloc: Global,
@@ -70,6 +82,9 @@ pub fn carried_units(
     requires after_marks { AreMarks after.now before.now marks.now.after.items }
     ensures { IfOk result (λ table. IsCarried before.now finished.now after.now table) }
 {
+    if finished.is_empty() {
+        return none_carried(alloc, finished, after);
+    }
     let mut units = SharedList::new(alloc);
     for number in 0..after.len() {
         let unit = kept_unit(before, finished, after, number, marks)?;

@@ -6,13 +6,15 @@ ghost use Rattle.gr_graph.specs.Graphs.{OfPackage};
 ghost use Rattle.gr_verdict.specs.Found.{KnowsVerdicts};
 ghost use Rattle.gr_verdict.specs.Told.{MayTell};
 ghost use Rattle.gr_finished.specs.Changes.{AreMarks};
+ghost use Rattle.gr_finished.specs.Finished.{HasNone};
+ghost use Rattle.gr_keep.specs.Carried.{IsCarried};
 
-use crate::carried::keeps_texts;
+use crate::carried::{keeps_texts, none_carried};
 use crate::changes::Marks;
 use crate::near::number_near;
-use gr_finished::SharedKnown;
+use gr_finished::Finished;
 use gr_graph::Graph;
-use gr_verdict::{Known, KnownVerdict};
+use gr_verdict::{Known, KnownVerdict, SharedKnown};
 use std::alloc::{AllocError, Global};
 
 /// The verdict on a package after a change, if it is known before and the closure stays.
@@ -126,4 +128,21 @@ pub fn known_after(
     ensures { IfOk result (KnowsVerdicts after.now) }
 {
     kept_verdicts(alloc, before, known, after, marks)
+}
+
+/// What a change carries over where no package is finished before it, and nothing need be known: nothing. So it need not be marked.
+pub fn nothing_carried(
+    alloc: Global,
+    finished: &Finished,
+    known: &Known,
+    after: &Graph,
+) -> Result<(Finished, SharedKnown), AllocError>
+    requires { HasNone finished.now }
+    ensures units { IfOk result (λ carried. (before : Workspace) → IsCarried before finished.now after.now carried.0) }
+    ensures known { IfOk result (λ carried. KnowsVerdicts after.now carried.1) }
+{
+    let units = none_carried(alloc, finished, after)?;
+    let nothing = still_nothing(alloc, known)?;
+    let shared = SharedKnown::new(alloc, nothing)?;
+    Ok((units, shared))
 }

@@ -8,5 +8,5 @@ mod near;
 
 pub use carried::{carried_units, keeps_texts};
 pub use changes::{Marks, closure_marks};
-pub use knowing::{kept, known_after};
+pub use knowing::{kept, known_after, nothing_carried};
 pub use near::number_near;

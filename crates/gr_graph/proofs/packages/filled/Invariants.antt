@@ -1,4 +1,4 @@
--- With the files that are left each package that does not stay has all its files.
+-- With the files that are left each package has all its files.
 use Rattle.std.proofs.Common.{◌≡◌}
 use Rattle.std.specs.FinMap as map
 use Rattle.gr_graph.specs.Filling.{AreFilled}
@@ -8,5 +8,5 @@ use Rattle.gr_graph.proofs.packages.filled.Given as goal
 abbrev pub invariant-loop-path : goal.invariant-loop-path
 invariant-loop-path l = record {
   paths : paths_of l.drafts.items ≡ paths_of l.fn.empty.items;
-  filled : AreFilled l.staying (map.entries l.files) l.path-iterator l.drafts.items;
+  filled : AreFilled (map.entries l.files) l.path-iterator l.drafts.items;
 }

@@ -1,10 +1,7 @@
--- One more package, and all of them at the end.
-use Rattle.std.proofs.Common.{◌≡◌, ℕ, List, [], ◌∷◌, ◌++◌, length, Some, slice_get, ap, sym, subst, ◌∙◌}
-use Rattle.std.proofs.lemmas.Iterator.Adapters.{YieldsList-from_vec}
-use Rattle.std.proofs.lemmas.Iterator.Consumers.{YieldsList-turn, YieldsList-end}
-use Rattle.std.proofs.lemmas.List.{map_push, map-id}
-use Rattle.std.proofs.lemmas.List.Elements.{All-push}
-use Rattle.std.proofs.lemmas.Option.{slice_get-get_or, slice_get_within, get_or_from_slice_get}
+-- The drafts are filled, and shared.
+use Rattle.std.proofs.Common.{◌≡◌, ℕ, List, Some, slice_get, ap, sym, subst, ◌∙◌}
+use Rattle.std.proofs.lemmas.Result.{IfOk-weaker}
+use Rattle.gr_text.specs.Packages.{package_paths}
 use Rattle.gr_graph.specs.Graphs.{paths_of}
 use Rattle.gr_graph.specs.Staying.{HasFiles}
 use Rattle.gr_graph.specs.declared.package.ParsedPackage.{ParsedPackage}
@@ -14,36 +11,17 @@ use Rattle.gr_graph.proofs.packages.packages.Goals as goal
 pub filled-requires-clause-paths : goal.filled-requires-clause-paths
 filled-requires-clause-paths c = rw c.in_ok-empty.ensures.paths (paths_sorted c.args.files.now)
 
-pub loop-draft-preserved : goal.loop-draft-preserved
-loop-draft-preserved c =
-    let drafts = c.in_ok-draft-items.draft-items.items in
-    let passed = c.loop-draft.yielded in
-    let draft = c.in-Some.draft in
-    let begun = c.into_iter-draft-iterator.ensures.into_iter_gives in
-    let gives = YieldsList-from_vec {s = c.into_iter-draft-iterator.result} drafts begun.0 (begun.1 ∙ c.in_ok-draft-items.draft-items.ok.0) in
-    let turn = YieldsList-turn gives passed c.loop-draft.draft-iterator c.loop-draft.yielded_by c.next.result c.next.new.self draft c.in-Some.is
-    c.next.ensures.steps in
-    let at : slice_get drafts (length passed) ≡ Some draft = slice_get-get_or drafts (length passed) draft turn.0 ∙ ap Some (sym turn.1) in
-    let new : ParsedPackage = c.in_ok-staying_or.field-0 in
-    let old = c.loop-draft.packages.items in
-    let path : ParsedPackage → List ℕ = λ p. p.path.items in
-    rw c.in_ok-push.ensures.items (record {
-      paths = map_push path old new ∙ ap (λ (l : List (List ℕ)). l ++ path new ∷ []) c.loop-draft.invariant.paths
-          ∙ ap (λ (q : List ℕ). paths_of passed ++ q ∷ []) c.in_ok-staying_or.ensures.path ∙ sym (map_push path passed draft);
-      files = All-push (HasFiles c.args.files.now) old new c.loop-draft.invariant.files
-          (c.in_ok-staying_or.ensures.files c.args.files.now c.requires.files (λ apart. c.in_ok-draft-items.ensures.files (length passed) draft at apart));
-    })
+pub returns-clause-paths : goal.returns-clause-paths
+returns-clause-paths c =
+    let drafts = c.in_ok-drafts.drafts.items in
+    IfOk-weaker c.shared.result (λ packages. packages.items ≡ drafts) (λ packages. paths_of packages.items ≡ package_paths c.args.files.now)
+    (λ packages is. ap paths_of is ∙ c.in_ok-drafts.ensures.paths ∙ c.in_ok-empty.ensures.paths) c.shared.ensures
 
-pub returns : goal.returns
-returns c =
-    let drafts = c.in_ok-draft-items.draft-items.items in
-    let passed = c.loop-draft.yielded in
-    let begun = c.into_iter-draft-iterator.ensures.into_iter_gives in
-    let gives = YieldsList-from_vec {s = c.into_iter-draft-iterator.result} drafts begun.0 (begun.1 ∙ c.in_ok-draft-items.draft-items.ok.0) in
-    let end = YieldsList-end gives passed c.loop-draft.draft-iterator c.loop-draft.yielded_by c.next.result c.next.new.self c.in-None.is c.next.ensures.steps in
-    let all : passed ≡ drafts = sym (map-id passed) ∙ end.0 in
-    let new = c.loop-draft.packages.items in
-    record {
-      paths = c.loop-draft.invariant.paths ∙ ap paths_of all ∙ c.in_ok-draft-items.ensures.paths ∙ c.in_ok-empty.ensures.paths;
-      files = λ i p at. subst (HasFiles c.args.files.now) (get_or_from_slice_get new i p p at) (c.loop-draft.invariant.files i p (slice_get_within new i p at));
-    }
+pub returns-clause-files : goal.returns-clause-files
+returns-clause-files c =
+    let drafts = c.in_ok-drafts.drafts.items in
+    let w = c.args.files.now in
+    IfOk-weaker c.shared.result (λ packages. packages.items ≡ drafts)
+    (λ packages. (i : ℕ) (p : ParsedPackage) → slice_get packages.items i ≡ Some p → HasFiles w p)
+    (λ packages is. subst (λ (ps : List ParsedPackage). (i : ℕ) (p : ParsedPackage) → slice_get ps i ≡ Some p → HasFiles w p) (sym is)
+    c.in_ok-drafts.ensures.files) c.shared.ensures

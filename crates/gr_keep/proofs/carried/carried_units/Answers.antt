@@ -1,10 +1,22 @@
--- One more unit, and the table at the end.
+-- None, where none is finished; else one more unit, and the table at the end.
 use Rattle.std.proofs.Common.{◌≡◌, ℕ, length, arith, sym, subst}
+use Rattle.std.proofs.lemmas.Result.{IfOk-weaker}
 use Rattle.gr_text.specs.Packages.{package_paths}
+use Rattle.gr_text.specs.Workspace.{Workspace}
 use Rattle.gr_graph.proofs.Filled.{ok_both}
 use Rattle.gr_keep.specs.Carried.{IsCarried}
 use Rattle.gr_keep.proofs.Carrying.{AreKept, kept_more, kept_all}
 use Rattle.gr_keep.proofs.carried.carried_units.Goals as goal
+
+pub none_carried-requires : goal.none_carried-requires
+none_carried-requires c = c.is_empty.ensures.0 c.if-is_empty.true
+
+pub returns-then-is_empty : goal.returns-then-is_empty
+returns-then-is_empty c =
+    let v = c.args.before.now in
+    let old = c.args.finished.now in
+    let w = c.args.after.now in
+    IfOk-weaker c.none_carried.result (λ table. (x : Workspace) → IsCarried x old w table) (IsCarried v old w) (λ table right. right v) c.none_carried.ensures
 
 pub loop-number-preserved : goal.loop-number-preserved
 loop-number-preserved c =

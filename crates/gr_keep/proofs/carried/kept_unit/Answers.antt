@@ -5,13 +5,8 @@ use Rattle.std.proofs.lemmas.Option.{same_Some}
 use Rattle.gr_text.specs.Packages.{package_paths}
 use Rattle.gr_verdict.specs.Closures.{HasSameClosure}
 use Rattle.gr_compile.specs.declared.unit.Unit.{Unit as PackageUnit}
-use Rattle.gr_keep.proofs.Carrying.{keeps_none, unfinished_before, not_same, keeps_some}
+use Rattle.gr_keep.proofs.Carrying.{unfinished_before, not_same, keeps_some}
 use Rattle.gr_keep.proofs.carried.kept_unit.Goals as goal
-
-pub returns-then-is_empty : goal.returns-then-is_empty
-returns-then-is_empty c = λ p at.
-    keeps_none c.args.before.now c.args.finished.now c.args.after.now p
-    (λ unit done same. c.is_empty.ensures c.if-is_empty.true done.0 unit done.2)
 
 pub returns-in_default-get : goal.returns-in_default-get
 returns-in_default-get c = λ p at.

@@ -8,6 +8,7 @@ use Rattle.gr_graph.specs.Changed.{KeepsPath}
 use Rattle.gr_graph.specs.Graphs.{paths_of}
 use Rattle.gr_graph.specs.NamedFiles.{AreFresh, ArePackages}
 use Rattle.gr_graph.specs.Staying.{DiffersOnlyIn, HasFiles}
+use Rattle.gr_graph.specs.Updated.{IsPlace}
 use Rattle.gr_graph.specs.declared.package.ParsedPackage.{ParsedPackage}
 use Rattle.gr_graph.proofs.PackagePaths.{paths_sorted}
 use Rattle.gr_graph.proofs.StayingPackages.{all_at}
@@ -50,6 +51,33 @@ replaced-requires c =
           (c.keep_paths.ensures c.if-keep_paths.true));
     }
 
+pub one_that_comes-requires : goal.one_that_comes-requires
+one_that_comes-requires c =
+    let paths : paths_of c.deref-4.result.now ≡ package_paths c.args.before.now = ap paths_of c.deref-4.ensures.value ∙
+    ap (λ parts. paths_of parts.packages.items) c.deref-old.ensures ∙ c.before-2.invariant.paths ∙ ap package_paths c.before-2.view_is in
+    rw paths (paths_sorted c.args.before.now)
+
+pub grown-requires : goal.grown-requires
+grown-requires c =
+    let v = c.args.before.now in
+    let w = c.args.files in
+    let paths : paths_of c.deref-4.result.now ≡ package_paths v = ap paths_of c.deref-4.ensures.value ∙
+    ap (λ parts. paths_of parts.packages.items) c.deref-old.ensures ∙ c.before-2.invariant.paths ∙ ap package_paths c.before-2.view_is in
+    let each : (i : ℕ) (p : ParsedPackage) → slice_get c.deref.result.now i ≡ Some p → HasFiles v p = λ i p at.
+    subst (λ (x : Workspace). HasFiles x p) c.before-2.view_is (c.before-2.invariant.each i p (subst (λ (ps : List ParsedPackage). slice_get ps i ≡ Some p)
+    (c.deref.ensures.value ∙ ap (λ parts. parts.packages.items) c.deref-old.ensures) at)) in
+    let are : ArePackages v c.deref.result.now = record {
+      paths = ap paths_of c.deref.ensures.value ∙ ap (λ parts. paths_of parts.packages.items) c.deref-old.ensures ∙ c.before-2.invariant.paths ∙
+          ap package_paths c.before-2.view_is;
+      files = all_at (HasFiles v) c.deref.result.now each;
+    } in
+    let made : AreFresh v w c.in_ok-fresh.fresh.items = c.in_ok-fresh.ensures v are c.requires in
+    record {
+      fresh = subst (AreFresh v w) (sym c.deref-5.ensures.value ∙ c.in-Some.ensures.alone) made;
+      file = c.in-Some.ensures.file;
+      stands = subst (λ (ks : List (List ℕ)). IsPlace ks c.in-Some.coming.one.now.path.items c.in-Some.coming.place) paths c.in-Some.ensures.stands;
+    }
+
 pub updated-requires : goal.updated-requires
 updated-requires c =
     let v = c.args.before.now in
@@ -66,7 +94,7 @@ updated-requires c =
     record {
       before = subst (λ (ps : List ParsedPackage). IsStrictlySortedBy path_cmp (paths_of ps)) c.deref.ensures.value
           (subst (IsStrictlySortedBy path_cmp) (sym are.paths) (paths_sorted v));
-      fresh = subst (λ (ps : List ParsedPackage). IsStrictlySortedBy path_cmp (paths_of ps)) (sym c.deref-4.ensures.value) made.sorted;
+      fresh = subst (λ (ps : List ParsedPackage). IsStrictlySortedBy path_cmp (paths_of ps)) (sym c.deref-6.ensures.value) made.sorted;
     }
 
 pub made-requires : goal.made-requires
@@ -84,8 +112,8 @@ made-requires c =
     let made : AreFresh v w c.in_ok-fresh.fresh.items = c.in_ok-fresh.ensures v are c.requires in
     let old = c.deref-old.result.now.packages.items in
     let there : ArePackages v old = subst (ArePackages v) c.deref.ensures.value are in
-    let fresh : AreFresh v w c.deref-4.result.now = subst (AreFresh v w) (sym c.deref-4.ensures.value) made in
+    let fresh : AreFresh v w c.deref-6.result.now = subst (AreFresh v w) (sym c.deref-6.ensures.value) made in
     record {
-      paths = updated_paths v w old c.deref-4.result.now c.in_ok-packages.packages.items there fresh c.in_ok-packages.ensures;
-      files = updated_files v w old c.deref-4.result.now c.in_ok-packages.packages.items there fresh c.in_ok-packages.ensures;
+      paths = updated_paths v w old c.deref-6.result.now c.in_ok-packages.packages.items there fresh c.in_ok-packages.ensures;
+      files = updated_files v w old c.deref-6.result.now c.in_ok-packages.packages.items there fresh c.in_ok-packages.ensures;
     }

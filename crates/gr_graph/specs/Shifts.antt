@@ -1,0 +1,22 @@
+-- The numbers of packages after one came among them.
+use Rattle.std.specs.Prelude.{◌≡◌, ℕ, ◌+◌, ◌<◌, ◌≤◌, ◌↔◌, ◌⊎◌, Bool, List, map, length, slice_index_or, nat_lt, if◌then◌else◌, IsTrue}
+use Rattle.std.specs.List.{Contains}
+use Rattle.std.specs.List.Sorted.{IsStrictlyIncreasing}
+
+-- the number, after one came at a place, of what had a number before
+abbrev pub shifted : ℕ → ℕ → ℕ
+shifted place number = if nat_lt number place then number else number + 1
+
+abbrev pub row_shifted : ℕ → List ℕ → List ℕ
+row_shifted place row = map (shifted place) row
+
+-- the numbers before, shifted, and the place itself where that is told
+pub record ShiftsRow (place : ℕ) (with_it : Bool) (before row : List ℕ) : Type 0 where
+  pub each : (p : ℕ) → Contains row p ↔ (((p ≡ place) × IsTrue with_it) ⊎ Contains (row_shifted place before) p)
+  pub rising : IsStrictlyIncreasing before → IsStrictlyIncreasing row
+
+-- the numbers of a list before an index are below a number, and from there on not
+pub record IsPassed (list : List ℕ) (index number : ℕ) : Type 0 where
+  pub within : index ≤ length list
+  pub below : (k : ℕ) → k < index → slice_index_or list k 0 < number
+  pub above : (k : ℕ) → index ≤ k → k < length list → number ≤ slice_index_or list k 0
