@@ -1,6 +1,6 @@
 -- What follows where a package has no fault: it is checked as one package, others see of it what is known, and it compiles to the
 -- object that is printed.
-use Rattle.std.proofs.Common.{ℕ, ◌≡◌, inl, inr, List, map, sym, ap, subst, ◌∙◌}
+use Rattle.std.proofs.Common.{ℕ, ◌≡◌, inl, inr, List, [], map, sym, ap, subst, ◌∙◌}
 use Rattle.std.specs.Global.{Vec}
 use Rattle.std.specs.Prelude.{Option, slice_get}
 use Rattle.std.proofs.lemmas.Bool.{cases_Bool}
@@ -19,14 +19,18 @@ use Rattle.gr_types.specs.Interfaces.{IsInterface}
 use Rattle.gr_declared.specs.InterfacesView.{interface_in}
 use Rattle.gr_meanings.specs.MemberUses.{AreMemberUses, uses_in}
 use Rattle.gr_declared.specs.Package.{Package, Interface, symbol_in}
-use Rattle.gr_verdict.specs.Told.{known_by}
-use Rattle.gr_verdict.specs.Verdicts.{Verdicts, AreSeen, HasInterface, IsPackageIn, IsVerdictBy}
+use Rattle.gr_verdict.specs.FaultLists.{AreListed}
+use Rattle.gr_verdict.specs.Steps.{IsSeenIn}
+use Rattle.gr_verdict.specs.Told.{known_by, IsFinding, IsFindingOf}
+use Rattle.gr_verdict.specs.Verdicts.{Verdicts, AreSeen, AreVerdictsBelow, HasInterface, IsFaultBy, IsPackageIn, IsVerdict, IsVerdictBy}
+use Rattle.gr_verdict.specs.declared.finding.Finding.{Finding}
+use Rattle.gr_verdict.proofs.Adding.{finding_as}
 use Rattle.gr_verdict.proofs.Members.{nothing_in}
 use Rattle.gr_verdict.proofs.OnePackage.{all_read, one_checked}
-use Rattle.gr_verdict.proofs.OneVerdict.{checked_as_one, verdict_by}
+use Rattle.gr_verdict.proofs.OneVerdict.{checked_as_one, right_alike, verdict_by}
 use Rattle.gr_object.specs.declared.packages.CalledPackages.{CalledPackages}
 use Rattle.gr_object.specs.ObjectView.{AreOwnDefinitions, IsObjectTextOf, OwnDefinitionsOf}
-use Rattle.gr_compile.specs.Compiling.{HaveNamesBelow, IsFaultless, IsTextOf}
+use Rattle.gr_compile.specs.Compiling.{HaveNamesBelow, IsFaultless, IsFaultlessSeeing, IsTextOf}
 use Rattle.gr_compile.specs.Units.{IsCompiled}
 
 -- the definitions of an interface are those of the package, by their ranks
@@ -38,15 +42,12 @@ own_definitions p all list i same = record {
   beyond = λ rank past. ap (λ (o : Option Definition). definition_or_none (symbol_in p rank) o) (same rank) ∙ i.beyond rank past;
 }
 
-module _ (w : Workspace) (p : List ℕ) (all : Interfaces) (members : List (Vec MemberUse)) (found : IsFaultless w all p members) where
-  abbrev known : Verdicts
-  known = known_by all
-
+module _ (w : Workspace) (p : List ℕ) (known : Verdicts) (all : Interfaces) (members : List (Vec MemberUse)) (found : IsFaultless w known all p members) where
   -- what others see of it
   own : HasInterface w known p (interface_in all p)
   own =
-      let verdict : IsVerdictBy w known p (known p) = verdict_by w p known (known p) found.below found.own in
-      verdict.has_interface (elim (cases_Bool (known p).faulty) [
+      let verdict : IsVerdictBy w known p (known_by all p) = verdict_by w p known (known_by all p) found.below found.verdict in
+      verdict.has_interface (elim (cases_Bool (known_by all p).faulty) [
         | inl e ↦ (let f = verdict.has_faults.0 e in absurd (nothing_in f.0 ((found.listed.each f.0).1 f.1)))
         | inr e ↦ e
       ])
@@ -107,3 +108,30 @@ module _ (w : Workspace) (p : List ℕ) (all : Interfaces) (members : List (Vec 
           are_files = names.are_files;
           is_object = made.2 names.files_of uses names.have_names;
         }
+
+-- by what was found in p before, and by the verdicts on those that it builds on, where nothing else is known
+pub seen_faultless : (w : Workspace) (p : List ℕ) (seen own : Interfaces) (f : Finding) → AreVerdictsBelow w p (known_by seen) → IsSeenIn w p seen →
+    IsVerdict w p (known_by own p) → IsFindingOf w p f → f.faults.items ≡ [] → IsFaultlessSeeing w seen own p f.members.items
+seen_faultless w p seen alone f below told right g empty =
+    let known = known_by seen in
+    let is : IsFinding w known p f = finding_as w p g.known known (right_alike w p g.known known g.right below) f g.finding in
+    record {
+      known = known;
+      faultless = record {
+        below = below;
+        verdict = right;
+        listed = subst (λ l. AreListed (IsFaultBy w known p) l) empty is.listed;
+        uses = is.members empty;
+      };
+      are_seen = told;
+    }
+
+-- what p compiles to has the text of its object
+pub text_compiled : (w : Workspace) (p : List ℕ) (i : Interface) (text : List ℕ) → IsCompiled w p i text → IsTextOf w p text
+text_compiled w p i text c = record {
+  known = c.known;
+  right = c.right;
+  checked = c.checked;
+  is_package = c.is_package;
+  is_printed = record { files_of = c.files_of; are_files = c.are_files; is_object = c.is_object };
+}

@@ -4,3 +4,7 @@ pub mod Faultless
 pub mod CheckedText
 pub mod Locality
 pub mod OneUnit
+pub mod PartPackages
+pub mod Part
+pub mod ClosurePart
+pub mod InputVerdicts

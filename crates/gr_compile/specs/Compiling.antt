@@ -1,25 +1,35 @@
 -- What is found on the way to a unit.
-use Rattle.std.specs.Prelude.{ℕ, ◌≡◌, List, [], Option, None, Some}
+use Rattle.std.specs.Prelude.{ℕ, ◌≡◌, List, [], Option, None, Some, slice_get}
 use Rattle.std.specs.Global.{Vec}
+use Rattle.gr_text.specs.Packages.{package_paths}
 use Rattle.gr_text.specs.Workspace.{Workspace}
 use Rattle.gr_tree.specs.SourceFile.{SourceFile}
+use Rattle.gr_graph.specs.Graphs.{HoldsPackages}
+use Rattle.gr_graph.specs.Packages.{IsInClosure}
 use Rattle.gr_expr.specs.declared.found.MemberUse.{MemberUse}
 use Rattle.gr_expr.specs.declared.world.Definition.{Definition}
 use Rattle.gr_declared.specs.Package.{Package}
 use Rattle.gr_expr.specs.declared.interfaces.Interface.{Interface}
 use Rattle.gr_declared.specs.declared.interfaces.Interfaces.{Interfaces}
-use Rattle.gr_declared.specs.InterfacesView.{interface_in}
+use Rattle.gr_declared.specs.InterfacesView.{interface_in, name_in}
 use Rattle.gr_verdict.specs.declared.fault.FileFault.{FileFault}
 use Rattle.gr_verdict.specs.FaultLists.{AreListed}
-use Rattle.gr_verdict.specs.Found.{KnowsVerdicts}
-use Rattle.gr_verdict.specs.Told.{known_by, AreWhole, AreUsesOf}
-use Rattle.gr_verdict.specs.Verdicts.{Verdicts, IsFaultBy, IsPackageIn, IsVerdict, AreVerdictsBelow}
+use Rattle.gr_verdict.specs.Found.{AreVerdictsOf, KnowsVerdicts}
+use Rattle.gr_verdict.specs.Told.{known_by, AreUsesOf}
+use Rattle.gr_verdict.specs.Verdicts.{Verdicts, AreSeen, IsFaultBy, IsPackageIn, IsVerdict, AreVerdictsBelow}
 use Rattle.gr_object.specs.declared.packages.CalledPackages.{CalledPackages}
 use Rattle.gr_object.specs.ObjectView.{HaveNames}
 use Rattle.gr_object.specs.Sources.{IsObjectText}
 use Rattle.gr_compile.specs.declared.compiling.Made.{Made}
+use Rattle.gr_compile.specs.declared.package_at.PackageAt.{PackageAt}
 use Rattle.gr_compile.specs.declared.unit.Unit.{Unit as PackageUnit}
 use Rattle.gr_compile.specs.Units.{AreFilesBelow, IsUnitIn, IsUnitOf, KnowsOnly, unit_value, Faults}
+
+-- p has the number, the closure is its closure, and what is known is right
+pub record IsPackageAt (at : PackageAt) (p : List ℕ) : Type 0 where
+  pub has_path : slice_get (package_paths at.graph.now) at.number ≡ Some p
+  pub closure : HoldsPackages at.graph.now (IsInClosure at.graph.now p) at.closure.now
+  pub known : KnowsVerdicts at.graph.now at.known.now
 
 -- what the declarations of the packages in the closure of p are called
 pub record HaveNamesBelow (w : Workspace) (p : List ℕ) (packages : CalledPackages) : Type 0 where
@@ -27,14 +37,19 @@ pub record HaveNamesBelow (w : Workspace) (p : List ℕ) (packages : CalledPacka
   pub are_files : AreFilesBelow w p files_of
   pub have_names : HaveNames packages files_of
 
--- What is found where p has no fault: the verdict on p, and those on all packages that it builds on, as the interfaces of those
--- without faults; and the uses of members in the files of p.
-pub record IsFaultless (w : Workspace) (all : Interfaces) (p : List ℕ) (members : List (Vec MemberUse)) : Type 0 where
-  pub below : AreVerdictsBelow w p (known_by all)
-  pub own : IsVerdict w p (known_by all p)
-  pub whole : AreWhole all
-  pub listed : AreListed (IsFaultBy w (known_by all) p) []
-  pub uses : AreUsesOf w (known_by all) p members
+-- What is found where p has no fault, by what is known of the packages that it builds on: the verdict on p, as these interfaces tell
+-- it, and the uses of members in the files of p.
+pub record IsFaultless (w : Workspace) (known : Verdicts) (own : Interfaces) (p : List ℕ) (members : List (Vec MemberUse)) : Type 0 where
+  pub below : AreVerdictsBelow w p known
+  pub verdict : IsVerdict w p (known_by own p)
+  pub listed : AreListed (IsFaultBy w known p) []
+  pub uses : AreUsesOf w known p members
+
+-- likewise, where the first interfaces tell just what p sees of others
+pub record IsFaultlessSeeing (w : Workspace) (seen own : Interfaces) (p : List ℕ) (members : List (Vec MemberUse)) : Type 0 where
+  pub known : Verdicts
+  pub faultless : IsFaultless w known own p members
+  pub are_seen : AreSeen w known p (name_in seen) (interface_in seen)
 
 -- interfaces that have of the path what others have of it, and nothing of any other path
 pub record HasJust (all : Interfaces) (path : List ℕ) (one : Interfaces) : Type 0 where
@@ -45,15 +60,15 @@ pub record HasJust (all : Interfaces) (path : List ℕ) (one : Interfaces) : Typ
 abbrev pub HoldsFaults : List FileFault → PackageUnit → Type 0
 HoldsFaults list unit = (p : List ℕ) → unit_value p unit ≡ Faults list
 
--- the unit of p, and what is known then
+-- the unit of p, and what was found of packages
 pub record IsMade (w : Workspace) (p : List ℕ) (made : Made) : Type 0 where
   pub unit : IsUnitOf w p made.unit
-  pub verdicts : KnowsVerdicts w made.known
+  pub verdicts : AreVerdictsOf w made.found.items
 
 -- likewise, if p is a package
 pub record IsMadeIn (w : Workspace) (p : List ℕ) (made : Made) : Type 0 where
   pub unit : IsUnitIn w p made.unit
-  pub verdicts : KnowsVerdicts w made.known
+  pub verdicts : AreVerdictsOf w made.found.items
 
 -- Where a package is checked and its object printed in one
 

@@ -1,6 +1,7 @@
 -- The definitions of this crate.
 pub mod Codes
 pub mod Inputs
+pub mod Parts
 pub mod Jobs
 pub mod Units
 pub mod BuiltUnits

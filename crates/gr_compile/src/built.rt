@@ -1,32 +1,32 @@
 //! What comes of a Job: the unit of its package, and what was found of packages beside.
 ghost use Rattle.std.specs.Prelude.{◌≡◌, IfOk};
-ghost use Rattle.gr_verdict.specs.Found.{KnowsVerdicts};
+ghost use Rattle.gr_verdict.specs.Found.{AreVerdictsOf};
 ghost use Rattle.gr_compile.specs.Builds.{IsBuiltOf};
 ghost use Rattle.gr_compile.specs.Units.{IsUnitIn};
 
-use crate::compiling::unit_in;
+use crate::compiling::Made;
+use crate::inputs::PackageInputs;
 use crate::job::Job;
 use crate::unit::Unit;
 use gr_expr::symbol::SharedPath;
-use gr_graph::Graph;
-use gr_verdict::Known;
+use gr_verdict::KnownVerdict;
 use std::alloc::{AllocError, Global};
 use std::marker::Model;
 
-/// The unit of a package, with the inputs that it was built from, and the number of the state that they are of; and what is known of
-/// packages of the inputs since it was built.
+/// The unit of a package, with the inputs that it was built from, and the number of the state that they are of; and what was found of
+/// packages of the inputs when it was built.
 #[derive(Drop)]
 pub struct Built {
     number: u64,
     package: SharedPath,
-    inputs: Graph,
+    inputs: PackageInputs,
     unit: Unit,
-    known: Known,
+    found: Vec<KnownVerdict>,
 }
 
 impl Model for Built {
     ghost use Rattle.std.specs.Coded.{codes};
-    ghost use Rattle.gr_verdict.specs.Found.{KnowsVerdicts};
+    ghost use Rattle.gr_verdict.specs.Found.{AreVerdictsOf};
     ghost use Rattle.gr_compile.specs.BuiltUnits.{BuiltUnit};
     ghost use Rattle.gr_compile.specs.Codes.{unit_code, workspace_code};
     ghost use Rattle.gr_compile.specs.Units.{IsUnitIn};
@@ -37,7 +37,7 @@ impl Model for Built {
 
     ghost view = { λ a. record { number = a.number; «package» = a.package; inputs = a.inputs; unit = a.unit } };
 
-    ghost invariant = { λ a. IsUnitIn a.inputs a.package a.unit × KnowsVerdicts a.inputs a.known };
+    ghost invariant = { λ a. IsUnitIn a.inputs a.package a.unit × AreVerdictsOf a.inputs a.found.items };
 }
 
 impl Built {
@@ -54,7 +54,7 @@ impl Built {
         &self.package
     }
 
-    pub fn inputs(&self) -> &Graph
+    pub fn inputs(&self) -> &PackageInputs
         ensures { result.now ≡ self.now.inputs }
     {
         &self.inputs
@@ -67,11 +67,11 @@ impl Built {
         &self.unit
     }
 
-    /// What is known of packages of the inputs: the verdicts on the package and on those that it builds on, if no more.
-    pub fn known(&self) -> &Known
-        ensures { KnowsVerdicts self.now.inputs result.now }
+    /// The verdicts on packages of the inputs that were found where it was built: those that the Job did not bring.
+    pub fn found(&self) -> &[KnownVerdict]
+        ensures { AreVerdictsOf self.now.inputs result.now }
     {
-        &self.known
+        &self.found
     }
 
     /// Whatever was built is the unit of the package in the inputs.
@@ -89,12 +89,12 @@ pub fn build(alloc: Global, job: &Job) -> Result<Built, AllocError>
 {
     let package = job.package().clone()?;
     let inputs = job.inputs().clone()?;
-    let made = unit_in(alloc, &inputs, &package, job.known())?;
+    let Made { unit, found } = inputs.made(alloc, &package)?;
     Ok(Built {
         number: job.number(),
         package,
         inputs,
-        unit: made.unit,
-        known: made.known,
+        unit,
+        found,
     })
 }

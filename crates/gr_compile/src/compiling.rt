@@ -2,34 +2,23 @@
 ghost use Rattle.std.specs.Prelude.{◌≡◌, ℕ, [], Some, slice_get, IfOk};
 ghost use Rattle.gr_text.specs.Packages.{package_paths};
 ghost use Rattle.gr_text.specs.Workspace.{Workspace};
-ghost use Rattle.gr_expr.specs.WorldView.{definitions_at, ranked};
 ghost use Rattle.gr_declared.specs.InterfacesView.{interface_in};
-ghost use Rattle.gr_verdict.specs.Found.{AreFindings, KnowsVerdicts};
-ghost use Rattle.gr_compile.specs.Compiling.{HasJust, HoldsFaults, IsFaultless, IsMade, IsMadeIn, MayBeText};
+ghost use Rattle.gr_verdict.specs.Found.{IsFoundBy, KnowsVerdicts};
+ghost use Rattle.gr_verdict.specs.Told.{known_by, AreWhole};
+ghost use Rattle.gr_compile.specs.Compiling.{HasJust, HoldsFaults, IsFaultless, IsMade, IsMadeIn, IsPackageAt, MayBeText};
 ghost use Rattle.gr_compile.specs.Units.{IsCompiled, IsUnitOf};
 
 use crate::checked_text::text_first;
-use crate::naming::names_below;
+use crate::known_text::object_of;
+use crate::package_at::PackageAt;
 use crate::unit::{Compiled, Unit};
 use gr_declared::Interfaces;
 use gr_expr::found::MemberUse;
 use gr_expr::symbol::SharedPath;
-use gr_expr::world::Definition;
 use gr_graph::Graph;
-use gr_object::objects::{Faultless, object};
 use gr_text::FileText;
-use gr_verdict::{FileFault, Findings, Found, Known, Progress, seen};
+use gr_verdict::{FileFault, Finding, FoundPackage, Known, KnownVerdict, Progress, seen};
 use std::alloc::{AllocError, Global};
-
-/// The type definitions of a package, by their ranks.
-fn definitions_of<'a>(all: &'a Interfaces, path: &[u8]) -> &'a [Definition]
-    ensures { (rank : ℕ) → slice_get result.now rank ≡ ranked (definitions_at all.now.definitions path.now) rank }
-{
-    match all.definitions().of(path) {
-        None => &[],
-        Some(definitions) => definitions,
-    }
-}
 
 /// The interface of one package alone: of all others nothing is told.
 fn interface_of(
@@ -42,34 +31,6 @@ fn interface_of(
     let mut one = Interfaces::new(alloc);
     one.share(alloc, all, path.path())?;
     Ok(one)
-}
-
-/// The text of the object of a package without faults.
-fn object_of(
-    alloc: Global,
-    graph: &Graph,
-    number: usize,
-    path: &SharedPath,
-    all: &Interfaces,
-    members: &[Vec<MemberUse>],
-) -> Result<FileText, AllocError>
-    requires at { slice_get (package_paths graph.now) number ≡ Some path.now }
-    requires found { IsFaultless graph.now all.now path.now members.now }
-    ensures { IfOk result (λ text. IsCompiled graph.now path.now (interface_in all.now path.now) text) }
-{
-    let files = graph.package(number);
-    let interfaces = seen(alloc, graph, number, all)?;
-    let packages = names_below(alloc, graph, number)?;
-    let definitions = definitions_of(all, path.path());
-    let trees = files.trees.as_slice();
-    let given = Faultless {
-        path,
-        files: trees,
-        definitions,
-        members,
-    };
-    let text = object(alloc, given, &interfaces, &packages)?;
-    FileText::new(alloc, text)
 }
 
 /// The unit of a package that has this object, with what others see of it.
@@ -88,17 +49,18 @@ fn done_unit(
 /// The unit of a package without faults, of which no object was printed.
 fn faultless_unit(
     alloc: Global,
-    graph: &Graph,
-    number: usize,
+    at: PackageAt<'_>,
     path: &SharedPath,
     all: &Interfaces,
     members: &[Vec<MemberUse>],
 ) -> Result<Unit, AllocError>
-    requires at { slice_get (package_paths graph.now) number ≡ Some path.now }
-    requires found { IsFaultless graph.now all.now path.now members.now }
-    ensures { IfOk result (IsUnitOf graph.now path.now) }
+    requires at { IsPackageAt at path.now }
+    requires whole { AreWhole all.now }
+    requires found { IsFaultless at.graph.now (known_by all.now) all.now path.now members.now }
+    ensures { IfOk result (IsUnitOf at.entry.graph.now path.now) }
 {
-    let object = object_of(alloc, graph, number, path, all, members)?;
+    let interfaces = seen(alloc, at.graph, at.number, all)?;
+    let object = object_of(alloc, at, path, &interfaces, all, members)?;
     done_unit(alloc, path, all, object)
 }
 
@@ -123,11 +85,11 @@ fn copied(alloc: Global, faults: &[FileFault]) -> Result<Vec<FileFault>, AllocEr
     Ok(copies)
 }
 
-/// A unit, and what is known of packages then.
+/// A unit, and what was found of packages where it was made.
 #[derive(Drop)]
 pub(crate) struct Made {
     pub(crate) unit: Unit,
-    pub(crate) known: Known,
+    pub(crate) found: Vec<KnownVerdict>,
 }
 
 /// The unit of a package with copies of these faults.
@@ -139,34 +101,63 @@ fn copied_unit(alloc: Global, faults: &[FileFault]) -> Result<Unit, AllocError>
     faulty_unit(alloc, faults)
 }
 
-/// The unit of a package of a graph, by what was found in it, and by the text of its object if that was printed.
+/// The unit of a package, by what was found in it and in those that it builds on, and by the text of its object if that was printed.
 fn unit_by(
     alloc: Global,
-    graph: &Graph,
-    number: usize,
+    at: PackageAt<'_>,
     path: &SharedPath,
-    findings: &Findings,
+    finding: &Finding,
+    all: &Interfaces,
     text: Option<FileText>,
 ) -> Result<Unit, AllocError>
-    requires at { slice_get (package_paths graph.now) number ≡ Some path.now }
-    requires found { AreFindings graph.now findings.now }
-    requires text { MayBeText graph.now path.now text }
-    ensures { IfOk result (IsUnitOf graph.now path.now) }
+    requires at { IsPackageAt at path.now }
+    requires found { IsFoundBy at.graph.now path.now all.now finding.now }
+    requires text { MayBeText at.graph.now path.now text }
+    ensures { IfOk result (IsUnitOf at.entry.graph.now path.now) }
 {
-    let finding = findings.packages[number].get();
     if !finding.faults.is_empty() {
         return copied_unit(alloc, &finding.faults);
     }
-    let all = &findings.interfaces;
     match text {
         Some(object) => done_unit(alloc, path, all, object),
-        None => faultless_unit(alloc, graph, number, path, all, &finding.members),
+        None => faultless_unit(alloc, at, path, all, &finding.members),
     }
 }
 
-/// The unit of a package of a graph. What is known of packages is not found again, and what is found where the package is checked
-/// serves to print its object.
-fn unit_of(
+/// The unit of a package. What is known of packages is not found again, and what is found where the package is checked serves to print
+/// its object.
+pub(crate) fn unit_of(
+    alloc: Global,
+    at: PackageAt<'_>,
+    path: &SharedPath,
+) -> Result<Made, AllocError>
+    requires { IsPackageAt at path.now }
+    ensures { IfOk result (IsMade at.entry.graph.now path.now) }
+{
+    let mut progress = Progress::before(alloc, at.graph, at.number, at.known)?;
+    let text = text_first(alloc, at, path, &mut progress)?;
+    let FoundPackage {
+        finding,
+        interfaces,
+        found,
+    } = progress.finish(alloc, at.graph, at.number, at.known)?;
+    let unit = unit_by(alloc, at, path, finding.get(), &interfaces, text)?;
+    Ok(Made { unit, found })
+}
+
+/// What stands for the unit of a path that is no package.
+fn no_unit(alloc: Global) -> Result<Made, AllocError>
+    ensures { IfOk result (λ made. made.found.items ≡ []) }
+{
+    let interface = Interfaces::new(alloc);
+    let object = FileText::new(alloc, Vec::new(alloc))?;
+    let unit = Unit::new(alloc, Compiled::Done { interface, object })?;
+    let found = Vec::new(alloc);
+    Ok(Made { unit, found })
+}
+
+/// The unit of the package of a number, with its closure that is searched for.
+fn unit_at(
     alloc: Global,
     graph: &Graph,
     number: usize,
@@ -177,22 +168,14 @@ fn unit_of(
     requires known { KnowsVerdicts graph.now known.now }
     ensures { IfOk result (IsMade graph.now path.now) }
 {
-    let mut progress = Progress::before(alloc, graph, number, known)?;
-    let text = text_first(alloc, graph, number, path, &mut progress)?;
-    let Found { findings, known } = progress.finish(alloc, graph, known)?;
-    let unit = unit_by(alloc, graph, number, path, &findings, text)?;
-    Ok(Made { unit, known })
-}
-
-/// What stands for the unit of a path that is no package.
-fn no_unit(alloc: Global) -> Result<Made, AllocError>
-    ensures { IfOk result (λ made. (w : Workspace) → KnowsVerdicts w made.known) }
-{
-    let interface = Interfaces::new(alloc);
-    let object = FileText::new(alloc, Vec::new(alloc))?;
-    let unit = Unit::new(alloc, Compiled::Done { interface, object })?;
-    let known = Known::new(alloc);
-    Ok(Made { unit, known })
+    let closure = graph.closure(alloc, number)?;
+    let at = PackageAt {
+        graph,
+        number,
+        closure: closure.as_slice(),
+        known,
+    };
+    unit_of(alloc, at, path)
 }
 
 /// The unit of a package, if it is one of a graph, where some is known of packages.
@@ -206,7 +189,7 @@ pub(crate) fn unit_in(
     ensures { IfOk result (IsMadeIn graph.now path.now) }
 {
     match graph.number_of(path.path()) {
-        Some(number) => unit_of(alloc, graph, number, path, known),
+        Some(number) => unit_at(alloc, graph, number, path, known),
         None => no_unit(alloc),
     }
 }

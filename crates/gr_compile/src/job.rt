@@ -1,10 +1,8 @@
 //! A Job: a package that is handed out to be built, with the texts of its closure.
 ghost use Rattle.std.specs.Prelude.{◌≡◌};
-ghost use Rattle.gr_verdict.specs.Found.{KnowsVerdicts};
 
+use crate::inputs::PackageInputs;
 use gr_expr::symbol::SharedPath;
-use gr_graph::Graph;
-use gr_verdict::Known;
 use std::marker::Model;
 
 /// What a Job is of: the package and the texts of its closure, the number of the state that they are of, and the visit
@@ -15,20 +13,17 @@ pub struct JobRecord {
     pub number: u64,
     pub visit: u64,
     pub package: SharedPath,
-    pub inputs: Graph,
+    pub inputs: PackageInputs,
 }
 
-/// A package to be built, with what is known of packages of its inputs. It is made by `Out::hand_out` alone, and cannot be dropped:
-/// it ends in `Out::take_back` or in `retire`.
+/// A package to be built. It is made by `Out::hand_out` alone, and cannot be dropped: it ends in `Out::take_back` or in `retire`.
 #[must_use]
 pub struct Job {
     record: JobRecord,
-    known: Known,
 }
 
 impl Model for Job {
     ghost use Rattle.std.specs.Coded.{codes};
-    ghost use Rattle.gr_verdict.specs.Found.{KnowsVerdicts};
     ghost use Rattle.gr_compile.specs.Codes.{workspace_code};
     ghost use Rattle.gr_compile.specs.declared.job.JobRecord.{JobRecord};
 
@@ -37,16 +32,13 @@ impl Model for Job {
     ghost coded = { Prim.hlevel (codes, workspace_code) };
 
     ghost view = { λ a. a.record };
-
-    ghost invariant = { λ a. KnowsVerdicts a.record.inputs a.known };
 }
 
 impl Job {
-    pub(crate) fn new(of: JobRecord, known: Known) -> Job
-        requires { KnowsVerdicts of.inputs known }
+    pub(crate) fn new(of: JobRecord) -> Job
         ensures { result ≡ of }
     {
-        Job { record: of, known }
+        Job { record: of }
     }
 
     pub fn ticket(&self) -> u64
@@ -74,26 +66,18 @@ impl Job {
         &self.record.package
     }
 
-    /// The files of the package's closure, with their graph.
-    pub fn inputs(&self) -> &Graph
+    /// What the package is built from: the files of its closure.
+    pub fn inputs(&self) -> &PackageInputs
         ensures { result.now ≡ self.now.inputs }
     {
         &self.record.inputs
-    }
-
-    /// What is known of packages of the inputs.
-    pub(crate) fn known(&self) -> &Known
-        ensures { KnowsVerdicts self.now.inputs result.now }
-    {
-        &self.known
     }
 
     /// Ends the Job. What it was of remains.
     pub fn retire(self) -> JobRecord
         ensures { result ≡ self }
     {
-        let Job { record, known } = self;
-        drop(known);
+        let Job { record } = self;
         record
     }
 }

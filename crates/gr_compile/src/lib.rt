@@ -5,14 +5,18 @@
 mod built;
 mod checked_text;
 mod compiling;
+mod inputs;
 mod job;
+mod known_text;
 pub mod laws;
 mod naming;
 mod out;
+mod package_at;
 mod unit;
 
 pub use built::{Built, build};
 pub use gr_expr::symbol::SharedPath;
+pub use inputs::PackageInputs;
 pub use job::{Job, JobRecord};
 pub use out::{JobLabel, Out};
 pub use unit::{Compiled, Unit};

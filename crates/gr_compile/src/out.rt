@@ -1,12 +1,10 @@
 //! The Jobs that are out: handed out, and not back yet.
 ghost use Rattle.std.specs.Prelude.{◌≡◌, ◌↔◌, ◌<◌, [], IsTrue, MatchOption, Some, length, slice_get};
-ghost use Rattle.gr_verdict.specs.Found.{KnowsVerdicts};
 ghost use Rattle.gr_compile.specs.Jobs.{HandsOut, IsOut, IsTaken, TakesBack, label_of};
 
+use crate::inputs::PackageInputs;
 use crate::job::{Job, JobRecord};
 use gr_expr::symbol::SharedPath;
-use gr_graph::Graph;
-use gr_verdict::Known;
 use std::alloc::{AllocError, Global};
 use std::marker::Model;
 
@@ -102,18 +100,16 @@ impl Out {
         false
     }
 
-    /// Hands out a Job with the next ticket, and with what is known of packages of its inputs. It is for the caller to see that
-    /// the path is that of a package of the inputs: of any other nothing is said of what is built.
+    /// Hands out a Job with the next ticket. It is for the caller to see that the path is that of a package of the inputs: of any other
+    /// nothing is said of what is built.
     pub fn hand_out(
         &mut self,
         number: u64,
         visit: u64,
         path: SharedPath,
-        inputs: Graph,
-        known: Known,
+        inputs: PackageInputs,
     ) -> Result<Job, AllocError>
-        requires ticket { self.old.ticket < u64.MAX }
-        requires known { KnowsVerdicts inputs known }
+        requires { self.old.ticket < u64.MAX }
         ensures { HandsOut self.old number visit path inputs result self.new }
     {
         let ticket = self.next;
@@ -132,7 +128,7 @@ impl Out {
             package: path,
             inputs,
         };
-        Ok(Job::new(record, known))
+        Ok(Job::new(record))
     }
 
     /// Takes a Job back that is out. It takes no memory.

@@ -12,14 +12,13 @@ ghost use Rattle.gr_machine.specs.declared.event.Event.TheVariants.{Commit, Deli
 use crate::deliveries::{Outcome, outcome_of, outcome_on_current};
 use crate::following::state_after;
 use crate::handed::{Handed, take_in};
-use gr_compile::{Built, Job, Out, SharedPath};
-use gr_finished::{Finished, SharedKnown};
+use gr_compile::{Built, Job, Out, PackageInputs, SharedPath};
+use gr_finished::Finished;
 use gr_graph::Graph;
-use gr_inputs::{GatheredFiles, TakenInputs, inputs_of, known_within};
 use gr_machine::{MadeEdits, State, View, first_waiting};
 use gr_space::MadeChange;
 use gr_text::{Files, Limits, Refusal};
-use gr_verdict::Known;
+use gr_verdict::{Known, SharedKnown};
 use std::alloc::{AllocError, Global};
 use std::marker::Model;
 use std::mem;
@@ -77,7 +76,6 @@ impl Content {
         let finished = Finished::new(alloc)?;
         let nothing = Known::new(alloc);
         let known = SharedKnown::new(alloc, nothing)?;
-        let gathered = GatheredFiles::new(alloc);
         Ok(Content {
             alloc,
             limits,
@@ -87,7 +85,6 @@ impl Content {
                 files,
                 finished,
                 known,
-                gathered,
             },
             later: Vec::new(alloc),
             next: 1,
@@ -243,19 +240,10 @@ impl Content {
             return Err(Refusal::NoJob);
         };
         let package = SharedPath::new(self.alloc, &current.files.package(number).path)?;
-        let taken = inputs_of(self.alloc, &current.files, number, &current.gathered)?;
-        let TakenInputs { inputs, gathered } = taken;
-        let known = known_within(
-            self.alloc,
-            &current.files,
-            &current.known,
-            &inputs,
-            &gathered,
-        )?;
+        let inputs = PackageInputs::of(self.alloc, &current.files, number, &current.known)?;
         let job = self
             .out
-            .hand_out(current.number, self.visit, package, inputs, known)?;
-        self.current.keep(gathered);
+            .hand_out(current.number, self.visit, package, inputs)?;
         Ok(job)
     }
 

@@ -11,10 +11,11 @@ ghost use Rattle.gr_content.specs.Current.{BringsCurrent};
 ghost use Rattle.gr_content.specs.Outcomes.{AreOfState, ComesTo, FindsFresh, FinishesIn};
 
 use gr_compile::{Built, Job};
-use gr_finished::{Finished, SharedKnown};
+use gr_finished::Finished;
 use gr_graph::Graph;
 use gr_inputs::{are_inputs_of_both, learned};
 use gr_machine::State;
+use gr_verdict::SharedKnown;
 use std::alloc::{AllocError, Global};
 
 /// What a delivery comes to.
@@ -95,13 +96,7 @@ fn outcome_at(
     let made = built.unit();
     let unit = made.clone()?;
     let finished = state.finished.with_unit(alloc, number, unit)?;
-    let known = learned(
-        alloc,
-        &state.files,
-        &state.known,
-        built.inputs(),
-        built.known(),
-    )?;
+    let known = learned(alloc, &state.files, &state.known, built)?;
     Ok(Outcome::Entered(finished, known))
 }
 

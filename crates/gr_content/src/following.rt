@@ -1,16 +1,18 @@
 //! The state that follows another by a change of its files.
-ghost use Rattle.std.specs.Prelude.{◌≡◌, IfOk};
+ghost use Rattle.std.specs.Prelude.{◌≡◌, IfOk, IsTrue};
 ghost use Rattle.gr_verdict.specs.Found.{KnowsVerdicts};
 ghost use Rattle.gr_finished.specs.Changes.{AreMarks};
+ghost use Rattle.gr_finished.specs.Finished.{HasNone};
 ghost use Rattle.gr_keep.specs.Carried.{IsCarried};
 ghost use Rattle.gr_content.specs.Following.{IsStateAfter};
 
-use gr_finished::{Finished, SharedKnown};
+use gr_finished::Finished;
 use gr_graph::Graph;
-use gr_inputs::{GatheredFiles, marks_of};
-use gr_keep::{Marks, carried_units, kept};
+use gr_inputs::marks_of;
+use gr_keep::{Marks, carried_units, kept, nothing_carried};
 use gr_machine::{MadeEdits, State};
 use gr_space::MadeChange;
+use gr_verdict::SharedKnown;
 use std::alloc::{AllocError, Global};
 
 /// The units of a state, and what it knows of packages, as far as a change to these files carries them over.
@@ -30,7 +32,31 @@ fn carried_by(
     Ok((finished, known))
 }
 
-/// The same for a change of the state's files. The packages are marked by the folders that its edit set names.
+/// Whether no package of a state is finished, and nothing is known of any.
+fn has_nothing(current: &State) -> bool
+    ensures { IsTrue result → HasNone current.now.finished }
+{
+    if !current.finished.is_empty() {
+        return false;
+    }
+    current.known.get().is_empty()
+}
+
+/// What a change of a state to these files carries over that has nothing to be carried.
+fn carried_bare(
+    alloc: Global,
+    current: &State,
+    files: &Graph,
+) -> Result<(Finished, SharedKnown), AllocError>
+    requires { HasNone current.now.finished }
+    ensures units { IfOk result (λ carried. IsCarried current.now.files current.now.finished files.now carried.0) }
+    ensures known { IfOk result (λ carried. KnowsVerdicts files.now carried.1) }
+{
+    nothing_carried(alloc, &current.finished, current.known.get(), files)
+}
+
+/// The same for a change of the state's files. The packages are marked by the folders that its edit set names, unless nothing is to be
+/// carried.
 fn carried_over(
     alloc: Global,
     current: &State,
@@ -40,11 +66,15 @@ fn carried_over(
     ensures units { IfOk result (λ carried. IsCarried current.now.files current.now.finished change.now.files carried.0) }
     ensures known { IfOk result (λ carried. KnowsVerdicts change.now.files carried.1) }
 {
+    let files = &change.get().files;
+    if has_nothing(current) {
+        return carried_bare(alloc, current, files);
+    }
     let marks = marks_of(alloc, &current.files, change)?;
-    carried_by(alloc, current, &change.get().files, &marks)
+    carried_by(alloc, current, files, &marks)
 }
 
-/// The state that a change of a state's files makes, under this number, and the change's edits. Nothing was gathered of it.
+/// The state that a change of a state's files makes, under this number, and the change's edits.
 pub(crate) fn state_after(
     alloc: Global,
     current: &State,
@@ -64,7 +94,6 @@ pub(crate) fn state_after(
         files,
         finished,
         known,
-        gathered: GatheredFiles::new(alloc),
     };
     Ok((state, edits))
 }

@@ -18,7 +18,7 @@ use Rattle.gr_verdict.proofs.Members.{nothing_in, first_or_later}
 use Rattle.gr_verdict.proofs.PackageFiles.{package_file}
 use Rattle.gr_finished.specs.Changes.{HasSameFiles, HasText, HaveTexts, AreChanged}
 use Rattle.gr_finished.proofs.ChangedFolders.{package_has, package_path, in_package}
-use Rattle.gr_inputs.proofs.ClosureFiles.{mapped_more}
+use Rattle.gr_inputs.proofs.ParsedFiles.{mapped_more}
 
 -- ---- one file after another
 module _ {X : Type 0} (file : X → List ℕ × List ℕ) (w : Workspace) (xs : List X) where

@@ -1,25 +1,26 @@
--- What is known of the packages of one workspace is right of another where closures stay; and the inputs of a package have the
--- closures of the workspace that they are of.
+-- The inputs of a package have the closures of the workspace that they are of, so that what is found in them is right of it.
 use Rattle.std.proofs.Common.{ℕ, List, sym, subst, ◌∙◌}
 use Rattle.std.specs.FinMap.{entries}
-use Rattle.std.specs.Prelude.{Option, Contains}
+use Rattle.std.specs.Prelude.{Contains}
 use Rattle.gr_text.specs.Packages.{is_of_package, package_paths}
 use Rattle.gr_text.specs.Workspace.{Workspace}
+use Rattle.gr_text.proofs.PackageFolders.{of_folder}
 use Rattle.gr_graph.specs.Packages.{IsInClosure}
-use Rattle.gr_verdict.specs.Closures.{HasSameClosure}
-use Rattle.gr_verdict.specs.Told.{MayTell}
+use Rattle.gr_verdict.specs.Found.{AreVerdictsOf}
 use Rattle.gr_verdict.specs.declared.known.KnownVerdict.{KnownVerdict}
-use Rattle.gr_verdict.proofs.Local.{same_within, told_there}
+use Rattle.gr_verdict.proofs.Local.{same_back, same_within, told_there}
 use Rattle.gr_verdict.proofs.Members.{passes}
 use Rattle.gr_verdict.proofs.PackageFiles.{package_file}
-use Rattle.gr_compile.specs.Inputs.{AreInputs}
-use Rattle.gr_inputs.specs.Knowing.{TellsThere, HasClosuresOf}
-use Rattle.gr_text.proofs.PackageFolders.{of_folder}
-use Rattle.gr_finished.proofs.ClosureTexts.{inputs_same}
+use Rattle.gr_compile.specs.Inputs.{AreInputs, HasClosuresOf}
+use Rattle.gr_finished.proofs.ClosureTexts.{inputs_same, package_there}
 
-pub tells_here : (v w : Workspace) (p : List ℕ) (found : Option KnownVerdict) → (Contains (package_paths v) p → HasSameClosure v w p) →
-    TellsThere v p found → MayTell w p found
-tells_here v w p found same there one is = let told = there one is in told_there v w p one told.0 (same told.0) told.1
+-- verdicts on packages of the inputs are those on the packages in the workspace
+pub found_here : (w inputs : Workspace) → HasClosuresOf w inputs → (found : List KnownVerdict) → AreVerdictsOf inputs found → AreVerdictsOf w found
+found_here w inputs closures found are one among =
+    let p = one.finding.path in
+    let told = are one among in
+    let same = same_back w inputs p (closures p told.0) in
+    (package_there inputs w p told.0 same, told_there inputs w p one told.0 same told.1)
 
 -- each package of the inputs is in the closure
 inputs_closed : (w : Workspace) (p : List ℕ) (inputs : Workspace) → AreInputs w p inputs → (q : List ℕ) → Contains (package_paths inputs) q → IsInClosure w p q

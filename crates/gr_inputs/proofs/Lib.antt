@@ -1,7 +1,5 @@
 -- The lemmas of this crate.
 pub mod LearnedVerdicts
-pub mod ClosureFiles
-pub mod BothLists
-pub mod PartFiles
+pub mod ParsedFiles
 pub mod SameInputs
 pub mod AmongFolders

@@ -1,17 +1,16 @@
 -- The inputs of a package, told by its closure's packages, one after another.
-use Rattle.std.proofs.Common.{◌≡◌, ℕ, zero, suc, ◌+◌, ◌<◌, ◌≤◌, ◌⊎◌, true, List, [], ◌∷◌, ◌++◌, length, take, map as mapped, get_or, Some, slice_get}
-use Rattle.std.proofs.Common.{refl, sym, ap, subst, ◌∙◌, ◌&&◌, ◌==◌, inl, inr, ⊎_elim, arith}
+use Rattle.std.proofs.Common.{◌≡◌, ℕ, zero, suc, ◌+◌, ◌<◌, ◌≤◌, ◌⊎◌, List, [], ◌∷◌, ◌++◌, length, take, map as mapped, get_or, Some, slice_get}
+use Rattle.std.proofs.Common.{refl, sym, ap, subst, ◌∙◌, inl, inr, ⊎_elim, arith}
 use Rattle.std.proofs.Math.Path.{ap₂}
-use Rattle.std.specs.Cmp.Lexicographic.{pointwise, bytes_decides}
 use Rattle.std.specs.FinMap.{entries, get}
 use Rattle.std.specs.List.{Contains}
 use Rattle.std.specs.List.Sorted.{IsStrictlyIncreasing, IsStrictlySortedBy}
-use Rattle.std.proofs.lemmas.Bool.{and_parts, cases_lt}
+use Rattle.std.proofs.lemmas.Bool.{cases_lt}
 use Rattle.std.proofs.lemmas.List.{take_more, map-append, length-map}
 use Rattle.std.proofs.lemmas.Map.Keys.{Less-from_sorted, sorted_from_all_adjacent}
 use Rattle.std.proofs.lemmas.Option.{same_Some, slice_get_within, slice_get-get_or, get_or_from_slice_get}
 use Rattle.gr_text.specs.Path.{folder}
-use Rattle.gr_text.specs.Packages.{is_go, is_of_package, package_paths, package_files}
+use Rattle.gr_text.specs.Packages.{is_of_package, package_paths, package_files}
 use Rattle.gr_text.specs.Workspace.{Workspace, path_cmp}
 use Rattle.gr_text.proofs.PackageFolders.{of_folder}
 use Rattle.gr_text.proofs.WorkspaceLaws.{path_cmp_total}
@@ -27,13 +26,14 @@ use Rattle.gr_graph.proofs.SameFiles.{one_list}
 use Rattle.gr_space.proofs.NamedPaths.{one_option}
 use Rattle.gr_verdict.specs.Earlier.{tree_file}
 use Rattle.gr_verdict.proofs.Closed.{to_package}
-use Rattle.gr_verdict.proofs.Members.{nothing_in, first_in, later_in, first_or_later, one_sorted, passes, passed}
+use Rattle.gr_verdict.proofs.Members.{one_sorted, passes, passed}
 use Rattle.gr_verdict.proofs.PackageFiles.{package_file, mapped as mapped_from}
-use Rattle.gr_compile.specs.Inputs.{AreInputs}
+use Rattle.gr_compile.specs.Inputs.{AreGoFiles, AreInputs}
+use Rattle.gr_compile.proofs.Part.{own_folder}
 use Rattle.gr_finished.specs.Changes.{HasSameFiles}
-use Rattle.gr_inputs.specs.Inputs.{AreGoFiles, ArePackages, faulty_file}
+use Rattle.gr_inputs.specs.Inputs.{ArePackages, faulty_file}
 use Rattle.gr_finished.proofs.ChangedFolders.{package_has, in_package}
-use Rattle.gr_inputs.proofs.ClosureFiles.{parsed_files}
+use Rattle.gr_inputs.proofs.ParsedFiles.{parsed_files}
 use Rattle.gr_finished.proofs.ClosureTexts.{inputs_keep}
 
 -- ---- two lists place by place
@@ -134,8 +134,7 @@ module _ (w v : Workspace) (p : List ℕ) (numbers : List ℕ) (holds : HoldsPac
       texts = λ e. (
         λ there.
             let q = folder e.0 in
-            let of : is_of_package q e.0 ≡ true = ap (λ b. b && pointwise ◌==◌ (folder e.0) q) (go e there) ∙ (bytes_decides (folder e.0) q).1 refl in
-            let own = passed (λ d. is_of_package q d.0) (entries v) e of there in
+            let own = passed (λ d. is_of_package q d.0) (entries v) e (own_folder e.0 (go e there)) there in
             let is = placed are q (has_file v q e own) in
             (q, is.0, (is.1 e).1 own),
         λ text. (passes (λ d. is_of_package text.0 d.0) (entries v) e ((place_of are text.0 text.1 e).0 text.2)).1,
@@ -144,12 +143,6 @@ module _ (w v : Workspace) (p : List ℕ) (numbers : List ℕ) (holds : HoldsPac
 
   -- ---- of inputs
   module _ (inputs : AreInputs w p v) where
-    pub inputs_go : AreGoFiles v
-    inputs_go e there =
-        let text = (inputs.texts e).0 there in
-        let of = (passes (λ d. is_of_package text.0 d.0) (entries w) e text.2).0 in
-        (and_parts (is_go e.0) (pointwise ◌==◌ (folder e.0) text.0) of).0
-
     abbrev paths : List (List ℕ)
     paths = mapped (λ n. get_or (package_paths w) n []) numbers
 
@@ -234,30 +227,3 @@ next_alike w numbers v k m here same before i n p q below at is there = ⊎_elim
     let number : m ≡ n = same_Some m n (sym here ∙ subst (λ j. slice_get numbers j ≡ Some n) last at) in
     same p (subst (λ j. slice_get (package_paths w) j ≡ Some p) (sym number) is) q (subst (λ j. slice_get (package_paths v) j ≡ Some q) last there))
     (cases_lt i k)
-
--- ---- files one after another
--- those that were passed are Go files
-pub record ArePassed (w : Workspace) (left : List (List ℕ × List ℕ)) : Type 0 where
-  pub inside : (e : List ℕ × List ℕ) → Contains left e → Contains (entries w) e
-  pub passed : (e : List ℕ × List ℕ) → Contains (entries w) e → Contains left e ⊎ (is_go e.0 ≡ true)
-
-pub passed_none : (w : Workspace) → ArePassed w (entries w)
-passed_none w = record { inside = λ e has. has; passed = λ e has. inl has }
-
-pub passed_more : (w : Workspace) (e : List ℕ × List ℕ) (left : List (List ℕ × List ℕ)) → is_go e.0 ≡ true → ArePassed w (e ∷ left) → ArePassed w left
-passed_more w e left go so = record {
-  inside = λ d has. so.inside d (later_in e left d has);
-  passed = λ d has. ⊎_elim
-      (λ (there : Contains (e ∷ left) d). ⊎_elim
-      (λ (is : e ≡ d). inr (ap (λ (x : List ℕ × List ℕ). is_go x.0) (sym is) ∙ go))
-      (λ (later : Contains left d). inl later)
-      (first_or_later e left d there))
-      (λ (done : is_go d.0 ≡ true). inr done)
-      (so.passed d has);
-}
-
-pub passed_all : (w : Workspace) → ArePassed w [] → AreGoFiles w
-passed_all w so e has = ⊎_elim (λ (left : Contains [] e). absurd (nothing_in e left)) (λ (go : is_go e.0 ≡ true). go) (so.passed e has)
-
-pub passed_first : (w : Workspace) (e : List ℕ × List ℕ) (left : List (List ℕ × List ℕ)) → ArePassed w (e ∷ left) → Contains (entries w) e
-passed_first w e left so = so.inside e (first_in e left)

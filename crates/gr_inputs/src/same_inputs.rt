@@ -1,4 +1,4 @@
-//! Whether some files are the inputs of a package, told by their packages, one after another: nothing is gathered.
+//! Whether some inputs are those of a package, told by their packages, one after another: nothing is gathered.
 ghost use Rattle.std.specs.Prelude.{◌≡◌, ◌<◌, ◌↔◌, ℕ, Contains, IsTrue, List, Some, length, map as mapped, slice_get};
 ghost use Rattle.std.specs.List.{All};
 ghost use Rattle.std.specs.List.Sorted.{IsStrictlyIncreasing};
@@ -8,10 +8,11 @@ ghost use Rattle.gr_graph.specs.Packages.{IsInClosure};
 ghost use Rattle.gr_verdict.specs.Earlier.{tree_file};
 ghost use Rattle.gr_compile.specs.Inputs.{AreInputs};
 ghost use Rattle.gr_finished.specs.Changes.{HasSameFiles};
-ghost use Rattle.gr_inputs.specs.Inputs.{AreGoFiles, ArePackages, faulty_file};
+ghost use Rattle.gr_inputs.specs.Inputs.{ArePackages, faulty_file};
 
+use gr_compile::PackageInputs;
 use gr_graph::{FaultyFile, Graph};
-use gr_text::{FileText, Files, Path};
+use gr_text::{FileText, Path};
 use gr_tree::FileTree;
 
 /// Whether two files have the same path and the same text.
@@ -60,8 +61,8 @@ fn are_same_faulty(faulty: &[FaultyFile], others: &[FaultyFile]) -> bool
     true
 }
 
-/// Whether a package of a graph has the path and the files of one of another graph.
-fn is_same_package(graph: &Graph, number: usize, other: &Graph, place: usize) -> bool
+/// Whether a package of a graph has the path and the files of one of some inputs.
+fn is_same_package(graph: &Graph, number: usize, other: &PackageInputs, place: usize) -> bool
     requires number { number < length (package_paths graph.now) }
     requires place { place < length (package_paths other.now) }
     ensures { OfPackage graph.now number (λ p. OfPackage other.now place (λ q. IsTrue result ↔ ((q ≡ p) × HasSameFiles graph.now other.now p))) }
@@ -77,13 +78,13 @@ fn is_same_package(graph: &Graph, number: usize, other: &Graph, place: usize) ->
     are_same_faulty(&own.faulty, &there.faulty)
 }
 
-/// Whether a package of a graph has the path and the files of one of each of two other graphs. Where these share texts, each text is at
-/// hand when it is compared again.
+/// Whether a package of a graph has the path and the files of one of each of two inputs. Where these share texts, each text is at hand
+/// when it is compared again.
 fn is_package_of_both(
     graph: &Graph,
     number: usize,
-    first: &Graph,
-    second: &Graph,
+    first: &PackageInputs,
+    second: &PackageInputs,
     place: usize,
 ) -> bool
     requires number { number < length (package_paths graph.now) }
@@ -98,8 +99,13 @@ fn is_package_of_both(
     is_same_package(graph, number, second, place)
 }
 
-/// Whether the packages of each of two graphs are those of another with some numbers, in the order of these, each with the same files.
-fn are_packages_of_both(graph: &Graph, numbers: &[usize], first: &Graph, second: &Graph) -> bool
+/// Whether the packages of each of two inputs are those of a graph with some numbers, in the order of these, each with the same files.
+fn are_packages_of_both(
+    graph: &Graph,
+    numbers: &[usize],
+    first: &PackageInputs,
+    second: &PackageInputs,
+) -> bool
     requires { All (λ number. number < length (package_paths graph.now)) numbers.now }
     ensures { IsTrue result ↔ (ArePackages graph.now numbers.now first.now × ArePackages graph.now numbers.now second.now) }
 {
@@ -117,36 +123,18 @@ fn are_packages_of_both(graph: &Graph, numbers: &[usize], first: &Graph, second:
     true
 }
 
-/// Whether all files are Go files.
-fn are_go_files(files: &Files) -> bool
-    ensures { IsTrue result ↔ AreGoFiles files.now }
-{
-    for (path, _) in files.iter() {
-        if !path.is_go() {
-            return false;
-        }
-    }
-    true
-}
-
-/// Whether all files of two graphs are Go files.
-fn are_all_go_files(first: &Graph, second: &Graph) -> bool
-    ensures { IsTrue result ↔ (AreGoFiles first.now × AreGoFiles second.now) }
-{
-    if !are_go_files(first.files()) {
-        return false;
-    }
-    are_go_files(second.files())
-}
-
-/// Whether each of two graphs is of the inputs of a package, by the numbers of the packages in its closure.
-pub fn are_inputs_of_both(graph: &Graph, closure: &[usize], first: &Graph, second: &Graph) -> bool
+/// Whether each of two inputs is that of a package, by the numbers of the packages in its closure.
+pub fn are_inputs_of_both(
+    graph: &Graph,
+    closure: &[usize],
+    first: &PackageInputs,
+    second: &PackageInputs,
+) -> bool
     requires numbers { All (λ number. number < length (package_paths graph.now)) closure.now }
     requires rising { IsStrictlyIncreasing closure.now }
     ensures { (p : List ℕ) → Contains (package_paths graph.now) p → HoldsPackages graph.now (IsInClosure graph.now p) closure.now → IsTrue result ↔ (AreInputs graph.now p first.now × AreInputs graph.now p second.now) }
 {
-    if !are_packages_of_both(graph, closure, first, second) {
-        return false;
-    }
-    are_all_go_files(first, second)
+    first.hold_go_files();
+    second.hold_go_files();
+    are_packages_of_both(graph, closure, first, second)
 }

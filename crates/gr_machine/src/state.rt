@@ -1,25 +1,22 @@
 //! One state of the history.
 ghost use Rattle.std.specs.Prelude.{◌≡◌, IfOk};
 ghost use Rattle.gr_verdict.specs.Found.{KnowsVerdicts};
-ghost use Rattle.gr_inputs.specs.Inputs.{HoldsGathered};
 
 use crate::view::KnownSnapshot;
-use gr_finished::{Finished, SharedKnown};
+use gr_finished::Finished;
 use gr_graph::Graph;
-use gr_inputs::GatheredFiles;
 use gr_space::Snapshot;
 use gr_text::Limits;
+use gr_verdict::SharedKnown;
 use std::alloc::AllocError;
 use std::marker::Model;
 
-/// A workspace with its number, the units of those of its packages that are finished, and what is known of packages; and the files that
-/// were gathered last for the inputs of one.
+/// A workspace with its number, the units of those of its packages that are finished, and what is known of packages.
 pub struct State {
     pub number: u64,
     pub files: Graph,
     pub finished: Finished,
     pub known: SharedKnown,
-    pub gathered: GatheredFiles,
 }
 
 /// Written out, so that crates above call it and don't prove again how each part is dropped.
@@ -30,12 +27,10 @@ impl Drop for State {
             files,
             finished,
             known,
-            gathered,
         } = self;
         drop(files);
         drop(finished);
         drop(known);
-        drop(gathered);
     }
 }
 
@@ -45,7 +40,6 @@ impl Model for State {
     ghost use Rattle.gr_text.specs.Packages.{package_paths};
     ghost use Rattle.gr_verdict.specs.Found.{KnowsVerdicts};
     ghost use Rattle.gr_compile.specs.Codes.{unit_code, workspace_code};
-    ghost use Rattle.gr_inputs.specs.Inputs.{HoldsGathered};
     ghost use Rattle.gr_machine.specs.State.{State};
 
     ghost Value = { State };
@@ -54,7 +48,7 @@ impl Model for State {
 
     ghost view = { λ a. record { number = a.number; files = a.files; finished = a.finished } };
 
-    ghost invariant = { λ a. (length a.finished ≡ length (package_paths a.files)) × KnowsVerdicts a.files a.known × HoldsGathered a.files a.gathered };
+    ghost invariant = { λ a. (length a.finished ≡ length (package_paths a.files)) × KnowsVerdicts a.files a.known };
 }
 
 impl State {
@@ -76,14 +70,6 @@ impl State {
             files,
         };
         Ok(KnownSnapshot::new(snapshot, known))
-    }
-
-    /// Keeps the files that were gathered last. The next inputs begin with them.
-    pub fn keep(&mut self, gathered: GatheredFiles)
-        requires { HoldsGathered self.old.files gathered }
-        ensures { self.new ≡ self.old }
-    {
-        self.gathered = gathered;
     }
 
     /// Takes in what was found in packages of some files, if they are its own.

@@ -2,10 +2,10 @@
 ghost use Rattle.std.specs.Prelude.{◌≡◌};
 ghost use Rattle.gr_verdict.specs.Found.{KnowsVerdicts};
 
-use gr_finished::{Finished, SharedKnown};
+use gr_finished::Finished;
 use gr_graph::Graph;
 use gr_space::Snapshot;
-use gr_verdict::Known;
+use gr_verdict::{Known, SharedKnown};
 use std::marker::Model;
 
 /// A snapshot, with what is known of its packages. Contracts see the snapshot alone.

@@ -5,21 +5,19 @@ use Rattle.std.proofs.Math.ListN.{set}
 use Rattle.std.proofs.lemmas.Bool.{cases_eq}
 use Rattle.std.proofs.Math.Path.{ap₂}
 use Rattle.std.proofs.lemmas.List.{length-map, length-set, map-append, take_more}
-use Rattle.std.proofs.lemmas.Option.{same_Some, slice_get_within, slice_get-get_or, slice_get-map}
+use Rattle.std.proofs.lemmas.Option.{same_Some, slice_get_within, slice_get-map}
 use Rattle.gr_text.specs.Workspace.{Workspace}
 use Rattle.gr_text.specs.Packages.{package_paths}
-use Rattle.gr_graph.specs.Graphs.{OfPackage}
-use Rattle.gr_graph.proofs.Asked.{number, at_contains}
+use Rattle.gr_graph.proofs.Asked.{number}
 use Rattle.gr_declared.proofs.Mentioning.{get_set_same, get_set_other}
 use Rattle.gr_verdict.specs.declared.finding.Finding.{Finding}
 use Rattle.gr_verdict.specs.declared.findings.Findings.{Findings}
 use Rattle.gr_verdict.specs.declared.gathered.Gathered.{Gathered}
 use Rattle.gr_verdict.specs.Verdicts.{BuildsOn, AreVerdictsBelow, AreVerdicts}
-use Rattle.gr_verdict.specs.Found.{IsFoundBy, AreFindings}
+use Rattle.gr_verdict.specs.Found.{AreFindings}
 use Rattle.gr_verdict.specs.Told.{known_by, AreWhole, IsFindingOf}
 use Rattle.gr_verdict.specs.Steps.{AreKnown, AreGathered, AreAllGathered, AreKnownBelow, IsGathered, IsBuildOrder, KnowsAll, LearnsOf, MayLearn, somes}
-use Rattle.gr_verdict.proofs.Adding.{below_before, finding_as}
-use Rattle.gr_verdict.proofs.Closed.{not_on_itself, to_package}
+use Rattle.gr_verdict.proofs.Adding.{finding_as}
 use Rattle.gr_verdict.proofs.Knowing.{learnt_next}
 use Rattle.gr_verdict.proofs.Members.{nothing_in}
 use Rattle.gr_verdict.proofs.OneVerdict.{right_alike, right_below}
@@ -79,7 +77,7 @@ module _ (w : Workspace) (q : List ℕ) (n : ℕ) (old new : Gathered) (at : sli
         each = each_learnt;
       }
 
-  known_still : (m : ℕ) → IsGathered fs m ⊎ (n ≡ m) → IsGathered new.findings.items m
+  pub known_still : (m : ℕ) → IsGathered fs m ⊎ (n ≡ m) → IsGathered new.findings.items m
   known_still m g = subst (λ xs. IsGathered xs m) (sym l.is_set) (elim g [
     | inl before ↦ gathered_stays fs n m l.finding within before
     | inr e ↦ subst (IsGathered (set fs n (Some l.finding))) e (l.finding, get_set_same fs n (Some l.finding) within)
@@ -121,27 +119,6 @@ pub known_right : (w : Workspace) (p : List ℕ) (all : Gathered) → AreGathere
     AreVerdictsBelow w p (known_by all.interfaces)
 known_right w p all h below q on = let k = below q on in h.verdicts.right k.0 q k.1.0 k.1.1
 
-pub below_passed : (w : Workspace) (order : List ℕ) → IsBuildOrder w order → (n k : ℕ) → slice_get order k ≡ Some n → (all : Gathered) →
-    AreAllGathered w (take k order) all → OfPackage w n (λ p. AreKnownBelow w p all)
-below_passed w order built n k there all h p at q on =
-    let b = below_before w order built k n p q there at on in
-    (b.0, (h.each b.0 b.1.0, b.1.1))
-
-pub below_all : (w : Workspace) (order : List ℕ) → IsBuildOrder w order → (n : ℕ) → n < length (package_paths w) → (all : Gathered) →
-    AreAllGathered w order all → OfPackage w n (λ p. AreKnownBelow w p all)
-below_all w order built n within all h p at q on =
-    let i = (built.each n).1 within in
-    let b = below_before w order built i.0 n p q (slice_get-get_or order i.0 n i.1 ∙ ap Some i.2) at on in
-    (b.0, (h.each b.0 ((built.each b.0).1 (slice_get_within (package_paths w) b.0 q b.1.1)), b.1.1))
-
-pub below_others : (w : Workspace) (number : ℕ) (all : Gathered) → AreGathered w (length (package_paths w)) all →
-    ((n : ℕ) → n < length all.findings.items → (n ≡ number → ⊥) → IsGathered all.findings.items n) → OfPackage w number (λ p. AreKnownBelow w p all)
-below_others w i all h others p at q on =
-    let n = number w q (to_package w p q on.imported) in
-    let lt : n.0 < length all.findings.items = subst (λ k. n.0 < k) (sym h.size) (slice_get_within (package_paths w) n.0 q n.1) in
-    let apart : n.0 ≡ i → ⊥ = λ e. not_on_itself w p q on (same_Some q p (sym n.1 ∙ subst (λ k. slice_get (package_paths w) k ≡ Some p) (sym e) at)) in
-    (n.0, (others n.0 lt apart, n.1))
-
 -- all packages
 
 pub all_known : (w : Workspace) (order : List ℕ) (all : Gathered) → IsBuildOrder w order → AreAllGathered w order all → KnowsAll w all
@@ -180,14 +157,3 @@ module _ (w : Workspace) (all : Gathered) (h : KnowsAll w all) where
             (right_alike w p g.known (known_by found.interfaces) g.right (right_below w (known_by found.interfaces) right p)) f g.finding);
         whole = subst AreWhole (sym interfaces) h.right.verdicts.whole;
       }
-
--- one package of all
-
-pub found_by : (w : Workspace) (found : Findings) → AreFindings w found → (n : ℕ) (p : List ℕ) (f : Finding) → slice_get (package_paths w) n ≡ Some p →
-    slice_get found.packages.items n ≡ Some f → IsFoundBy w p found.interfaces f
-found_by w found h n p f at is = record {
-  below = right_below w (known_by found.interfaces) h.right p;
-  own = h.right p (at_contains w n p at);
-  whole = h.whole;
-  finding = h.each n p f at is;
-}

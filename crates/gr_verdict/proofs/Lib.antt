@@ -29,6 +29,8 @@ pub mod Adding
 pub mod Telling
 pub mod Gathering
 pub mod Taking
+pub mod Copying
+pub mod Underway
 pub mod SameImports
 pub mod Keeping
 pub mod Passing

@@ -22,7 +22,7 @@ use Rattle.gr_verdict.proofs.Knowing.{known_next, verdict_as}
 
 -- lists, one item further
 
-before_or_last : {X : Type 0} (xs : List X) (y : X) (m : ℕ) (x : X) → slice_get (xs ++ y ∷ []) m ≡ Some x → (slice_get xs m ≡ Some x) ⊎
+pub before_or_last : {X : Type 0} (xs : List X) (y : X) (m : ℕ) (x : X) → slice_get (xs ++ y ∷ []) m ≡ Some x → (slice_get xs m ≡ Some x) ⊎
     ((m ≡ length xs) × (y ≡ x))
 before_or_last [] y zero x e = inr (refl, same_Some y x e)
 before_or_last [] y (suc m) x e = absurd (none-some x e)

@@ -2,17 +2,20 @@
 use Rattle.std.proofs.Common.{ℕ, ◌≡◌, ◌+◌, ◌<◌, inl, inr, List, [], ◌∷◌, ◌++◌, length, sym, ap, subst, ◌∙◌, arith, length-append}
 use Rattle.std.specs.Prelude.{Option, Some, slice_get}
 use Rattle.std.specs.Global.{Vec}
-use Rattle.std.proofs.lemmas.Bool.{cases_lt}
+use Rattle.std.proofs.Math.ListN.{set}
+use Rattle.std.proofs.lemmas.Bool.{cases_eq, cases_lt}
+use Rattle.std.proofs.lemmas.List.{length-set}
 use Rattle.std.proofs.lemmas.Option.{none-some, same_Some, slice_get_within}
 use Rattle.gr_text.specs.Workspace.{Workspace}
 use Rattle.gr_text.specs.Packages.{package_paths}
 use Rattle.gr_graph.specs.Graphs.{OfPackage}
 use Rattle.gr_declared.specs.InterfacesView.{name_in, interface_in}
 use Rattle.gr_declared.specs.declared.interfaces.Interfaces.{Interfaces}
+use Rattle.gr_declared.proofs.Mentioning.{get_set_same, get_set_other}
 use Rattle.gr_declared.proofs.Paths.{get_before, get_last}
 use Rattle.gr_verdict.specs.declared.known.Known.{Known}
 use Rattle.gr_verdict.specs.declared.known.KnownVerdict.{KnownVerdict}
-use Rattle.gr_verdict.specs.Found.{KnowsVerdicts, AreKnownNext}
+use Rattle.gr_verdict.specs.Found.{HoldSameVerdicts, KnowsVerdicts, AreKnownNext}
 use Rattle.gr_verdict.specs.Told.{known_by, AreWhole, IsFindingOf, TellsVerdict, MayTell}
 use Rattle.gr_verdict.specs.Verdicts.{IsVerdict}
 use Rattle.gr_verdict.proofs.Knowing.{verdict_as}
@@ -28,6 +31,29 @@ nothing_told known e w = record { size = ap length e; verdicts = nothing_known k
 -- what is known stays right where the verdicts are the same
 pub known_still : (w : Workspace) (old new : Known) → new.verdicts ≡ old.verdicts → KnowsVerdicts w old → KnowsVerdicts w new
 known_still w old new e h n p one at is = h n p one at (subst (λ (v : Vec (Option KnownVerdict)). slice_get v.items n ≡ Some (Some one)) e is)
+
+-- and where both hold the same
+pub known_same : (w : Workspace) (old new : Known) → HoldSameVerdicts old.verdicts.items new.verdicts.items → KnowsVerdicts w old → KnowsVerdicts w new
+known_same w old new same h n p one at is = h n p one at ((same n one).0 is)
+
+-- the verdict on one package is set
+pub known_set : (w : Workspace) (old new : Known) (number : ℕ) (p : List ℕ) (told : KnownVerdict) → slice_get (package_paths w) number ≡ Some p →
+    new.verdicts.items ≡ set old.verdicts.items number (Some told) → TellsVerdict w p told → KnowsVerdicts w old →
+    KnowsVerdicts w new
+known_set w old new number p told at is_set tells h n q one at_n is =
+    let items = old.verdicts.items in
+    let there : slice_get (set items number (Some told)) n ≡ Some (Some one) = subst (λ l. slice_get l n ≡ Some (Some one)) is_set is in
+    elim (cases_eq n number) [
+      | inl e ↦ (
+          let here : slice_get (set items number (Some told)) number ≡ Some (Some one) =
+          subst (λ k. slice_get (set items number (Some told)) k ≡ Some (Some one)) e there in
+          let within = subst (λ k. number < k) (length-set items number (Some told)) (slice_get_within (set items number (Some told)) number (Some one) here) in
+          let same : told ≡ one =
+          same_Some told one (same_Some (Some told) (Some one) (sym (get_set_same items number (Some told) within) ∙ here)) in
+          let path : p ≡ q = same_Some p q (sym at ∙ subst (λ k. slice_get (package_paths w) k ≡ Some q) e at_n) in
+          subst (λ r. TellsVerdict w r one) path (subst (TellsVerdict w p) same tells))
+      | inr ne ↦ h n q one at_n (sym (get_set_other items number n (Some told) ne) ∙ there)
+    ]
 
 -- one package further
 

@@ -1,5 +1,5 @@
 -- What the program finds in the packages of a workspace.
-use Rattle.std.specs.Prelude.{ℕ, ◌≡◌, List, Some, length, slice_get}
+use Rattle.std.specs.Prelude.{ℕ, ◌≡◌, ◌↔◌, List, Option, Some, length, slice_get, Contains}
 use Rattle.gr_text.specs.Workspace.{Workspace}
 use Rattle.gr_text.specs.Packages.{package_paths}
 use Rattle.gr_declared.specs.declared.interfaces.Interfaces.{Interfaces}
@@ -16,6 +16,14 @@ abbrev pub KnowsVerdicts : Workspace → Known → Type 0
 KnowsVerdicts w known = (n : ℕ) (p : List ℕ) (one : KnownVerdict) → slice_get (package_paths w) n ≡ Some p →
     slice_get known.verdicts.items n ≡ Some (Some one) → TellsVerdict w p one
 
+-- both hold the same verdicts, by the packages' numbers
+abbrev pub HoldSameVerdicts : (old new : List (Option KnownVerdict)) → Type 0
+HoldSameVerdicts old new = (n : ℕ) (one : KnownVerdict) → slice_get new n ≡ Some (Some one) ↔ slice_get old n ≡ Some (Some one)
+
+-- each of these is the verdict on the package of its path
+abbrev pub AreVerdictsOf : Workspace → List KnownVerdict → Type 0
+AreVerdictsOf w list = (one : KnownVerdict) → Contains list one → Contains (package_paths w) one.finding.path × TellsVerdict w one.finding.path one
+
 -- and it is of the first packages, as many as are told: no contract names it, loops here and in gr_keep keep it
 pub record AreKnownNext (w : Workspace) (count : ℕ) (known : Known) : Type 0 where
   pub size : length known.verdicts.items ≡ count
@@ -29,8 +37,7 @@ pub record AreFindings (w : Workspace) (found : Findings) : Type 0 where
       IsFinding w (known_by found.interfaces) p f
   pub whole : AreWhole found.interfaces
 
--- what is found in p, by the verdicts on the packages that it builds on; they and that on p are known where these interfaces are.
--- No contract names it: gr_compile is given it of the package that it builds.
+-- what is found in p, by the verdicts on the packages that it builds on; they and that on p are known where these interfaces are
 pub record IsFoundBy (w : Workspace) (p : List ℕ) (all : Interfaces) (f : Finding) : Type 0 where
   pub below : AreVerdictsBelow w p (known_by all)
   pub own : IsVerdict w p (known_by all p)

@@ -1,6 +1,6 @@
 -- What is found on the way: an order of the packages, what one of them sees, its faults with their places, and what is found
 -- with one package more.
-use Rattle.std.specs.Prelude.{ℕ, ◌≡◌, ◌<◌, ◌↔◌, ◌⊎◌, List, [], length, map, Option, Some, None, slice_get, slice_index_or, MatchOption, Contains}
+use Rattle.std.specs.Prelude.{ℕ, ◌≡◌, ◌<◌, ◌↔◌, ◌⊎◌, List, [], ◌∷◌, ◌++◌, length, map, Option, Some, None, slice_get, slice_index_or, MatchOption, Contains}
 use Rattle.std.specs.List.Sorted.{IsStrictlyIncreasing}
 use Rattle.std.proofs.Math.ListN.{set}
 use Rattle.gr_text.specs.Workspace.{Workspace}
@@ -8,9 +8,10 @@ use Rattle.gr_text.specs.Packages.{package_paths, package_files}
 use Rattle.gr_fault.specs.declared.fault.Fault.{Fault}
 use Rattle.gr_tree.specs.SourceFile.{SourceFile, FileParts, source_of}
 use Rattle.gr_graph.specs.FaultyFiles.{FaultyParts}
-use Rattle.gr_graph.specs.Graphs.{HoldsPackages}
+use Rattle.gr_graph.specs.Graphs.{HoldsPackages, OfPackage}
 use Rattle.gr_graph.specs.Packages.{IsInClosure}
 use Rattle.gr_graph.specs.Parsed.{AreParsed}
+use Rattle.gr_graph.specs.Reaching.{AreBackMarks}
 use Rattle.gr_imports.specs.declared.states.ImportState.{ImportState}
 use Rattle.gr_declared.specs.InterfacesView.{name_in, interface_in, interface_of, KnowsSame, AddsInterface}
 use Rattle.gr_declared.specs.Package.{Interface as Seen}
@@ -24,8 +25,10 @@ use Rattle.gr_verdict.specs.FaultLists.{AreListed}
 use Rattle.gr_verdict.specs.Told.{known_by, AreWhole, AreUsesOf, AreQualifiedOf, IsFinding, IsFindingOf}
 use Rattle.gr_verdict.specs.declared.fault.FileFault.{FileFault}
 use Rattle.gr_verdict.specs.declared.finding.Finding.{Finding}
+use Rattle.gr_verdict.specs.declared.found_package.FoundPackage.{FoundPackage}
 use Rattle.gr_verdict.specs.declared.judging.Judged.{Judged}
 use Rattle.gr_verdict.specs.declared.gathered.Gathered.{Gathered}
+use Rattle.gr_verdict.specs.declared.known.KnownVerdict.{KnownVerdict}
 use Rattle.gr_verdict.specs.declared.progress.Progress.{Progress}
 
 -- An order
@@ -158,10 +161,53 @@ pub record KnowsAll (w : Workspace) (all : Gathered) : Type 0 where
   pub right : AreGathered w (length (package_paths w)) all
   pub each : (n : ℕ) → n < length (package_paths w) → IsGathered all.findings.items n
 
--- what is found in packages while they are judged
-abbrev pub IsUnderway : Workspace → Progress → Type 0
-IsUnderway w progress = AreGathered w (length (package_paths w)) progress.all
+-- Where a package is judged behind those that it builds on
 
 -- of all that p builds on the verdicts are known
 abbrev pub AreKnownBelow : Workspace → List ℕ → Gathered → Type 0
 AreKnownBelow w p all = (q : List ℕ) → BuildsOn w p q → (n : ℕ) × (IsGathered all.findings.items n × (slice_get (package_paths w) n ≡ Some q))
+
+-- some packages, by their numbers, and with each all that it builds on
+pub record HoldAllBelow (w : Workspace) (numbers : List ℕ) : Type 0 where
+  pub rising : IsStrictlyIncreasing numbers
+  pub in_range : (n : ℕ) → Contains numbers n → n < length (package_paths w)
+  pub below : (n m : ℕ) (p q : List ℕ) → Contains numbers n → slice_get (package_paths w) n ≡ Some p → slice_get (package_paths w) m ≡ Some q →
+      BuildsOn w p q → Contains numbers m
+
+-- what is known of some of these packages is right, and nothing is known of any other
+pub record AreGatheredOf (w : Workspace) (numbers : List ℕ) (all : Gathered) : Type 0 where
+  pub right : AreGathered w (length (package_paths w)) all
+  pub just : (n : ℕ) → IsGathered all.findings.items n → Contains numbers n
+
+-- and it is known of each of them
+pub record KnowsJust (w : Workspace) (numbers : List ℕ) (all : Gathered) : Type 0 where
+  pub gathered : AreGatheredOf w numbers all
+  pub each : (n : ℕ) → Contains numbers n → IsGathered all.findings.items n
+
+-- p was judged, if it is one of these and was not known; else nothing was judged
+abbrev pub MayLearnAmong : Workspace → List ℕ → List ℕ → ℕ → (old new : Gathered) → Type 0
+MayLearnAmong w numbers p n old new = (Contains numbers n × MayLearn w p n old new) ⊎ ((Contains numbers n → ⊥) × (new ≡ old))
+
+-- what is found in the package p of that number is known, and of all that it builds on
+pub record IsKnownWithBelow (w : Workspace) (p : List ℕ) (number : ℕ) (all : Gathered) : Type 0 where
+  pub right : AreGathered w (length (package_paths w)) all
+  pub own : IsGathered all.findings.items number
+  pub below : AreKnownBelow w p all
+
+-- a verdict was added, if there is one
+abbrev pub MayPush : (old new : List KnownVerdict) → Option KnownVerdict → Type 0
+MayPush old new None = new ≡ old
+MayPush old new (Some one) = new ≡ old ++ one ∷ []
+
+-- what was found in the package of that number, with all interfaces, and these verdicts
+pub record IsMadeOf (number : ℕ) (all : Gathered) (verdicts : List KnownVerdict) (made : FoundPackage) : Type 0 where
+  pub finding : slice_get all.findings.items number ≡ Some (Some made.finding)
+  pub interfaces : made.interfaces ≡ all.interfaces
+  pub found : made.found.items ≡ verdicts
+
+-- what the package of a number builds on, with the verdicts on these, and the marks of what imports it
+pub record IsUnderway (w : Workspace) (number : ℕ) (progress : Progress) : Type 0 where
+  pub right : AreGathered w (length (package_paths w)) progress.all
+  pub below : OfPackage w number (λ p. AreKnownBelow w p progress.all)
+  pub built_on : OfPackage w number (λ p. HoldsPackages w (BuildsOn w p) progress.below.built_on)
+  pub back : OfPackage w number (λ p. AreBackMarks w p progress.below.back.items)

@@ -1,6 +1,5 @@
 //! What is found in some packages, in one, by which others are judged.
 ghost use Rattle.std.specs.Prelude.{◌≡◌, ◌<◌, ◌↔◌, ℕ, List, length, Contains, IfOk, IsTrue, MatchOption, None, OnOk, Some, slice_get};
-ghost use Rattle.std.specs.List.Sorted.{IsStrictlyIncreasing};
 ghost use Rattle.std.proofs.Math.ListN.{set};
 ghost use Rattle.gr_text.specs.Packages.{package_paths};
 ghost use Rattle.gr_graph.specs.Graphs.{OfPackage};
@@ -8,11 +7,10 @@ ghost use Rattle.gr_declared.specs.InterfacesView.{Shares, interface_in, name_in
 ghost use Rattle.gr_verdict.specs.declared.finding.Finding.{Finding as Found};
 ghost use Rattle.gr_verdict.specs.Found.{KnowsVerdicts};
 ghost use Rattle.gr_verdict.specs.Told.{MayTell};
-ghost use Rattle.gr_verdict.specs.Steps.{AreGathered, IsGathered};
+ghost use Rattle.gr_verdict.specs.Steps.{AreGathered, AreGatheredOf, HoldAllBelow, IsGathered};
 
 use crate::finding::SharedFinding;
 use crate::known::{Known, KnownVerdict};
-use crate::reaching::is_among;
 use gr_declared::Interfaces;
 use gr_graph::Graph;
 use std::alloc::{AllocError, Global};
@@ -30,7 +28,7 @@ fn no_findings(alloc: Global, count: usize) -> Result<Vec<Option<SharedFinding>>
     ensures size { IfOk result (λ findings. length findings.items ≡ count) }
     ensures none { IfOk result (λ findings. (n : ℕ) → IsGathered findings.items n → ⊥) }
 {
-    let mut findings = Vec::new(alloc);
+    let mut findings = Vec::with_capacity(alloc, count)?;
     for _number in 0..count {
         findings.push(None)?;
     }
@@ -38,22 +36,23 @@ fn no_findings(alloc: Global, count: usize) -> Result<Vec<Option<SharedFinding>>
 }
 
 impl Gathered {
-    /// Nothing, for so many packages.
-    fn new(alloc: Global, count: usize) -> Result<Gathered, AllocError>
+    /// Nothing, for so many packages, with room for the interfaces of some.
+    fn new(alloc: Global, count: usize, room: usize) -> Result<Gathered, AllocError>
         ensures size { IfOk result (λ all. length all.findings.items ≡ count) }
         ensures none { IfOk result (λ all. (n : ℕ) → IsGathered all.findings.items n → ⊥) }
         ensures names { IfOk result (λ all. (path : List ℕ) → name_in all.interfaces path ≡ None) }
         ensures interfaces { IfOk result (λ all. (path : List ℕ) → interface_in all.interfaces path ≡ no_interface path) }
     {
         let findings = no_findings(alloc, count)?;
+        let interfaces = Interfaces::with_capacity(alloc, room)?;
         Ok(Gathered {
             findings,
-            interfaces: Interfaces::new(alloc),
+            interfaces,
         })
     }
 
     /// What is found in the package of a number, if it is known.
-    fn finding(&self, number: usize) -> Option<&SharedFinding>
+    pub(crate) fn finding(&self, number: usize) -> Option<&SharedFinding>
         ensures { MatchOption result ((f : Found) → slice_get self.now.findings.items number ≡ Some (Some f) → ⊥) (λ f. slice_get self.now.findings.items number ≡ Some (Some f.now)) }
     {
         match self.findings.get(number) {
@@ -72,47 +71,23 @@ impl Gathered {
         }
     }
 
-    /// Whether a package is among some, if it is known what is found in it.
-    fn knows_among(&self, numbers: &[usize], number: usize) -> bool
-        requires { IsStrictlyIncreasing numbers.now }
-        ensures { IsTrue result → IsGathered self.now.findings.items number → Contains numbers.now number }
+    /// What is found in the package of a number, of which it is known.
+    pub(crate) fn finding_there(&self, number: usize) -> &SharedFinding
+        requires { IsGathered self.now.findings.items number }
+        ensures { slice_get self.now.findings.items number ≡ Some (Some result.now) }
     {
-        if self.knows(number) {
-            is_among(numbers, number)
-        } else {
-            true
+        match self.finding(number) {
+            Some(finding) => finding,
+            None => unreachable!(),
         }
     }
 
-    /// Whether it is known of these packages alone what is found in them.
-    pub(crate) fn knows_just(&self, numbers: &[usize]) -> bool
-        requires { IsStrictlyIncreasing numbers.now }
-        ensures { IsTrue result → (n : ℕ) → IsGathered self.now.findings.items n → Contains numbers.now n }
+    /// Whether it is known of each of these packages what is found in it.
+    pub(crate) fn knows_each(&self, numbers: &[usize]) -> bool
+        ensures { IsTrue result → (n : ℕ) → Contains numbers.now n → IsGathered self.now.findings.items n }
     {
-        for number in 0..self.findings.len() {
-            if !self.knows_among(numbers, number) {
-                return false;
-            }
-        }
-        true
-    }
-
-    /// Whether it is known what is found in a package, or it is one of which that isn't asked.
-    fn knows_beside(&self, unasked: usize, number: usize) -> bool
-        ensures { IsTrue result → (number ≡ unasked → ⊥) → IsGathered self.now.findings.items number }
-    {
-        if number == unasked {
-            return true;
-        }
-        self.knows(number)
-    }
-
-    /// Whether it is known of each package but one what is found in it.
-    pub(crate) fn knows_others(&self, unasked: usize) -> bool
-        ensures { IsTrue result → (n : ℕ) → n < length self.now.findings.items → (n ≡ unasked → ⊥) → IsGathered self.now.findings.items n }
-    {
-        for number in 0..self.findings.len() {
-            if !self.knows_beside(unasked, number) {
+        for number in numbers {
+            if !self.knows(*number) {
                 return false;
             }
         }
@@ -151,7 +126,7 @@ impl Gathered {
 }
 
 /// Takes what is known of a package, of which nothing was taken yet.
-fn take_known(
+pub(crate) fn take_known(
     alloc: Global,
     graph: &Graph,
     number: usize,
@@ -164,6 +139,7 @@ fn take_known(
     requires unknown { IsGathered all.old.findings.items number → ⊥ }
     ensures right { OnOk result (AreGathered graph.now (length (package_paths graph.now)) all.new) }
     ensures others { OnOk result ((n : ℕ) → (n ≡ number → ⊥) → IsGathered all.new.findings.items n → IsGathered all.old.findings.items n) }
+    ensures kept { OnOk result ((n : ℕ) → IsGathered all.old.findings.items n → IsGathered all.new.findings.items n) }
 {
     let Some(verdict) = known.get(number) else {
         return Ok(());
@@ -177,11 +153,48 @@ pub(crate) fn gather(alloc: Global, graph: &Graph, known: &Known) -> Result<Gath
     requires { KnowsVerdicts graph.now known.now }
     ensures { IfOk result (λ all. AreGathered graph.now (length (package_paths graph.now)) all) }
 {
-    let mut all = Gathered::new(alloc, graph.len())?;
+    let mut all = Gathered::new(alloc, graph.len(), graph.len())?;
     for number in 0..graph.len() {
         take_known(alloc, graph, number, known, &mut all)?;
     }
     Ok(all)
+}
+
+/// What is known of some packages, and of no other. They are taken in the order of their paths too.
+pub(crate) fn gather_some(
+    alloc: Global,
+    graph: &Graph,
+    numbers: &[usize],
+    known: &Known,
+) -> Result<Gathered, AllocError>
+    requires numbers { HoldAllBelow graph.now numbers.now }
+    requires known { KnowsVerdicts graph.now known.now }
+    ensures { IfOk result (AreGatheredOf graph.now numbers.now) }
+{
+    let mut all = Gathered::new(alloc, graph.len(), numbers.len())?;
+    for number in numbers {
+        take_known(alloc, graph, *number, known, &mut all)?;
+    }
+    Ok(all)
+}
+
+/// The verdict on a package, if it is found now.
+pub(crate) fn verdict_found(
+    alloc: Global,
+    graph: &Graph,
+    number: usize,
+    now: &Gathered,
+) -> Result<Option<KnownVerdict>, AllocError>
+    requires number { number < length (package_paths graph.now) }
+    requires now { AreGathered graph.now (length (package_paths graph.now)) now.now }
+    ensures { IfOk result (λ found. OfPackage graph.now number (λ p. MayTell graph.now p found)) }
+{
+    let Some(finding) = now.finding(number) else {
+        return Ok(None);
+    };
+    let finding = finding.clone()?;
+    let verdict = KnownVerdict::of(alloc, &graph.package(number).path, finding, &now.interfaces)?;
+    Ok(Some(verdict))
 }
 
 /// What is known of a package, if anything was known before, or is now.
@@ -201,12 +214,7 @@ fn verdict_now(
         let verdict = verdict.clone()?;
         return Ok(Some(verdict));
     }
-    let Some(finding) = now.finding(number) else {
-        return Ok(None);
-    };
-    let finding = finding.clone()?;
-    let verdict = KnownVerdict::of(alloc, &graph.package(number).path, finding, &now.interfaces)?;
-    Ok(Some(verdict))
+    verdict_found(alloc, graph, number, now)
 }
 
 /// What was known of packages before, with what is found now.

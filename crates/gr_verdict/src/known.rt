@@ -1,16 +1,18 @@
 //! What is known of packages: what is found in some of them, with the verdicts on these, and what was known of all before the
 //! workspace changed.
-ghost use Rattle.std.specs.Prelude.{◌≡◌, ◌↔◌, ◌++◌, [], ◌∷◌, IfOk, IfSome, IsTrue, MatchOption, None, OnOk, Some, slice_get};
+ghost use Rattle.std.specs.Prelude.{◌≡◌, ◌<◌, ◌≤◌, ◌↔◌, ◌++◌, [], ◌∷◌, length, IfOk, IfSome, IsTrue, MatchOption, None, OnOk, Some, slice_get};
+ghost use Rattle.std.proofs.Math.ListN.{set};
 ghost use Rattle.gr_text.specs.Workspace.{Workspace};
 ghost use Rattle.gr_declared.specs.InterfacesView.{interface_in, name_in};
 ghost use Rattle.gr_verdict.specs.Earlier.{HaveSameImports};
-ghost use Rattle.gr_verdict.specs.Found.{KnowsVerdicts};
+ghost use Rattle.gr_verdict.specs.Found.{HoldSameVerdicts, KnowsVerdicts};
 ghost use Rattle.gr_verdict.specs.declared.known.KnownVerdict.{KnownVerdict as Verdict};
 
 use crate::earlier::Earlier;
-use crate::finding::SharedFinding;
+use crate::finding::{Finding, SharedFinding};
 use crate::steady::have_same_imports;
 use gr_declared::Interfaces;
+use gr_expr::symbol::SharedPath;
 use gr_graph::Graph;
 use std::alloc::{AllocError, Global};
 use std::marker::Model;
@@ -89,8 +91,22 @@ impl KnownVerdict {
         })
     }
 
+    /// The path of the package.
+    pub fn path(&self) -> &SharedPath
+        ensures { result.now ≡ self.now.finding.path }
+    {
+        &self.finding.get().path
+    }
+
+    /// What is found in the package.
+    pub fn finding(&self) -> &Finding
+        ensures { result.now ≡ self.now.finding }
+    {
+        self.finding.get()
+    }
+
     /// The interfaces that tell of the package.
-    pub(crate) fn interfaces(&self) -> &Interfaces
+    pub fn interfaces(&self) -> &Interfaces
         ensures { result.now ≡ self.now.interfaces }
     {
         self.interfaces.get()
@@ -146,18 +162,30 @@ fn copy_of(verdict: &Option<KnownVerdict>) -> Result<Option<KnownVerdict>, Alloc
     }
 }
 
-/// What is known of packages, once more.
+/// What is known of packages, once more, with room for so many.
 fn copies(
     alloc: Global,
     verdicts: &[Option<KnownVerdict>],
+    room: usize,
 ) -> Result<Vec<Option<KnownVerdict>>, AllocError>
     ensures { IfOk result (λ copies. copies.items ≡ verdicts.now) }
 {
-    let mut copies = Vec::new(alloc);
+    let mut copies = Vec::with_capacity(alloc, room)?;
     for verdict in verdicts {
         copies.push(copy_of(verdict)?)?;
     }
     Ok(copies)
+}
+
+/// Adds places for packages of which nothing is known, until there is one for each of so many packages at least.
+fn pad(verdicts: &mut Vec<Option<KnownVerdict>>, count: usize) -> Result<(), AllocError>
+    ensures size { OnOk result (count ≤ length verdicts.new.items) }
+    ensures same { OnOk result (HoldSameVerdicts verdicts.old.items verdicts.new.items) }
+{
+    for _place in verdicts.len()..count {
+        verdicts.push(None)?;
+    }
+    Ok(())
 }
 
 impl Known {
@@ -206,6 +234,29 @@ impl Known {
         Ok(())
     }
 
+    /// The same once more, with a place for each of so many packages at least.
+    pub fn copy(&self, alloc: Global, count: usize) -> Result<Known, AllocError>
+        ensures size { IfOk result (λ copy. count ≤ length copy.verdicts.items) }
+        ensures same { IfOk result (λ copy. HoldSameVerdicts self.now.verdicts.items copy.verdicts.items) }
+    {
+        let mut verdicts = copies(alloc, &self.verdicts, count)?;
+        pad(&mut verdicts, count)?;
+        let mut copy = Known {
+            verdicts,
+            earlier: None,
+        };
+        copy.share_earlier(self)?;
+        Ok(copy)
+    }
+
+    /// Sets what is known of the package of a number.
+    pub fn set(&mut self, number: usize, verdict: KnownVerdict)
+        requires { number < length self.old.verdicts.items }
+        ensures { self.new.verdicts.items ≡ set self.old.verdicts.items number (Some verdict) }
+    {
+        self.verdicts[number] = Some(verdict);
+    }
+
     /// Whether something is known of each package. Only what is judged again rests on it.
     fn knows_all(&self) -> bool {
         for verdict in &self.verdicts {
@@ -222,7 +273,7 @@ impl Known {
     {
         if self.knows_all() {
             let graph = graph.clone()?;
-            let verdicts = copies(alloc, &self.verdicts)?;
+            let verdicts = copies(alloc, &self.verdicts, self.verdicts.len())?;
             let earlier = Earlier::new(alloc, graph, verdicts)?;
             return Ok(Some(earlier));
         }

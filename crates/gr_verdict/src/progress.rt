@@ -1,69 +1,119 @@
-//! What is found in packages while they are judged one after the other, where a caller checks one of them itself.
-ghost use Rattle.std.specs.Prelude.{◌≡◌, ◌<◌, ◌↔◌, length, IfOk, IsTrue, OnOk};
+//! What is found in the packages on which one builds, while they are judged one after the other, where a caller checks that one itself.
+ghost use Rattle.std.specs.Prelude.{ℕ, ◌≡◌, ◌<◌, ◌↔◌, length, IfOk, IsTrue, OnOk};
 ghost use Rattle.gr_text.specs.Packages.{package_paths};
+ghost use Rattle.gr_text.specs.Workspace.{Workspace};
 ghost use Rattle.gr_graph.specs.Graphs.{OfPackage};
-ghost use Rattle.gr_verdict.specs.Found.{IsFound, KnowsVerdicts};
-ghost use Rattle.gr_verdict.specs.Steps.{AreGathered, AreKnownBelow, IsBuildOrder, IsCheckedIn, IsGathered, IsSeenIn, IsUnderway, LearnsOf};
+ghost use Rattle.gr_imports.specs.States.{state_in};
+ghost use Rattle.gr_verdict.specs.Found.{AreVerdictsOf, IsFoundBy, KnowsVerdicts};
+ghost use Rattle.gr_verdict.specs.Steps.{
+  AreGathered,
+  AreGatheredOf,
+  HoldAllBelow,
+  IsBuildOrder,
+  IsCheckedIn,
+  IsGathered,
+  IsSeenIn,
+  IsUnderway,
+  KnowsJust,
+  LearnsOf,
+  MayLearnAmong,
+};
 ghost use Rattle.gr_verdict.specs.Told.{known_by};
+ghost use Rattle.gr_verdict.specs.Verdicts.{AreStates};
 
 use crate::finding::SharedFinding;
-use crate::findings::{Found, enter_judged, judge_next, verdicts_from};
-use crate::gathered::{Gathered, gather};
+use crate::findings::{enter_judged, judge_next};
+use crate::found_package::{FoundPackage, found_now, found_package, take_or_judge};
+use crate::gathered::{Gathered, gather_some};
 use crate::judging::place_checked;
 use crate::known::Known;
 use crate::order::order;
+use crate::reaching::is_among;
+use crate::seeing::import_states;
 use gr_declared::Interfaces;
 use gr_expr::symbol::SharedPath;
-use gr_graph::Graph;
+use gr_graph::{Graph, PackagesBelow};
 use gr_types::Checked;
 use std::alloc::{AllocError, Global};
 
-/// What is found in packages while they are judged.
+/// What is found in the packages on which one builds, and in that one once it was learnt; and which these are.
 #[derive(Drop)]
 pub struct Progress {
     pub(crate) all: Gathered,
+    pub(crate) below: PackagesBelow,
 }
 
-/// Judges each package in front of one in an order, if nothing is known of it.
-fn judge_before(
+/// Judges a package, if it is among some and nothing is known of it.
+fn judge_among(
     alloc: Global,
     graph: &Graph,
-    order: &[usize],
+    below: &[usize],
     number: usize,
     all: &mut Gathered,
 ) -> Result<(), AllocError>
     requires in_range { number < length (package_paths graph.now) }
-    requires order { IsBuildOrder graph.now order.now }
+    requires below { HoldAllBelow graph.now below.now }
     requires all { AreGathered graph.now (length (package_paths graph.now)) all.old }
-    ensures right { OnOk result (AreGathered graph.now (length (package_paths graph.now)) all.new) }
-    ensures below { OnOk result (OfPackage graph.now number (λ p. AreKnownBelow graph.now p all.new)) }
+    ensures { OnOk result (OfPackage graph.now number (λ p. MayLearnAmong graph.now below.now p number all.old all.new)) }
+{
+    if is_among(below, number) {
+        judge_next(alloc, graph, number, all)
+    } else {
+        Ok(())
+    }
+}
+
+/// Judges in an order those of some packages of which nothing is known.
+fn judge_ordered(
+    alloc: Global,
+    graph: &Graph,
+    order: &[usize],
+    below: &[usize],
+    all: &mut Gathered,
+) -> Result<(), AllocError>
+    requires order { IsBuildOrder graph.now order.now }
+    requires below { HoldAllBelow graph.now below.now }
+    requires all { AreGatheredOf graph.now below.now all.old }
+    ensures { OnOk result (KnowsJust graph.now below.now all.new) }
 {
     for next in order {
-        if *next == number {
-            return Ok(());
-        }
-        judge_next(alloc, graph, *next, all)?;
+        judge_among(alloc, graph, below, *next, all)?;
     }
     Ok(())
 }
 
-/// Judges packages until each is known on which one builds. No order is looked for where all but that one are.
+/// Judges those of some packages of which nothing is known. No order is looked for where all of them are known.
 fn judge_below(
     alloc: Global,
     graph: &Graph,
-    number: usize,
+    below: &[usize],
     all: &mut Gathered,
 ) -> Result<(), AllocError>
-    requires in_range { number < length (package_paths graph.now) }
-    requires all { AreGathered graph.now (length (package_paths graph.now)) all.old }
-    ensures right { OnOk result (AreGathered graph.now (length (package_paths graph.now)) all.new) }
-    ensures below { OnOk result (OfPackage graph.now number (λ p. AreKnownBelow graph.now p all.new)) }
+    requires below { HoldAllBelow graph.now below.now }
+    requires all { AreGatheredOf graph.now below.now all.old }
+    ensures { OnOk result (KnowsJust graph.now below.now all.new) }
 {
-    if all.knows_others(number) {
+    if all.knows_each(below) {
         return Ok(());
     }
     let order = order(alloc, graph)?;
-    judge_before(alloc, graph, &order, number, all)
+    judge_ordered(alloc, graph, &order, below, all)
+}
+
+/// What is found in some packages, where it is known of some of them.
+fn judged(
+    alloc: Global,
+    graph: &Graph,
+    below: &[usize],
+    known: &Known,
+) -> Result<Gathered, AllocError>
+    requires below { HoldAllBelow graph.now below.now }
+    requires known { KnowsVerdicts graph.now known.now }
+    ensures { IfOk result (KnowsJust graph.now below.now) }
+{
+    let mut all = gather_some(alloc, graph, below, known)?;
+    judge_below(alloc, graph, below, &mut all)?;
+    Ok(all)
 }
 
 /// Takes in what checking found in a package, of which nothing is known yet.
@@ -90,7 +140,8 @@ fn learn_checked(
 }
 
 impl Progress {
-    /// Where each package was judged that one builds on, and it may be others. What is known is not found again.
+    /// Where just those packages were judged on which one builds. What is known of them is not found again, and what is known of
+    /// others is not looked at.
     pub fn before(
         alloc: Global,
         graph: &Graph,
@@ -99,12 +150,13 @@ impl Progress {
     ) -> Result<Progress, AllocError>
         requires in_range { number < length (package_paths graph.now) }
         requires known { KnowsVerdicts graph.now known.now }
-        ensures right { IfOk result (IsUnderway graph.now) }
-        ensures below { IfOk result (λ progress. OfPackage graph.now number (λ p. AreKnownBelow graph.now p progress.all)) }
+        ensures right { IfOk result (IsUnderway graph.now number) }
+        ensures seen { IfOk result (λ progress. OfPackage graph.now number (λ p. IsSeenIn graph.now p progress.all.interfaces)) }
+        ensures unknown { IfOk result (λ progress. IsGathered progress.all.findings.items number → ⊥) }
     {
-        let mut all = gather(alloc, graph, known)?;
-        judge_below(alloc, graph, number, &mut all)?;
-        Ok(Progress { all })
+        let below = graph.below(alloc, number)?;
+        let all = judged(alloc, graph, below.built_on.as_slice(), known)?;
+        Ok(Progress { all, below })
     }
 
     /// Whether it is known what is found in the package of a number.
@@ -121,22 +173,21 @@ impl Progress {
         &self.all.interfaces
     }
 
-    /// Whether what is known is just what a package sees of others: nothing is known of packages on which it does not build.
-    pub fn tells_just(
+    /// What each path is that the package imports, as interfaces that note just that. Which packages import it was found before.
+    pub fn import_states(
         &self,
         alloc: Global,
         graph: &Graph,
         number: usize,
-    ) -> Result<bool, AllocError>
+    ) -> Result<Interfaces, AllocError>
         requires in_range { number < length (package_paths graph.now) }
-        requires right { IsUnderway graph.now self.now }
-        ensures { IfOk result (λ just. IsTrue just → OfPackage graph.now number (λ p. IsSeenIn graph.now p self.now.all.interfaces)) }
+        requires right { IsUnderway graph.now number self.now }
+        ensures { IfOk result (λ noted. OfPackage graph.now number (λ p. AreStates graph.now (known_by self.now.all.interfaces) p (state_in noted.states))) }
     {
-        let below = graph.built_on(alloc, number)?;
-        Ok(self.all.knows_just(below.as_slice()))
+        import_states(alloc, graph, number, &self.below.back, &self.all.interfaces)
     }
 
-    /// Takes in what checking found in a package, of which nothing is known yet.
+    /// Takes in what checking found in the package, of which nothing is known yet.
     pub fn learn(
         &mut self,
         alloc: Global,
@@ -146,24 +197,37 @@ impl Progress {
         checked: Checked,
     ) -> Result<(), AllocError>
         requires in_range { number < length (package_paths graph.now) }
-        requires right { IsUnderway graph.now self.old }
-        requires below { OfPackage graph.now number (λ p. AreKnownBelow graph.now p self.old.all) }
+        requires right { IsUnderway graph.now number self.old }
         requires unknown { IsGathered self.old.all.findings.items number → ⊥ }
         requires path { OfPackage graph.now number (λ p. path ≡ p) }
         requires checked { OfPackage graph.now number (λ p. IsCheckedIn graph.now (known_by self.old.all.interfaces) p checked) }
-        ensures { OnOk result (IsUnderway graph.now self.new) }
+        ensures { OnOk result (IsUnderway graph.now number self.new) }
     {
         learn_checked(alloc, graph, number, path, checked, &mut self.all)?;
         Ok(())
     }
 
-    /// What is found in each package, where those of which nothing is known are judged.
-    pub fn finish(self, alloc: Global, graph: &Graph, known: &Known) -> Result<Found, AllocError>
-        requires right { IsUnderway graph.now self }
+    /// What is found in the package, which is judged if nothing is known of it, and the verdicts that were found on it and on those on
+    /// which it builds, where none was known.
+    pub fn finish(
+        self,
+        alloc: Global,
+        graph: &Graph,
+        number: usize,
+        known: &Known,
+    ) -> Result<FoundPackage, AllocError>
+        requires in_range { number < length (package_paths graph.now) }
+        requires right { IsUnderway graph.now number self }
         requires known { KnowsVerdicts graph.now known.now }
-        ensures { IfOk result (IsFound graph.now) }
+        ensures finding { IfOk result (λ made. OfPackage graph.now number (λ p. IsFoundBy graph.now p made.interfaces made.finding)) }
+        ensures verdicts { IfOk result (λ made. AreVerdictsOf graph.now made.found.items) }
     {
-        let Progress { all } = self;
-        verdicts_from(alloc, graph, known, all)
+        let Progress { all, below } = self;
+        let mut all = all;
+        take_or_judge(alloc, graph, number, known, &mut all)?;
+        let mut numbers = below.built_on;
+        numbers.push(number)?;
+        let found = found_now(alloc, graph, numbers.as_slice(), known, &all)?;
+        found_package(number, all, found)
     }
 }

@@ -17,8 +17,8 @@ use gr_graph::Graph;
 use gr_imports::{ImportState, PackageNames};
 use std::alloc::{AllocError, Global};
 
-/// What a package sees of those that it builds on. All rise by their paths, as the packages' numbers do: each package is looked for at
-/// its number, less one for each package before it of which nothing is known.
+/// What a package sees of those that it builds on. All rise by their paths, as the packages' numbers do: each package is looked for behind
+/// the one found last, where that one was found so, and else at its number, less one for each package before it of which nothing is known.
 fn seen_of(
     alloc: Global,
     graph: &Graph,
@@ -34,10 +34,18 @@ fn seen_of(
 {
     let mut seen = Interfaces::with_capacity(alloc, below.len())?;
     let mut missing: usize = 0;
+    let mut next: usize = 0;
+    let mut follows = true;
     for other in below {
-        let first = other.wrapping_sub(missing);
-        let next = seen.share_from(alloc, all, &graph.package(*other).path, first)?;
-        missing = other.wrapping_add(1).wrapping_sub(next);
+        let first = if follows {
+            next
+        } else {
+            other.wrapping_sub(missing)
+        };
+        let behind = seen.share_from(alloc, all, &graph.package(*other).path, first)?;
+        follows = behind == next.wrapping_add(1);
+        missing = other.wrapping_add(1).wrapping_sub(behind);
+        next = behind;
     }
     Ok(seen)
 }
@@ -103,19 +111,20 @@ fn note_imports(
     Ok(())
 }
 
-/// What each path is that a package imports, as interfaces that note just that.
-pub fn import_states(
+/// What each path is that a package imports, as interfaces that note just that. The marks tell which packages import that one.
+pub(crate) fn import_states(
     alloc: Global,
     graph: &Graph,
     number: usize,
+    back: &[bool],
     all: &Interfaces,
 ) -> Result<Interfaces, AllocError>
-    requires { number < length (package_paths graph.now) }
+    requires in_range { number < length (package_paths graph.now) }
+    requires back { OfPackage graph.now number (λ p. AreBackMarks graph.now p back.now) }
     ensures { IfOk result (λ noted. OfPackage graph.now number (λ p. AreStates graph.now (known_by all.now) p (state_in noted.states))) }
 {
-    let back = graph.back_marks(alloc, number)?;
     let mut noted = Interfaces::new(alloc);
-    note_imports(alloc, &mut noted, graph, number, &back, all)?;
+    note_imports(alloc, &mut noted, graph, number, back, all)?;
     Ok(noted)
 }
 

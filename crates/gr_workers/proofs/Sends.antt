@@ -21,7 +21,7 @@ use Rattle.gr_graph.specs.contracts.graph.Graph.{the_row as graph}
 use Rattle.gr_verdict.specs.contracts.earlier.EarlierParts.{the_row as earlier_parts}
 use Rattle.gr_verdict.specs.contracts.earlier.Earlier.{the_row as earlier}
 use Rattle.gr_verdict.specs.contracts.known.Known.{the_row as known}
-use Rattle.gr_finished.specs.contracts.shared_known.SharedKnown.{the_row as shared_known}
+use Rattle.gr_verdict.specs.contracts.shared_known.SharedKnown.{the_row as shared_known}
 use Rattle.gr_compile.specs.contracts.unit.Compiled.{the_row as compiled}
 use Rattle.gr_compile.specs.contracts.unit.Unit.{the_row as unit}
 use Rattle.gr_finished.specs.contracts.finished.Finished.{the_row as finished}

@@ -1,23 +1,19 @@
 -- The answers to the goals of `built::build`.
-use Rattle.std.proofs.Common.{◌≡◌, ℕ, List, sym, subst, ◌∙◌}
+use Rattle.std.proofs.Common.{◌≡◌, ℕ, List, subst, ◌∙◌}
 use Rattle.gr_text.specs.Workspace.{Workspace}
-use Rattle.gr_verdict.specs.Found.{KnowsVerdicts}
 use Rattle.gr_compile.specs.Units.{IsUnitIn}
 use Rattle.gr_compile.proofs.built.build.Goals as goal
-
-pub unit_in-requires : goal.unit_in-requires
-unit_in-requires c = subst (λ (w : Workspace). KnowsVerdicts w c.known.result.now) (sym (c.in_ok-inputs.ensures.cases ∙ c.inputs.ensures)) c.known.ensures
 
 pub returns : goal.returns
 returns c =
     let job = c.args.job.now in
     let path : c.in_ok-package.package ≡ job.package = c.in_ok-package.ensures.cases ∙ c.package.ensures in
     let inputs : c.in_ok-inputs.inputs ≡ job.inputs = c.in_ok-inputs.ensures.cases ∙ c.inputs.ensures in
-    let made = c.in_ok-made.made in
+    let unit = c.in_ok-unit.field-0.unit in
     record {
       number = c.number.ensures;
       of_package = path;
       inputs = inputs;
-      unit = subst (λ (p : List ℕ). IsUnitIn job.inputs p made.unit) path
-          (subst (λ (w : Workspace). IsUnitIn w c.in_ok-package.package made.unit) inputs c.in_ok-made.ensures.unit);
+      unit = subst (λ (p : List ℕ). IsUnitIn job.inputs p unit) path
+          (subst (λ (w : Workspace). IsUnitIn w c.in_ok-package.package unit) inputs c.in_ok-unit.ensures.unit);
     }

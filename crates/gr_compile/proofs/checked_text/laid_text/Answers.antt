@@ -16,14 +16,14 @@ table_text-requires c = record {
 
 pub returns-in-None : goal.returns-in-None
 returns-in-None c =
-    let w = c.args.graph.now in
+    let w = c.args.at.graph.now in
     let p = c.args.of.path.now in
     let files = c.args.of.files.now in
     let i = c.args.of.interfaces.now in
     record {
       checked = IfOk-weaker c.no_text.result _ _ (λ made found known seen states. record {
         files = files.trees.items;
-        parsed = parsed_all w c.args.number p files c.requires.at c.requires.files c.requires.read;
+        parsed = parsed_all w c.args.at.number p files c.requires.at.has_path c.requires.files c.requires.read;
         state = state_in i.states;
         are_states = states;
         name_of = name_in i;

@@ -2,32 +2,41 @@
 use Rattle.std.proofs.Common.{sym, subst, ◌∙◌}
 use Rattle.std.proofs.lemmas.Option.{same_Some, slice_get_within}
 use Rattle.gr_text.specs.Packages.{package_paths}
-use Rattle.gr_verdict.specs.Steps.{AreKnownBelow, IsCheckedIn}
+use Rattle.gr_verdict.specs.Steps.{IsCheckedIn}
 use Rattle.gr_verdict.specs.Told.{known_by}
 use Rattle.gr_verdict.proofs.Gathering.{known_right}
 use Rattle.gr_compile.proofs.checked_text.learn_text.Goals as goal
 
-pub known_text-requires : goal.known_text-requires
-known_text-requires c = record { at = c.requires.at; files = c.requires.files; read = c.requires.read; right = c.requires.right }
+pub told_text-requires : goal.told_text-requires
+told_text-requires c = record {
+  at = c.requires.at;
+  files = c.requires.files;
+  read = c.requires.read;
+  right = c.requires.right;
+  told = c.requires.told;
+}
 
 pub learn-requires : goal.learn-requires
 learn-requires c =
-    let w = c.args.graph.now in
+    let w = c.args.at.graph.now in
     let p = c.args.path.now in
     let all = c.args.progress.now.all in
     let checked = c.in_ok-made.made.checked in
-    let is = c.in_ok-made.ensures.checked in
+    let at = c.requires.at.has_path in
     record {
-      in_range = slice_get_within (package_paths w) c.args.number p c.requires.at;
+      in_range = slice_get_within (package_paths w) c.args.at.number p at;
       right = c.requires.right;
-      below = λ q there. subst (λ r. AreKnownBelow w r all) (same_Some p q (sym c.requires.at ∙ there)) c.requires.below;
       unknown = c.requires.unknown;
-      path = λ q there. c.in_ok-own.ensures.cases ∙ same_Some p q (sym c.requires.at ∙ there);
-      checked = λ q there. subst (λ r. IsCheckedIn w (known_by all.interfaces) r checked) (same_Some p q (sym c.requires.at ∙ there)) is;
+      path = λ q there. c.in_ok-own.ensures.cases ∙ same_Some p q (sym at ∙ there);
+      checked = λ q there. subst (λ r. IsCheckedIn w (known_by all.interfaces) r checked) (same_Some p q (sym at ∙ there)) c.in_ok-made.ensures.checked;
     }
 
 pub returns : goal.returns
-returns c = record {
-  right = c.in_ok-learn.ensures;
-  text = c.in_ok-made.ensures.text (known_right c.args.graph.now c.args.path.now c.args.progress.now.all c.requires.right c.requires.below);
-}
+returns c =
+    let w = c.args.at.graph.now in
+    let p = c.args.path.now in
+    let underway = c.requires.right in
+    record {
+      right = c.in_ok-learn.ensures;
+      text = c.in_ok-made.ensures.text (known_right w p c.args.progress.now.all underway.right (underway.below p c.requires.at.has_path));
+    }

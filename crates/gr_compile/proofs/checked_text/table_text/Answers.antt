@@ -1,6 +1,6 @@
 -- The answers to the goals of `checked_text::table_text`.
-use Rattle.std.proofs.Common.{ℕ, List, [], map, refl, sym, subst}
-use Rattle.std.proofs.lemmas.Option.{slice_get_within}
+use Rattle.std.proofs.Common.{ℕ, List, [], map, refl, sym, subst, ◌∙◌}
+use Rattle.std.proofs.lemmas.Option.{same_Some, slice_get_within}
 use Rattle.std.proofs.lemmas.Result.{IfOk-weaker}
 use Rattle.gr_text.specs.Packages.{package_paths, package_files}
 use Rattle.gr_tree.specs.SourceFile.{source_of}
@@ -9,23 +9,29 @@ use Rattle.gr_imports.specs.declared.states.ImportState.{ImportState}
 use Rattle.gr_declared.specs.InterfacesView.{name_in, interface_in}
 use Rattle.gr_meanings.specs.PackageOf.{IsPackageOf, package_in}
 use Rattle.gr_types.specs.Check.{IsLaid, inside}
+use Rattle.gr_compile.specs.Compiling.{IsPackageAt}
 use Rattle.gr_compile.proofs.CheckedText.{parsed_all}
 use Rattle.gr_compile.proofs.checked_text.table_text.Goals as goal
 
 pub unit_text-requires : goal.unit_text-requires
-unit_text-requires c = slice_get_within (package_paths c.args.graph.now) c.args.number c.args.of.path.now c.requires.at
+unit_text-requires c =
+    let at = c.requires.at in
+    record {
+      number = slice_get_within (package_paths c.args.at.graph.now) c.args.at.number c.args.of.path.now at.has_path;
+      at = λ q there. subst (IsPackageAt c.args.at) (same_Some c.args.of.path.now q (sym at.has_path ∙ there)) at;
+    }
 
 pub returns : goal.returns
 returns c =
-    let w = c.args.graph.now in
+    let w = c.args.at.graph.now in
     let p = c.args.of.path.now in
-    let at = c.requires.at in
+    let at = c.requires.at.has_path in
     let trees = c.as_slice.result.now in
     let i = c.args.of.interfaces.now in
     let table = c.args.table in
     let parsed : AreParsed (package_files w p) trees [] =
     subst (λ ts. AreParsed (package_files w p) ts []) (sym c.as_slice.ensures.value)
-    (parsed_all w c.args.number p c.args.of.files.now at c.requires.files c.requires.read) in
+    (parsed_all w c.args.at.number p c.args.of.files.now at c.requires.files c.requires.read) in
     let own = package_in p (map source_of trees) table (interface_in i) in
     let here : (state : List ℕ → ImportState) → IsLaid c.args.of.files.now.trees.items state (name_in i) table → IsLaid trees state (name_in i) table =
     λ state laid. subst (λ ts. IsLaid ts state (name_in i) table) (sym c.as_slice.ensures.value) laid in

@@ -1,16 +1,14 @@
 -- The answers to the goals of `checked_text::text_first`.
-use Rattle.std.proofs.Common.{sym, ◌∙◌}
-use Rattle.std.proofs.lemmas.Bool.{false≢true}
 use Rattle.std.proofs.lemmas.Option.{none-some, slice_get_within}
 use Rattle.gr_text.specs.Packages.{package_paths}
 use Rattle.gr_verdict.proofs.Members.{vec_empty}
 use Rattle.gr_compile.proofs.checked_text.text_first.Goals as goal
 
 pub package-files-requires : goal.package-files-requires
-package-files-requires c = slice_get_within (package_paths c.args.graph.now) c.args.number c.args.path.now c.requires.at
+package-files-requires c = slice_get_within (package_paths c.args.at.graph.now) c.args.at.number c.args.path.now c.requires.at.has_path
 
-pub returns-then-knows : goal.returns-then-knows
-returns-then-knows c = record { right = c.requires.right; text = λ text is. absurd (none-some text is) }
+pub known_text-requires-clause-verdict : goal.known_text-requires-clause-verdict
+known_text-requires-clause-verdict c = c.requires.at.known c.args.at.number c.args.path.now c.in-Some.verdict.now c.requires.at.has_path c.in-Some.ensures
 
 pub returns-then-not-is_empty : goal.returns-then-not-is_empty
 returns-then-not-is_empty c = record { right = c.requires.right; text = λ text is. absurd (none-some text is) }
@@ -21,6 +19,6 @@ learn_text-requires c = record {
   files = c.package-files.ensures;
   read = vec_empty c.package-files.result.now.faulty c.is_empty.result c.is_empty.ensures c.if-not-is_empty.false;
   right = c.requires.right;
-  below = c.requires.below;
-  unknown = λ g. false≢true (sym c.if-knows.false ∙ c.knows.ensures.1 g);
+  told = c.requires.told;
+  unknown = c.requires.unknown;
 }

@@ -9,6 +9,9 @@ use Rattle.gr_compile.proofs.checked_text.with_text.Goals as goal
 pub returns-in_default : goal.returns-in_default
 returns-in_default c = record { checked = c.requires.checked; text = λ p at text is. absurd (none-some text is) }
 
+pub names_below-requires : goal.names_below-requires
+names_below-requires c = record { number = c.requires.number; at = c.requires.at }
+
 pub printed-requires : goal.printed-requires
 printed-requires c =
     let checked = c.args.found.checked in
@@ -26,7 +29,7 @@ returns c =
       checked = c.requires.checked;
       text = λ p at text is. (
           let names = c.in_ok-packages.ensures p at in
-          subst (IsPrintedAs c.args.graph.now p (package_of c.args.unit)) (same_Some c.in_ok-text.text text is) (record {
+          subst (IsPrintedAs c.args.at.graph.now p (package_of c.args.unit)) (same_Some c.in_ok-text.text text is) (record {
             files_of = names.files_of;
             are_files = names.are_files;
             is_object = c.in_ok-text.ensures names.files_of (c.requires.checked.members kept.faultless) names.have_names;

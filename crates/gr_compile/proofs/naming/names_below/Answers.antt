@@ -4,33 +4,44 @@ use Rattle.std.proofs.lemmas.List.{take_all}
 use Rattle.std.proofs.lemmas.List.Elements.{Contains-get_or}
 use Rattle.std.proofs.lemmas.Option.{slice_get_within}
 use Rattle.gr_text.specs.Packages.{package_paths}
-use Rattle.gr_graph.specs.Graphs.{HoldsPackages}
-use Rattle.gr_graph.specs.Packages.{IsInClosure}
 use Rattle.gr_tree.specs.SourceFile.{source_of}
 use Rattle.gr_meanings.proofs.BoundLists.{slice_get_some}
 use Rattle.gr_verdict.proofs.Members.{taken_or_next, still_taken, next_taken}
 use Rattle.gr_object.specs.PackagesView.{package_in}
+use Rattle.gr_compile.specs.Compiling.{IsPackageAt}
 use Rattle.gr_compile.specs.Units.{AreFilesOf}
+use Rattle.gr_compile.specs.declared.package_at.PackageAt.{PackageAt}
 use Rattle.gr_compile.proofs.Named.{AreNamed, IsCalled, none_named, named_next, all_named}
 use Rattle.gr_compile.proofs.naming.names_below.Goals as goal
 
+-- a package of the closure is one of the graph
+within : (at : PackageAt) (p : List ℕ) → IsPackageAt at p → (k : ℕ) → k < length at.closure.now →
+    get_or at.closure.now k 0 < length (package_paths at.graph.now)
+within at p is k lt =
+    let items = at.closure.now in
+    let s = (is.closure (get_or items k 0)).0 (Contains-get_or items k 0 lt) in
+    slice_get_within (package_paths at.graph.now) (get_or items k 0) s.0 s.1
+
 pub loop-other-init : goal.loop-other-init
-loop-other-init c = none_named c.args.graph.now _ c.in_ok-packages.packages refl c.in_ok-packages.ensures
+loop-other-init c = none_named c.args.at.graph.now _ c.in_ok-packages.packages refl c.in_ok-packages.ensures
 
 pub package-files-requires : goal.package-files-requires
 package-files-requires c =
-    let w = c.args.graph.now in
-    let items = c.as_slice-other-items.result.now in
-    let n = get_or items c.loop-other.other-index 0 in
-    let p = slice_get_some (package_paths w) c.args.number c.requires in
-    let s = (c.in_ok-closure.ensures.closure p.0 p.1 n).0
-    (rw (sym c.as_slice-other-items.ensures) (Contains-get_or items c.loop-other.other-index 0 (omega arith))) in
-    slice_get_within (package_paths w) n s.0 s.1
+    let at = c.args.at in
+    let p = slice_get_some (package_paths at.graph.now) at.number c.requires.number in
+    within at p.0 (c.requires.at p.0 p.1) c.loop-other.other-index (omega arith)
+
+pub path_of-requires : goal.path_of-requires
+path_of-requires c =
+    let at = c.args.at in
+    let p = slice_get_some (package_paths at.graph.now) at.number c.requires.number in
+    let is = c.requires.at p.0 p.1 in
+    record { number = within at p.0 is c.loop-other.other-index (omega arith); known = is.known }
 
 pub loop-other-preserved : goal.loop-other-preserved
 loop-other-preserved c =
-    let w = c.args.graph.now in
-    let items = c.as_slice-other-items.result.now in
+    let w = c.args.at.graph.now in
+    let items = c.args.at.closure.now in
     let k = c.loop-other.other-index in
     let lt : k < length items = omega arith in
     let n = get_or items k 0 in
@@ -39,7 +50,7 @@ loop-other-preserved c =
     let old = c.loop-other.packages in
     let new = c.add.new.self in
     let names = c.in_ok-names.names in
-    let key : c.in_ok-path.path ≡ q = c.in_ok-path.ensures ∙ c.deref.ensures.value in
+    let key : c.in_ok-path.path ≡ q = c.in_ok-path.ensures q c.package-files.ensures.path in
     let are : AreFilesOf w q (map source_of files.trees.items) =
     record { parts = files.trees.items; faulty = files.faulty.items; parsed = c.package-files.ensures.files; are_files = refl } in
     let called : IsCalled new q (map source_of files.trees.items) =
@@ -52,9 +63,8 @@ loop-other-preserved c =
 
 pub returns : goal.returns
 returns c = λ p at.
-    let w = c.args.graph.now in
-    let items = c.as_slice-other-items.result.now in
+    let w = c.args.at.graph.now in
+    let items = c.args.at.closure.now in
     let packages = c.loop-other.packages in
-    all_named w p items packages
-    (subst (HoldsPackages w (IsInClosure w p)) (sym c.as_slice-other-items.ensures) (c.in_ok-closure.ensures.closure p at))
+    all_named w p items packages (c.requires.at p at).closure
     (subst (λ l. AreNamed w l packages) (take_all c.loop-other.other-index items (omega arith)) c.loop-other.invariant)

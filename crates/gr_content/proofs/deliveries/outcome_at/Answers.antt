@@ -4,12 +4,11 @@ use Rattle.std.proofs.Math.ListN.{set}
 use Rattle.std.proofs.lemmas.List.{length-set}
 use Rattle.std.proofs.lemmas.Option.{slice_get_within}
 use Rattle.gr_text.specs.Packages.{package_paths}
-use Rattle.gr_text.specs.Workspace.{Workspace}
 use Rattle.gr_verdict.specs.Found.{KnowsVerdicts}
 use Rattle.gr_compile.specs.declared.unit.Unit.{Unit as PackageUnit}
 use Rattle.gr_finished.specs.Finished.{Table}
 use Rattle.gr_machine.specs.State.{State}
-use Rattle.gr_inputs.specs.Knowing.{HasClosuresOf}
+use Rattle.gr_compile.specs.Inputs.{HasClosuresOf}
 use Rattle.gr_inputs.proofs.LearnedVerdicts.{inputs_closures}
 use Rattle.gr_machine.proofs.Fresh.{is_there, not_there, no_unit}
 use Rattle.gr_content.proofs.deliveries.outcome_at.Goals as goal
@@ -31,14 +30,12 @@ with_unit-requires c =
 
 pub learned-requires : goal.learned-requires
 learned-requires c =
+    let w = c.args.state.now.files in
     let built = c.args.built.now in
-    let inputs : c.inputs.result.now ≡ built.inputs = c.inputs.ensures in
-    let closures : HasClosuresOf c.args.state.now.files built.inputs = inputs_closures c.args.state.now.files built.package built.inputs c.requires.inputs in
     record {
       own = c.state.invariant.1;
-      others = subst (λ (x : Workspace). KnowsVerdicts x c.known.result.now) (sym inputs) c.known.ensures;
-      closures = subst (λ (x : State). HasClosuresOf x.files c.inputs.result.now) (sym c.state.view_is)
-          (subst (HasClosuresOf c.args.state.now.files) (sym inputs) closures);
+      closures = subst (λ (x : State). HasClosuresOf x.files built.inputs) (sym c.state.view_is)
+          (inputs_closures w built.package built.inputs c.requires.inputs);
     }
 
 pub returns : goal.returns

@@ -10,6 +10,19 @@ use Rattle.gr_content.proofs.following.carried_over.Goals as goal
 pub marks_of-requires : goal.marks_of-requires
 marks_of-requires c = c.requires ∙ sym (ap (λ (s : State). s.files) c.current.view_is)
 
+pub carried_bare-requires : goal.carried_bare-requires
+carried_bare-requires c = c.has_nothing.ensures c.if-has_nothing.true
+
+pub returns-then-has_nothing-clause-units : goal.returns-then-has_nothing-clause-units
+returns-then-has_nothing-clause-units c =
+    let state = c.args.current.now in
+    subst (λ (x : Change). IfOk c.carried_bare.result (λ carried. IsCarried state.files state.finished x.files carried.0)) c.get.ensures
+    c.carried_bare.ensures.units
+
+pub returns-then-has_nothing-clause-known : goal.returns-then-has_nothing-clause-known
+returns-then-has_nothing-clause-known c =
+    subst (λ (x : Change). IfOk c.carried_bare.result (λ carried. KnowsVerdicts x.files carried.1)) c.get.ensures c.carried_bare.ensures.known
+
 pub carried_by-requires : goal.carried_by-requires
 carried_by-requires c =
     let marks = c.in_ok-marks.marks in

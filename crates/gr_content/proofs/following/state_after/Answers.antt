@@ -1,14 +1,12 @@
--- The state has what the change carries over, and nothing was gathered of it.
+-- The state has what the change carries over.
 use Rattle.std.proofs.Common.{◌≡◌, length, sym, subst}
 use Rattle.gr_text.specs.Packages.{package_paths}
 use Rattle.gr_space.specs.declared.change.Change.{Change}
 use Rattle.gr_verdict.specs.Found.{KnowsVerdicts}
-use Rattle.gr_inputs.specs.Inputs.{HoldsGathered}
 use Rattle.gr_content.proofs.following.state_after.Goals as goal
 
 pub invariant_of-state : goal.invariant_of-state
 invariant_of-state c =
     let carried = c.in_ok-finished in
-    subst (λ (x : Change). (length carried.finished ≡ length (package_paths x.files)) × KnowsVerdicts x.files carried.known ×
-    HoldsGathered x.files c.new-2.result)
-    (sym c.into_change-change.ensures) (carried.ensures.units.size, carried.ensures.known, c.new-2.ensures c.args.change.files)
+    subst (λ (x : Change). (length carried.finished ≡ length (package_paths x.files)) × KnowsVerdicts x.files carried.known) (sym c.into_change-change.ensures)
+    (carried.ensures.units.size, carried.ensures.known)

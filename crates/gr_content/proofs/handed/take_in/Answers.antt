@@ -9,6 +9,5 @@ use Rattle.gr_content.proofs.handed.take_in.Goals as goal
 pub invariant_of-current : goal.invariant_of-current
 invariant_of-current c =
     let has = subst (HasTable c.args.current.now) c.in-Entered.is c.requires in
-    let own = subst (λ (x : State). (length c.in-Entered.finished ≡ length (package_paths x.files)) × KnowsVerdicts x.files c.in-Entered.known)
-    (sym c.current.view_is) has in
-    (own.0, own.1, c.current.invariant.2)
+    subst (λ (x : State). (length c.in-Entered.finished ≡ length (package_paths x.files)) × KnowsVerdicts x.files c.in-Entered.known) (sym c.current.view_is)
+    has

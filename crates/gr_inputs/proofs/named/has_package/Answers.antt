@@ -6,7 +6,7 @@ use Rattle.gr_text.specs.Packages.{package_files}
 use Rattle.gr_verdict.specs.Earlier.{tree_file}
 use Rattle.gr_finished.specs.Changes.{HaveTexts}
 use Rattle.gr_inputs.specs.Inputs.{faulty_file}
-use Rattle.gr_inputs.proofs.ClosureFiles.{parsed_files}
+use Rattle.gr_inputs.proofs.ParsedFiles.{parsed_files}
 use Rattle.gr_inputs.proofs.AmongFolders.{have_both, have_trees, have_faulty}
 use Rattle.gr_inputs.proofs.named.has_package.Goals as goal
 

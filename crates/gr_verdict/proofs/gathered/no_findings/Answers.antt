@@ -6,8 +6,8 @@ use Rattle.gr_verdict.proofs.gathered.no_findings.Goals as goal
 
 pub loop-number-init : goal.loop-number-init
 loop-number-init c = record {
-  size = ap length c.new-findings.ensures.items;
-  none = no_finding c.new-findings.result.items c.new-findings.ensures.items;
+  size = ap length c.in_ok-findings.ensures.items;
+  none = no_finding c.in_ok-findings.findings.items c.in_ok-findings.ensures.items;
 }
 
 pub loop-number-preserved : goal.loop-number-preserved

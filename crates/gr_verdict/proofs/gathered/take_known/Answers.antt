@@ -1,15 +1,17 @@
 -- The answers to the goals of `gathered::take_known`.
-use Rattle.std.proofs.Common.{◌≡◌, List, ℕ, sym, subst, ◌∙◌}
+use Rattle.std.proofs.Common.{◌≡◌, ◌<◌, List, ℕ, length, sym, subst, ◌∙◌}
 use Rattle.std.specs.Prelude.{Some}
 use Rattle.std.proofs.lemmas.Option.{same_Some}
 use Rattle.gr_text.specs.Packages.{package_paths}
 use Rattle.gr_declared.specs.InterfacesView.{Shares}
 use Rattle.gr_meanings.proofs.BoundLists.{slice_get_some}
+use Rattle.gr_verdict.specs.Steps.{IsGathered}
+use Rattle.gr_verdict.proofs.Gathering.{gathered_stays}
 use Rattle.gr_verdict.proofs.Taking.{taken_before, taken_next}
 use Rattle.gr_verdict.proofs.gathered.take_known.Goals as goal
 
 pub returns-in_default : goal.returns-in_default
-returns-in_default c = record { right = c.requires.all; others = λ n other g. g }
+returns-in_default c = record { right = c.requires.all; others = λ n other g. g; kept = λ n g. g }
 
 pub returns : goal.returns
 returns c =
@@ -20,9 +22,11 @@ returns c =
     let told = c.in-Some.verdict.now in
     let old = c.args.all.now in
     let new = c.keep.new.self in
+    let within : n < length old.findings.items = subst (λ k. n < k) (sym c.requires.all.size) c.requires.number in
     record {
       right = taken_next w n p.0 p.1 old new c.requires.all c.requires.unknown told (c.requires.known n p.0 told p.1 c.in-Some.ensures)
           c.in_ok-keep.ensures.findings
           (subst (λ (q : List ℕ). Shares told.interfaces old.interfaces new.interfaces q) path c.in_ok-keep.ensures.interfaces);
       others = λ m other g. taken_before old.findings.items new.findings.items n told.finding c.in_ok-keep.ensures.findings m other g;
+      kept = λ m g. subst (λ l. IsGathered l m) (sym c.in_ok-keep.ensures.findings) (gathered_stays old.findings.items n m told.finding within g);
     }

@@ -39,7 +39,7 @@ loop-other-preserved c = λ p at.
     let s = (c.requires.below p at n).0 own in
     let path : c.deref.result.now ≡ s.0 = c.deref.ensures.value ∙ same_Some c.package.result.now.path.items s.0 (sym c.package.ensures.path ∙ s.1) in
     shared_next w p (take k items) (take (k + 1) items) n s.0 s.1 (λ m h. taken_or_next items k 0 m lt h) (λ m h. still_taken items k 0 m lt h)
-    (next_taken items k 0 lt) all old new s.2 (subst (Shares all old new) path c.in_ok-next.ensures.shared) (c.loop-other.invariant p at)
+    (next_taken items k 0 lt) all old new s.2 (subst (Shares all old new) path c.in_ok-behind.ensures.shared) (c.loop-other.invariant p at)
 
 pub returns-clause-seen : goal.returns-clause-seen
 returns-clause-seen c = λ p at.

@@ -14,5 +14,4 @@ invariant_of-result c =
     let units : length c.in_ok-finished.finished ≡ 0 = ap (λ (t : Table). length t) c.in_ok-finished.ensures in (
       units ∙ sym files,
       subst (KnowsVerdicts c.in_ok-files.files) (sym c.in_ok-known.ensures) (c.new-nothing.ensures.right c.in_ok-files.files),
-      c.new-gathered.ensures c.in_ok-files.files,
     )

@@ -3,33 +3,21 @@ use Rattle.std.proofs.Common.{◌≡◌, ℕ, ◌<◌, List, Some, length, slice
 use Rattle.gr_text.specs.Packages.{package_paths}
 use Rattle.gr_text.specs.Workspace.{Workspace}
 use Rattle.gr_compile.specs.Inputs.{AreInputs}
-use Rattle.gr_compile.specs.Jobs.{label_of, with_job}
+use Rattle.gr_compile.specs.Jobs.{JobsOut, label_of, with_job}
 use Rattle.gr_compile.specs.declared.job.JobRecord.{JobRecord}
-use Rattle.gr_inputs.specs.Inputs.{HoldsGathered}
 use Rattle.gr_machine.specs.State.{State}
 use Rattle.gr_machine.specs.Machine.{Content}
 use Rattle.gr_machine.specs.Waiting.{WaitsIn, IsFirstWaiting, IsNextJob}
-use Rattle.gr_inputs.proofs.LearnedVerdicts.{inputs_closures}
 use Rattle.gr_content.proofs.content.Content.take.Goals as goal
 
 pub returns-in_default : goal.returns-in_default
 returns-in_default c = (subst (λ (m : Content). (p : List ℕ) → WaitsIn m p → ⊥) c.self.view_is c.in_default.ensures, refl)
 
-pub inputs_of-requires : goal.inputs_of-requires
-inputs_of-requires c = record {
+pub of-requires : goal.of-requires
+of-requires c = record {
   number = subst (λ (s : State). c.in-Some.number < length (package_paths s.files)) (sym c.current.view_is) c.in-Some.ensures.0;
-  before = c.current.invariant.2;
+  known = c.current.invariant.1;
 }
-
-pub known_within-requires : goal.known_within-requires
-known_within-requires c =
-    let files = c.current.inside.files in
-    let p = c.deref.result.now in
-    let here : slice_get (package_paths files) c.in-Some.number ≡ Some p = c.package.ensures.path ∙ ap Some (sym c.deref.ensures.value) in
-    record { known = c.current.invariant.1; closures = inputs_closures files p c.in_ok-taken.taken.inputs (c.in_ok-taken.ensures.inputs p here) }
-
-pub keep-requires : goal.keep-requires
-keep-requires c = subst (λ (s : State). HoldsGathered s.files c.in_ok-taken.taken.gathered) c.current.view_is c.in_ok-taken.ensures.gathered
 
 pub returns : goal.returns
 returns c =
@@ -51,16 +39,16 @@ returns c =
     let here : slice_get (package_paths c.current.inside.files) n ≡ Some p = c.package.ensures.path ∙ ap Some (sym c.deref.ensures.value) in
     let at : slice_get (package_paths state.files) n ≡ Some p = subst (λ (s : State). slice_get (package_paths s.files) n ≡ Some p) c.current.view_is here in
     let named : p ≡ job.package = sym (ap (λ (j : JobRecord). j.package) handed.0 ∙ c.in_ok-package.ensures) in
-    let inputs : AreInputs state.files p c.in_ok-taken.taken.inputs =
-    subst (λ (s : State). AreInputs s.files p c.in_ok-taken.taken.inputs) c.current.view_is (c.in_ok-taken.ensures.inputs p here) in
+    let inputs : AreInputs state.files p c.in_ok-inputs.inputs =
+    subst (λ (s : State). AreInputs s.files p c.in_ok-inputs.inputs) c.current.view_is (c.in_ok-inputs.ensures p here) in
     let next : IsNextJob m job = record {
       ticket = ap (λ (j : JobRecord). j.ticket) handed.0;
       number = ap (λ (j : JobRecord). j.number) handed.0 ∙ ap (λ (s : State). s.number) c.current.view_is;
       visit = ap (λ (j : JobRecord). j.visit) handed.0;
       first = subst (IsFirstWaiting state m.out m.visit) named (c.in-Some.ensures.1 p at);
       inputs = subst (λ (x : Workspace). AreInputs state.files job.package x) (sym (ap (λ (j : JobRecord). j.inputs) handed.0))
-          (subst (λ (q : List ℕ). AreInputs state.files q c.in_ok-taken.taken.inputs) named inputs);
+          (subst (λ (q : List ℕ). AreInputs state.files q c.in_ok-inputs.inputs) named inputs);
     } in (
       subst (λ (x : Content). IsNextJob x job) c.self.view_is next,
-      (λ i. record m { current = c.keep.ensures i; out = handed.1 i }) ∙ ap (λ (x : Content). record x { out = with_job x.out (label_of job) }) c.self.view_is,
+      ap (λ (x : JobsOut). record m { out = x }) handed.1 ∙ ap (λ (x : Content). record x { out = with_job x.out (label_of job) }) c.self.view_is,
     )

@@ -7,4 +7,4 @@ use Rattle.gr_machine.proofs.state.State.learn.Goals as goal
 pub invariant_of-self : goal.invariant_of-self
 invariant_of-self c =
     let same : c.self.inside.files ≡ c.args.files.now = sym c.files.ensures ∙ c.same.ensures.0 c.if-same.true ∙ c.files-2.ensures in
-    (c.self.invariant.0, subst (λ (w : Workspace). KnowsVerdicts w c.args.known) (sym same) c.requires, c.self.invariant.2)
+    (c.self.invariant.0, subst (λ (w : Workspace). KnowsVerdicts w c.args.known) (sym same) c.requires)

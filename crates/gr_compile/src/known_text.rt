@@ -1,0 +1,86 @@
+//! A package in which it is known what is found: its object is printed by that, where it has no fault.
+ghost use Rattle.std.specs.Prelude.{◌≡◌, ℕ, slice_get, IfOk};
+ghost use Rattle.gr_expr.specs.WorldView.{definitions_at, ranked};
+ghost use Rattle.gr_declared.specs.InterfacesView.{interface_in};
+ghost use Rattle.gr_verdict.specs.Steps.{IsSeenIn, IsUnderway};
+ghost use Rattle.gr_verdict.specs.Told.{TellsVerdict};
+ghost use Rattle.gr_compile.specs.Compiling.{IsFaultlessSeeing, IsPackageAt, MayBeText};
+ghost use Rattle.gr_compile.specs.Units.{IsCompiled};
+
+use crate::naming::names_below;
+use crate::package_at::PackageAt;
+use gr_declared::Interfaces;
+use gr_expr::found::MemberUse;
+use gr_expr::symbol::SharedPath;
+use gr_expr::world::Definition;
+use gr_object::objects::{Faultless, object};
+use gr_text::FileText;
+use gr_verdict::{KnownVerdict, Progress};
+use std::alloc::{AllocError, Global};
+
+/// The type definitions of a package, by their ranks.
+fn definitions_of<'a>(all: &'a Interfaces, path: &[u8]) -> &'a [Definition]
+    ensures { (rank : ℕ) → slice_get result.now rank ≡ ranked (definitions_at all.now.definitions path.now) rank }
+{
+    match all.definitions().of(path) {
+        None => &[],
+        Some(definitions) => definitions,
+    }
+}
+
+/// The text of the object of a package without faults, by interfaces that tell just what it sees of others, and by those that tell of it.
+pub(crate) fn object_of(
+    alloc: Global,
+    at: PackageAt<'_>,
+    path: &SharedPath,
+    seen: &Interfaces,
+    own: &Interfaces,
+    members: &[Vec<MemberUse>],
+) -> Result<FileText, AllocError>
+    requires at { IsPackageAt at path.now }
+    requires found { IsFaultlessSeeing at.graph.now seen.now own.now path.now members.now }
+    ensures { IfOk result (λ text. IsCompiled at.entry.graph.now path.now (interface_in own.now path.now) text) }
+{
+    let files = at.graph.package(at.number);
+    let packages = names_below(alloc, at)?;
+    let definitions = definitions_of(own, path.path());
+    let trees = files.trees.as_slice();
+    let given = Faultless {
+        path,
+        files: trees,
+        definitions,
+        members,
+    };
+    let text = object(alloc, given, seen, &packages)?;
+    FileText::new(alloc, text)
+}
+
+/// The text of the object of a package, if it has no fault by what is known of it. What it sees of others was gathered.
+pub(crate) fn known_text(
+    alloc: Global,
+    at: PackageAt<'_>,
+    path: &SharedPath,
+    verdict: &KnownVerdict,
+    progress: &Progress,
+) -> Result<Option<FileText>, AllocError>
+    requires at { IsPackageAt at path.now }
+    requires verdict { TellsVerdict at.graph.now path.now verdict.now }
+    requires right { IsUnderway at.graph.now at.number progress.now }
+    requires told { IsSeenIn at.graph.now path.now progress.now.all.interfaces }
+    ensures { IfOk result (MayBeText at.entry.graph.now path.now) }
+{
+    let finding = verdict.finding();
+    if !finding.faults.is_empty() {
+        return Ok(None);
+    }
+    let seen = progress.interfaces();
+    let text = object_of(
+        alloc,
+        at,
+        path,
+        seen,
+        verdict.interfaces(),
+        &finding.members,
+    )?;
+    Ok(Some(text))
+}

@@ -1,0 +1,55 @@
+-- The answers to the goals of `gathered::gather_some`.
+use Rattle.std.proofs.Common.{◌≡◌, ◌+◌, ◌<◌, inl, inr, take, length, get_or, sym, subst, arith}
+use Rattle.std.specs.Prelude.{Contains}
+use Rattle.std.proofs.lemmas.Bool.{cases_eq}
+use Rattle.std.proofs.lemmas.List.{take_all}
+use Rattle.std.proofs.lemmas.List.Elements.{Contains-get_or}
+use Rattle.gr_text.specs.Packages.{package_paths}
+use Rattle.gr_verdict.specs.Steps.{AreGatheredOf}
+use Rattle.gr_verdict.proofs.Members.{next_taken, still_taken}
+use Rattle.gr_verdict.proofs.Taking.{none_gathered}
+use Rattle.gr_verdict.proofs.Underway.{above_taken}
+use Rattle.gr_verdict.proofs.gathered.gather_some.Goals as goal
+
+pub loop-number-init : goal.loop-number-init
+loop-number-init c =
+    let none = c.in_ok-all.ensures.none in
+    let size : length c.in_ok-all.all.findings.items ≡ length (package_paths c.args.graph.now) = omega (arith, c.in_ok-all.ensures.size) in
+    record {
+      right = none_gathered c.args.graph.now _ c.in_ok-all.all size none c.in_ok-all.ensures.names c.in_ok-all.ensures.interfaces;
+      just = λ n g. absurd (none n g);
+    }
+
+pub take_known-requires : goal.take_known-requires
+take_known-requires c =
+    let numbers = c.args.numbers.now in
+    let k = c.loop-number.number-index in
+    let lt : k < length numbers = omega arith in
+    let n = get_or numbers k 0 in
+    record {
+      number = c.requires.numbers.in_range n (Contains-get_or numbers k 0 lt);
+      known = c.requires.known;
+      all = c.loop-number.invariant.right;
+      unknown = λ g. (
+          let less : n < n = above_taken numbers c.requires.numbers.rising k n lt (c.loop-number.invariant.just n g) in
+          omega (arith, less));
+    }
+
+pub loop-number-preserved : goal.loop-number-preserved
+loop-number-preserved c =
+    let numbers = c.args.numbers.now in
+    let k = c.loop-number.number-index in
+    let lt : k < length numbers = omega arith in
+    let n = get_or numbers k 0 in
+    record {
+      right = c.in_ok-take_known.ensures.right;
+      just = λ m g. elim (cases_eq m n) [
+        | inl e ↦ subst (Contains (take (k + 1) numbers)) (sym e) (next_taken numbers k 0 lt)
+        | inr ne ↦ still_taken numbers k 0 m lt (c.loop-number.invariant.just m (c.in_ok-take_known.ensures.others m ne g))
+      ];
+    }
+
+pub returns : goal.returns
+returns c =
+    let numbers = c.args.numbers.now in
+    subst (λ l. AreGatheredOf c.args.graph.now l c.loop-number.all) (take_all c.loop-number.number-index numbers (omega arith)) c.loop-number.invariant

@@ -1,0 +1,7 @@
+-- The invariants of the loops of `gathered::gather_some`.
+use Rattle.std.proofs.Common.{take}
+use Rattle.gr_verdict.specs.Steps.{AreGatheredOf}
+use Rattle.gr_verdict.proofs.gathered.gather_some.Given as goal
+
+abbrev pub invariant-loop-number : goal.invariant-loop-number
+invariant-loop-number l = AreGatheredOf l.graph (take l.number-index l.numbers) l.all

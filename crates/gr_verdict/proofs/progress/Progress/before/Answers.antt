@@ -1,0 +1,39 @@
+-- The answers to the goals of `progress::Progress::before`.
+use Rattle.std.proofs.Common.{sym, subst}
+use Rattle.gr_text.specs.Packages.{package_paths}
+use Rattle.gr_meanings.proofs.BoundLists.{slice_get_some}
+use Rattle.gr_verdict.specs.Steps.{HoldAllBelow, KnowsJust}
+use Rattle.gr_verdict.proofs.Just.{just_seen}
+use Rattle.gr_verdict.proofs.Underway.{all_below, known_below, not_own}
+use Rattle.gr_verdict.proofs.progress.Progress.before.Goals as goal
+
+pub judged-requires : goal.judged-requires
+judged-requires c =
+    let w = c.args.graph.now in
+    let n = c.args.number in
+    let p = slice_get_some (package_paths w) n c.requires.in_range in
+    let found = c.in_ok-below.ensures in
+    record {
+      below = subst (HoldAllBelow w) (sym c.as_slice.ensures) (all_below w n p.0 p.1 c.in_ok-below.below.built_on (found.built_on p.0 p.1) found.rising);
+      known = c.requires.known;
+    }
+
+pub returns : goal.returns
+returns c =
+    let w = c.args.graph.now in
+    let n = c.args.number in
+    let found = c.in_ok-below.ensures in
+    let numbers = c.in_ok-below.below.built_on in
+    let all = c.in_ok-all.all in
+    let known = subst (λ l. KnowsJust w l all) c.as_slice.ensures c.in_ok-all.ensures in
+    let own = slice_get_some (package_paths w) n c.requires.in_range in
+    record {
+      right = record {
+        right = known.gathered.right;
+        below = λ p at. known_below w n p at numbers (found.built_on p at) all known;
+        built_on = found.built_on;
+        back = found.back;
+      };
+      seen = λ p at. just_seen w p numbers all.findings.items all.interfaces (found.built_on p at) known.gathered.right.verdicts known.gathered.just;
+      unknown = λ g. not_own w n own.0 own.1 numbers (found.built_on own.0 own.1) (known.gathered.just n g);
+    }
