@@ -4,7 +4,9 @@ Measured for each length of a chain: `faults` after all files were put, and once
 the top package, and of the lowest; `uses` of a function, and once more; and in another session the build of all packages by
 repeated `work`, with nothing asked before. Ratios to the first `faults` are printed beside. What is measured is the processor
 time of the program, as the kernel tells it, so that a busy machine tells the same.
-usage: bench/chain.py PROGRAM [LENGTH..]
+With `--count` the instructions of the first `faults` and of the build are counted, by valgrind: a machine whose host is shared tells
+the same by these alone.
+usage: bench/chain.py [--count] PROGRAM [LENGTH..]
 """
 import sys
 
@@ -82,6 +84,30 @@ def measure(program, length):
         print(f"  {what:28} {seconds:9.4f} s  {seconds / first:7.3f}")
 
 
+def counted(program, files, packages):
+    """Millions of instructions of the first `faults` and of the build of all, each in a session of its own."""
+    from families import Counted
+
+    puts = [(f"put {path} {len(text)}", text) for path, text in files.items()]
+    for lines in ([("faults", b"")], [("work", b"")] * packages):
+        session = Counted(program)
+        session.taken(puts)
+        yield session.taken(lines)
+        session.end()
+
+
+def print_counted(program, files, packages):
+    first, work = counted(program, files, packages)
+    print(f"{packages} packages: faults {first:.1f} M, work over all {work:.1f} M  {work / first:7.3f}")
+
+
+def count(program, length):
+    print_counted(program, chain(length), length)
+
+
 if __name__ == "__main__":
-    for length in [int(word) for word in sys.argv[2:]] or [25, 50, 100]:
-        measure(sys.argv[1], length)
+    words = sys.argv[1:]
+    one = count if words[0] == "--count" else measure
+    words = words[1:] if one is count else words
+    for length in [int(word) for word in words[1:]] or [25, 50, 100]:
+        one(words[0], length)

@@ -4,8 +4,8 @@ Measured are `faults` after all files were put, and once more; `faults` after a 
 import, and of one that none imports; `uses` of the targets that are named, and once more; and in another session the build of all
 packages by repeated `work`, with nothing asked before. Ratios to the first `faults` are printed beside. What is measured is the
 processor time of the program. The folder holds Go files; TARGETS is a JSON file of names to pairs of a file, as its path below the
-folder, and an offset.
-usage: bench/kept.py PROGRAM FOLDER TARGETS
+folder, and an offset. With `--count` the instructions of the first `faults` and of the build are counted, by valgrind.
+usage: bench/kept.py PROGRAM FOLDER TARGETS, or bench/kept.py --count PROGRAM FOLDER
 """
 import collections
 import json
@@ -14,7 +14,7 @@ import re
 import sys
 
 import build
-from chain import Session, put_all
+from chain import Session, print_counted, put_all
 
 IMPORT = re.compile(rb'^\s*(?:import\s+)?"([^"\n]+)"', re.M)
 NUMBER = re.compile(rb"(?<![\w\"`])\d+\b")
@@ -62,7 +62,7 @@ def measure(program, folder, targets):
     session = Session(program)
     put_all(session, files)
     begin = session.spent()
-    build.build(session, len({path.rpartition("/")[0] for path in files}))
+    build.build(session, packages_of(files))
     rows.append(("work over all", session.spent() - begin))
     session.child.stdin.close()
     session.child.wait()
@@ -71,7 +71,14 @@ def measure(program, folder, targets):
         print(f"  {what:56} {seconds:9.4f} s  {seconds / first:7.4f}")
 
 
+def packages_of(files):
+    return len({path.rpartition("/")[0] for path in files})
+
+
 if __name__ == "__main__":
+    if len(sys.argv) == 4 and sys.argv[1] == "--count":
+        files = read(pathlib.Path(sys.argv[3]))
+        sys.exit(print_counted(sys.argv[2], files, packages_of(files)))
     if len(sys.argv) != 4:
         sys.exit(__doc__)
     measure(sys.argv[1], pathlib.Path(sys.argv[2]), json.loads(pathlib.Path(sys.argv[3]).read_text()))
