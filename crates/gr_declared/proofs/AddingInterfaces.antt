@@ -1,17 +1,20 @@
 -- What is known of packages when it is set for one.
-use Rattle.std.proofs.Common.{ℕ, ◌≡◌, List, [], ap, ◌∙◌}
-use Rattle.std.specs.Prelude.{Option}
+use Rattle.std.proofs.Common.{ℕ, ◌≡◌, List, [], ◌∷◌, ◌++◌, None, refl, sym, ap, subst, ◌∙◌}
+use Rattle.std.specs.Prelude.{Option, Some}
 use Rattle.std.specs.Option.{option_flatten}
 use Rattle.std.specs.Global.{Global}
 use Rattle.std.specs.FinMap.{find, put}
 use Rattle.std.specs.declared.sync.Arc.{Arc}
 use Rattle.gr_text.specs.Workspace.{path_cmp}
+use Rattle.gr_path_table.specs.Entries.{StandsBehind}
 use Rattle.gr_path_table.proofs.Putting.{found_put, others_put}
+use Rattle.gr_path_table.proofs.Pushing.{none_behind, put_behind, behind_all, behind_pushed}
 use Rattle.gr_expr.specs.declared.interfaces.Interface.{Interface}
 use Rattle.gr_expr.specs.WorldView.{shared_interface, known_at}
 use Rattle.gr_imports.specs.States.{state_in}
 use Rattle.gr_declared.specs.declared.interfaces.Interfaces.{Interfaces}
-use Rattle.gr_declared.specs.InterfacesView.{known_scope, scope_name, interface_in, interface_known, no_interface, KnowsSame, SetsKnown}
+use Rattle.gr_declared.specs.InterfacesView.{known_scope, scope_name, interface_in, interface_known, no_interface, KnowsSame, SetsKnown, Shares}
+use Rattle.gr_declared.specs.InterfacesView.{IsBehindAll, EndsAt}
 
 abbrev known : List ℕ → List (List ℕ × Option (Arc Interface Global)) → Option Interface
 known path es = shared_interface (option_flatten (find path_cmp path es))
@@ -42,4 +45,50 @@ is_set old new path held set noted =
       states = λ p. ap (λ s. state_in s p) noted;
       elsewhere = λ p ne. same_known old new p
           (ap (known p) set ∙ ap (λ o. shared_interface (option_flatten o)) (others_put path held es p ne)) noted;
+    }
+
+-- Behind all that are held
+
+-- where nothing is held, each path stands behind all
+pub behind_none : (i : Interfaces) → i.definitions.packages ≡ [] → (path : List ℕ) → IsBehindAll i path
+behind_none i none path = subst (StandsBehind path) (sym none) tt
+
+-- what is added behind all is set
+pub is_pushed : (old new : Interfaces) (path : List ℕ) (held : Option (Arc Interface Global)) → IsBehindAll old path →
+    new.definitions.packages ≡ old.definitions.packages ++ (path, held) ∷ [] → new.states ≡ old.states → SetsKnown old new path (shared_interface held)
+is_pushed old new path held behind pushed noted =
+    is_set old new path held (pushed ∙ sym (put_behind path held old.definitions.packages behind)) noted
+
+pub ends_pushed : (old new : Interfaces) (path : List ℕ) (held : Option (Arc Interface Global)) → IsBehindAll old path →
+    new.definitions.packages ≡ old.definitions.packages ++ (path, held) ∷ [] → EndsAt new path
+ends_pushed old new path held behind pushed p above =
+    subst (StandsBehind p) (sym pushed) (behind_pushed p path held old.definitions.packages above behind)
+
+-- a path behind one that stands behind all does too
+pub ends_behind : (i : Interfaces) (path : List ℕ) → IsBehindAll i path → EndsAt i path
+ends_behind i path behind p above = behind_all p path i.definitions.packages above behind
+
+-- of a path behind all nothing is known, as others know nothing of one that they don't hold
+pub none_shared : (others i : Interfaces) (path : List ℕ) → IsBehindAll i path → find path_cmp path others.definitions.packages ≡ None →
+    Shares others i i path
+none_shared others i path behind none =
+    let same : known_at i.definitions path ≡ known_at others.definitions path =
+    ap (λ o. shared_interface (option_flatten o)) (none_behind path i.definitions.packages behind ∙ sym none) in
+    record {
+      has_interface = ap (interface_known path) same;
+      has_name = ap (λ k. scope_name (known_scope k)) same;
+      states = λ p. refl;
+      elsewhere = λ p ne. same_known i i p refl refl;
+    }
+
+-- an entry of others is added behind all
+pub entry_shared : (others old new : Interfaces) (path : List ℕ) (held : Option (Arc Interface Global)) →
+    find path_cmp path others.definitions.packages ≡ Some held → SetsKnown old new path (shared_interface held) → Shares others old new path
+entry_shared others old new path held there set =
+    let same : shared_interface held ≡ known_at others.definitions path = ap (λ o. shared_interface (option_flatten o)) (sym there) in
+    record {
+      has_interface = set.has_interface ∙ ap (interface_known path) same;
+      has_name = set.has_name ∙ ap (λ k. scope_name (known_scope k)) same;
+      states = set.states;
+      elsewhere = set.elsewhere;
     }

@@ -4,6 +4,9 @@ use Rattle.std.specs.Global.{Vec}
 use Rattle.std.specs.BTreeMap.{BTreeMap, get_by}
 use Rattle.std.specs.Cmp.Lexicographic.{slice_cmp}
 use Rattle.std.specs.Ordering.{nat_cmp}
+use Rattle.std.specs.declared.cmp.Ordering.TheVariants.{Greater}
+use Rattle.gr_text.specs.Workspace.{path_cmp}
+use Rattle.gr_path_table.specs.Entries.{StandsBehind}
 use Rattle.gr_expr.specs.Types.{Meaning, Value, Typed, TypeName, Function}
 use Rattle.gr_expr.specs.View.{type_of, signature_of}
 use Rattle.gr_expr.specs.WorldView.{no_definition, definition_or_none, ranked, known_at, definitions_listed, definitions_at}
@@ -116,3 +119,11 @@ Shares others old new path = Sets old new path (interface_in others path) (name_
 pub record Notes (old new : List ℕ → ImportState) (path : List ℕ) (state : ImportState) : Type 0 where
   pub here : new path ≡ state
   pub elsewhere : (p : List ℕ) → (p ≡ path → ⊥) → new p ≡ old p
+
+-- the path stands behind those of all packages that are held
+abbrev pub IsBehindAll : Interfaces → List ℕ → Type 0
+IsBehindAll i path = StandsBehind path i.definitions.packages
+
+-- each path behind this one stands behind those of all packages that are held
+abbrev pub EndsAt : Interfaces → List ℕ → Type 0
+EndsAt i path = (p : List ℕ) → path_cmp p path ≡ Greater → IsBehindAll i p

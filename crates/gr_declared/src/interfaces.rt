@@ -4,7 +4,7 @@ ghost use Rattle.std.specs.Prelude.{◌≡◌, ℕ, List, None, IsSome, option_c
 ghost use Rattle.gr_imports.specs.States.{state_in};
 ghost use Rattle.gr_imports.specs.declared.states.ImportState.TheVariants.{Missing};
 ghost use Rattle.gr_expr.specs.WorldView.{shared_interface};
-ghost use Rattle.gr_declared.specs.InterfacesView.{export_of, exported_in, scope_in, interface_in, no_interface, name_in, Notes, KnowsSame, SetsKnown, AddsInterface, Shares};
+ghost use Rattle.gr_declared.specs.InterfacesView.{export_of, exported_in, scope_in, interface_in, no_interface, name_in, Notes, KnowsSame, SetsKnown, AddsInterface, Shares, IsBehindAll, EndsAt};
 
 use gr_expr::interfaces::{Export, Interface, PackageScope};
 use gr_expr::world::Definitions;
@@ -56,6 +56,7 @@ impl Interfaces {
         ensures states { (path : List ℕ) → state_in result.states path ≡ Missing }
         ensures names { (path : List ℕ) → name_in result path ≡ None }
         ensures interfaces { (path : List ℕ) → interface_in result path ≡ no_interface path }
+        ensures behind { (path : List ℕ) → IsBehindAll result path }
     {
         Interfaces {
             definitions: Definitions {
@@ -70,6 +71,7 @@ impl Interfaces {
         ensures states { IfOk result (λ i. (path : List ℕ) → state_in i.states path ≡ Missing) }
         ensures names { IfOk result (λ i. (path : List ℕ) → name_in i path ≡ None) }
         ensures interfaces { IfOk result (λ i. (path : List ℕ) → interface_in i path ≡ no_interface path) }
+        ensures behind { IfOk result (λ i. (path : List ℕ) → IsBehindAll i path) }
     {
         let packages = PathTable::with_capacity(alloc, capacity)?;
         Ok(Interfaces {
@@ -149,32 +151,6 @@ impl Interfaces {
         Ok(())
     }
 
-    /// Takes what others know of the package of a path, in the place of what is known of it here. Both then share it. It is looked for
-    /// first at a number among the packages that the others know; where many are taken in the order of their paths, the number that
-    /// is answered is the one for the next.
-    pub fn share_from(
-        &mut self,
-        alloc: Global,
-        others: &Interfaces,
-        path: &[u8],
-        first: usize,
-    ) -> Result<usize, AllocError>
-        ensures shared { OnOk result (Shares others.now self.old self.new path.now) }
-        ensures refused { OnErr result ((p : List ℕ) → KnowsSame self.old self.new p) }
-    {
-        match others.definitions.packages.entry_from(path, first) {
-            None => {
-                self.set(SharedPath::new(alloc, path)?, None)?;
-                Ok(first)
-            }
-            Some(entry) => {
-                let known = share_held(entry.value)?;
-                self.set(entry.path.clone()?, known)?;
-                Ok(entry.number.wrapping_add(1))
-            }
-        }
-    }
-
     /// Takes what others know of the package of a path, in the place of what is known of it here. Both then share it.
     pub fn share(
         &mut self,
@@ -185,8 +161,55 @@ impl Interfaces {
         ensures shared { OnOk result (Shares others.now self.old self.new path.now) }
         ensures refused { OnErr result ((p : List ℕ) → KnowsSame self.old self.new p) }
     {
-        self.share_from(alloc, others, path, 0)?;
+        match others.definitions.packages.entry_from(path, 0) {
+            None => {
+                self.set(SharedPath::new(alloc, path)?, None)?;
+                Ok(())
+            }
+            Some(entry) => {
+                let known = share_held(entry.value)?;
+                self.set(entry.path.clone()?, known)?;
+                Ok(())
+            }
+        }
+    }
+
+    /// Adds what is known of the package of a path that stands behind all that are here.
+    fn push(
+        &mut self,
+        path: SharedPath,
+        known: Option<Arc<Interface, Global>>,
+    ) -> Result<(), AllocError>
+        requires { IsBehindAll self.old path }
+        ensures set { OnOk result (SetsKnown self.old self.new path (shared_interface known)) }
+        ensures end { OnOk result (EndsAt self.new path) }
+        ensures refused { OnErr result ((p : List ℕ) → KnowsSame self.old self.new p) }
+    {
+        self.definitions.packages.push(path, known)?;
         Ok(())
+    }
+
+    /// The same as `share`, of a path that stands behind all that are here, so that it is compared with none of them. It is looked for
+    /// first at a number among the packages that the others know; where many are taken in the order of their paths, the number that
+    /// is answered is the one for the next.
+    pub fn share_next(
+        &mut self,
+        others: &Interfaces,
+        path: &[u8],
+        first: usize,
+    ) -> Result<usize, AllocError>
+        requires { IsBehindAll self.old path.now }
+        ensures shared { OnOk result (Shares others.now self.old self.new path.now) }
+        ensures end { OnOk result (EndsAt self.new path.now) }
+        ensures refused { OnErr result ((p : List ℕ) → KnowsSame self.old self.new p) }
+    {
+        let Some(entry) = others.definitions.packages.entry_from(path, first) else {
+            return Ok(first);
+        };
+        let known = share_held(entry.value)?;
+        let own = entry.path.clone()?;
+        self.push(own, known)?;
+        Ok(entry.number.wrapping_add(1))
     }
 }
 

@@ -5,6 +5,10 @@ use Rattle.gr_text.specs.Workspace.{path_cmp}
 use Rattle.gr_chunks.specs.Entries.{IsAfterAll, is_after, is_at}
 use Rattle.gr_path_table.specs.declared.table.PathEntry.{PathEntry}
 
+-- the path stands behind all entries
+abbrev pub StandsBehind : {X : Type 0} → (path : List ℕ) → List (List ℕ × X) → Type 0
+StandsBehind path es = IsAfterAll path_cmp path es
+
 -- n entries stand before the path, and the next one, if there is one, does not
 pub record IsPlace {X : Type 0} (path : List ℕ) (es : List (List ℕ × X)) (n : ℕ) : Type 0 where
   pub within : n ≤ length es

@@ -1,9 +1,9 @@
 //! A table by path: a list of entries that is sorted by path.
-ghost use Rattle.std.specs.Prelude.{◌≡◌, [], MatchOption, None, Some, IfOk, OnOk, OnErr};
+ghost use Rattle.std.specs.Prelude.{◌≡◌, [], ◌∷◌, ◌++◌, MatchOption, None, Some, IfOk, OnOk, OnErr};
 ghost use Rattle.std.specs.Option.{option_copied};
 ghost use Rattle.std.specs.FinMap.{find, put};
 ghost use Rattle.gr_text.specs.Workspace.{path_cmp};
-ghost use Rattle.gr_path_table.specs.Entries.{IsEntry};
+ghost use Rattle.gr_path_table.specs.Entries.{IsEntry, StandsBehind};
 
 use crate::entries::{number_from, put};
 use crate::shared_path::SharedPath;
@@ -85,6 +85,16 @@ impl<V: Drop> PathTable<V> {
         ensures err { OnErr result (self.new ≡ self.old) }
     {
         put(&mut self.entries, path, value)?;
+        Ok(())
+    }
+
+    /// Adds a path behind all that are there, and what stands at it. No path is compared: it is known that this one stands behind them.
+    pub fn push(&mut self, path: SharedPath, value: V) -> Result<(), AllocError>
+        requires { StandsBehind path self.old }
+        ensures ok { OnOk result (self.new ≡ self.old ++ (path, value) ∷ []) }
+        ensures err { OnErr result (self.new ≡ self.old) }
+    {
+        self.entries.push((path, value))?;
         Ok(())
     }
 }

@@ -18,6 +18,7 @@ pub mod FaultFiles
 pub mod PackageFiles
 pub mod Importing
 pub mod Sizes
+pub mod Rising
 pub mod Sharing
 pub mod Just
 pub mod Noting

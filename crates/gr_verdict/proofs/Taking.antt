@@ -109,8 +109,9 @@ module _ (w : Workspace) (n : ℕ) (p : List ℕ) (at : slice_get (package_paths
       }
 
 -- nothing else was taken
-pub taken_before : (fs gs : List (Option Finding)) (n : ℕ) (f : Finding) → gs ≡ set fs n (Some f) → (m : ℕ) → (m ≡ n → ⊥) → IsGathered gs m → IsGathered fs m
-taken_before fs gs n f is_set m other g = elim (gathered_or_here fs n m f (subst (λ l. IsGathered l m) is_set g)) [
+pub taken_before : (old new : List (Option Finding)) (n : ℕ) (f : Finding) → new ≡ set old n (Some f) →
+    (m : ℕ) → (m ≡ n → ⊥) → IsGathered new m → IsGathered old m
+taken_before old new n f is_set m other g = elim (gathered_or_here old n m f (subst (λ l. IsGathered l m) is_set g)) [
   | inl before ↦ before
   | inr e ↦ absurd (other (sym e))
 ]

@@ -3,7 +3,7 @@ ghost use Rattle.std.specs.Prelude.{◌≡◌, ◌<◌, ◌↔◌, ℕ, List, le
 ghost use Rattle.std.proofs.Math.ListN.{set};
 ghost use Rattle.gr_text.specs.Packages.{package_paths};
 ghost use Rattle.gr_graph.specs.Graphs.{OfPackage};
-ghost use Rattle.gr_declared.specs.InterfacesView.{Shares, interface_in, name_in, no_interface};
+ghost use Rattle.gr_declared.specs.InterfacesView.{EndsAt, IsBehindAll, Shares, interface_in, name_in, no_interface};
 ghost use Rattle.gr_verdict.specs.declared.finding.Finding.{Finding as Found};
 ghost use Rattle.gr_verdict.specs.Found.{KnowsVerdicts};
 ghost use Rattle.gr_verdict.specs.Told.{MayTell};
@@ -42,6 +42,7 @@ impl Gathered {
         ensures none { IfOk result (λ all. (n : ℕ) → IsGathered all.findings.items n → ⊥) }
         ensures names { IfOk result (λ all. (path : List ℕ) → name_in all.interfaces path ≡ None) }
         ensures interfaces { IfOk result (λ all. (path : List ℕ) → interface_in all.interfaces path ≡ no_interface path) }
+        ensures behind { IfOk result (λ all. (path : List ℕ) → IsBehindAll all.interfaces path) }
     {
         let findings = no_findings(alloc, count)?;
         let interfaces = Interfaces::with_capacity(alloc, room)?;
@@ -123,6 +124,25 @@ impl Gathered {
         self.findings[number] = Some(finding);
         Ok(())
     }
+
+    /// The same, of a package whose path stands behind those of all whose interfaces are here.
+    fn keep_next(
+        &mut self,
+        number: usize,
+        path: &[u8],
+        verdict: &KnownVerdict,
+    ) -> Result<(), AllocError>
+        requires number { number < length self.old.findings.items }
+        requires behind { IsBehindAll self.old.interfaces path.now }
+        ensures findings { OnOk result (self.new.findings.items ≡ set self.old.findings.items number (Some verdict.now.finding)) }
+        ensures interfaces { OnOk result (Shares verdict.now.interfaces self.old.interfaces self.new.interfaces path.now) }
+        ensures end { OnOk result (EndsAt self.new.interfaces path.now) }
+    {
+        let finding = verdict.finding.clone()?;
+        self.interfaces.share_next(verdict.interfaces(), path, 0)?;
+        self.findings[number] = Some(finding);
+        Ok(())
+    }
 }
 
 /// Takes what is known of a package, of which nothing was taken yet.
@@ -148,6 +168,29 @@ pub(crate) fn take_known(
     Ok(())
 }
 
+/// The same, of a package whose path stands behind those of all whose interfaces were taken.
+fn take_next(
+    graph: &Graph,
+    number: usize,
+    known: &Known,
+    all: &mut Gathered,
+) -> Result<(), AllocError>
+    requires number { number < length (package_paths graph.now) }
+    requires known { KnowsVerdicts graph.now known.now }
+    requires all { AreGathered graph.now (length (package_paths graph.now)) all.old }
+    requires unknown { IsGathered all.old.findings.items number → ⊥ }
+    requires behind { OfPackage graph.now number (IsBehindAll all.old.interfaces) }
+    ensures right { OnOk result (AreGathered graph.now (length (package_paths graph.now)) all.new) }
+    ensures others { OnOk result ((n : ℕ) → (n ≡ number → ⊥) → IsGathered all.new.findings.items n → IsGathered all.old.findings.items n) }
+    ensures end { OnOk result (OfPackage graph.now number (EndsAt all.new.interfaces)) }
+{
+    let Some(verdict) = known.get(number) else {
+        return Ok(());
+    };
+    all.keep_next(number, &graph.package(number).path, verdict)?;
+    Ok(())
+}
+
 /// What is known of all packages. They are taken in the order of their paths, in which a table by path grows at its end.
 pub(crate) fn gather(alloc: Global, graph: &Graph, known: &Known) -> Result<Gathered, AllocError>
     requires { KnowsVerdicts graph.now known.now }
@@ -155,7 +198,7 @@ pub(crate) fn gather(alloc: Global, graph: &Graph, known: &Known) -> Result<Gath
 {
     let mut all = Gathered::new(alloc, graph.len(), graph.len())?;
     for number in 0..graph.len() {
-        take_known(alloc, graph, number, known, &mut all)?;
+        take_next(graph, number, known, &mut all)?;
     }
     Ok(all)
 }
@@ -173,7 +216,7 @@ pub(crate) fn gather_some(
 {
     let mut all = Gathered::new(alloc, graph.len(), numbers.len())?;
     for number in numbers {
-        take_known(alloc, graph, *number, known, &mut all)?;
+        take_next(graph, *number, known, &mut all)?;
     }
     Ok(all)
 }

@@ -1,5 +1,6 @@
 //! What a package sees of others, and what each path is that it imports.
 ghost use Rattle.std.specs.Prelude.{ℕ, ◌≡◌, ◌<◌, List, length, IfOk, OnOk};
+ghost use Rattle.std.specs.List.Sorted.{IsStrictlyIncreasing};
 ghost use Rattle.gr_text.specs.Packages.{package_paths};
 ghost use Rattle.gr_graph.specs.Graphs.{HoldsPackages, OfPackage};
 ghost use Rattle.gr_graph.specs.Packages.{PackageImports};
@@ -19,6 +20,7 @@ use std::alloc::{AllocError, Global};
 
 /// What a package sees of those that it builds on. All rise by their paths, as the packages' numbers do: each package is looked for behind
 /// the one found last, where that one was found so, and else at its number, less one for each package before it of which nothing is known.
+/// What is taken stands behind all that was taken before.
 fn seen_of(
     alloc: Global,
     graph: &Graph,
@@ -28,6 +30,7 @@ fn seen_of(
 ) -> Result<Interfaces, AllocError>
     requires in_range { number < length (package_paths graph.now) }
     requires below { OfPackage graph.now number (λ p. HoldsPackages graph.now (BuildsOn graph.now p) below.now) }
+    requires rising { IsStrictlyIncreasing below.now }
     requires whole { AreWhole all.now }
     ensures seen { IfOk result (λ i. OfPackage graph.now number (λ p. AreSeen graph.now (known_by all.now) p (name_in i) (interface_in i))) }
     ensures states { IfOk result (λ i. (path : List ℕ) → state_in i.states path ≡ Missing) }
@@ -42,7 +45,7 @@ fn seen_of(
         } else {
             other.wrapping_sub(missing)
         };
-        let behind = seen.share_from(alloc, all, &graph.package(*other).path, first)?;
+        let behind = seen.share_next(all, &graph.package(*other).path, first)?;
         follows = behind == next.wrapping_add(1);
         missing = other.wrapping_add(1).wrapping_sub(behind);
         next = behind;

@@ -1,6 +1,8 @@
 -- The answers to the goals of `gathered::gather`.
-use Rattle.std.proofs.Common.{◌≡◌, length, arith}
+use Rattle.std.proofs.Common.{◌≡◌, ◌<◌, length, arith}
 use Rattle.gr_text.specs.Packages.{package_paths}
+use Rattle.gr_meanings.proofs.BoundLists.{slice_get_some}
+use Rattle.gr_verdict.proofs.Rising.{later_path}
 use Rattle.gr_verdict.proofs.Taking.{none_gathered}
 use Rattle.gr_verdict.proofs.gathered.gather.Goals as goal
 
@@ -11,23 +13,31 @@ loop-number-init c =
     record {
       right = none_gathered c.args.graph.now _ c.in_ok-all.all size none c.in_ok-all.ensures.names c.in_ok-all.ensures.interfaces;
       unknown = λ n le. none n;
+      before = λ m q at above. c.in_ok-all.ensures.behind q;
     }
 
-pub take_known-requires : goal.take_known-requires
-take_known-requires c =
+pub take_next-requires : goal.take_next-requires
+take_next-requires c =
     let k = c.loop-number.number in
     record {
       number = omega arith;
       known = c.requires;
       all = c.loop-number.invariant.right;
       unknown = c.loop-number.invariant.unknown k (omega arith);
+      behind = λ p at. c.loop-number.invariant.before k p at (λ n lt. lt);
     }
 
 pub loop-number-preserved : goal.loop-number-preserved
-loop-number-preserved c = record {
-  right = c.in_ok-take_known.ensures.right;
-  unknown = λ n le g. c.loop-number.invariant.unknown n (omega arith) (c.in_ok-take_known.ensures.others n (λ e. omega arith) g);
-}
+loop-number-preserved c =
+    let w = c.args.graph.now in
+    let k = c.loop-number.number in
+    let lt : k < length (package_paths w) = omega arith in
+    let p = slice_get_some (package_paths w) k lt in
+    record {
+      right = c.in_ok-take_next.ensures.right;
+      unknown = λ n le g. c.loop-number.invariant.unknown n (omega arith) (c.in_ok-take_next.ensures.others n (λ e. omega arith) g);
+      before = λ m q at above. c.in_ok-take_next.ensures.end p.0 p.1 q (later_path w k m p.0 q p.1 at (above k (omega arith)));
+    }
 
 pub returns : goal.returns
 returns c = c.loop-number.invariant.right

@@ -1,6 +1,5 @@
 -- The answers to the goals of `gathered::take_known`.
 use Rattle.std.proofs.Common.{◌≡◌, ◌<◌, List, ℕ, length, sym, subst, ◌∙◌}
-use Rattle.std.specs.Prelude.{Some}
 use Rattle.std.proofs.lemmas.Option.{same_Some}
 use Rattle.gr_text.specs.Packages.{package_paths}
 use Rattle.gr_declared.specs.InterfacesView.{Shares}

@@ -1,5 +1,6 @@
 -- The answers to the goals of `seeing::seen`.
 use Rattle.std.proofs.Common.{sym, subst}
+use Rattle.std.specs.List.Sorted.{IsStrictlyIncreasing}
 use Rattle.gr_graph.specs.Graphs.{HoldsPackages}
 use Rattle.gr_verdict.specs.Verdicts.{BuildsOn}
 use Rattle.gr_verdict.proofs.seeing.seen.Goals as goal
@@ -10,5 +11,6 @@ seen_of-requires c =
     record {
       in_range = c.requires.in_range;
       below = λ p at. subst (HoldsPackages w (BuildsOn w p)) (sym c.as_slice.ensures) (c.in_ok-below.ensures.below p at);
+      rising = subst IsStrictlyIncreasing (sym c.as_slice.ensures) c.in_ok-below.ensures.rising;
       whole = c.requires.whole;
     }

@@ -1,8 +1,13 @@
 -- The invariants of the loops of `seeing::seen_of`.
 use Rattle.std.proofs.Common.{take}
+use Rattle.std.specs.Prelude.{Contains}
 use Rattle.gr_graph.specs.Graphs.{OfPackage}
+use Rattle.gr_verdict.proofs.Rising.{StandBefore}
 use Rattle.gr_verdict.proofs.Sharing.{AreShared}
 use Rattle.gr_verdict.proofs.seeing.seen_of.Given as goal
 
 abbrev pub invariant-loop-other : goal.invariant-loop-other
-invariant-loop-other l = OfPackage l.graph l.number (λ p. AreShared l.graph p (take l.other-index l.below) l.all l.seen)
+invariant-loop-other l = record {
+  shared : OfPackage l.graph l.number (λ p. AreShared l.graph p (take l.other-index l.below) l.all l.seen);
+  before : StandBefore l.graph (Contains (take l.other-index l.below)) l.seen;
+}

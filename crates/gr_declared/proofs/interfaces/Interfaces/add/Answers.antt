@@ -1,7 +1,6 @@
 -- The answers to the goals of `interfaces::Interfaces::add`.
 use Rattle.std.proofs.Common.{ap, subst}
 use Rattle.std.specs.Prelude.{Option, Some}
-use Rattle.std.specs.Arc.{arc_value}
 use Rattle.gr_expr.specs.declared.interfaces.Interface.{Interface}
 use Rattle.gr_declared.specs.InterfacesView.{SetsKnown}
 use Rattle.gr_declared.proofs.interfaces.Interfaces.add.Goals as goal

@@ -1,5 +1,5 @@
 -- The answers to the goals of `gathered::Gathered::knows_all`.
-use Rattle.std.proofs.Common.{◌≡◌, ◌<◌, inl, inr, sym, subst, arith}
+use Rattle.std.proofs.Common.{◌≡◌, inl, inr, sym, subst, arith}
 use Rattle.std.proofs.lemmas.Bool.{cases_lt}
 use Rattle.gr_verdict.specs.Steps.{IsGathered}
 use Rattle.gr_verdict.proofs.gathered.Gathered.knows_all.Goals as goal

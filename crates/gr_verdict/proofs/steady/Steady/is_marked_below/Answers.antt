@@ -1,5 +1,5 @@
 -- The answers to the goals of `steady::Steady::is_marked_below`.
-use Rattle.std.proofs.Common.{true, not, sym, ap, ◌∙◌}
+use Rattle.std.proofs.Common.{not, sym, ap, ◌∙◌}
 use Rattle.std.proofs.lemmas.Bool.{false≢true}
 use Rattle.gr_verdict.proofs.steady.Steady.is_marked_below.Goals as goal
 
