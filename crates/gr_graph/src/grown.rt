@@ -218,25 +218,20 @@ fn grown_by(
     requires importing { (path : List ℕ) → slice_get (paths_of grown.packages.now) grown.place ≡ Some path → HoldsBelow (ImportsAt grown.packages.now path) (length grown.packages.now) importing.now }
     ensures { IfOk result (AreRows grown.entry.packages.now) }
 {
-    let links = grown.links;
-    let imports = grow(
-        alloc,
-        Growing {
-            before: links.import_rows(),
-            place: grown.place,
-            own,
-            linked: importing,
-        },
-    )?;
-    let importers = grow(
-        alloc,
-        Growing {
-            before: links.importer_rows(),
-            place: grown.place,
-            own: importing,
-            linked: own,
-        },
-    )?;
+    let forth = Growing {
+        before: grown.links.import_rows(),
+        place: grown.place,
+        own,
+        linked: importing,
+    };
+    let back = Growing {
+        before: grown.links.importer_rows(),
+        place: grown.place,
+        own: importing,
+        linked: own,
+    };
+    let imports = grow(alloc, forth)?;
+    let importers = grow(alloc, back)?;
     Ok(ImportLinks::with_importers(imports, importers))
 }
 
