@@ -40,4 +40,3 @@ folder_found q (e ∷ es) =
   where
     tied : folder e.0 ≡ q → eq_by_cmp path_cmp q (folder e.0) ≡ true
     tied is = ap (eq_by_cmp path_cmp q) is ∙ ap is_eq (tied_itself path_cmp_total q)
-

@@ -1,26 +1,26 @@
 -- The links of packages among which one came.
-use Rattle.std.proofs.Common.{◌≡◌, ℕ, ◌+◌, ◌<◌, ◌≤◌, ◌^◌, ◌↔◌, Bool, List, [], ◌∷◌, ◌++◌, length, get_or, Some, slice_get, refl, sym, ap, subst, ◌∙◌}
+use Rattle.std.proofs.Common.{◌≡◌, ℕ, ◌+◌, ◌<◌, ◌≤◌, ◌^◌, ◌↔◌, List, [], length, get_or, Some, slice_get, refl, sym, ap, subst, ◌∙◌}
 use Rattle.std.proofs.Common.{inl, inr, ⊎_elim, arith}
-use Rattle.std.specs.Prelude.{IsTrue}
 use Rattle.std.specs.List.{All, Contains, insert}
 use Rattle.std.specs.List.Sorted.{IsStrictlyIncreasing}
 use Rattle.std.proofs.lemmas.Bool.{cases_lt}
-use Rattle.std.proofs.lemmas.List.{get_or_append_left, get_or_past, get_or_push, length-map, length_push}
+use Rattle.std.proofs.lemmas.List.{get_or_past, length-map}
 use Rattle.std.proofs.lemmas.List.Edits.{length-insert}
 use Rattle.std.proofs.lemmas.List.Elements.{All-contains, Contains-get_or}
-use Rattle.std.proofs.lemmas.Option.{same_Some, slice_get-get_or}
+use Rattle.std.proofs.lemmas.Option.{same_Some, slice_get-get_or, slice_get_within}
 use Rattle.gr_tree.specs.SourceFile.{FileParts, source_of}
 use Rattle.gr_graph.specs.Graphs.{paths_of}
-use Rattle.gr_graph.specs.Growth.{AddsImporters, AreFirst, AreRows, Grows, ImportsAt}
+use Rattle.gr_graph.specs.Growth.{AreFirst, AreGrown, AreRows, Grows, ImportsAt, IsGrowing}
 use Rattle.gr_graph.specs.ImportPaths.{SomeImport}
 use Rattle.gr_graph.specs.Imports.{Links, AreImporters, AreLinked, HoldImporters, HoldsBelow, Imports, imports_of}
 use Rattle.gr_graph.specs.Packages.{ImportsPath}
 use Rattle.gr_graph.specs.Rows.{IsRow, SomeImports}
 use Rattle.gr_graph.specs.Shifts.{ShiftsRow, row_shifted, shifted}
 use Rattle.gr_graph.specs.declared.package.ParsedPackage.{ParsedPackage}
-use Rattle.gr_graph.proofs.Answered.{all_rising, importer_below}
-use Rattle.gr_graph.proofs.Linked.{row_at, rows_count, rows_linked, rows_rising}
-use Rattle.gr_graph.proofs.Shifted.{insert_here, insert_shifted, rising_shifted, shifted_cases, shifted_from, shifted_in, shifted_within}
+use Rattle.gr_graph.proofs.Answered.{all_rising, importer_below, importers_of_all}
+use Rattle.gr_graph.proofs.Linked.{row_at, rows_count, rows_linked, rows_rising, zip_from}
+use Rattle.gr_graph.proofs.Reached.{noted_linked}
+use Rattle.gr_graph.proofs.Shifted.{insert_here, insert_shifted, shifted_cases, shifted_from, shifted_in, shifted_within}
 use Rattle.gr_graph.proofs.UpdatedPackages.{paths_insert}
 
 -- ---- a row of numbers that are small
@@ -42,19 +42,26 @@ module _ (ks : List (List ℕ)) (place : ℕ) (path : List ℕ) (files : List Fi
       let same = same_Some s.2.0 path (sym s.2.1 ∙ ap (slice_get (insert ks place path)) here ∙ insert_here ks place path within) in
       (s.0, (s.1, subst (ImportsPath (source_of s.0)) same s.2.2))
 
-  pub row_shifts : (row : List ℕ) → IsRow ks files row → (SomeImport files path → ⊥) → IsRow (insert ks place path) files (row_shifted place row)
-  row_shifts row is not = record {
+  -- a row with the place in it just where the path is imported
+  pub row_grown : (row new : List ℕ) (P : Type 0) → IsRow ks files row → ShiftsRow place P row new → (P ↔ SomeImport files path) →
+      IsRow (insert ks place path) files new
+  row_grown row new P is shifts told = record {
     each = λ j. (
-      λ has.
-          let from = shifted_from place row j has in
-          subst (SomeImports (insert ks place path) files) from.2 ((some_shifted from.0).1 ((is.each from.0).0 from.1)),
-      λ some. ⊎_elim
-          (λ (here : j ≡ place). absurd (not (some_here j here some)))
-          (λ (r : (i : ℕ) × (shifted place i ≡ j)). subst (Contains (row_shifted place row)) r.1
-          (shifted_in place row r.0 ((is.each r.0).1 ((some_shifted r.0).0 (subst (SomeImports (insert ks place path) files) (sym r.1) some)))))
-          (shifted_cases place j),
+      λ has. ⊎_elim
+          (λ (own : (j ≡ place) × P).
+          let some = told.0 own.1 in
+          (some.0, some.1.0, (path, ap (slice_get (insert ks place path)) own.0 ∙ insert_here ks place path within, some.1.1)))
+          (λ (old : Contains (row_shifted place row) j).
+          let from = shifted_from place row j old in
+          subst (SomeImports (insert ks place path) files) from.2 ((some_shifted from.0).1 ((is.each from.0).0 from.1)))
+          ((shifts.each j).0 has),
+      λ some. (shifts.each j).1 (⊎_elim
+          (λ (here : j ≡ place). inl (here, told.1 (some_here j here some)))
+          (λ (r : (i : ℕ) × (shifted place i ≡ j)). inr (subst (Contains (row_shifted place row)) r.1
+          (shifted_in place row r.0 ((is.each r.0).1 ((some_shifted r.0).0 (subst (SomeImports (insert ks place path) files) (sym r.1) some))))))
+          (shifted_cases place j)),
     );
-    rising = rising_shifted place row is.rising;
+    rising = shifts.rising is.rising;
   }
 
 -- ---- packages among which one came
@@ -93,6 +100,9 @@ module _ (packages : List ParsedPackage) (links : Links) (place : ℕ) (grows : 
   pub place_path : slice_get (paths_of packages) place ≡ Some path
   place_path = ap (λ l. slice_get l place) paths_are ∙ insert_here ks place path ks_within
 
+  pub place_one : slice_get packages place ≡ Some grows.one
+  place_one = ap (λ l. slice_get l place) grows.put ∙ insert_here grows.before place grows.one grows.within
+
   package_shifted : (i : ℕ) → slice_get packages (shifted place i) ≡ slice_get grows.before i
   package_shifted i = ap (λ l. slice_get l (shifted place i)) grows.put ∙ insert_shifted grows.before place grows.one i grows.within
 
@@ -101,14 +111,61 @@ module _ (packages : List ParsedPackage) (links : Links) (place : ℕ) (grows : 
       let count = rows_count grows.before links grows.rows in
       shifted_within place before (length links) (omega (arith, count, grows.within)) (omega (arith, is, lt, one_more))
 
-  -- the row of a package that does not import it stays, shifted
-  pub row_kept : (number before : ℕ) → shifted place before ≡ number → (ImportsAt packages path number → ⊥) → (p : ParsedPackage) →
-      slice_get packages number ≡ Some p → IsRow (paths_of packages) p.trees.items (row_shifted place (imports_of links before))
-  row_kept number before is not p at =
-      let was : slice_get grows.before before ≡ Some p = sym (package_shifted before) ∙ ap (slice_get packages) is ∙ at in
-      subst (λ l. IsRow l p.trees.items (row_shifted place (imports_of links before))) (sym paths_are)
-      (row_shifts ks place path p.trees.items ks_within (imports_of links before) (row_at grows.before links grows.rows before p was)
-      (λ some. not (p, (at, some))))
+  -- the rows after it came are those of the packages
+  pub rows_grown : (own importing : List ℕ) (new : Links) → AreGrown place own importing links new → length new ≡ length links + 1 →
+      ((p : ParsedPackage) → slice_get packages place ≡ Some p → IsRow (paths_of packages) p.trees.items own) →
+      HoldsBelow (ImportsAt packages path) (length packages) importing → AreRows packages new
+  rows_grown own importing new grown count own_is holds =
+      zip_from (λ p row. IsRow (paths_of packages) p.trees.items row) packages new [] (one_more ∙ sym count)
+      (λ j p at.
+      let inside : j < length new = (let lt = slice_get_within packages j p at in omega (arith, lt, one_more, count)) in
+      ⊎_elim
+      (λ (here : j ≡ place).
+      let there : place < length new = omega (arith, here, inside) in
+      subst (λ l. IsRow (paths_of packages) p.trees.items l) (sym (ap (imports_of new) here ∙ grown.own_row there))
+      (own_is p (ap (slice_get packages) (sym here) ∙ at)))
+      (λ (r : (q : ℕ) × (shifted place q ≡ j)). old_row own importing new grown holds j p at inside r.0 r.1)
+      (shifted_cases place j))
+    where
+      old_row : (own importing : List ℕ) (new : Links) → AreGrown place own importing links new →
+          HoldsBelow (ImportsAt packages path) (length packages) importing →
+          (j : ℕ) (p : ParsedPackage) → slice_get packages j ≡ Some p → j < length new → (q : ℕ) → shifted place q ≡ j →
+          IsRow (paths_of packages) p.trees.items (imports_of new j)
+      old_row own importing new grown holds j p at inside q is =
+          let was : slice_get grows.before q ≡ Some p = sym (package_shifted q) ∙ ap (slice_get packages) is ∙ at in
+          let shifts = grown.each q (omega (arith, is, inside)) in
+          let told : Contains importing (shifted place q) ↔ SomeImport p.trees.items path = (
+            λ has.
+                let r = ((holds.each j).0 (subst (Contains importing) is has)).1 in
+                subst (λ (x : ParsedPackage). SomeImport x.trees.items path) (same_Some r.0 p (sym r.1.0 ∙ at)) r.1.1,
+            λ some. subst (Contains importing) (sym is) ((holds.each j).1 (slice_get_within packages j p at, (p, (at, some)))),
+          ) in
+          subst (λ k. IsRow (paths_of packages) p.trees.items (imports_of new k)) is
+          (subst (λ l. IsRow l p.trees.items (imports_of new (shifted place q))) (sym paths_are)
+          (row_grown ks place path p.trees.items ks_within (imports_of links q) (imports_of new (shifted place q)) (Contains importing (shifted place q))
+          (row_at grows.before links grows.rows q p was) shifts told))
+
+  -- what is asked of the rows before, and of the importers
+  pub growing_imports : (importing : List ℕ) → HoldsBelow (ImportsAt packages path) (length packages) importing → IsGrowing links place importing
+  growing_imports importing holds = record {
+    within = omega (arith, place_inside, one_more);
+    numbers = links_linked;
+    rising = holds.rising;
+    inside = λ k d lt. (let h = ((holds.each (get_or importing k d)).0 (Contains-get_or importing k d lt)).0 in omega (arith, h, one_more));
+  }
+
+  pub growing_importers : (noted : Links) (own : List ℕ) (p : ParsedPackage) → HoldImporters links (length links) noted →
+      IsRow (paths_of packages) p.trees.items own → IsGrowing noted place own
+  growing_importers noted own p held is = record {
+    within = omega (arith, place_inside, one_more, held.size);
+    numbers = noted_linked links noted links_linked held;
+    rising = is.rising;
+    inside = λ k d lt.
+        let some = (is.each (get_or own k d)).0 (Contains-get_or own k d lt) in
+        let h = slice_get_within (paths_of packages) (get_or own k d) some.2.0 some.2.1 in
+        let size = length-map packages (λ (x : ParsedPackage). x.path.items) in
+        omega (arith, h, size, one_more, held.size);
+  }
 
   module _ (g : Links) (rows : AreRows packages g) where
     -- a package before and the same after, with their rows
@@ -138,11 +195,11 @@ module _ (packages : List ParsedPackage) (links : Links) (place : ℕ) (grows : 
     )
 
     -- its importers are those before, shifted, and the one that came where it imports the package
-    pub importers_shifted : (number before : ℕ) (with_it : Bool) (found row : List ℕ) → shifted place before ≡ number → AreImporters links before found →
-        ShiftsRow place with_it found row → (IsTrue with_it ↔ Imports g place number) → AreImporters g number row
-    importers_shifted number before with_it found row is are shifts told p = (
+    importers_shifted : (number before : ℕ) (P : Type 0) (found row : List ℕ) → shifted place before ≡ number → AreImporters links before found →
+        ShiftsRow place P found row → (P ↔ Imports g place number) → AreImporters g number row
+    importers_shifted number before P found row is are shifts told p = (
       λ has. ⊎_elim
-          (λ (own : (p ≡ place) × IsTrue with_it). subst (λ k. Imports g k number) (sym own.0) (told.0 own.1))
+          (λ (own : (p ≡ place) × P). subst (λ k. Imports g k number) (sym own.0) (told.0 own.1))
           (λ (old : Contains (row_shifted place found) p).
           let from = shifted_from place found p old in
           subst (λ k. Imports g k number) from.2
@@ -157,7 +214,7 @@ module _ (packages : List ParsedPackage) (links : Links) (place : ℕ) (grows : 
     )
 
     -- the importers of the one that came are the packages that import its path
-    pub importers_found : (found : List ℕ) → HoldsBelow (ImportsAt packages path) (length packages) found → AreImporters g place found
+    importers_found : (found : List ℕ) → HoldsBelow (ImportsAt packages path) (length packages) found → AreImporters g place found
     importers_found found holds p = (
       λ has.
           let r = ((holds.each p).0 has).1 in
@@ -172,37 +229,36 @@ module _ (packages : List ParsedPackage) (links : Links) (place : ℕ) (grows : 
           (holds.each p).1 (lt, (x, (at, (some.0, (some.1, subst (ImportsPath (source_of some.0)) same some.2.2))))),
     )
 
--- ---- importers, one package after another
-pub first_none : (g importers : Links) → importers ≡ [] → AreFirst g 0 importers
-first_none g importers is = record {
-  size = ap length is;
-  each = λ q lt. absurd (omega (arith, lt));
-  rising = λ q lt. absurd (omega (arith, lt));
-}
+    -- the importers after it came are those of the rows
+    pub importers_grown : (noted new : Links) (own importing : List ℕ) → HoldImporters links (length links) noted → AreGrown place importing own noted new →
+        length new ≡ length noted + 1 → own ≡ imports_of g place → HoldsBelow (ImportsAt packages path) (length packages) importing →
+        AreFirst g (length g) new
+    importers_grown noted new own importing held grown count own_is holds =
+        let size = rows_count packages g rows in
+        let all : length new ≡ length g = omega (arith, count, held.size, size, one_more) in
+        record {
+          size = all;
+          each = λ number lt. ⊎_elim
+              (λ (here : number ≡ place).
+              subst (AreImporters g number) (sym (ap (imports_of new) here ∙ grown.own_row (omega (arith, here, lt, all))))
+              (subst (λ k. AreImporters g k importing) (sym here) (importers_found importing holds)))
+              (λ (r : (q : ℕ) × (shifted place q ≡ number)).
+              let inside : shifted place r.0 < length new = omega (arith, r.1, lt, all) in
+              subst (λ k. AreImporters g k (imports_of new k)) r.1
+              (importers_shifted (shifted place r.0) r.0 (Contains own (shifted place r.0)) (imports_of noted r.0) (imports_of new (shifted place r.0)) refl
+              (importers_of_all links noted held r.0) (grown.each r.0 inside)
+              (λ has. subst (λ l. Contains l (shifted place r.0)) own_is has, λ has. subst (λ l. Contains l (shifted place r.0)) (sym own_is) has)))
+              (shifted_cases place number);
+          rising = λ number lt. ⊎_elim
+              (λ (here : number ≡ place).
+              subst IsStrictlyIncreasing (sym (ap (imports_of new) here ∙ grown.own_row (omega (arith, here, lt, all)))) holds.rising)
+              (λ (r : (q : ℕ) × (shifted place q ≡ number)).
+              let inside : shifted place r.0 < length new = omega (arith, r.1, lt, all) in
+              subst (λ k. IsStrictlyIncreasing (imports_of new k)) r.1 ((grown.each r.0 inside).rising (held.rising links_rising r.0)))
+              (shifted_cases place number);
+        }
 
-pub first_more : (g old new : Links) (count : ℕ) → AreFirst g count old → AddsImporters g old new → AreFirst g (count + 1) new
-first_more g old new count so adds = subst (AreFirst g (count + 1)) (sym adds.put) (record {
-  size = length_push old adds.row ∙ ap (λ n. n + 1) so.size;
-  each = λ q lt. ⊎_elim
-      (λ (before : q < count). subst (AreImporters g q) (sym (front q before)) (so.each q before))
-      (λ (more : count ≤ q).
-      let e : length old ≡ q = omega (arith, more, lt, so.size) in
-      subst (λ l. AreImporters g q l) (sym (last q e)) (subst (λ k. AreImporters g k adds.row) e adds.are))
-      (cases_lt q count);
-  rising = λ q lt. ⊎_elim
-      (λ (before : q < count). subst IsStrictlyIncreasing (sym (front q before)) (so.rising q before))
-      (λ (more : count ≤ q).
-      let e : length old ≡ q = omega (arith, more, lt, so.size) in
-      subst IsStrictlyIncreasing (sym (last q e)) adds.rising)
-      (cases_lt q count);
-})
-  where
-    front : (q : ℕ) → q < count → imports_of (old ++ adds.row ∷ []) q ≡ imports_of old q
-    front q lt = get_or_append_left old (adds.row ∷ []) [] q (omega (arith, lt, so.size))
-
-    last : (q : ℕ) → length old ≡ q → imports_of (old ++ adds.row ∷ []) q ≡ adds.row
-    last q e = get_or_push old adds.row [] q e
-
+-- ---- importers of all
 pub first_all : (g importers : Links) → AreLinked g → AreFirst g (length g) importers → HoldImporters g (length g) importers
 first_all g importers linked so = record {
   size = so.size;

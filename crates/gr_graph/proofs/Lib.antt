@@ -28,3 +28,6 @@ pub mod Below
 pub mod Shifted
 pub mod GrownLinks
 pub mod GrownGraph
+pub mod RowRuns
+pub mod GrownSteps
+pub mod GrownStops

@@ -158,7 +158,7 @@ module _ (w : Workspace) (ps : List ParsedPackage) (g : Links) (paths : paths_of
   graph_is = record { paths = paths; each = parsed; linked = are_links; rising = are_rising }
 
 -- ---- and the links of a workspace are the rows of its packages
-zip_from : {A B : Type 0} (R : A → B → Type 0) (xs : List A) (ys : List B) (d : B) → length xs ≡ length ys →
+pub zip_from : {A B : Type 0} (R : A → B → Type 0) (xs : List A) (ys : List B) (d : B) → length xs ≡ length ys →
     ((i : ℕ) (x : A) → slice_get xs i ≡ Some x → R x (get_or ys i d)) → AllZip R xs ys
 zip_from R [] [] d same each = tt
 zip_from R [] (y ∷ ys) d same each = absurd (omega (arith, same))

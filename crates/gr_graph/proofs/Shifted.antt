@@ -1,10 +1,9 @@
 -- Numbers after one came among them, and lists that are passed from below.
-use Rattle.std.proofs.Common.{◌≡◌, ℕ, ◌+◌, ◌-◌, ◌<◌, ◌≤◌, ◌⊎◌, true, false, List, [], ◌∷◌, ◌++◌, length, map, take, drop, get_or, Some, slice_get, refl, sym}
+use Rattle.std.proofs.Common.{◌≡◌, ℕ, ◌+◌, ◌-◌, ◌<◌, ◌≤◌, ◌⊎◌, List, [], ◌∷◌, ◌++◌, length, map, take, drop, get_or, Some, slice_get, refl, sym}
 use Rattle.std.proofs.Common.{ap, subst, ◌∙◌, inl, inr, ⊎_elim, arith, append_assoc}
 use Rattle.std.specs.List.{Contains, insert}
-use Rattle.std.specs.Prelude.{IsTrue}
 use Rattle.std.specs.List.Sorted.{IsPermutation, IsStrictlyIncreasing}
-use Rattle.std.proofs.lemmas.Bool.{cases_lt, cond_above, cond_below, false≢true}
+use Rattle.std.proofs.lemmas.Bool.{cases_lt, cond_above, cond_below}
 use Rattle.std.proofs.lemmas.List.{get_or-map, length-map, drop-map, take-map}
 use Rattle.std.proofs.lemmas.List.Edits.{get_or-insert_above, get_or-insert_at, get_or-insert_below, length-insert}
 use Rattle.std.proofs.lemmas.List.Elements.{Contains-get_or}
@@ -32,6 +31,21 @@ shifted_rises place a b h = ⊎_elim
     (λ (g : place ≤ a). let f = shifted_above place a g in omega (arith, f, s, h))
     (cases_lt a place))
     (cases_lt b place)
+
+pub shifted_one : (place a b : ℕ) → shifted place a ≡ shifted place b → a ≡ b
+shifted_one place a b same = ⊎_elim
+    (λ (l : a < b). let less = shifted_rises place a b l in absurd (omega (arith, less, same)))
+    (λ (g : b ≤ a). ⊎_elim
+    (λ (l : b < a). let less = shifted_rises place b a l in absurd (omega (arith, less, same)))
+    (λ (e : a ≤ b). let is : a ≡ b = omega (arith, g, e) in is)
+    (cases_lt b a))
+    (cases_lt a b)
+
+pub shifted_apart : (place a : ℕ) → shifted place a ≡ place → ⊥
+shifted_apart place a same = ⊎_elim
+    (λ (l : a < place). let e = shifted_below place a l in omega (arith, e, same, l))
+    (λ (g : place ≤ a). let e = shifted_above place a g in omega (arith, e, same, g))
+    (cases_lt a place)
 
 -- a number is the place or a shifted one
 pub shifted_cases : (place j : ℕ) → (j ≡ place) ⊎ ((i : ℕ) × (shifted place i ≡ j))
@@ -118,26 +132,27 @@ rising_insert xs b x up within below above k h =
     (cases_lt b k))
     (cases_lt k b)
 
-pub shifts_without : (place : ℕ) (before : List ℕ) → ShiftsRow place false before (row_shifted place before)
-shifts_without place before = record {
+pub shifts_without : (place : ℕ) (P : Type 0) (before : List ℕ) → (P → ⊥) → ShiftsRow place P before (row_shifted place before)
+shifts_without place P before not = record {
   each = λ p. (
     λ has. inr has,
-    λ either. ⊎_elim (λ (own : (p ≡ place) × IsTrue false). absurd (false≢true own.1)) (λ (has : Contains (row_shifted place before) p). has) either,
+    λ either. ⊎_elim (λ (own : (p ≡ place) × P). absurd (not own.1)) (λ (has : Contains (row_shifted place before) p). has) either,
   );
   rising = rising_shifted place before;
 }
 
-pub shifts_with : (place : ℕ) (before : List ℕ) (below : ℕ) → below ≤ length before → ((k : ℕ) → k < below → get_or before k 0 < place) →
-    (below < length before → place ≤ get_or before below 0) → ShiftsRow place true before (insert (row_shifted place before) below place)
-shifts_with place before below within under over = record {
+pub shifts_with : (place : ℕ) (P : Type 0) (before : List ℕ) (below : ℕ) → P → below ≤ length before →
+    ((k : ℕ) → k < below → get_or before k 0 < place) → (below < length before → place ≤ get_or before below 0) →
+    ShiftsRow place P before (insert (row_shifted place before) below place)
+shifts_with place P before below holds within under over = record {
   each = λ p. (
     λ has. ⊎_elim
-        (λ (here : place ≡ p). inl (sym here, refl))
+        (λ (here : place ≡ p). inl (sym here, holds))
         (λ (later : Contains xs p). inr later)
         (first_or_later place xs p
         (Contains-permutation (insert xs below place) (place ∷ xs) p (IsPermutation-sym (place ∷ xs) (insert xs below place) same) has)),
     λ either. Contains-permutation (place ∷ xs) (insert xs below place) p same (⊎_elim
-        (λ (own : (p ≡ place) × IsTrue true). subst (Contains (place ∷ xs)) (sym own.0) (first_in place xs))
+        (λ (own : (p ≡ place) × P). subst (Contains (place ∷ xs)) (sym own.0) (first_in place xs))
         (λ (has : Contains xs p). later_in place xs p has)
         either),
   );
@@ -266,6 +281,42 @@ passed_none_in list index number after so has = ⊎_elim
 
 pub passed_one_in : (list : List ℕ) (index number : ℕ) → index < length list → get_or list index 0 ≡ number → Contains list number
 passed_one_in list index number lt is = subst (Contains list) is (Contains-get_or list index 0 lt)
+
+-- a list that is passed further, up to what comes next in it
+pub passed_to : (list : List ℕ) (index number stop : ℕ) → IsStrictlyIncreasing list → IsPassed list index number → number ≤ stop →
+    (index < length list → stop ≤ get_or list index 0) → IsPassed list index stop
+passed_to list index number stop up so more next = record {
+  within = so.within;
+  below = λ k h. omega (arith, so.below k h, more);
+  above = λ k h inside.
+      let first = next (omega (arith, h, inside)) in
+      ⊎_elim
+      (λ (m : index < k).
+      let less = rising_by list up (k - (index + 1)) index k (omega (arith, m)) inside in
+      omega (arith, less, first))
+      (λ (m : k ≤ index).
+      let e : k ≡ index = omega (arith, h, m) in
+      let same = ap (λ n. get_or list n 0) e in
+      omega (arith, same, first))
+      (cases_lt index k);
+}
+
+-- no number between is in it
+pub passed_over : (list : List ℕ) (index number stop m : ℕ) → IsPassed list index number → IsPassed list index stop → number ≤ m → m < stop →
+    Contains list m → ⊥
+passed_over list index number stop m so after low high has = ⊎_elim
+    (λ (l : has.0 < index).
+    let is = same_at has in
+    let less = so.below has.0 l in
+    absurd (omega (arith, is, less, low)))
+    (λ (g : index ≤ has.0).
+    let is = same_at has in
+    let more = after.above has.0 g has.1 in
+    absurd (omega (arith, is, more, high)))
+    (cases_lt has.0 index)
+  where
+    same_at : (h : Contains list m) → get_or list h.0 0 ≡ m
+    same_at h = get_or_from_slice_get list h.0 m 0 (slice_get-get_or list h.0 m h.1 ∙ ap Some h.2)
 
 -- ---- numbers that were added one part after another
 pub added_around : (place below : ℕ) (old row first rest one two new : List ℕ) → first ≡ take below row → rest ≡ drop below row →

@@ -1,12 +1,13 @@
 -- Packages among which one came, and the numbers and links of the others before it came.
-use Rattle.std.specs.Prelude.{◌≡◌, ℕ, ◌<◌, ◌≤◌, true, List, [], ◌∷◌, ◌++◌, Some, length, slice_get}
-use Rattle.std.specs.List.{AllZip, insert}
+use Rattle.std.specs.Prelude.{◌≡◌, ℕ, ◌+◌, ◌<◌, ◌≤◌, true, List, [], ◌∷◌, Some, length, slice_get}
+use Rattle.std.specs.List.{All, AllZip, Contains, insert}
 use Rattle.std.specs.List.Sorted.{IsStrictlyIncreasing}
 use Rattle.gr_graph.specs.Changed.{has_file}
 use Rattle.gr_graph.specs.Graphs.{paths_of}
 use Rattle.gr_graph.specs.ImportPaths.{SomeImport}
-use Rattle.gr_graph.specs.Imports.{Links, AreImporters, imports_of}
+use Rattle.gr_graph.specs.Imports.{Links, AreImporters, AreLinked, imports_of}
 use Rattle.gr_graph.specs.Rows.{IsRow}
+use Rattle.gr_graph.specs.Shifts.{IsPassed, ShiftsRow, shifted}
 use Rattle.gr_graph.specs.Updated.{IsPlace}
 use Rattle.gr_graph.specs.declared.package.ParsedPackage.{ParsedPackage}
 
@@ -32,18 +33,27 @@ pub record ComesAlone (before fresh : List ParsedPackage) (one : ParsedPackage) 
 abbrev pub ImportsAt : List ParsedPackage → List ℕ → ℕ → Type 0
 ImportsAt packages path number = (p : ParsedPackage) × ((slice_get packages number ≡ Some p) × SomeImport p.trees.items path)
 
--- the row of the package that comes next was added
-pub record AddsRow (packages : List ParsedPackage) (old new : Links) : Type 0 where
-  pub row : List ℕ
-  pub put : new ≡ old ++ row ∷ []
-  pub is : (p : ParsedPackage) → slice_get packages (length old) ≡ Some p → IsRow (paths_of packages) p.trees.items row
+-- rows before one came at a place, and the numbers, rising, of the rows that the place is put into
+pub record IsGrowing (before : Links) (place : ℕ) (linked : List ℕ) : Type 0 where
+  pub within : place ≤ length before
+  pub numbers : AreLinked before
+  pub rising : IsStrictlyIncreasing linked
+  pub inside : All (λ p. p ≤ length before) linked
 
--- the importers of the package that comes next were added
-pub record AddsImporters (g old new : Links) : Type 0 where
-  pub row : List ℕ
-  pub put : new ≡ old ++ row ∷ []
-  pub are : AreImporters g (length old) row
-  pub rising : IsStrictlyIncreasing row
+-- the first rows after it came: its own, and those before, shifted, with the place in those of some numbers
+pub record AreGrown (place : ℕ) (own linked : List ℕ) (before rows : Links) : Type 0 where
+  pub within : length rows ≤ length before + 1
+  pub own_row : place < length rows → imports_of rows place ≡ own
+  pub each : (q : ℕ) → shifted place q < length rows →
+      ShiftsRow place (Contains linked (shifted place q)) (imports_of before q) (imports_of rows (shifted place q))
+
+-- from a number up to the stop all rows are just shifted, and that at the stop is not, or there is none
+pub record IsStop (place count : ℕ) (linked : List ℕ) (index number stop : ℕ) : Type 0 where
+  pub from : number ≤ stop
+  pub within : stop ≤ count
+  pub upto_place : number ≤ place → stop ≤ place
+  pub passed : IsPassed linked index stop
+  pub told : stop < count → (stop ≡ place → ⊥) → Contains linked stop
 
 -- the importers of the first packages
 pub record AreFirst (g : Links) (count : ℕ) (importers : Links) : Type 0 where

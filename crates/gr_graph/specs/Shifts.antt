@@ -1,5 +1,5 @@
 -- The numbers of packages after one came among them.
-use Rattle.std.specs.Prelude.{◌≡◌, ℕ, ◌+◌, ◌<◌, ◌≤◌, ◌↔◌, ◌⊎◌, Bool, List, map, length, slice_index_or, nat_lt, if◌then◌else◌, IsTrue}
+use Rattle.std.specs.Prelude.{◌≡◌, ℕ, ◌+◌, ◌<◌, ◌≤◌, ◌↔◌, ◌⊎◌, List, map, length, slice_index_or, nat_lt, if◌then◌else◌}
 use Rattle.std.specs.List.{Contains}
 use Rattle.std.specs.List.Sorted.{IsStrictlyIncreasing}
 
@@ -10,9 +10,9 @@ shifted place number = if nat_lt number place then number else number + 1
 abbrev pub row_shifted : ℕ → List ℕ → List ℕ
 row_shifted place row = map (shifted place) row
 
--- the numbers before, shifted, and the place itself where that is told
-pub record ShiftsRow (place : ℕ) (with_it : Bool) (before row : List ℕ) : Type 0 where
-  pub each : (p : ℕ) → Contains row p ↔ (((p ≡ place) × IsTrue with_it) ⊎ Contains (row_shifted place before) p)
+-- the numbers before, shifted, and the place itself where P holds
+pub record ShiftsRow (place : ℕ) (P : Type 0) (before row : List ℕ) : Type 0 where
+  pub each : (p : ℕ) → Contains row p ↔ (((p ≡ place) × P) ⊎ Contains (row_shifted place before) p)
   pub rising : IsStrictlyIncreasing before → IsStrictlyIncreasing row
 
 -- the numbers of a list before an index are below a number, and from there on not

@@ -1,5 +1,5 @@
 //! What packages reach along links.
-ghost use Rattle.std.specs.Prelude.{◌≡◌, ◌<◌, ℕ, length, IfOk};
+ghost use Rattle.std.specs.Prelude.{◌≡◌, ◌<◌, ℕ, count_by, length, IfOk};
 ghost use Rattle.gr_graph.specs.Imports.{AreLinked, HoldImporters, Links};
 ghost use Rattle.gr_graph.specs.Closures.{IsBuiltOn, IsClosed};
 ghost use Rattle.gr_graph.specs.Search.{AreReached, Flips, HoldsMarked, TellBack};
@@ -9,17 +9,24 @@ use crate::package_list::PackageList;
 use crate::search::{reach, spread};
 use std::alloc::{AllocError, Global};
 
+/// How many are marked.
+fn count_marked(marks: &[bool]) -> usize
+    ensures { result ≡ count_by (λ mark. mark) marks.now }
+{
+    marks.iter().filter(|mark| **mark).count()
+}
+
 /// The marked packages, by number.
 fn marked(alloc: Global, marks: &[bool]) -> Result<PackageList, AllocError>
     ensures { IfOk result (HoldsMarked marks.now (length marks.now)) }
 {
-    let mut list = PackageList::new(alloc);
+    let mut list = Vec::with_capacity(alloc, count_marked(marks))?;
     for (number, mark) in marks.iter().enumerate() {
         if *mark {
             list.push(number)?;
         }
     }
-    Ok(list)
+    Ok(PackageList::from_numbers(list))
 }
 
 /// What a package imports directly or indirectly, itself among it, by number.

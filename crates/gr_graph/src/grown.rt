@@ -5,13 +5,15 @@ ghost use Rattle.std.specs.List.{Contains};
 ghost use Rattle.std.specs.List.Sorted.{IsStrictlyIncreasing, IsStrictlySortedBy};
 ghost use Rattle.gr_text.specs.Workspace.{path_cmp};
 ghost use Rattle.gr_graph.specs.Graphs.{paths_of};
-ghost use Rattle.gr_graph.specs.Growth.{AddsImporters, AddsRow, AreRows, Grows, ImportsAt};
+ghost use Rattle.gr_graph.specs.Growth.{AreGrown, AreRows, Grows, ImportsAt, IsGrowing, IsStop};
 ghost use Rattle.gr_graph.specs.ImportPaths.{SomeImport};
-ghost use Rattle.gr_graph.specs.Imports.{AreImporters, HoldImporters, HoldsBelow, Links, imports_of};
+ghost use Rattle.gr_graph.specs.Imports.{HoldsBelow};
+ghost use Rattle.gr_graph.specs.Rows.{IsRow};
 ghost use Rattle.gr_graph.specs.Shifts.{IsPassed, shifted};
+ghost use Rattle.gr_graph.specs.declared.package.ParsedPackage.{ParsedPackage};
 
 use crate::import_links::ImportLinks;
-use crate::link_rows::LinkRows;
+use crate::link_rows::{LinkRows, RowRun};
 use crate::rows::fill_row;
 use crate::shared_package::SharedPackage;
 use std::alloc::{AllocError, Global};
@@ -90,108 +92,147 @@ fn count_below(row: &[usize], bound: usize) -> usize
     row.len()
 }
 
-/// Adds the row of the package that comes next, found anew. Each import is looked for first where an earlier row has it.
-fn add_found(
-    alloc: Global,
-    packages: &[SharedPackage],
-    earlier: &[usize],
-    rows: &mut LinkRows,
-) -> Result<(), AllocError>
-    requires sorted { IsStrictlySortedBy path_cmp (paths_of packages.now) }
-    requires below { length rows.old < length packages.now }
-    ensures { OnOk result (AddsRow packages.now rows.old rows.new) }
-{
-    let mut row = Vec::new(alloc);
-    fill_row(packages, &packages[rows.len()], earlier, &mut row)?;
-    rows.add_row(&row)
+/// Rows before one came at a place, its own row, and the numbers of the rows that the place is put into.
+#[derive(Clone, Copy)]
+struct Growing<'a> {
+    before: &'a LinkRows,
+    place: usize,
+    own: &'a [usize],
+    linked: &'a [usize],
 }
 
-/// Adds the row of the package that comes next: its row before, shifted, unless it imports the one that came or is it.
-fn add_row(
+/// The linked number at an index, or the number of rows.
+fn linked_at(growing: Growing<'_>, index: usize) -> usize
+    requires { IsGrowing growing.before.now growing.place growing.linked.now }
+    ensures there { index < length growing.entry.linked.now → result ≡ slice_index growing.entry.linked.now index }
+    ensures behind { length growing.entry.linked.now ≤ index → result ≡ length growing.entry.before.now + 1 }
+{
+    if index < growing.linked.len() {
+        return growing.linked[index];
+    }
+    growing.before.one_more()
+}
+
+/// The number, from one on, of the next row that is not just shifted, or the number of rows.
+fn next_stop(growing: Growing<'_>, index: usize, number: usize) -> usize
+    requires growing { IsGrowing growing.before.now growing.place growing.linked.now }
+    requires passed { IsPassed growing.linked.now index number }
+    requires within { number ≤ length growing.before.now + 1 }
+    ensures { IsStop growing.entry.place (length growing.entry.before.now + 1) growing.entry.linked.now index number result }
+{
+    let end = linked_at(growing, index);
+    if number <= growing.place && growing.place < end {
+        growing.place
+    } else {
+        end
+    }
+}
+
+/// The number of rows before that stand in front of a number.
+fn rows_before(number: usize, place: usize) -> usize
+    ensures upto { number ≤ place → result ≡ number }
+    ensures above { place < number → result + 1 ≡ number }
+{
+    if number <= place { number } else { number - 1 }
+}
+
+/// Adds the rows up to a stop, which are just shifted.
+fn add_run(growing: Growing<'_>, stop: usize, rows: &mut LinkRows) -> Result<(), AllocError>
+    requires growing { IsGrowing growing.before.now growing.place growing.linked.now }
+    requires small { length growing.before.now + 1 < 2 ^ 64 }
+    requires grown { AreGrown growing.place growing.own.now growing.linked.now growing.before.now rows.old }
+    requires stop { (index : ℕ) × IsPassed growing.linked.now index (length rows.old) × IsStop growing.place (length growing.before.now + 1) growing.linked.now index (length rows.old) stop }
+    ensures grown { OnOk result (AreGrown growing.entry.place growing.entry.own.now growing.entry.linked.now growing.entry.before.now rows.new) }
+    ensures count { OnOk result (length rows.new ≡ stop) }
+{
+    let run = RowRun {
+        rows: growing.before,
+        from: rows_before(rows.len(), growing.place),
+        to: rows_before(stop, growing.place),
+    };
+    rows.add_shifted_rows(run, growing.place)
+}
+
+/// Adds the row that comes next, where it is that of the one that came or the place is put into it.
+fn add_stop(growing: Growing<'_>, rows: &mut LinkRows) -> Result<(), AllocError>
+    requires growing { IsGrowing growing.before.now growing.place growing.linked.now }
+    requires small { length growing.before.now + 1 < 2 ^ 64 }
+    requires grown { AreGrown growing.place growing.own.now growing.linked.now growing.before.now rows.old }
+    requires below { length rows.old < length growing.before.now + 1 }
+    requires told { (length rows.old ≡ growing.place → ⊥) → Contains growing.linked.now (length rows.old) }
+    ensures grown { OnOk result (AreGrown growing.entry.place growing.entry.own.now growing.entry.linked.now growing.entry.before.now rows.new) }
+    ensures count { OnOk result (length rows.new ≡ length rows.old + 1) }
+{
+    let Some(before) = number_before(rows.len(), growing.place) else {
+        return rows.add_row(growing.own);
+    };
+    let row = growing.before.row(before);
+    let below = count_below(row, growing.place);
+    rows.add_shifted_around(row, growing.place, below)
+}
+
+/// Adds the rows up to the next stop, and that at the stop. The answer is the index of the linked number that comes next.
+fn add_next(growing: Growing<'_>, index: usize, rows: &mut LinkRows) -> Result<usize, AllocError>
+    requires growing { IsGrowing growing.before.now growing.place growing.linked.now }
+    requires small { length growing.before.now + 1 < 2 ^ 64 }
+    requires grown { AreGrown growing.place growing.own.now growing.linked.now growing.before.now rows.old }
+    requires passed { IsPassed growing.linked.now index (length rows.old) }
+    requires below { length rows.old < length growing.before.now + 1 }
+    ensures grown { OnOk result (AreGrown growing.entry.place growing.entry.own.now growing.entry.linked.now growing.entry.before.now rows.new) }
+    ensures passed { IfOk result (λ next. IsPassed growing.entry.linked.now next (length rows.new)) }
+    ensures more { OnOk result (length rows.old < length rows.new) }
+{
+    let stop = next_stop(growing, index, rows.len());
+    add_run(growing, stop, rows)?;
+    if stop > growing.before.len() {
+        return Ok(index);
+    }
+    add_stop(growing, rows)?;
+    Ok(past(growing.linked, index, stop))
+}
+
+/// All rows after one came.
+fn grow(alloc: Global, growing: Growing<'_>) -> Result<LinkRows, AllocError>
+    requires { IsGrowing growing.before.now growing.place growing.linked.now }
+    ensures grown { IfOk result (AreGrown growing.entry.place growing.entry.own.now growing.entry.linked.now growing.entry.before.now) }
+    ensures count { IfOk result (λ rows. length rows ≡ length growing.entry.before.now + 1) }
+{
+    let count = growing.before.one_more();
+    let mut rows = LinkRows::with_capacity(alloc, count)?;
+    let mut index = 0;
+    while rows.len() < count {
+        index = add_next(growing, index, &mut rows)?;
+    }
+    Ok(rows)
+}
+
+/// The links, told what the one that came imports, and what imports it. What the rows are of the one, the importers are of the other.
+fn grown_by(
     alloc: Global,
     grown: Grown<'_>,
-    imports_it: bool,
-    rows: &mut LinkRows,
-) -> Result<(), AllocError>
-    requires sorted { IsStrictlySortedBy path_cmp (paths_of grown.packages.now) }
+    own: &[usize],
+    importing: &[usize],
+) -> Result<ImportLinks, AllocError>
     requires grown { Grows grown.packages.now grown.links.now grown.place }
-    requires below { length rows.old < length grown.packages.now }
-    requires small { length grown.packages.now < 2 ^ 64 }
-    requires told { (path : List ℕ) → slice_get (paths_of grown.packages.now) grown.place ≡ Some path → ImportsAt grown.packages.now path (length rows.old) → IsTrue imports_it }
-    ensures { OnOk result (AddsRow grown.entry.packages.now rows.old rows.new) }
-{
-    let Some(before) = number_before(rows.len(), grown.place) else {
-        return add_found(alloc, grown.packages, &[], rows);
-    };
-    let before = grown.links.imports(before);
-    if imports_it {
-        return add_found(alloc, grown.packages, before, rows);
-    }
-    rows.add_shifted(before, grown.place)
-}
-
-/// For each package, those that its files import; told is which of them import the one that came.
-fn grown_rows(alloc: Global, grown: Grown<'_>, importing: &[usize]) -> Result<LinkRows, AllocError>
-    requires sorted { IsStrictlySortedBy path_cmp (paths_of grown.packages.now) }
-    requires grown { Grows grown.packages.now grown.links.now grown.place }
+    requires own { (p : ParsedPackage) → slice_get grown.packages.now grown.place ≡ Some p → IsRow (paths_of grown.packages.now) p.trees.items own.now }
     requires importing { (path : List ℕ) → slice_get (paths_of grown.packages.now) grown.place ≡ Some path → HoldsBelow (ImportsAt grown.packages.now path) (length grown.packages.now) importing.now }
     ensures { IfOk result (AreRows grown.entry.packages.now) }
 {
-    let mut rows = LinkRows::with_capacity(alloc, grown.packages.len())?;
-    let mut index = 0;
-    for number in 0..grown.packages.len() {
-        let next = past(importing, index, number);
-        add_row(alloc, grown, index < next, &mut rows)?;
-        index = next;
-    }
-    Ok(rows)
-}
-
-/// Adds the importers of the package that comes next: those before, shifted, and the one that came where it imports the package.
-fn add_importers(
-    grown: Grown<'_>,
-    importing: &[usize],
-    is_imported: bool,
-    rows: &mut LinkRows,
-) -> Result<(), AllocError>
-    requires grown { Grows grown.packages.now grown.links.now grown.place }
-    requires below { length rows.old < length grown.packages.now }
-    requires small { length grown.packages.now < 2 ^ 64 }
-    ensures { OnOk result ((g : Links) → AreRows grown.entry.packages.now g → AreImporters g grown.entry.place importing.now → IsStrictlyIncreasing importing.now → (IsTrue is_imported ↔ Contains (imports_of g grown.entry.place) (length rows.old)) → AddsImporters g rows.old rows.new) }
-{
-    let Some(before) = number_before(rows.len(), grown.place) else {
-        return rows.add_row(importing);
+    let forth = Growing {
+        before: grown.links.import_rows(),
+        place: grown.place,
+        own,
+        linked: importing,
     };
-    let before = grown.links.importers(before);
-    if is_imported {
-        let below = count_below(before, grown.place);
-        return rows.add_shifted_around(before, grown.place, below);
-    }
-    rows.add_shifted(before, grown.place)
-}
-
-/// For each package, those that import it.
-fn grown_importers(
-    alloc: Global,
-    grown: Grown<'_>,
-    imports: &LinkRows,
-    importing: &[usize],
-) -> Result<LinkRows, AllocError>
-    requires grown { Grows grown.packages.now grown.links.now grown.place }
-    requires imports { AreRows grown.packages.now imports.now }
-    requires importing { AreImporters imports.now grown.place importing.now }
-    requires rising { IsStrictlyIncreasing importing.now }
-    ensures { IfOk result (HoldImporters imports.now (length imports.now)) }
-{
-    let own = imports.row(grown.place);
-    let mut rows = LinkRows::with_capacity(alloc, imports.len())?;
-    let mut index = 0;
-    for number in 0..imports.len() {
-        let next = past(own, index, number);
-        add_importers(grown, importing, index < next, &mut rows)?;
-        index = next;
-    }
-    Ok(rows)
+    let back = Growing {
+        before: grown.links.importer_rows(),
+        place: grown.place,
+        own: importing,
+        linked: own,
+    };
+    let imports = grow(alloc, forth)?;
+    let importers = grow(alloc, back)?;
+    Ok(ImportLinks::with_importers(imports, importers))
 }
 
 /// The links of packages among which one came.
@@ -200,9 +241,9 @@ pub(crate) fn grown_links(alloc: Global, grown: Grown<'_>) -> Result<ImportLinks
     requires grown { Grows grown.packages.now grown.links.now grown.place }
     ensures { IfOk result (AreRows grown.entry.packages.now) }
 {
-    let path = grown.packages[grown.place].path();
-    let importing = importing(alloc, grown.packages, path)?;
-    let imports = grown_rows(alloc, grown, &importing)?;
-    let importers = grown_importers(alloc, grown, &imports, &importing)?;
-    Ok(ImportLinks::with_importers(imports, importers))
+    let one = &grown.packages[grown.place];
+    let importing = importing(alloc, grown.packages, one.path())?;
+    let mut own = Vec::new(alloc);
+    fill_row(grown.packages, one, &[], &mut own)?;
+    grown_by(alloc, grown, &own, &importing)
 }

@@ -60,6 +60,20 @@ impl ImportLinks {
         ImportLinks { imports, importers }
     }
 
+    /// The rows of all packages.
+    pub(crate) fn import_rows(&self) -> &LinkRows
+        ensures { result.now ≡ self.now }
+    {
+        &self.imports
+    }
+
+    /// The importers of all packages.
+    pub(crate) fn importer_rows(&self) -> &LinkRows
+        ensures { HoldImporters self.now (length self.now) result.now }
+    {
+        &self.importers
+    }
+
     /// How many packages there are.
     pub fn len(&self) -> usize
         ensures { result ≡ length self.now }

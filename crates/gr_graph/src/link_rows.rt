@@ -1,5 +1,5 @@
 //! Links in two lists: the rows of all packages one behind another, and where each ends.
-ghost use Rattle.std.specs.Prelude.{◌≡◌, ◌<◌, ◌≤◌, ◌+◌, ◌^◌, ◌++◌, [], ◌∷◌, length, slice_index_or, slice_range, IfOk, IsTrue, OnOk};
+ghost use Rattle.std.specs.Prelude.{◌≡◌, ◌<◌, ◌≤◌, ◌+◌, ◌-◌, ◌^◌, ◌++◌, ℕ, [], ◌∷◌, length, map, take, slice_index_or, slice_range, IfOk, IsTrue, OnOk};
 ghost use Rattle.std.specs.List.{All, insert};
 ghost use Rattle.gr_graph.specs.Imports.{imports_of};
 ghost use Rattle.gr_graph.specs.LinkRows.{last_bound};
@@ -35,6 +35,15 @@ fn part_at<'a>(bounds: &[usize], numbers: &'a [usize], number: usize) -> &'a [us
     ensures { result.now ≡ slice_range numbers.now (slice_index_or bounds.now number 0) (slice_index_or bounds.now (number + 1) 0) }
 {
     &numbers[bounds[number]..bounds[number + 1]]
+}
+
+/// What stands from one index up to another.
+fn part_of<'a>(list: &'a [usize], from: usize, to: usize) -> &'a [usize]
+    requires rising { from ≤ to }
+    requires within { to ≤ length list.now }
+    ensures { result.now ≡ slice_range list.now from to }
+{
+    &list[from..to]
 }
 
 fn last_of(bounds: &[usize]) -> usize
@@ -99,6 +108,31 @@ fn push_shifted_around(
     push_shifted(numbers, rest, place)
 }
 
+/// Adds bounds at the end, so much lower and then so much higher.
+fn push_moved(
+    bounds: &mut Vec<usize>,
+    ends: &[usize],
+    down: usize,
+    up: usize,
+) -> Result<(), AllocError>
+    requires { All (λ end. (down ≤ end) × (end - down + up < 2 ^ 64)) ends.now }
+    ensures some { (k : ℕ) × (k ≤ length ends.now) × (bounds.new.items ≡ bounds.old.items ++ map (λ end. end - down + up) (take k ends.now)) }
+    ensures all { OnOk result (bounds.new.items ≡ bounds.old.items ++ map (λ end. end - down + up) ends.now) }
+{
+    for end in ends {
+        bounds.push(*end - down + up)?;
+    }
+    Ok(())
+}
+
+/// Some rows, from one number up to another.
+#[derive(Clone, Copy)]
+pub(crate) struct RowRun<'a> {
+    pub(crate) rows: &'a LinkRows,
+    pub(crate) from: usize,
+    pub(crate) to: usize,
+}
+
 impl LinkRows {
     /// No row, with room for the bounds of some.
     pub(crate) fn with_capacity(alloc: Global, count: usize) -> Result<LinkRows, AllocError>
@@ -119,6 +153,13 @@ impl LinkRows {
         self.bounds.len() - 1
     }
 
+    /// How many rows there are with one more.
+    pub(crate) fn one_more(&self) -> usize
+        ensures { result ≡ length self.now + 1 }
+    {
+        self.bounds.len()
+    }
+
     /// The row of a number.
     pub(crate) fn row(&self, number: usize) -> &[usize]
         requires { number < length self.now }
@@ -137,18 +178,29 @@ impl LinkRows {
         Ok(())
     }
 
-    /// Adds a row as it is after one came at a place.
-    pub(crate) fn add_shifted(&mut self, row: &[usize], place: usize) -> Result<(), AllocError>
-        requires { All (λ number. number + 1 < 2 ^ 64) row.now }
-        ensures { OnOk result (self.new ≡ self.old ++ row_shifted place row.now ∷ []) }
+    /// Adds rows as they are after one came at a place.
+    pub(crate) fn add_shifted_rows(
+        &mut self,
+        run: RowRun<'_>,
+        place: usize,
+    ) -> Result<(), AllocError>
+        requires from { run.from ≤ run.to }
+        requires to { run.to ≤ length run.rows.now }
+        requires small { All (All (λ number. number + 1 < 2 ^ 64)) run.rows.now }
+        ensures { OnOk result (self.new ≡ self.old ++ map (row_shifted place) (slice_range run.entry.rows.now run.entry.from run.entry.to)) }
     {
-        self.numbers.truncate(last_of(&self.bounds));
-        push_shifted(&mut self.numbers, row, place)?;
-        self.bounds.push(self.numbers.len())?;
-        Ok(())
+        let last = last_of(&self.bounds);
+        self.numbers.truncate(last);
+        let others = run.rows;
+        let start = others.bounds[run.from];
+        let end = others.bounds[run.to];
+        let part = part_of(&others.numbers, start, end);
+        push_shifted(&mut self.numbers, part, place)?;
+        let ends = part_of(&others.bounds, run.from + 1, run.to + 1);
+        push_moved(&mut self.bounds, ends, start, last)
     }
 
-    /// The same, and the place itself behind some of its numbers.
+    /// Adds a row as it is after one came at a place, and the place itself behind some of its numbers.
     pub(crate) fn add_shifted_around(
         &mut self,
         row: &[usize],

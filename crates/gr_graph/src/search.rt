@@ -53,7 +53,7 @@ pub(crate) fn spread(
     requires start { start < length links.now }
     ensures { IfOk result (λ found. Spreads links.now start marks.old.items found.items marks.new.items) }
 {
-    let mut found = Vec::new(alloc);
+    let mut found = Vec::with_capacity(alloc, links.len())?;
     note(&mut found, marks, start)?;
     let mut place = 0;
     while place < found.len() {

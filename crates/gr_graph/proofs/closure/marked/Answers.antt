@@ -1,7 +1,7 @@
 -- One package further: it is in the list exactly if it is marked.
-use Rattle.std.proofs.Common.{sym, ◌∙◌}
+use Rattle.std.proofs.Common.{◌≡◌, ℕ, List, length, arith, subst, sym, ◌∙◌}
 use Rattle.std.proofs.lemmas.Bool.{false≢true}
-use Rattle.gr_graph.specs.Search.{IsMarked}
+use Rattle.gr_graph.specs.Search.{HoldsMarked, IsMarked}
 use Rattle.gr_graph.proofs.Held.{HoldsBelow-yes, HoldsBelow-no}
 use Rattle.gr_graph.proofs.closure.marked.Goals as goal
 use Rattle.gr_graph.proofs.closure.marked.Goals.{then-mark+in_ok-push, else-mark}
@@ -9,9 +9,17 @@ use Rattle.gr_graph.proofs.closure.marked.Goals.{then-mark+in_ok-push, else-mark
 pub loop-number-preserved : goal.loop-number-preserved
 loop-number-preserved c =
     let P = IsMarked c.args.marks.now in
-    let list = c.loop-number.list in
+    let list = c.loop-number.list.items in
     let n = c.loop-number.number in
     elim c.if-mark.branch [
-      | then-mark+in_ok-push w ↦ rw (w.list-is, w.in_ok-push.ensures.ok) (HoldsBelow-yes P list n c.loop-number.invariant w.if-mark.true)
+      | then-mark+in_ok-push w ↦ rw (w.list-is, w.in_ok-push.ensures.items) (HoldsBelow-yes P list n c.loop-number.invariant w.if-mark.true)
       | else-mark w ↦ rw w.list-is (HoldsBelow-no P list n c.loop-number.invariant (λ m. false≢true (sym w.if-mark.false ∙ m)))
     ]
+
+pub returns : goal.returns
+returns c =
+    let marks = c.args.marks.now in
+    let n = c.loop-number.number in
+    let all : n ≡ length marks = omega (arith, c.loop-number-test.false, c.loop-number.auto.number-end) in
+    subst (λ (k : ℕ). HoldsMarked marks k c.from_numbers.result) all
+    (subst (λ (l : List ℕ). HoldsMarked marks n l) (sym c.from_numbers.ensures) c.loop-number.invariant)

@@ -11,14 +11,14 @@ note-requires c = (let lt = c.requires.start in omega (arith, c.requires.size))
 
 pub loop-place-init : goal.loop-place-init
 loop-place-init c =
-    let none : c.new-found.result.items ≡ [] = c.new-found.ensures.items in
+    let none : c.in_ok-found.found.items ≡ [] = c.in_ok-found.ensures.items in
     let more = c.in_ok-note.ensures.noted in
     record {
       finds = c.in_ok-note.ensures.finds c.args.marks.now.items
           (subst (λ (f : List ℕ). Finds c.args.marks.now.items f c.args.marks.now.items) (sym none) (finds_none c.args.marks.now.items));
       begun = more.holds c.args.start refl;
       followed = λ i lt q leads. absurd (omega arith);
-      reached = found_first c.args.links.now c.args.start c.new-found.result.items c.args.marks.now.items c.note.new.found.items c.note.new.marks.items
+      reached = found_first c.args.links.now c.args.start c.in_ok-found.found.items c.args.marks.now.items c.note.new.found.items c.note.new.marks.items
           c.requires.start (ap length none) more;
       within = omega arith;
     }
