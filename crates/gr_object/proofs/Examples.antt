@@ -23,7 +23,6 @@ use Rattle.gr_stmt.specs.Sides.{ident_place, defined_name}
 use Rattle.gr_object.specs.Lines.{GlobalName, Method}
 use Rattle.gr_object.specs.Lines.{Plain as PlainFunction}
 use Rattle.gr_object.specs.Lines.{pops}
-use Rattle.gr_object.specs.Lines as line
 use Rattle.gr_object.specs.Source.{Source}
 use Rattle.gr_object.specs.Operands.{bound_name, named_meaning, member_operand, typed_selector, selected_by, calling, left_by_call}
 use Rattle.gr_object.specs.Expressions.{operand_of, operations, linked, argument_lines, argument_count, element_count, literal_lines, keyed_lines}

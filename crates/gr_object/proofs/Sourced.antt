@@ -1,5 +1,5 @@
 -- What the code of a file is made of: that the tables of the program are it.
-use Rattle.std.proofs.Common.{ℕ, ◌≡◌, ◌+◌, ◌==◌, ◌∷◌, ◌++◌, [], List, length, length-append, append_assoc, ap, sym, subst, refl, ◌∙◌, suc}
+use Rattle.std.proofs.Common.{ℕ, ◌≡◌, ◌==◌, ◌∷◌, ◌++◌, [], List, length, length-append, append_assoc, ap, sym, subst, refl, ◌∙◌, suc}
 use Rattle.std.proofs.Common.{arith, map, Bool, true, false, if◌then◌else◌, MatchOption}
 use Rattle.std.specs.Prelude.{Option, Some, None, option_map, slice_get}
 use Rattle.std.proofs.Math.Path.{fun_ext}
@@ -14,9 +14,8 @@ use Rattle.gr_expr.specs.View.{type_of}
 use Rattle.gr_expr.specs.World as plain
 use Rattle.gr_expr.specs.WorldView.{world_of, name_in, spelling_of}
 use Rattle.gr_stmt.specs.Declarations.{check_file}
-use Rattle.gr_stmt.proofs.Lists.{map_map}
 use Rattle.gr_declared.specs.DeclaredView.{type_of as definition_of}
-use Rattle.gr_declared.specs.Package.{Package, declared_types, declared_functions, spelled, spelled_at}
+use Rattle.gr_declared.specs.Package.{Package, declared_types, spelled, spelled_at}
 use Rattle.gr_meanings.specs.Worlds.{IsWorldOf, is_init}
 use Rattle.gr_meanings.specs.MemberUses.{AreUsesIn}
 use Rattle.gr_meanings.specs.Uniqueness.{IsOneWorld}

@@ -1,6 +1,6 @@
 -- What is found by going over the parts of a list, one after another.
-use Rattle.std.proofs.Common.{Bool, true, false, if◌then◌else◌, ℕ, zero, suc, ◌≡◌, ◌+◌, ◌<◌, ◌≤◌, ◌∷◌, ◌++◌, [], List, length, take, map, get_or, refl, ap}
-use Rattle.std.proofs.Common.{sym, subst, ◌∙◌, arith, length-append}
+use Rattle.std.proofs.Common.{true, false, if◌then◌else◌, ℕ, zero, suc, ◌≡◌, ◌+◌, ◌<◌, ◌≤◌, ◌∷◌, ◌++◌, [], List, length, take, map, get_or, refl, ap}
+use Rattle.std.proofs.Common.{sym, ◌∙◌, arith, length-append}
 use Rattle.std.specs.Prelude.{None, Some, option_map, slice_get}
 use Rattle.std.specs.List.{flat_map, enumerate_from}
 use Rattle.std.proofs.lemmas.List.{take_more, take_all}
@@ -18,12 +18,12 @@ use Rattle.gr_meanings.proofs.BoundLists.{slice_get_some}
 use Rattle.gr_tree.specs.Tree.{DeclTree, VarDecl, TypeDecl, FuncDecl, Item, FieldTree}
 use Rattle.gr_tree.specs.SourceFile.{FileParts, SourceFile, source_of}
 use Rattle.gr_imports.specs.Files.{group_items}
-use Rattle.gr_declared.specs.Package.{PlacedFunction, PlacedType, decl_types, declared_types, placed_type, types_in}
+use Rattle.gr_declared.specs.Package.{PlacedFunction, decl_types, placed_type, types_in}
 use Rattle.gr_object.specs.Lines.{Initializer}
 use Rattle.gr_object.specs.Names.{field_positions, function_behind, function_called, functions_behind, is_initializer, initializers_among}
 use Rattle.gr_object.specs.Names.{initializers_with, names_of_fields, positions_from, type_positions}
 use Rattle.gr_object.proofs.NameParts.{positions_length}
-use Rattle.gr_object.specs.Walks.{decl_positions, file_positions, spec_positions}
+use Rattle.gr_object.specs.Walks.{decl_positions, file_positions}
 
 -- Two lists, one behind the other
 

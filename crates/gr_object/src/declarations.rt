@@ -1,17 +1,16 @@
 //! The text of what files declare.
 ghost use Rattle.std.specs.Prelude.{◌≡◌, ◌≤◌, ◌++◌, [], Some, drop, length, map, option_map, slice_get, IfOk, OnOk};
 ghost use Rattle.std.specs.List.{flat_map};
-ghost use Rattle.gr_tree.specs.View.{list_view, option_view, group_view, type_view};
+ghost use Rattle.gr_tree.specs.View.{list_view, option_view, group_view};
 ghost use Rattle.gr_tree.specs.FileView.{same_place, basic_view, body_view, decl_view, field_view, func_view, global_view, type_spec_view, var_values_view};
 ghost use Rattle.gr_imports.specs.Files.{group_items};
-ghost use Rattle.gr_expr.specs.Judge.{judge_type};
 ghost use Rattle.gr_expr.specs.View.{type_of};
 ghost use Rattle.gr_expr.specs.WorldView.{world_of};
 ghost use Rattle.gr_object.specs.LineView.{global_of, function_of, lines_in};
 ghost use Rattle.gr_object.specs.Slots.{slots_of};
 ghost use Rattle.gr_object.specs.SourceView.{source_of};
 ghost use Rattle.gr_object.specs.PackagesView.{type_in};
-ghost use Rattle.gr_object.specs.Objects.{SameAs, TypeOf, Variable, FunctionOf, declared_by, declared_function, declared_in, declared_type, declared_variables, defined, definition_of, field_types, initial_of, initials_of, literals_of, names_behind, names_behind_all, others_of, variable, variables_of, written};
+ghost use Rattle.gr_object.specs.Objects.{TypeOf, Variable, FunctionOf, declared_by, declared_function, declared_in, declared_type, declared_variables, defined, definition_of, field_types, initials_of, literals_of, names_behind, names_behind_all, others_of, variable, variables_of, written};
 ghost use Rattle.gr_object.specs.Objects as object;
 ghost use Rattle.gr_object.specs.Text.{code_text, ended};
 ghost use Rattle.gr_object.specs.ObjectText.{counts_text, declaration_text, definition_text, header_text, initial_text, signature_text};
@@ -20,10 +19,9 @@ ghost use Rattle.gr_object.specs.DeclarationsView.{initial_view, definition_view
 use crate::code::Code;
 use crate::functions::{add_written, body, parameters, results};
 use crate::instructions::{FunctionName, GlobalName};
-use crate::numbered::NumberedUses;
 use crate::packages::CalledPackages;
 use crate::printing::{
-    push_code, push_numbered, push_type, push_type_list, push_types, push_word, push_word_bytes,
+    push_lines, push_numbered, push_type, push_type_list, push_types, push_word, push_word_bytes,
     push_word_function, push_word_global, push_word_integer, push_word_type,
 };
 use crate::scope::SlotScope;
@@ -33,8 +31,7 @@ use crate::types::written_type;
 use gr_expr::types::GoType;
 use gr_expr::world::World;
 use gr_tree::tree::{
-    BasicLit, Decl, FieldDecl, FuncDecl, Group, Item, TypeBody, TypeExpr, TypeSpec, VarSpec,
-    VarValues,
+    BasicLit, Decl, FieldDecl, FuncDecl, Group, Item, TypeBody, TypeSpec, VarSpec, VarValues,
 };
 use std::alloc::{AllocError, Global};
 
@@ -92,21 +89,6 @@ fn field_types(
     Ok(types)
 }
 
-/// The definition as the type that is written, where that is known.
-#[tactic(auto, unfolding(crate::specs::DeclarationsView::definition_view))]
-fn same_as(
-    alloc: Global,
-    world: &World<'_>,
-    written: &TypeExpr,
-) -> Result<Option<DefinitionLine>, AllocError>
-    ensures { IfOk result (λ d. option_map definition_view d ≡ option_map SameAs (judge_type (world_of world.now) (type_view written.now)).type_of) }
-{
-    match written_type(alloc, world, written)? {
-        None => Ok(None),
-        Some(own) => Ok(Some(DefinitionLine::SameAs(own))),
-    }
-}
-
 /// What a type is defined as, where that is known.
 #[tactic(auto, unfolding(gr_tree::specs::FileView::body_view, crate::specs::Objects::definition_of, crate::specs::DeclarationsView::definition_view))]
 fn defined_as(
@@ -117,7 +99,10 @@ fn defined_as(
     ensures { IfOk result (λ d. option_map definition_view d ≡ definition_of (world_of world.now) (body_view body.now)) }
 {
     match body {
-        TypeBody::Type(written) => same_as(alloc, world, written),
+        TypeBody::Type(written) => match written_type(alloc, world, written)? {
+            None => Ok(None),
+            Some(own) => Ok(Some(DefinitionLine::SameAs(own))),
+        },
         TypeBody::Struct { fields, .. } => {
             let types = field_types(alloc, world, fields)?;
             Ok(Some(DefinitionLine::Fields(types)))
@@ -160,22 +145,6 @@ fn push_type_line(
     push_word(text, b"\n")
 }
 
-/// Adds the line of the type definition of that name, where it is known what it is defined as.
-fn push_defined(
-    alloc: Global,
-    source: &Source<'_>,
-    name: GlobalName<'_>,
-    body: &TypeBody,
-    text: &mut Vec<u8>,
-) -> Result<(), AllocError>
-    ensures { OnOk result (text.new.items ≡ text.old.items ++ flat_map (declaration_text (type_in source.now.packages.now)) (defined (Some (global_of name.entry)) (definition_of (world_of source.now.world) (body_view body.now)))) }
-{
-    match defined_as(alloc, &source.world, body)? {
-        None => Ok(()),
-        Some(definition) => push_type_line(text, source.packages, name, &definition),
-    }
-}
-
 /// Adds the line of a type definition, where all of it is known.
 #[tactic(auto, unfolding(gr_tree::specs::FileView::type_spec_view))]
 fn push_type_spec(
@@ -186,9 +155,12 @@ fn push_type_spec(
 ) -> Result<(), AllocError>
     ensures { OnOk result (text.new.items ≡ text.old.items ++ flat_map (declaration_text (type_in source.now.packages.now)) (declared_type (source_of source.now) (type_spec_view spec.now))) }
 {
-    match source.global(spec.name) {
+    let Some(name) = source.global(spec.name) else {
+        return Ok(());
+    };
+    match defined_as(alloc, &source.world, &spec.body)? {
         None => Ok(()),
-        Some(name) => push_defined(alloc, source, name, &spec.body, text),
+        Some(definition) => push_type_line(text, source.packages, name, &definition),
     }
 }
 
@@ -213,17 +185,6 @@ fn push_type_specs(
     }
 }
 
-/// The value of a literal.
-#[tactic(auto, unfolding(crate::specs::Objects::initial_of, crate::specs::DeclarationsView::initial_view))]
-fn literal_value<'s>(source: &'s Source<'_>, literal: &BasicLit) -> Option<Initial<'s>>
-    ensures { option_map initial_view result ≡ initial_of (source_of source.now) (basic_view literal.now) }
-{
-    match literal {
-        BasicLit::Number(place) => Some(Initial::Integer(source.number(*place)?)),
-        BasicLit::Text(place) => Some(Initial::Text(source.text(*place)?)),
-    }
-}
-
 /// The literals behind the `=` of variables, if there is one.
 fn literals(values: &Option<VarValues>) -> &[Item<BasicLit>]
     ensures { list_view basic_view result.now ≡ literals_of (option_view var_values_view values.now) }
@@ -235,6 +196,7 @@ fn literals(values: &Option<VarValues>) -> &[Item<BasicLit>]
 }
 
 /// The value of the literal of a number.
+#[tactic(auto, unfolding(crate::specs::Objects::initial_of, crate::specs::DeclarationsView::initial_view))]
 fn initial_at<'s>(
     source: &'s Source<'_>,
     literals: &[Item<BasicLit>],
@@ -242,9 +204,18 @@ fn initial_at<'s>(
 ) -> Option<Initial<'s>>
     ensures { option_map initial_view result ≡ literal_at (source_of source.now) (slice_get literals.now number) }
 {
-    match literals.get(number) {
-        None => None,
-        Some(literal) => literal_value(source, &literal.value),
+    let Some(literal) = literals.get(number) else {
+        return None;
+    };
+    match &literal.value {
+        BasicLit::Number(place) => match source.number(*place) {
+            None => None,
+            Some(number) => Some(Initial::Integer(number)),
+        },
+        BasicLit::Text(place) => match source.text(*place) {
+            None => None,
+            Some(text) => Some(Initial::Text(text)),
+        },
     }
 }
 
@@ -384,7 +355,7 @@ fn push_header(
 }
 
 /// Adds the first line of a function and its code.
-fn push_lines(
+fn push_function(
     text: &mut Vec<u8>,
     packages: &CalledPackages<'_>,
     signature: &FunctionSignature<'_>,
@@ -393,7 +364,7 @@ fn push_lines(
     ensures { OnOk result (text.new.items ≡ text.old.items ++ (ended (header_text (type_in packages.now) (function_of signature.now.name) (map type_of signature.now.parameters.items) (map type_of signature.now.results.items) signature.now.slots (length (lines_in code.now))) ++ code_text (type_in packages.now) (lines_in code.now))) }
 {
     push_header(text, packages, signature, code.len())?;
-    push_code(text, packages, code)
+    push_lines(text, packages, code.lines())
 }
 
 /// What stands on the first line of a function of that name with so many slots.
@@ -428,28 +399,9 @@ fn push_scoped(
     ensures { OnOk result (text.new.items ≡ text.old.items ++ declaration_text (type_in scope.entry.source.now.packages.now) (FunctionOf (object.function_of (source_of scope.entry.source.now) (func_view func.now) (function_of name.entry)))) }
 {
     let source = scope.source;
-    let signature = signature_of(alloc, &source.world, func, name, scope.slots.len())?;
+    let signature = signature_of(alloc, &source.world, func, name, scope.slots.places.len())?;
     let code = body(alloc, scope, func)?;
-    push_lines(text, source.packages, &signature, &code)
-}
-
-/// Adds the lines of a function that has these slots.
-fn push_placed<'a>(
-    alloc: Global,
-    source: &'a Source<'a>,
-    places: &'a NumberedUses,
-    name: FunctionName<'_>,
-    func: &FuncDecl,
-    text: &mut Vec<u8>,
-) -> Result<(), AllocError>
-    requires { places.now.places.items ≡ slots_of (world_of source.now.world) (func_view func.now) }
-    ensures { OnOk result (text.new.items ≡ text.old.items ++ declaration_text (type_in source.now.packages.now) (FunctionOf (object.function_of (source_of source.now) (func_view func.now) (function_of name.entry)))) }
-{
-    let scope = SlotScope {
-        source,
-        slots: places,
-    };
-    push_scoped(alloc, scope, name, func, text)
+    push_function(text, source.packages, &signature, &code)
 }
 
 /// Adds the lines of a function.
@@ -463,7 +415,11 @@ fn push_func(
     ensures { OnOk result (text.new.items ≡ text.old.items ++ declaration_text (type_in source.now.packages.now) (FunctionOf (object.function_of (source_of source.now) (func_view func.now) (function_of name.entry)))) }
 {
     let places = slots(alloc, &source.world, func)?;
-    push_placed(alloc, source, &places, name, func, text)
+    let scope = SlotScope {
+        source,
+        slots: &places,
+    };
+    push_scoped(alloc, scope, name, func, text)
 }
 
 /// Adds the lines of a function, the first of those behind so many, and answers behind how many the next one stands.

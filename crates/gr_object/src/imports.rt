@@ -10,20 +10,13 @@ use crate::printing::push_between;
 use std::alloc::AllocError;
 use std::collections::BTreeSet;
 
-/// Adds the line of an import.
-fn push_import(text: &mut Vec<u8>, path: &[u8]) -> Result<(), AllocError>
-    ensures { OnOk result (text.new.items ≡ text.old.items ++ import_line path.now) }
-{
-    push_between(text, b"import ", path, b"\n")
-}
-
 /// Adds the lines of imports, by bytes.
 pub fn push_imports(text: &mut Vec<u8>, paths: &BTreeSet<Vec<u8>>) -> Result<(), AllocError>
     ensures lines { OnOk result (text.new.items ≡ text.old.items ++ flat_map import_line (bytes_of_paths paths.now.keys)) }
     ensures sorted { OnOk result (IsStrictlySortedBy path_cmp (bytes_of_paths paths.now.keys)) }
 {
     for path in paths.iter() {
-        push_import(text, path)?;
+        push_between(text, b"import ", path, b"\n")?;
     }
     Ok(())
 }

@@ -7,7 +7,7 @@ ghost use Rattle.gr_object.specs.Lines.{line_if_known, With};
 ghost use Rattle.gr_object.specs.LineView.{line_of, lines_in, Puts};
 ghost use Rattle.gr_object.specs.SourceView.{source_of};
 ghost use Rattle.gr_object.specs.Operands.{Operand, qualifies, field_operand, receiver_lines, member_operand, typed_selector, selected};
-ghost use Rattle.gr_object.specs.Expressions.{field_position, key_position};
+ghost use Rattle.gr_object.specs.Expressions.{key_position};
 ghost use Rattle.gr_object.specs.Making.{field_lines, lines_for, standing_of, GoesOnBehind, GoesOnAlways};
 
 use crate::code::Code;
@@ -131,26 +131,8 @@ impl<'a> SlotScope<'a> {
         Ok(Wanted::Value)
     }
 
-    /// What a member of values is to the code.
-    #[tactic(auto, unfolding(gr_expr::specs::WorldView::member_of, crate::specs::Operands::member_operand, crate::specs::Making::standing_of))]
-    fn member_standing(self, before: &GoType, member: Member<'_>) -> OperandPlace<'a>
-        ensures { (o : Operand) → (member_operand (source_of self.entry.source.now) o (type_of before.now) (Some (member_of member.entry))).standing ≡ standing_of result }
-    {
-        match member {
-            Member::Field(_) => OperandPlace::Values(1),
-            Member::Method(method) => match &method.signature {
-                None => OperandPlace::Values(0),
-                Some(signature) => OperandPlace::of_function(
-                    self.source.packages.function(&method.symbol),
-                    true,
-                    signature.results.len(),
-                ),
-            },
-        }
-    }
-
     /// What the name at a token behind a dot is to the code.
-    #[tactic(auto, unfolding(crate::specs::Operands::typed_selector, crate::specs::Operands::member_operand, crate::specs::Making::standing_of))]
+    #[tactic(auto, unfolding(gr_expr::specs::WorldView::member_of, crate::specs::Operands::typed_selector, crate::specs::Operands::member_operand, crate::specs::Making::standing_of))]
     fn typed_standing(self, token: usize) -> OperandPlace<'a>
         ensures { (o : Operand) → (typed_selector (source_of self.entry.source.now) token o ((source_of self.entry.source.now).before token)).standing ≡ standing_of result }
     {
@@ -159,7 +141,15 @@ impl<'a> SlotScope<'a> {
         };
         match self.source.world.member(token, before) {
             None => OperandPlace::Values(0),
-            Some(member) => self.member_standing(before, member),
+            Some(Member::Field(_)) => OperandPlace::Values(1),
+            Some(Member::Method(method)) => match &method.signature {
+                None => OperandPlace::Values(0),
+                Some(signature) => OperandPlace::of_function(
+                    self.source.packages.function(&method.symbol),
+                    true,
+                    signature.results.len(),
+                ),
+            },
         }
     }
 
@@ -176,26 +166,21 @@ impl<'a> SlotScope<'a> {
         }
     }
 
-    /// Where the field that a member is stands in its struct.
-    #[tactic(auto, unfolding(gr_expr::specs::WorldView::member_of))]
-    fn member_position(self, member: Member<'_>) -> Option<usize>
-        ensures { result ≡ field_position (source_of self.entry.source.now) (Some (member_of member.entry)) }
-    {
-        match member {
-            Member::Field(field) => self.source.packages.position(&field.symbol),
-            Member::Method(_) => None,
-        }
-    }
-
     /// Where the field that a key names stands in its struct.
+    #[tactic(auto, unfolding(gr_expr::specs::WorldView::member_of))]
     fn key_position(self, key: &Option<Key>) -> Option<usize>
         ensures { result ≡ key_position (source_of self.entry.source.now) (key_view key.now) }
     {
         let Some(key) = key else {
             return None;
         };
-        let before = self.source.before(key.name)?;
-        self.member_position(self.source.world.member(key.name, before)?)
+        let Some(before) = self.source.before(key.name) else {
+            return None;
+        };
+        match self.source.world.member(key.name, before) {
+            Some(Member::Field(field)) => self.source.packages.position(&field.symbol),
+            _ => None,
+        }
     }
 
     /// Puts the line that sets the field of a key.

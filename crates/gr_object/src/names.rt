@@ -1,20 +1,19 @@
 //! What the declarations of packages are called, made from their files.
-ghost use Rattle.std.specs.Prelude.{◌≡◌, ◌<◌, ◌≤◌, ◌+◌, ◌-◌, ◌^◌, ◌∷◌, ◌++◌, [], length, map, IfOk, OnOk};
+ghost use Rattle.std.specs.Prelude.{◌≡◌, ◌<◌, ◌≤◌, ◌+◌, ◌-◌, ◌^◌, ◌++◌, length, map, IfOk, OnOk};
 ghost use Rattle.std.specs.List.{flat_map};
-ghost use Rattle.gr_tree.specs.View.{list_view, option_view};
-ghost use Rattle.gr_tree.specs.FileView.{body_view, field_view, receiver_view};
+ghost use Rattle.gr_tree.specs.View.{list_view};
+ghost use Rattle.gr_tree.specs.FileView.{body_view, field_view};
 ghost use Rattle.gr_tree.specs.SourceFile.{source_of};
 ghost use Rattle.gr_declared.specs.DeclaredView.{type_of, function_of as placed_function};
-ghost use Rattle.gr_declared.specs.Package.{declared_types, declared_functions};
 ghost use Rattle.gr_object.specs.LineView.{global_of, function_of};
-ghost use Rattle.gr_object.specs.Names.{body_positions, function_behind, function_called, function_named, functions_behind, initializers_among, initializers_with, is_initializer, is_named_init, names_of_fields, positions_from, spelled_in, type_called, type_positions};
+ghost use Rattle.gr_object.specs.Names.{body_positions, function_behind, function_called, functions_behind, initializers_among, initializers_with, is_initializer, names_of_fields, positions_from, spelled_in, type_called, type_positions};
 ghost use Rattle.gr_object.specs.NamesView.{AreNamesOf};
 
 use crate::instructions::{FunctionName, GlobalName};
 use crate::packages::{CalledNames, DeclaredTables};
 use gr_declared::{Declared, Function, TypeDef};
 use gr_tree::FileTree;
-use gr_tree::tree::{FieldDecl, Item, Receiver, TypeBody};
+use gr_tree::tree::{FieldDecl, Item, TypeBody};
 use std::alloc::{AllocError, Global};
 
 /// How a token of a file is spelled, by the rank of the file.
@@ -42,50 +41,19 @@ pub(crate) fn type_called<'a>(
     }
 }
 
-/// Whether a function with that receiver and that name is a function `init`.
-fn is_named_init(receiver: &Option<Receiver>, name: &[u8]) -> bool
-    ensures { result ≡ is_named_init (option_view receiver_view receiver.now) name.now }
-{
-    match receiver {
-        None => name == b"init".as_slice(),
-        Some(_) => false,
-    }
-}
-
 /// Whether a function is a function `init`.
 #[tactic(auto, unfolding(gr_tree::specs::FileView::func_view))]
 pub(crate) fn is_initializer(files: &[FileTree], function: Function<'_>) -> bool
     ensures { result ≡ is_initializer (map source_of files.now) (placed_function function.entry) }
 {
-    let name = spelling(files, function.file, function.func.name);
-    is_named_init(&function.func.receiver, name)
-}
-
-/// What a function or method of that name is called.
-#[tactic(auto, unfolding(gr_tree::specs::FileView::receiver_view, crate::specs::LineView::function_of))]
-fn function_named<'a>(
-    path: &'a [u8],
-    files: &'a [FileTree],
-    file: usize,
-    receiver: &Option<Receiver>,
-    name: &'a [u8],
-) -> FunctionName<'a>
-    ensures { function_of result ≡ function_named path.now (map source_of files.now) file (option_view receiver_view receiver.now) name.now }
-{
-    match receiver {
-        None => FunctionName::Plain(GlobalName { path, name }),
-        Some(receiver) => FunctionName::Method {
-            receiver: GlobalName {
-                path,
-                name: spelling(files, file, receiver.type_name),
-            },
-            name,
-        },
+    match &function.func.receiver {
+        None => spelling(files, function.file, function.func.name) == b"init".as_slice(),
+        Some(_) => false,
     }
 }
 
 /// What a function is called that is no `init`.
-#[tactic(auto, unfolding(gr_tree::specs::FileView::func_view))]
+#[tactic(auto, unfolding(gr_tree::specs::FileView::func_view, gr_tree::specs::FileView::receiver_view, crate::specs::LineView::function_of))]
 pub(crate) fn function_called<'a>(
     path: &'a [u8],
     files: &'a [FileTree],
@@ -94,7 +62,16 @@ pub(crate) fn function_called<'a>(
     ensures { function_of result ≡ function_called path.now (map source_of files.now) (placed_function function.entry) }
 {
     let name = spelling(files, function.file, function.func.name);
-    function_named(path, files, function.file, &function.func.receiver, name)
+    match &function.func.receiver {
+        None => FunctionName::Plain(GlobalName { path, name }),
+        Some(receiver) => FunctionName::Method {
+            receiver: GlobalName {
+                path,
+                name: spelling(files, function.file, receiver.type_name),
+            },
+            name,
+        },
+    }
 }
 
 /// What a function is called behind so many functions `init`.
@@ -157,23 +134,14 @@ pub fn function_names<'a>(
     Ok(names)
 }
 
-/// Adds where the next field of a struct stands, whose fields begin behind so many positions.
-fn add_position(positions: &mut Vec<usize>, begin: usize) -> Result<(), AllocError>
-    requires { begin ≤ length positions.old.items }
-    ensures { OnOk result (positions.new.items ≡ positions.old.items ++ ((length positions.old.items - begin) ∷ [])) }
-{
-    let position = positions.len() - begin;
-    positions.push(position)?;
-    Ok(())
-}
-
 /// Adds where fields of one type stand, the fields of whose struct begin behind so many positions.
 fn add_field(positions: &mut Vec<usize>, begin: usize, field: &FieldDecl) -> Result<(), AllocError>
     requires { begin ≤ length positions.old.items }
     ensures { OnOk result (positions.new.items ≡ positions.old.items ++ positions_from (length positions.old.items - begin) (field_view field.now).names) }
 {
     for _name in &field.names {
-        add_position(positions, begin)?;
+        let position = positions.len() - begin;
+        positions.push(position)?;
     }
     Ok(())
 }
@@ -212,28 +180,6 @@ fn field_positions(alloc: Global, types: &[TypeDef<'_>]) -> Result<Vec<usize>, A
     Ok(positions)
 }
 
-/// What the declarations of the package of a path are called, by tables of what it declares.
-fn names_of<'a>(
-    alloc: Global,
-    path: &'a [u8],
-    files: &'a [FileTree],
-    declared: Declared<'a>,
-) -> Result<CalledNames<'a>, AllocError>
-    requires types { map type_of declared.types.items ≡ declared_types (map source_of files.now) }
-    requires functions { map placed_function declared.functions.items ≡ declared_functions (map source_of files.now) }
-    ensures { IfOk result (λ names. AreNamesOf path.now (map source_of files.now) names) }
-{
-    let positions = field_positions(alloc, &declared.types)?;
-    Ok(CalledNames {
-        path,
-        files,
-        tables: Some(DeclaredTables {
-            declared,
-            positions,
-        }),
-    })
-}
-
 impl<'a> CalledNames<'a> {
     /// What the declarations of the package of a path are called, by tables. Its files are in the order of their paths.
     pub fn of(
@@ -244,7 +190,15 @@ impl<'a> CalledNames<'a> {
         ensures { IfOk result (λ names. AreNamesOf path.now (map source_of files.now) names) }
     {
         let declared = Declared::of(alloc, files)?;
-        names_of(alloc, path, files, declared)
+        let positions = field_positions(alloc, &declared.types)?;
+        Ok(CalledNames {
+            path,
+            files,
+            tables: Some(DeclaredTables {
+                declared,
+                positions,
+            }),
+        })
     }
 
     /// The same without tables: no file is looked at until a name is asked for.

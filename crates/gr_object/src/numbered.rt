@@ -1,5 +1,5 @@
 //! Places in a list, found again in one step.
-ghost use Rattle.std.specs.Prelude.{◌≡◌, ◌==◌, ℕ, length, IfOk, OnOk};
+ghost use Rattle.std.specs.Prelude.{◌≡◌, ◌==◌, ℕ, IfOk, OnOk};
 ghost use Rattle.std.specs.BTreeMap.{get};
 ghost use Rattle.std.specs.Ordering.{nat_cmp};
 ghost use Rattle.gr_object.specs.Numbering.{slot_of, first_of};
@@ -22,13 +22,6 @@ impl NumberedUses {
     {
         let numbers = number(alloc, &places)?;
         Ok(NumberedUses { places, numbers })
-    }
-
-    /// How many places there are.
-    pub fn len(&self) -> usize
-        ensures { result ≡ length self.now.places.items }
-    {
-        self.places.len()
     }
 
     /// The number of a place.

@@ -26,7 +26,7 @@ use crate::declarations::push_decls;
 use crate::imports::push_imports;
 use crate::names::function_names;
 use crate::origin::Origin;
-use crate::packages::{CalledPackages, path_bytes};
+use crate::packages::CalledPackages;
 use crate::printing::{push_between, push_words};
 use crate::sources::source;
 use gr_declared::{Index, Interfaces, Package, broken_definitions};
@@ -181,7 +181,7 @@ fn push_first_line(text: &mut Vec<u8>, path: &[u8], name: &[u8]) -> Result<(), A
 fn push_head(alloc: Global, unit: Package<'_>, text: &mut Vec<u8>) -> Result<(), AllocError>
     ensures { OnOk result (PutsHead (package_of unit.entry) text.old.items text.new.items) }
 {
-    push_first_line(text, path_bytes(unit.path), package_name(unit.files))?;
+    push_first_line(text, unit.path.path(), package_name(unit.files))?;
     let paths = import_paths(alloc, unit.files)?;
     push_imports(text, &paths)
 }
@@ -228,7 +228,7 @@ pub fn checked_object<'a>(
     one_world(unit);
     let names = function_names(
         alloc,
-        path_bytes(unit.path),
+        unit.path.path(),
         unit.files,
         &index.declared.functions,
     )?;
@@ -241,21 +241,6 @@ pub fn checked_object<'a>(
         names: names.as_slice(),
     };
     meant_text(alloc, origin, bounds)
-}
-
-/// The text of the object of a package.
-fn package_text(
-    alloc: Global,
-    unit: Package<'_>,
-    given: Faultless<'_>,
-    packages: &CalledPackages<'_>,
-) -> Result<Vec<u8>, AllocError>
-    requires { AreOwnDefinitions (package_of unit) given.definitions.now }
-    ensures { IfOk result (λ text. (files_of : List ℕ → List SourceFile) → AreMemberUses (package_of unit.entry) (map uses_in given.entry.members.now) → HaveNames packages.now files_of → IsObjectText (package_of unit.entry) files_of text.items) }
-{
-    let index = Index::of(alloc, unit)?;
-    let mut bounds = all_bounds(alloc, unit, &index)?;
-    checked_object(alloc, unit, &index, &mut bounds, given, packages)
 }
 
 /// The table of a package in which each import without a name declares the name of the imported package. `gr_types` lays the same
@@ -289,7 +274,9 @@ fn laid_text(
         table,
         interfaces,
     };
-    package_text(alloc, unit, given, packages)
+    let index = Index::of(alloc, unit)?;
+    let mut bounds = all_bounds(alloc, unit, &index)?;
+    checked_object(alloc, unit, &index, &mut bounds, given, packages)
 }
 
 /// The text of the object of a package that has no fault, by what is known of the packages that it sees and what packages call

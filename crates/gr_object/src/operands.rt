@@ -1,6 +1,6 @@
 //! What expressions are to the code that uses them.
 ghost use Rattle.std.specs.Prelude.{◌≡◌, option_map};
-ghost use Rattle.gr_object.specs.Operands.{qualifies, builtin_results, left_by_call, unqualified, value_count, function_standing};
+ghost use Rattle.gr_object.specs.Operands.{qualifies, left_by_call, unqualified, value_count, function_standing};
 ghost use Rattle.gr_object.specs.LineView.{function_of};
 ghost use Rattle.gr_object.specs.Making.{standing_of};
 
@@ -75,8 +75,8 @@ impl<'a> OperandPlace<'a> {
     {
         match self {
             OperandPlace::Called { results, .. } => results,
-            OperandPlace::Predeclared(builtin) => results_of(builtin),
-            OperandPlace::Converts => 1,
+            OperandPlace::Predeclared(Builtin::Append | Builtin::Len) | OperandPlace::Converts => 1,
+            OperandPlace::Predeclared(Builtin::Panic | Builtin::Print | Builtin::Println) => 0,
             OperandPlace::Values(_) | OperandPlace::Qualifies => 0,
         }
     }
@@ -90,15 +90,5 @@ impl<'a> OperandPlace<'a> {
             OperandPlace::Values(count) => count,
             _ => 0,
         }
-    }
-}
-
-/// How many values a predeclared function leaves.
-fn results_of(builtin: Builtin) -> usize
-    ensures { result ≡ builtin_results builtin }
-{
-    match builtin {
-        Builtin::Append | Builtin::Len => 1,
-        Builtin::Panic | Builtin::Print | Builtin::Println => 0,
     }
 }

@@ -4,14 +4,12 @@ ghost use Rattle.std.specs.List.{flat_map};
 ghost use Rattle.gr_expr.specs.View.{type_of};
 ghost use Rattle.gr_declared.specs.Written.{basic_name};
 ghost use Rattle.gr_declared.specs.Bound.{builtin_name};
-ghost use Rattle.gr_object.specs.LineView.{global_of, function_of, line_of, lines_in};
+ghost use Rattle.gr_object.specs.LineView.{global_of, function_of, line_of};
 ghost use Rattle.gr_object.specs.PackagesView.{type_in};
-ghost use Rattle.gr_object.specs.Text.{global_text, function_text, known_text, type_text, type_behind, types_behind, types_joined, type_list, hex_digit, hex_byte, bytes_text, truth_text, operator_text, with_number, words_of, ended, code_text};
+ghost use Rattle.gr_object.specs.Text.{global_text, function_text, type_text, types_behind, types_joined, type_list, hex_digit, hex_byte, bytes_text, operator_text, with_number, words_of, ended, code_text};
 
-use crate::code::Code;
 use crate::instructions::{FunctionName, GlobalName, Instruction};
 use crate::packages::CalledPackages;
-use gr_expr::symbol::Symbol;
 use gr_expr::types::{Basic, Builtin, GoType};
 use gr_tree::syntax::BinaryOp;
 use itoa::Buffer;
@@ -21,8 +19,7 @@ use std::alloc::AllocError;
 pub fn push_word(text: &mut Vec<u8>, word: &[u8]) -> Result<(), AllocError>
     ensures { OnOk result (text.new.items ≡ text.old.items ++ word.now) }
 {
-    text.extend_from_slice(word)?;
-    Ok(())
+    text.extend_from_slice(word)
 }
 
 /// Adds a word and another.
@@ -69,24 +66,6 @@ fn push_global(text: &mut Vec<u8>, name: GlobalName<'_>) -> Result<(), AllocErro
     push_between(text, name.path, b"#", name.name)
 }
 
-/// Adds the name of a function.
-#[tactic(auto, unfolding(crate::specs::LineView::function_of, crate::specs::Text::function_text))]
-fn push_function(text: &mut Vec<u8>, name: FunctionName<'_>) -> Result<(), AllocError>
-    ensures { OnOk result (text.new.items ≡ text.old.items ++ function_text (function_of name.entry)) }
-{
-    match name {
-        FunctionName::Plain(name) => push_global(text, name),
-        FunctionName::Method { receiver, name } => {
-            push_global(text, receiver)?;
-            push_words(text, b"#", name)
-        }
-        FunctionName::Initializer { path, number } => {
-            push_word(text, path)?;
-            push_numbered(text, b"#init.", number)
-        }
-    }
-}
-
 /// The name of a predeclared type.
 fn basic_name(basic: Basic) -> &'static [u8]
     ensures { result.now ≡ basic_name basic }
@@ -111,20 +90,6 @@ fn builtin_name(builtin: Builtin) -> &'static [u8]
     }
 }
 
-/// Adds the name of a type definition.
-fn push_symbol(
-    text: &mut Vec<u8>,
-    packages: &CalledPackages<'_>,
-    symbol: &Symbol,
-) -> Result<(), AllocError>
-    ensures { OnOk result (text.new.items ≡ text.old.items ++ known_text (type_in packages.now symbol.now)) }
-{
-    match packages.type_name(symbol) {
-        None => Ok(()),
-        Some(name) => push_global(text, name),
-    }
-}
-
 /// Adds the text of a type.
 #[tactic(auto, unfolding(gr_expr::specs::View::type_of, crate::specs::Text::type_text))]
 pub fn push_type(
@@ -136,7 +101,10 @@ pub fn push_type(
 {
     match own {
         GoType::Basic(basic) => push_word(text, basic_name(*basic)),
-        GoType::Defined(symbol) => push_symbol(text, packages, symbol),
+        GoType::Defined(symbol) => match packages.type_name(symbol) {
+            None => Ok(()),
+            Some(name) => push_global(text, name),
+        },
         GoType::Pointer(target) => {
             push_word(text, b"*")?;
             push_type(text, packages, target)
@@ -148,16 +116,16 @@ pub fn push_type(
     }
 }
 
-/// Adds a separator and the text of a type.
-fn push_type_behind(
+/// Adds a word and a type.
+pub fn push_word_type(
     text: &mut Vec<u8>,
     packages: &CalledPackages<'_>,
-    separator: &[u8],
+    word: &[u8],
     own: &GoType,
 ) -> Result<(), AllocError>
-    ensures { OnOk result (text.new.items ≡ text.old.items ++ type_behind (type_in packages.now) separator.now (type_of own.now)) }
+    ensures { OnOk result (text.new.items ≡ text.old.items ++ (word.now ++ type_text (type_in packages.now) (type_of own.now))) }
 {
-    push_word(text, separator)?;
+    push_word(text, word)?;
     push_type(text, packages, own)
 }
 
@@ -171,7 +139,7 @@ fn push_types_behind(
     ensures { OnOk result (text.new.items ≡ text.old.items ++ types_behind (type_in packages.now) separator.now (map type_of types.now)) }
 {
     for own in types {
-        push_type_behind(text, packages, separator, own)?;
+        push_word_type(text, packages, separator, own)?;
     }
     Ok(())
 }
@@ -230,14 +198,6 @@ fn push_hex(text: &mut Vec<u8>, bytes: &[u8]) -> Result<(), AllocError>
     Ok(())
 }
 
-/// Adds the bytes of a string.
-fn push_bytes(text: &mut Vec<u8>, bytes: &[u8]) -> Result<(), AllocError>
-    ensures { OnOk result (text.new.items ≡ text.old.items ++ bytes_text bytes.now) }
-{
-    push_word(text, b"x")?;
-    push_hex(text, bytes)
-}
-
 /// The text of an operator.
 #[tactic(auto, unfolding(crate::specs::Text::operator_text))]
 fn operator_text(op: BinaryOp) -> &'static [u8]
@@ -273,6 +233,7 @@ pub fn push_word_global(
 }
 
 /// Adds a word and the name of a function.
+#[tactic(auto, unfolding(crate::specs::LineView::function_of, crate::specs::Text::function_text))]
 pub fn push_word_function(
     text: &mut Vec<u8>,
     word: &[u8],
@@ -280,8 +241,17 @@ pub fn push_word_function(
 ) -> Result<(), AllocError>
     ensures { OnOk result (text.new.items ≡ text.old.items ++ (word.now ++ function_text (function_of name.entry))) }
 {
-    push_word(text, word)?;
-    push_function(text, name)
+    match name {
+        FunctionName::Plain(name) => push_word_global(text, word, name),
+        FunctionName::Method { receiver, name } => {
+            push_word_global(text, word, receiver)?;
+            push_words(text, b"#", name)
+        }
+        FunctionName::Initializer { path, number } => {
+            push_words(text, word, path)?;
+            push_numbered(text, b"#init.", number)
+        }
+    }
 }
 
 /// Adds the words of a call of a function.
@@ -308,28 +278,8 @@ fn push_builtin(text: &mut Vec<u8>, builtin: Builtin, arguments: usize) -> Resul
 pub fn push_word_bytes(text: &mut Vec<u8>, word: &[u8], bytes: &[u8]) -> Result<(), AllocError>
     ensures { OnOk result (text.new.items ≡ text.old.items ++ (word.now ++ bytes_text bytes.now)) }
 {
-    push_word(text, word)?;
-    push_bytes(text, bytes)
-}
-
-/// Adds a word and a type.
-pub fn push_word_type(
-    text: &mut Vec<u8>,
-    packages: &CalledPackages<'_>,
-    word: &[u8],
-    own: &GoType,
-) -> Result<(), AllocError>
-    ensures { OnOk result (text.new.items ≡ text.old.items ++ (word.now ++ type_text (type_in packages.now) (type_of own.now))) }
-{
-    push_word(text, word)?;
-    push_type(text, packages, own)
-}
-
-/// The text of a truth value.
-fn truth_text(truth: bool) -> &'static [u8]
-    ensures { result.now ≡ truth_text truth }
-{
-    if truth { b"1" } else { b"0" }
+    push_words(text, word, b"x")?;
+    push_hex(text, bytes)
 }
 
 /// Adds the words of a line.
@@ -344,7 +294,8 @@ fn push_line_words(
     match line {
         Instruction::Integer(n) => push_word_integer(text, b"int ", *n),
         Instruction::Text(bytes) => push_word_bytes(text, b"str ", *bytes),
-        Instruction::Truth(truth) => push_words(text, b"bool ", truth_text(*truth)),
+        Instruction::Truth(true) => push_word(text, b"bool 1"),
+        Instruction::Truth(false) => push_word(text, b"bool 0"),
         Instruction::Nil => push_word(text, b"nil"),
         Instruction::Local(slot) => push_numbered(text, b"local ", *slot),
         Instruction::Global(name) => push_word_global(text, b"global ", *name),
@@ -397,7 +348,7 @@ fn push_line(
 }
 
 /// Adds lines of which the last one stands first.
-fn push_lines(
+pub fn push_lines(
     text: &mut Vec<u8>,
     packages: &CalledPackages<'_>,
     lines: &[Instruction<'_>],
@@ -408,15 +359,4 @@ fn push_lines(
         push_line(text, packages, &lines[i])?;
     }
     Ok(())
-}
-
-/// Adds all lines of code.
-pub fn push_code(
-    text: &mut Vec<u8>,
-    packages: &CalledPackages<'_>,
-    code: &Code<'_>,
-) -> Result<(), AllocError>
-    ensures { OnOk result (text.new.items ≡ text.old.items ++ code_text (type_in packages.now) (lines_in code.now)) }
-{
-    push_lines(text, packages, code.lines())
 }

@@ -1,9 +1,8 @@
 //! Names and members, as the code of a function uses them.
 ghost use Rattle.std.specs.Prelude.{◌≡◌, option_map, OnOk};
-ghost use Rattle.gr_expr.specs.WorldView.{bound_of};
 ghost use Rattle.gr_object.specs.LineView.{function_of, Puts};
 ghost use Rattle.gr_object.specs.SourceView.{source_of};
-ghost use Rattle.gr_object.specs.Operands.{bound_name, name_operand, plain_function, local_operand, global_operand};
+ghost use Rattle.gr_object.specs.Operands.{name_operand, plain_function, local_operand, global_operand};
 ghost use Rattle.gr_object.specs.Numbering.{slot_of};
 ghost use Rattle.gr_object.specs.Lines.{Integer, Text, Set, line_if_known};
 ghost use Rattle.gr_object.specs.Making.{lines_for, standing_of};
@@ -35,35 +34,23 @@ impl<'a> SlotScope<'a> {
         }
     }
 
-    /// What a name that is bound so is to the code.
-    #[tactic(auto, unfolding(crate::specs::Making::standing_of, crate::specs::Operands::bound_name, crate::specs::Operands::named_meaning, gr_expr::specs::WorldView::bound_of))]
-    fn bound_standing(self, token: usize, bound: &Bound) -> OperandPlace<'a>
-        ensures { standing_of result ≡ (bound_name (source_of self.entry.source.now) self.entry.slots.now.places.items token (bound_of bound.now)).standing }
-    {
-        match bound {
-            Bound::Local(_) | Bound::Variable(_) | Bound::Truth | Bound::Nil =>
-                OperandPlace::Values(1),
-            Bound::TypeName(_) => OperandPlace::Converts,
-            Bound::Function(signature) => OperandPlace::of_function(
-                self.plain_function(token),
-                false,
-                signature.results.len(),
-            ),
-            Bound::Builtin(builtin) => OperandPlace::Predeclared(*builtin),
-            Bound::Package => OperandPlace::Qualifies,
-            Bound::BrokenVariable | Bound::BrokenFunction | Bound::BrokenType =>
-                OperandPlace::Values(0),
-        }
-    }
-
     /// What the name at a token is to the code.
-    #[tactic(auto, unfolding(crate::specs::Making::standing_of, crate::specs::Operands::bound_name, crate::specs::Operands::named_meaning))]
+    #[tactic(auto, unfolding(crate::specs::Making::standing_of, crate::specs::Operands::bound_name, crate::specs::Operands::named_meaning, gr_expr::specs::WorldView::bound_of))]
     pub fn name_standing(self, token: usize) -> OperandPlace<'a>
         ensures { standing_of result ≡ (name_operand (source_of self.entry.source.now) self.entry.slots.now.places.items token).standing }
     {
         match self.source.world.bound(token) {
-            None => OperandPlace::Values(0),
-            Some(bound) => self.bound_standing(token, bound),
+            Some(Bound::Local(_) | Bound::Variable(_) | Bound::Truth | Bound::Nil) =>
+                OperandPlace::Values(1),
+            Some(Bound::TypeName(_)) => OperandPlace::Converts,
+            Some(Bound::Function(signature)) => OperandPlace::of_function(
+                self.plain_function(token),
+                false,
+                signature.results.len(),
+            ),
+            Some(Bound::Builtin(builtin)) => OperandPlace::Predeclared(*builtin),
+            Some(Bound::Package) => OperandPlace::Qualifies,
+            _ => OperandPlace::Values(0),
         }
     }
 
@@ -91,35 +78,17 @@ impl<'a> SlotScope<'a> {
         }
     }
 
-    /// Puts the lines of a name that is bound so.
-    #[tactic(auto, unfolding(crate::specs::LineView::line_of, crate::specs::Operands::bound_name, crate::specs::Operands::named_meaning, gr_expr::specs::WorldView::bound_of))]
-    fn put_bound(
-        self,
-        token: usize,
-        bound: &Bound,
-        want: Wanted,
-        code: &mut Code<'a>,
-    ) -> Result<(), AllocError>
-        ensures { OnOk result (Puts (lines_for want (bound_name (source_of self.entry.source.now) self.entry.slots.now.places.items token (bound_of bound.now))) code.old code.new) }
-    {
-        match bound {
-            Bound::Local(place) => self.put_local(*place, want, code),
-            Bound::Variable(_) => self.put_global(token, want, code),
-            Bound::Truth => code.put(Instruction::Truth(self.source.truth(token))),
-            Bound::Nil => code.put(Instruction::Nil),
-            Bound::TypeName(_) | Bound::Function(_) | Bound::Builtin(_) | Bound::Package => Ok(()),
-            Bound::BrokenVariable | Bound::BrokenFunction | Bound::BrokenType => Ok(()),
-        }
-    }
-
     /// Puts the lines of the name at a token.
-    #[tactic(auto, unfolding(crate::specs::Operands::bound_name, crate::specs::Operands::named_meaning))]
+    #[tactic(auto, unfolding(crate::specs::LineView::line_of, crate::specs::Operands::bound_name, crate::specs::Operands::named_meaning, gr_expr::specs::WorldView::bound_of))]
     pub fn put_name(self, token: usize, want: Wanted, code: &mut Code<'a>) -> Result<(), AllocError>
         ensures { OnOk result (Puts (lines_for want (name_operand (source_of self.entry.source.now) self.entry.slots.now.places.items token)) code.old code.new) }
     {
         match self.source.world.bound(token) {
-            None => Ok(()),
-            Some(bound) => self.put_bound(token, bound, want, code),
+            Some(Bound::Local(place)) => self.put_local(*place, want, code),
+            Some(Bound::Variable(_)) => self.put_global(token, want, code),
+            Some(Bound::Truth) => code.put(Instruction::Truth(self.source.truth(token))),
+            Some(Bound::Nil) => code.put(Instruction::Nil),
+            _ => Ok(()),
         }
     }
 

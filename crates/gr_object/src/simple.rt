@@ -1,9 +1,8 @@
 //! The code of simple statements and of declarations of locals.
-ghost use Rattle.std.specs.Prelude.{◌≡◌, ◌∷◌, [], OnOk};
+ghost use Rattle.std.specs.Prelude.{◌≡◌, ◌∷◌, ◌++◌, [], length, OnOk};
 ghost use Rattle.std.specs.List.{flat_map};
 ghost use Rattle.gr_tree.specs.View.{expr_view, exprs_view, option_view, list_view, group_view, ident_view, type_view};
 ghost use Rattle.gr_tree.specs.FileView.{simple_view, local_view, init_view};
-ghost use Rattle.gr_expr.specs.WorldView.{bound_of};
 ghost use Rattle.gr_imports.specs.Files.{group_items};
 ghost use Rattle.gr_stmt.specs.Simple.{binary_of};
 ghost use Rattle.gr_expr.specs.Judge.{judge_type};
@@ -12,7 +11,7 @@ ghost use Rattle.gr_object.specs.Lines as line;
 ghost use Rattle.gr_object.specs.LineView.{Puts};
 ghost use Rattle.gr_object.specs.Expressions.{address_lines, value_lines};
 ghost use Rattle.gr_object.specs.SourceView.{source_of};
-ghost use Rattle.gr_object.specs.Statements.{values_of, from_last, set_name, set_bound, set_left, target_lines, targets_of, update_lines, step_op, simple_lines, optional_lines, init_lines, zeros, first_values, local_lines};
+ghost use Rattle.gr_object.specs.Statements.{values_of, from_last, set_name, set_left, target_lines, targets_of, update_lines, step_op, simple_lines, optional_lines, init_lines, first_values, local_lines};
 
 use crate::code::Code;
 use crate::expressions::{arguments, operand};
@@ -67,33 +66,8 @@ fn put_set_names<'a>(
     Ok(())
 }
 
-/// Puts the line of the local that a name is bound to.
-#[tactic(auto, unfolding(gr_expr::specs::WorldView::bound_of))]
-fn put_set_bound<'a>(
-    scope: SlotScope<'a>,
-    bound: &Bound,
-    code: &mut Code<'a>,
-) -> Result<(), AllocError>
-    ensures { OnOk result (Puts (set_bound scope.entry.slots.now.places.items (bound_of bound.now)) code.old code.new) }
-{
-    match bound {
-        Bound::Local(place) => scope.put_set(*place, code),
-        _ => Ok(()),
-    }
-}
-
-/// Puts the line of a name on the left of `:=`.
-fn put_set_at<'a>(scope: SlotScope<'a>, place: usize, code: &mut Code<'a>) -> Result<(), AllocError>
-    ensures { OnOk result (Puts (set_bound scope.entry.slots.now.places.items ((source_of scope.entry.source.now).world.bound place)) code.old code.new) }
-{
-    match scope.source.world.bound(place) {
-        None => Ok(()),
-        Some(bound) => put_set_bound(scope, bound, code),
-    }
-}
-
 /// Puts the line of a left side of `:=`.
-#[tactic(auto, unfolding(crate::specs::LineView::line_of, crate::specs::Statements::set_left, gr_tree::specs::View::expr_view))]
+#[tactic(auto, unfolding(crate::specs::LineView::line_of, crate::specs::Statements::set_left, gr_tree::specs::View::expr_view, gr_expr::specs::WorldView::bound_of))]
 fn put_set_left<'a>(
     scope: SlotScope<'a>,
     left: &Expr,
@@ -102,7 +76,10 @@ fn put_set_left<'a>(
     ensures { OnOk result (Puts (set_left (source_of scope.entry.source.now) scope.entry.slots.now.places.items (expr_view left.now)) code.old code.new) }
 {
     match left {
-        Expr::Name(place) => put_set_at(scope, *place, code),
+        Expr::Name(place) => match scope.source.world.bound(*place) {
+            Some(Bound::Local(declared)) => scope.put_set(*declared, code),
+            _ => Ok(()),
+        },
         Expr::Blank(_) => code.put(Instruction::Pop),
         _ => Ok(()),
     }
@@ -229,8 +206,40 @@ fn update<'a>(
     operand(alloc, scope, left, Wanted::Address, code)
 }
 
+/// `x, y = a, b`.
+#[tactic(auto, unfolding(crate::specs::LineView::line_of))]
+fn assign<'a>(
+    alloc: Global,
+    scope: SlotScope<'a>,
+    left: &[ExprItem],
+    right: &[ExprItem],
+    code: &mut Code<'a>,
+) -> Result<(), AllocError>
+    ensures { OnOk result (Puts (targets_of (source_of scope.entry.source.now) scope.entry.slots.now.places.items (exprs_view left.now)
+        ++ (values_of (source_of scope.entry.source.now) scope.entry.slots.now.places.items (exprs_view right.now) ++ (line.Assign (length left.now) ∷ []))) code.old code.new) }
+{
+    code.put(Instruction::Assign(left.len()))?;
+    values(alloc, scope, right, code)?;
+    targets(alloc, scope, left, code)
+}
+
+/// `x, y := a, b`.
+fn define<'a>(
+    alloc: Global,
+    scope: SlotScope<'a>,
+    left: &[ExprItem],
+    right: &[ExprItem],
+    code: &mut Code<'a>,
+) -> Result<(), AllocError>
+    ensures { OnOk result (Puts (values_of (source_of scope.entry.source.now) scope.entry.slots.now.places.items (exprs_view right.now)
+        ++ from_last (set_left (source_of scope.entry.source.now) scope.entry.slots.now.places.items) (exprs_view left.now)) code.old code.new) }
+{
+    put_set_lefts(scope, left, code)?;
+    values(alloc, scope, right, code)
+}
+
 /// A simple statement.
-#[tactic(auto, unfolding(gr_tree::specs::FileView::simple_view, crate::specs::Statements::simple_lines, crate::specs::LineView::line_of))]
+#[tactic(auto, unfolding(gr_tree::specs::FileView::simple_view, crate::specs::Statements::simple_lines))]
 pub fn simple<'a>(
     alloc: Global,
     scope: SlotScope<'a>,
@@ -255,15 +264,8 @@ pub fn simple<'a>(
             right,
             ..
         } => update(alloc, scope, left, *op, right, code),
-        SimpleStmt::Assign { left, right, .. } => {
-            code.put(Instruction::Assign(left.len()))?;
-            values(alloc, scope, right, code)?;
-            targets(alloc, scope, left, code)
-        }
-        SimpleStmt::Define { left, right, .. } => {
-            put_set_lefts(scope, left, code)?;
-            values(alloc, scope, right, code)
-        }
+        SimpleStmt::Assign { left, right, .. } => assign(alloc, scope, left, right, code),
+        SimpleStmt::Define { left, right, .. } => define(alloc, scope, left, right, code),
     }
 }
 
@@ -330,25 +332,8 @@ fn put_zeros<'a>(
     Ok(())
 }
 
-/// A zero for each name of a declaration that has a type.
-#[tactic(auto, unfolding(crate::specs::Statements::zeros))]
-fn zeros<'a>(
-    alloc: Global,
-    scope: SlotScope<'a>,
-    written: &Option<TypeExpr>,
-    names: &[Item<Ident>],
-    code: &mut Code<'a>,
-) -> Result<(), AllocError>
-    ensures { OnOk result (Puts (zeros (source_of scope.entry.source.now) (option_view type_view written.now) (list_view ident_view names.now)) code.old code.new) }
-{
-    match written {
-        None => Ok(()),
-        Some(written) => put_zeros(alloc, scope, written, names, code),
-    }
-}
-
 /// The values that locals are declared with.
-#[tactic(auto, unfolding(gr_tree::specs::FileView::local_view, crate::specs::Statements::first_values))]
+#[tactic(auto, unfolding(gr_tree::specs::FileView::local_view, crate::specs::Statements::first_values, crate::specs::Statements::zeros))]
 fn first_values<'a>(
     alloc: Global,
     scope: SlotScope<'a>,
@@ -358,8 +343,11 @@ fn first_values<'a>(
     ensures { OnOk result (Puts (first_values (source_of scope.entry.source.now) scope.entry.slots.now.places.items (local_view local.now) (local_view local.now).values) code.old code.new) }
 {
     match &local.values {
-        None => zeros(alloc, scope, &local.local_type, &local.names, code),
         Some(given) => values(alloc, scope, &given.values, code),
+        None => match &local.local_type {
+            None => Ok(()),
+            Some(written) => put_zeros(alloc, scope, written, &local.names, code),
+        },
     }
 }
 

@@ -38,15 +38,23 @@ impl<'a> Source<'a> {
     pub fn before(&self, token: usize) -> Option<&GoType>
         ensures { option_map (λ t. type_of t.now) result ≡ (source_of self.now).before token }
     {
-        let number = self.used.get(token)?;
-        Some(&self.uses.get(number)?.before)
+        match self.used.get(token) {
+            None => None,
+            Some(number) => match self.uses.get(number) {
+                None => None,
+                Some(next) => Some(&next.before),
+            },
+        }
     }
 
     /// The declaration of a package's block that the name at a token is bound to.
     pub fn global(&self, token: usize) -> Option<GlobalName<'a>>
         ensures { option_map global_of result ≡ (source_of self.now).global token }
     {
-        self.marks.get(token)?.global
+        match self.marks.get(token) {
+            None => None,
+            Some(mark) => mark.global,
+        }
     }
 
     /// Whether the truth value at a token is the true one.

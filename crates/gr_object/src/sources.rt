@@ -1,5 +1,5 @@
 //! What the code of a file is made of, from the scopes of its package and what checking found.
-ghost use Rattle.std.specs.Prelude.{◌≡◌, ◌<◌, ◌≤◌, ◌↔◌, ℕ, List, Some, codes, length, map, option_map, slice_get, IfOk, IsTrue, MatchOption};
+ghost use Rattle.std.specs.Prelude.{◌≡◌, ◌<◌, ◌↔◌, ℕ, List, Some, codes, length, map, option_map, slice_get, IfOk, IsTrue, MatchOption};
 ghost use Rattle.gr_tree.specs.SourceFile.{source_of as plain_file};
 ghost use Rattle.gr_declared.specs.PackageView.{package_of, IsIndexOf};
 ghost use Rattle.gr_declared.specs.Written.{BindsToken, IsPredeclared};
@@ -12,7 +12,6 @@ ghost use Rattle.gr_object.specs.TablesView.{AreMarks, AreTexts, IsMarkAt, IsTab
 use crate::instructions::GlobalName;
 use crate::numbered::NumberedUses;
 use crate::origin::Origin;
-use crate::packages::path_bytes;
 use crate::source::{Mark, Source};
 use gr_declared::{Index, Package};
 use gr_expr::found::MemberUse;
@@ -73,24 +72,6 @@ fn import_at<'i>(
     }
 }
 
-/// The path of the import behind whose name, and a dot, the name at a token stands, two tokens behind it.
-fn qualifier_behind<'i>(
-    unit: Package<'_>,
-    index: &'i Index<'_>,
-    file: usize,
-    token: usize,
-) -> Option<&'i [u8]>
-    requires index { IsIndexOf (package_of unit) index.now }
-    requires late { 2 ≤ token }
-    ensures { MatchOption result ((path : List ℕ) → IsBehindImport (package_of unit.entry) file token path → ⊥) (λ path. IsBehindImport (package_of unit.entry) file token path.now) }
-{
-    if is_behind_dot(unit, index, file, token) {
-        import_at(unit, index, file, token - 2)
-    } else {
-        None
-    }
-}
-
 /// The path of the import behind whose name, and a dot, the name at a token stands.
 fn qualifier<'i>(
     unit: Package<'_>,
@@ -102,9 +83,12 @@ fn qualifier<'i>(
     ensures { MatchOption result ((path : List ℕ) → IsBehindImport (package_of unit.entry) file token path → ⊥) (λ path. IsBehindImport (package_of unit.entry) file token path.now) }
 {
     if token < 2 {
-        None
+        return None;
+    }
+    if is_behind_dot(unit, index, file, token) {
+        import_at(unit, index, file, token - 2)
     } else {
-        qualifier_behind(unit, index, file, token)
+        None
     }
 }
 
@@ -129,24 +113,11 @@ fn own_global<'a>(unit: Package<'a>, file: usize, token: usize, d: usize) -> Opt
     let is_own = unit.table.role(d).block().same(Block::Package);
     if is_own {
         Some(GlobalName {
-            path: path_bytes(unit.path),
+            path: unit.path.path(),
             name: unit.spelling(file, token),
         })
     } else {
         None
-    }
-}
-
-/// What the name at a token is to code that is bound to a declaration.
-fn bound_mark<'a>(unit: Package<'a>, file: usize, token: usize, d: usize) -> Mark<'a>
-    requires in_range { d < length unit.table.now.sites }
-    requires bound { BindsToken (package_of unit) file token d }
-    requires only { (e : ℕ) → BindsToken (package_of unit) file token e → e ≡ d }
-    ensures { IsMarkAt (package_of unit.entry) file token (Some result) }
-{
-    Mark {
-        global: own_global(unit, file, token, d),
-        truth: is_true(unit, d),
     }
 }
 
@@ -171,26 +142,20 @@ fn imported_global<'a>(
     }
 }
 
-/// What the name at a token is to code that is bound to no declaration.
-fn free_mark<'a>(unit: Package<'a>, index: &'a Index<'_>, file: usize, token: usize) -> Mark<'a>
-    requires index { IsIndexOf (package_of unit) index.now }
-    requires unbound { (d : ℕ) → BindsToken (package_of unit) file token d → ⊥ }
-    ensures { IsMarkAt (package_of unit.entry) file token (Some result) }
-{
-    Mark {
-        global: imported_global(unit, index, file, token),
-        truth: false,
-    }
-}
-
 /// What the name at a token is to code.
 fn mark_at<'a>(unit: Package<'a>, index: &'a Index<'_>, file: usize, token: usize) -> Mark<'a>
     requires { IsIndexOf (package_of unit) index.now }
     ensures { IsMarkAt (package_of unit.entry) file token (Some result) }
 {
     match index.binding(unit, file, token) {
-        None => free_mark(unit, index, file, token),
-        Some(d) => bound_mark(unit, file, token, d),
+        None => Mark {
+            global: imported_global(unit, index, file, token),
+            truth: false,
+        },
+        Some(d) => Mark {
+            global: own_global(unit, file, token, d),
+            truth: is_true(unit, d),
+        },
     }
 }
 

@@ -1,6 +1,6 @@
 //! The code of statements, made from its last line to its first.
 ghost use Rattle.std.specs.Prelude.{◌≤◌, ◌-◌, ◌++◌, ◌∷◌, [], IfOk, OnOk, length};
-ghost use Rattle.gr_tree.specs.View.{expr_view, exprs_view, option_view};
+ghost use Rattle.gr_tree.specs.View.{expr_view, exprs_view};
 ghost use Rattle.gr_tree.specs.FileView.{for_view, stmt_view, block_view, if_view, else_view};
 ghost use Rattle.gr_object.specs.Lines.{Jump, JumpUnless, Return};
 ghost use Rattle.gr_object.specs.LineView.{lines_in, Puts};
@@ -23,23 +23,6 @@ use std::alloc::{AllocError, Global};
 pub struct JumpMarks {
     pub next: usize,
     pub out: usize,
-}
-
-/// The condition of a loop, behind which there were `end` lines.
-fn condition<'a>(
-    alloc: Global,
-    scope: SlotScope<'a>,
-    tested: &Option<Expr>,
-    end: usize,
-    code: &mut Code<'a>,
-) -> Result<(), AllocError>
-    requires { end ≤ length (lines_in code.old) }
-    ensures { OnOk result (Puts (loop_condition (source_of scope.entry.source.now) scope.entry.slots.now.places.items (option_view expr_view tested.now) (length (lines_in code.old) - end)) code.old code.new) }
-{
-    match tested {
-        None => Ok(()),
-        Some(tested) => test(alloc, scope, tested, end, code),
-    }
 }
 
 /// A condition that leads, where it does not hold, to the last `end` lines.
@@ -91,9 +74,13 @@ fn header_condition<'a>(
         ForHeader::Forever => Ok(()),
         ForHeader::While(tested) => test(alloc, scope, tested, end, code),
         ForHeader::Clauses {
-            condition: tested,
+            condition: None,
             ..
-        } => condition(alloc, scope, tested, end, code),
+        } => Ok(()),
+        ForHeader::Clauses {
+            condition: Some(tested),
+            ..
+        } => test(alloc, scope, tested, end, code),
     }
 }
 

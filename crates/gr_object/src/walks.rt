@@ -1,12 +1,12 @@
 //! What a package declares at a rank, found by going over its files: of most packages in a closure nothing is asked.
-ghost use Rattle.std.specs.Prelude.{◌≡◌, ◌<◌, ℕ, length, map, option_map, slice_get, take};
+ghost use Rattle.std.specs.Prelude.{◌≡◌, ◌<◌, length, map, option_map, slice_get, take};
 ghost use Rattle.gr_tree.specs.View.{group_view, list_view};
-ghost use Rattle.gr_tree.specs.FileView.{body_view, decl_view, field_view, type_spec_view};
+ghost use Rattle.gr_tree.specs.FileView.{decl_view, field_view, type_spec_view};
 ghost use Rattle.gr_tree.specs.SourceFile.{source_of};
 ghost use Rattle.gr_imports.specs.Files.{group_items};
 ghost use Rattle.gr_declared.specs.DeclaredView.{type_of, function_of as placed_function};
 ghost use Rattle.gr_declared.specs.Package.{decl_functions, decl_types, declared_functions, declared_types, functions_in, placed_type, types_in};
-ghost use Rattle.gr_object.specs.Names.{body_positions, field_positions, initializers_among, names_of_fields, positions_from};
+ghost use Rattle.gr_object.specs.Names.{field_positions, initializers_among, names_of_fields, positions_from};
 ghost use Rattle.gr_object.specs.Walks.{Walks, decl_positions, file_positions, spec_positions};
 ghost use Rattle.std.specs.List.{flat_map};
 

@@ -11,9 +11,9 @@ pub returns : goal.returns
 returns c =
     let s = c.in_ok-signature.signature in
     let h = c.in_ok-signature.ensures in
-    on_ok_weaker c.push_lines.result
+    on_ok_weaker c.push_function.result
     (λ q. function_put c.args.scope.source.now (func_view c.args.func.now) (function_of c.args.name) (function_of s.name) c.args.text.now.items
-    c.push_lines.new.text.items c.args.scope.slots.now.places.items (lines_in c.in_ok-code.code)
+    c.push_function.new.text.items c.args.scope.slots.now.places.items (lines_in c.in_ok-code.code)
     (map type_of s.parameters.items) (map type_of s.results.items) s.slots c.requires c.in_ok-code.ensures h.named h.parameters h.results
-    (h.slot_count ∙ c.len.ensures) q)
-    c.push_lines.ensures
+    (h.slot_count ∙ (c.len.ensures ∙ c.args.scope.slots.now.places.ok.0)) q)
+    c.push_function.ensures

@@ -1,5 +1,5 @@
 -- The answers to the goals of `expressions::expression`.
-use Rattle.std.proofs.Common.{◌+◌, ◌∷◌, ◌++◌, [], ◌-◌, ap, sym, ◌∙◌, length, get_or, take_all, option_map, arith, append_assoc}
+use Rattle.std.proofs.Common.{◌∷◌, ◌++◌, [], ◌-◌, ap, sym, ◌∙◌, length, get_or, take_all, option_map, arith, append_assoc}
 use Rattle.std.proofs.lemmas.Result.{on_ok_weaker}
 use Rattle.gr_tree.specs.View.{expr_view, key_view}
 use Rattle.gr_tree.specs.declared.tree.CompositeLit.{out-CompositeLit}

@@ -1,5 +1,4 @@
 -- The answers to the goals of `expressions::put_test`.
-use Rattle.std.proofs.Common.{◌-◌}
 use Rattle.std.proofs.lemmas.Result.{on_ok_weaker}
 use Rattle.gr_object.specs.LineView.{line_of}
 use Rattle.gr_object.proofs.Putting.{puts_as, puts_more}

@@ -12,7 +12,7 @@ pub loop-path-preserved : goal.loop-path-preserved
 loop-path-preserved c =
     let left = rest_more deref _ _ _ c.in-Some.path c.in-Some.is c.next.ensures.steps in
     let rest = flat_map import_line (bytes_of_paths c.next.new.self) in
-    ap (λ z. z ++ rest) (c.in_ok-push_import.ensures ∙ ap (λ q. c.loop-path.text.items ++ import_line q) c.deref.ensures.value)
+    ap (λ z. z ++ rest) (c.in_ok-push_between.ensures ∙ ap (λ q. c.loop-path.text.items ++ import_line q) c.deref.ensures.value)
     ∙ (append_assoc c.loop-path.text.items (import_line c.in-Some.path.now.items) rest ∙
     (ap (λ ks. c.loop-path.text.items ++ flat_map import_line (bytes_of_paths ks)) (sym left) ∙ c.loop-path.invariant))
 

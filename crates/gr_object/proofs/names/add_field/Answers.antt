@@ -1,5 +1,5 @@
 -- The answers to the goals of `names::add_field`.
-use Rattle.std.proofs.Common.{◌-◌, ◌++◌, ◌∙◌, ap, length}
+use Rattle.std.proofs.Common.{◌∷◌, [], ◌-◌, ◌++◌, ◌∙◌, ap, length}
 use Rattle.gr_tree.specs.View.{list_view}
 use Rattle.gr_tree.specs.FileView.{field_view, same_place}
 use Rattle.gr_object.specs.Names.{positions_from}
@@ -7,13 +7,15 @@ use Rattle.gr_object.proofs.NameParts.{positions_within, positions_step, positio
 use Rattle.gr_object.proofs.names.add_field.Goals as goal
 
 pub loop-name-preserved : goal.loop-name-preserved
-loop-name-preserved c = record {
-  within = positions_within c.args.begin _ c.loop-name.positions.items c.add_position.new.positions.items c.loop-name.invariant.within
-      c.in_ok-add_position.ensures;
-  rest = positions_step c.args.begin c.loop-name.positions.items c.add_position.new.positions.items _ c.deref-name-items.result.now c.loop-name._name-index
-      c.loop-name.invariant.within c.loop-name-test.true
-      c.loop-name.invariant.rest c.in_ok-add_position.ensures;
-}
+loop-name-preserved c =
+    let added = c.in_ok-push.ensures.items
+    ∙ ap (λ n. c.loop-name.positions.items ++ ((n - c.args.begin) ∷ [])) (c.len.ensures ∙ c.loop-name.positions.ok.0) in
+    record {
+      within = positions_within c.args.begin _ c.loop-name.positions.items c.push.new.self.items c.loop-name.invariant.within added;
+      rest = positions_step c.args.begin c.loop-name.positions.items c.push.new.self.items _ c.deref-name-items.result.now c.loop-name._name-index
+          c.loop-name.invariant.within c.loop-name-test.true
+          c.loop-name.invariant.rest added;
+    }
 
 pub returns : goal.returns
 unfolding field_view

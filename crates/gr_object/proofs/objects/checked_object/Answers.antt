@@ -10,5 +10,5 @@ pub meant_text-requires-clause-names : goal.meant_text-requires-clause-names
 meant_text-requires-clause-names c =
     let files = map source_of c.args.unit.files.now in
     ap (map function_of) c.as_slice.ensures.value ∙ (c.in_ok-names.ensures
-    ∙ (ap (λ q. functions_behind q files 0 (map placed c.deref.result.now)) c.path_bytes.ensures
+    ∙ (ap (λ q. functions_behind q files 0 (map placed c.deref.result.now)) c.path.ensures
     ∙ ap (functions_behind c.args.unit.path.now files 0) (ap (map placed) c.deref.ensures.value ∙ c.requires.index.functions)))

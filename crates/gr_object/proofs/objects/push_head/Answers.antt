@@ -8,5 +8,5 @@ pub returns : goal.returns
 returns c = on_ok_both c.push_imports.result (λ lines sorted.
     head_put (package_of c.args.unit) c.args.unit.files.now c.in_ok-paths.paths.keys c.args.text.now.items c.push_first_line.new.text.items
     c.push_imports.new.text.items refl c.in_ok-paths.ensures sorted
-    (λ o path name. c.in_ok-push_first_line.ensures o (path ∙ sym c.path_bytes.ensures) (name ∙ sym c.package_name.ensures)) lines)
+    (λ o path name. c.in_ok-push_first_line.ensures o (path ∙ sym c.path.ensures) (name ∙ sym c.package_name.ensures)) lines)
     c.push_imports.ensures.lines c.push_imports.ensures.sorted

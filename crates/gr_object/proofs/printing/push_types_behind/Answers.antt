@@ -10,5 +10,5 @@ pub loop-own-preserved : goal.loop-own-preserved
 loop-own-preserved c =
     rest_step (λ xs. types_behind (type_in c.args.packages.now) c.args.separator.now (map type_of xs))
     (λ x. type_behind (type_in c.args.packages.now) c.args.separator.now (type_of x)) (λ x xs. refl) _ c.loop-own.text.items
-    c.push_type_behind.new.text.items c.args.types.now c.loop-own.own-index c.own-item.result c.loop-own-test.true c.own-item.is c.loop-own.invariant
-    c.in_ok-push_type_behind.ensures
+    c.push_word_type.new.text.items c.args.types.now c.loop-own.own-index c.own-item.result c.loop-own-test.true c.own-item.is c.loop-own.invariant
+    c.in_ok-push_word_type.ensures

@@ -1,32 +1,41 @@
 -- The answers to the goals of `simple::simple`.
-use Rattle.std.proofs.Common.{◌∷◌, [], ap, sym, ◌∙◌}
-use Rattle.std.proofs.lemmas.List.{length-map}
+use Rattle.std.proofs.Common.{ap, sym, ◌∙◌}
 use Rattle.std.proofs.lemmas.Result.{on_ok_weaker}
-use Rattle.gr_tree.specs.View.{expr_item_view, exprs_view}
 use Rattle.gr_tree.specs.FileView.{simple_view}
-use Rattle.gr_object.specs.Lines.{Assign}
-use Rattle.gr_object.specs.LineView.{line_of}
+use Rattle.gr_object.specs.Lines.{pops}
+use Rattle.gr_object.specs.Operands.{value_count}
 use Rattle.gr_object.specs.SourceView.{source_of}
-use Rattle.gr_object.specs.Statements.{simple_lines, values_of, targets_of, from_last, set_left}
+use Rattle.gr_object.specs.Statements.{simple_lines}
 use Rattle.gr_object.proofs.Putting.{puts_as, puts_then}
+use Rattle.gr_object.proofs.Values.{assigned, defined}
 use Rattle.gr_object.proofs.simple.simple.Goals as goal
 
-pub returns-in_ok-put_set_lefts-in-Define : goal.returns-in_ok-put_set_lefts-in-Define
+pub returns-in_ok-put_pops-in-Expr : goal.returns-in_ok-put_pops-in-Expr
 unfolding simple_lines simple_view
-returns-in_ok-put_set_lefts-in-Define c = on_ok_weaker c.values-in-Define.result
-    (λ q. puts_as (ap (λ v. simple_lines (source_of c.args.scope.source.now) c.args.scope.slots.now.places.items (simple_view v)) c.in-Define.is)
-    (puts_then (puts_as (ap (λ xs. from_last (set_left (source_of c.args.scope.source.now) c.args.scope.slots.now.places.items) (exprs_view xs))
-    (sym c.deref-in-Define.ensures.value)) c.in_ok-put_set_lefts-in-Define.ensures)
-    (puts_as (ap (λ xs. values_of (source_of c.args.scope.source.now) c.args.scope.slots.now.places.items (exprs_view xs))
-    (sym c.deref-in-Define-2.ensures.value)) q))) c.values-in-Define.ensures
+returns-in_ok-put_pops-in-Expr c = on_ok_weaker c.operand.result
+    (λ q. puts_as (ap (λ v. simple_lines (source_of c.args.scope.source.now) c.args.scope.slots.now.places.items (simple_view v)) c.in-Expr.is)
+    (puts_then (puts_as (ap pops (sym (c.values.ensures ∙ ap value_count c.standing.ensures))) c.in_ok-put_pops-in-Expr.ensures) q)) c.operand.ensures
 
-pub returns-in_ok-values-in-Assign : goal.returns-in_ok-values-in-Assign
-unfolding simple_lines simple_view line_of
-returns-in_ok-values-in-Assign c = on_ok_weaker c.targets.result
-    (λ q. puts_as (ap (λ v. simple_lines (source_of c.args.scope.source.now) c.args.scope.slots.now.places.items (simple_view v)) c.in-Assign.is)
-    (puts_then (puts_then (puts_as (ap (λ n. Assign n ∷ [])
-    (length-map c.in-Assign.left.items expr_item_view ∙ sym (c.len.ensures ∙ c.in-Assign.left.ok.0))) c.in_ok-put-in-Assign.ensures)
-    (puts_as (ap (λ xs. values_of (source_of c.args.scope.source.now) c.args.scope.slots.now.places.items (exprs_view xs)) (sym c.deref.ensures.value))
-    c.in_ok-values-in-Assign.ensures))
-    (puts_as (ap (λ xs. targets_of (source_of c.args.scope.source.now) c.args.scope.slots.now.places.items (exprs_view xs))
-    (sym c.deref-in-Assign.ensures.value)) q))) c.targets.ensures
+pub returns-in-Step : goal.returns-in-Step
+unfolding simple_lines simple_view
+returns-in-Step c = on_ok_weaker c.step.result
+    (λ q. puts_as (ap (λ v. simple_lines (source_of c.args.scope.source.now) c.args.scope.slots.now.places.items (simple_view v)) c.in-Step.is) q)
+    c.step.ensures
+
+pub returns-in-Update : goal.returns-in-Update
+unfolding simple_lines simple_view
+returns-in-Update c = on_ok_weaker c.update.result
+    (λ q. puts_as (ap (λ v. simple_lines (source_of c.args.scope.source.now) c.args.scope.slots.now.places.items (simple_view v)) c.in-Update.is) q)
+    c.update.ensures
+
+pub returns-in-Assign : goal.returns-in-Assign
+unfolding simple_lines simple_view
+returns-in-Assign c = on_ok_weaker c.assign.result
+    (λ q. puts_as (ap (λ v. simple_lines (source_of c.args.scope.source.now) c.args.scope.slots.now.places.items (simple_view v)) c.in-Assign.is
+    ∙ assigned _ _ _ _ _ _ c.deref.ensures.value c.deref-in-Assign.ensures.value) q) c.assign.ensures
+
+pub returns-in-Define : goal.returns-in-Define
+unfolding simple_lines simple_view
+returns-in-Define c = on_ok_weaker c.define.result
+    (λ q. puts_as (ap (λ v. simple_lines (source_of c.args.scope.source.now) c.args.scope.slots.now.places.items (simple_view v)) c.in-Define.is
+    ∙ defined _ _ _ _ _ _ c.deref-in-Define.ensures.value c.deref-in-Define-2.ensures.value) q) c.define.ensures

@@ -5,9 +5,15 @@ use Rattle.gr_tree.specs.View.{group_view}
 use Rattle.gr_tree.specs.FileView.{local_view}
 use Rattle.gr_imports.specs.Files.{group_items}
 use Rattle.gr_object.specs.Slots.{local_places}
-use Rattle.gr_object.proofs.Loops.{rest_end}
+use Rattle.gr_object.proofs.Loops.{rest_step, rest_end}
 use Rattle.gr_object.proofs.Parts.{local_list_places, several_places}
 use Rattle.gr_object.proofs.slots.add_locals.Goals as goal
+
+pub loop-item-preserved : goal.loop-item-preserved
+loop-item-preserved c =
+    rest_step local_list_places (λ x. local_places (local_view x.value)) (λ x xs. refl) _ c.loop-item.places.items
+    c.add_local-in-loop-item.new.places.items c.deref-item-items.result.now c.loop-item.item-index c.item-item.result c.loop-item-test.true c.item-item.is
+    c.loop-item.invariant c.in_ok-add_local-in-Several.ensures
 
 pub returns-after-loop-item : goal.returns-after-loop-item
 unfolding group_view

@@ -9,7 +9,7 @@ use Rattle.gr_object.proofs.OneObject.{own_or_imported}
 use Rattle.gr_object.proofs.sources.own_global.Goals as goal
 
 pub returns-then-is_own : goal.returns-then-is_own
-returns-then-is_own c = global_as (package_of c.args.unit) c.args.file c.args.token _ _ _ _ c.path_bytes.ensures c.spelling.ensures
+returns-then-is_own c = global_as (package_of c.args.unit) c.args.file c.args.token _ _ _ _ c.path.ensures c.spelling.ensures
     (own {d = c.args.d} c.requires.bound (ap block_of (sym c.role.ensures) ∙ sym c.block.ensures ∙ c.same-is_own.ensures.0 c.if-is_own.true))
 
 pub returns-else-is_own : goal.returns-else-is_own

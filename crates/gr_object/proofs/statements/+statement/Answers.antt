@@ -1,5 +1,5 @@
 -- The answers to the goals of `statements::statement`.
-use Rattle.std.proofs.Common.{◌+◌, ◌-◌, ◌++◌, ◌∷◌, [], ap, sym, ◌∙◌, length, get_or, rules, arith, Some}
+use Rattle.std.proofs.Common.{◌-◌, ◌++◌, ◌∷◌, [], ap, sym, ◌∙◌, length, get_or, rules, arith, Some}
 use Rattle.std.proofs.lemmas.Result.{on_ok_weaker}
 use Rattle.gr_tree.specs.View.{exprs_view}
 use Rattle.gr_tree.specs.FileView.{stmt_view, block_view, for_view, if_view, else_view}

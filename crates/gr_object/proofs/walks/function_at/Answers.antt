@@ -1,5 +1,5 @@
 -- One file more, and all of them at the end.
-use Rattle.std.proofs.Common.{◌≡◌, ◌+◌, ◌<◌, ◌≤◌, sym, subst, arith, length, map}
+use Rattle.std.proofs.Common.{◌<◌, ◌≤◌, sym, arith, length, map}
 use Rattle.std.specs.List.{enumerate_from}
 use Rattle.gr_tree.specs.SourceFile.{source_of}
 use Rattle.gr_declared.specs.DeclaredView.{function_of as placed_function}

@@ -1,5 +1,5 @@
 -- One function more.
-use Rattle.std.proofs.Common.{◌≡◌, ◌+◌, ◌<◌, ◌≤◌, arith, length, map, sym, ap, ◌∙◌}
+use Rattle.std.proofs.Common.{◌<◌, arith, length, map, ◌∙◌}
 use Rattle.gr_tree.specs.SourceFile.{source_of}
 use Rattle.gr_declared.specs.DeclaredView.{function_of as placed_function}
 use Rattle.gr_declared.specs.Package.{declared_functions}

@@ -1,5 +1,5 @@
 -- One file more, and all of them at the end.
-use Rattle.std.proofs.Common.{◌≡◌, ap, sym, ◌∙◌, arith}
+use Rattle.std.proofs.Common.{ap, sym, ◌∙◌, arith}
 use Rattle.std.specs.Prelude.{slice_get}
 use Rattle.gr_tree.specs.SourceFile.{source_of}
 use Rattle.gr_object.specs.Walks.{file_positions}

@@ -1,5 +1,5 @@
 -- One field more, and all of them at the end.
-use Rattle.std.proofs.Common.{◌≡◌, ◌+◌, ◌-◌, ap, sym, ◌∙◌, arith, length}
+use Rattle.std.proofs.Common.{◌≡◌, ◌-◌, sym, ◌∙◌, arith, length}
 use Rattle.gr_object.proofs.Walking.{field_names, named, walked_next, walked_all, field_here, fields_behind}
 use Rattle.gr_object.proofs.walks.position_in_fields.Goals as goal
 

@@ -1,5 +1,5 @@
 -- One declaration more, and all of them at the end.
-use Rattle.std.proofs.Common.{◌≡◌, ◌+◌, ap, sym, ◌∙◌, arith, length}
+use Rattle.std.proofs.Common.{◌+◌, ap, sym, ◌∙◌, arith, length}
 use Rattle.std.specs.Prelude.{slice_get}
 use Rattle.gr_tree.specs.FileView.{decl_view}
 use Rattle.gr_declared.proofs.DeclaredParts.{decls_from}

@@ -1,5 +1,5 @@
 -- One definition, or those in parentheses.
-use Rattle.std.proofs.Common.{sym, subst, ◌∙◌, append-nil}
+use Rattle.std.proofs.Common.{sym, subst, append-nil}
 use Rattle.std.specs.List.{flat_map}
 use Rattle.gr_tree.specs.View.{group_view}
 use Rattle.gr_tree.specs.FileView.{type_spec_view}

@@ -1,11 +1,9 @@
 -- One declaration more, and all of them at the end.
-use Rattle.std.proofs.Common.{◌≡◌, ◌+◌, ap, sym, ◌∙◌, arith, length}
+use Rattle.std.proofs.Common.{◌+◌, ap, sym, ◌∙◌, arith, length}
 use Rattle.std.specs.Prelude.{slice_get}
-use Rattle.std.specs.List.{flat_map}
 use Rattle.gr_tree.specs.FileView.{decl_view}
-use Rattle.gr_tree.specs.SourceFile.{source_of}
 use Rattle.gr_declared.specs.DeclaredView.{type_of}
-use Rattle.gr_declared.specs.Package.{decl_types, types_in}
+use Rattle.gr_declared.specs.Package.{decl_types}
 use Rattle.gr_declared.proofs.DeclaredParts.{decls_from}
 use Rattle.gr_object.proofs.Walking.{walked_next, walked_found, walked_all}
 use Rattle.gr_object.proofs.walks.type_in_file.Goals as goal

@@ -1,12 +1,11 @@
 -- One definition, or those in parentheses.
 use Rattle.std.proofs.Common.{◌≡◌, ap, sym, ◌∙◌, arith, length, map}
 use Rattle.std.specs.Prelude.{slice_get}
-use Rattle.std.specs.List.{flat_map}
 use Rattle.gr_tree.specs.View.{group_view}
 use Rattle.gr_tree.specs.FileView.{type_spec_view}
 use Rattle.gr_imports.specs.Files.{group_items}
 use Rattle.gr_declared.specs.Package.{placed_type}
-use Rattle.gr_declared.proofs.DeclaredParts.{type_part, types_from}
+use Rattle.gr_declared.proofs.DeclaredParts.{types_from}
 use Rattle.gr_object.proofs.Walking.{item_at, item_count}
 use Rattle.gr_object.proofs.walks.type_in_group.Goals as goal
 
