@@ -7,6 +7,7 @@ program asks the C library for, by a small library that `cc` makes and that is l
 """
 
 import os
+import pathlib
 import subprocess
 import sys
 import tempfile
@@ -17,17 +18,18 @@ from replay import stored
 
 REFUSING = r"""
 #include <errno.h>
+#include <fcntl.h>
 #include <stddef.h>
-#include <stdio.h>
 #include <stdlib.h>
+#include <sys/mman.h>
 
 extern void *__libc_malloc(size_t);
 extern void *__libc_calloc(size_t, size_t);
 extern void *__libc_realloc(void *, size_t);
-static long calls, refused;
+static long own, refused, *calls = &own;
 
 static int refuses(void) {
-    return ++calls == refused;
+    return ++*calls == refused;
 }
 
 void *malloc(size_t size) {
@@ -46,16 +48,12 @@ void *realloc(void *block, size_t size) {
 }
 
 __attribute__((constructor)) static void begin(void) {
-    const char *number = getenv("REFUSED");
-    calls = 0;
+    const char *path = getenv("CALLS"), *number = getenv("REFUSED");
+    int file = path ? open(path, O_RDWR) : -1;
+    void *place = file < 0 ? MAP_FAILED : mmap(NULL, sizeof own, PROT_READ | PROT_WRITE, MAP_SHARED, file, 0);
+    if (place != MAP_FAILED) calls = place;
+    *calls = 0;
     refused = number ? atol(number) : 0;
-}
-
-__attribute__((destructor)) static void end(void) {
-    const char *path = getenv("CALLS");
-    long made = calls;
-    FILE *file = path ? fopen(path, "w") : NULL;
-    if (file) { fprintf(file, "%ld\n", made); fclose(file); }
 }
 """
 NO_MEMORY = b"no 1 0\n"
@@ -103,12 +101,13 @@ class Refusing:
 
     def calls(self, sent, wanted):
         """How many calls a session makes that is refused none."""
-        path = os.path.join(self.folder, "calls")
-        told = self.run(sent, CALLS=path)
-        if told != (0, wanted, b"") or not os.path.exists(path):
-            raise SystemExit(f"not loaded, or answered otherwise: {told!r}")
-        with open(path) as file:
-            return int(file.read())
+        path = pathlib.Path(self.folder, "calls")
+        path.write_bytes(bytes(8))
+        told = self.run(sent, CALLS=str(path))
+        calls = int.from_bytes(path.read_bytes(), sys.byteorder)
+        if told != (0, wanted, b"") or not calls:
+            raise SystemExit(f"answered otherwise, or {calls} calls were seen: {told!r}")
+        return calls
 
     def refused(self, number, sent, wanted):
         """How the session goes where that call is refused: a command was refused, the session ended, all was answered; or what is wrong."""
