@@ -10,6 +10,7 @@ import editors
 import limits
 import serve
 import statuses
+import streams
 
 CHECKS = (
     statuses.bad_words,
@@ -26,6 +27,7 @@ CHECKS = (
     editors.settled_length,
     connections.cut_while_sending,
     connections.cut_while_reading,
+    *streams.CHECKS,
 )
 
 if __name__ == "__main__":

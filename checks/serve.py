@@ -15,9 +15,10 @@ import editors
 import limits
 import statuses
 import story
+import streams
 from server import PROGRAM, passes
 
-CHECKS = statuses.CHECKS + limits.CHECKS + editors.CHECKS + connections.CHECKS + story.CHECKS
+CHECKS = statuses.CHECKS + limits.CHECKS + editors.CHECKS + connections.CHECKS + streams.CHECKS + story.CHECKS
 
 
 def main(checks=CHECKS):

@@ -3,6 +3,7 @@
 import os
 import re
 import resource
+import signal
 import socket
 import subprocess
 import tempfile
@@ -20,11 +21,14 @@ def serve_words(path, workers=1, sessions=1, stop_after=None):
 
 
 def limited(limits, umask=None):
-    """What a child does before it becomes the program: it sets its limits, pairs of a resource and a number, and its mask."""
+    """What a child does before it becomes the program: it sets its limits, pairs of a resource and a number, and its mask. A write over
+    the limit of a file fails, and ends nothing."""
 
     def begin():
         for what, most in limits:
             resource.setrlimit(what, (most, most))
+            if what == resource.RLIMIT_FSIZE:
+                signal.signal(signal.SIGXFSZ, signal.SIG_IGN)
         if umask is not None:
             os.umask(umask)
 

@@ -2,9 +2,8 @@
 ghost use Rattle.std.specs.Prelude.{IsTrue};
 
 use gr_book::Book;
-use gr_desk::Solo;
 use gr_text::{FileText, Limits};
-use std::alloc::{AllocError, Global};
+use std::alloc::Global;
 use std::process::Abort;
 
 /// Ends the test where the fact does not hold.
@@ -16,12 +15,6 @@ pub(crate) fn holds(rt: &impl Abort, fact: bool)
 
 pub(crate) fn book(rt: &(impl Abort + AllocGlobal)) -> Book {
     Book::new(rt.alloc(), Limits::FULL).expect(rt, "a book")
-}
-
-/// What a session of its own speaks to.
-pub(crate) fn opened(alloc: Global) -> Result<Solo, AllocError> {
-    let book = Book::new(alloc, Limits::FULL)?;
-    Ok(Solo::new(book))
 }
 
 /// A text as a file has it.

@@ -1,22 +1,16 @@
 //! What is done with a book, whose journal tells how it was answered. A book and a Job are no values that may be dropped, so nothing
 //! ends by `?` while it has one.
-use crate::assertion::holds;
+use crate::assertion::{file, holds};
 use gr_book::{Book, Changing, HandingIn, Looking, Taking};
 use gr_compile::{Job, build};
 use gr_content::Handed;
 use gr_machine::{EntryKind, Line, Told, View};
 use gr_space::{MadeChange, plan_put};
-use gr_text::FileText;
 use std::process::Abort;
-
-fn text(rt: &(impl Abort + AllocGlobal), bytes: &str) -> FileText {
-    let bytes = bytes.as_bytes().to_vec(rt.alloc()).expect(rt, "memory");
-    FileText::new(rt.alloc(), bytes).expect(rt, "memory")
-}
 
 /// The put of a file on a view.
 fn planned(rt: &(impl Abort + AllocGlobal), view: &View, path: &str, bytes: &str) -> MadeChange {
-    let text = text(rt, bytes);
+    let text = file(rt, rt.alloc(), bytes.as_bytes());
     let planned = plan_put(rt.alloc(), view.snapshot.get(), path, text);
     planned.ok().expect(rt, "a plan")
 }
@@ -88,17 +82,20 @@ pub(crate) fn stays(rt: &impl Abort, answer: Option<Job>) {
     }
 }
 
-/// The line of the last entry, where the journal has so many.
-fn last(book: &Book, count: usize) -> Option<Line> {
-    let journal = book.journal();
-    if journal.len() != count {
-        return None;
-    }
-    Some(journal.last()?.line)
+/// Builds what a Job is of, and delivers it, so that it does not come back.
+pub(crate) fn spend(rt: &(impl Abort + AllocGlobal), book: &mut Book, job: Job) {
+    let answer = deliver(rt, book, job);
+    stays(rt, answer);
 }
 
 /// Asserts that the journal has so many entries, and what the last of them shows.
 pub(crate) fn shows(rt: &impl Abort, book: &Book, count: usize, shown: (EntryKind, u64, Told)) {
     let (kind, basis, out) = shown;
-    holds(rt, last(book, count) == Some(Line { kind, basis, out }));
+    let line = Line { kind, basis, out };
+    let journal = book.journal();
+    holds(rt, journal.len() == count);
+    holds(
+        rt,
+        matches!(journal.last(), Some(entry) if entry.line == line),
+    );
 }

@@ -1,7 +1,7 @@
 //! Jobs of a book: they are handed out, delivered late, given back and handed in elsewhere. A put is two entries of the journal, each
 //! other act is one.
 use crate::assertion::book;
-use crate::histories::{deliver, give_back, put, shows, stays, take, take_none};
+use crate::histories::{deliver, give_back, put, shows, spend, stays, take, take_none};
 use gr_book::Changing;
 use gr_machine::{EntryKind, Reason, Told};
 
@@ -23,13 +23,13 @@ fn deliveries_that_come_late(rt: HostRuntime) {
     let second = take(&rt, &mut book, "a");
     shows(&rt, &book, 7, (EntryKind::Take, 1, Told::Done(1)));
     drop(book.step(Changing::Redo(1)));
-    stays(&rt, deliver(&rt, &mut book, second));
+    spend(&rt, &mut book, second);
     let stale = Told::Refused(Reason::Stale { current: 2 });
     shows(&rt, &book, 9, (EntryKind::Deliver, 1, stale));
     let third = take(&rt, &mut book, "a");
-    stays(&rt, deliver(&rt, &mut book, third));
+    spend(&rt, &mut book, third);
     shows(&rt, &book, 11, (EntryKind::Deliver, 2, Told::Done(2)));
-    stays(&rt, deliver(&rt, &mut book, first));
+    spend(&rt, &mut book, first);
     let already = Told::Refused(Reason::Already);
     shows(&rt, &book, 12, (EntryKind::Deliver, 2, already));
     take_none(&rt, &mut book);
@@ -43,7 +43,7 @@ fn a_put_of_another_package_makes_a_delivery_stale(rt: HostRuntime) {
     put(&rt, &mut book, "a/a.go", A);
     let job = take(&rt, &mut book, "a");
     put(&rt, &mut book, "b/b.go", B);
-    stays(&rt, deliver(&rt, &mut book, job));
+    spend(&rt, &mut book, job);
     let stale = Told::Refused(Reason::Stale { current: 2 });
     shows(&rt, &book, 6, (EntryKind::Deliver, 1, stale));
     book.close();
@@ -58,7 +58,7 @@ fn a_delivery_after_undo_and_redo_enters(rt: HostRuntime) {
     drop(book.step(Changing::Undo(1)));
     take_none(&rt, &mut book);
     drop(book.step(Changing::Redo(0)));
-    stays(&rt, deliver(&rt, &mut book, job));
+    spend(&rt, &mut book, job);
     shows(&rt, &book, 7, (EntryKind::Deliver, 1, Told::Done(1)));
     take_none(&rt, &mut book);
     book.close();

@@ -60,6 +60,7 @@ fn is_bound(rt: &impl Abort, alloc: Global, text: &str) {
     holds(rt, declared_at(&table, &place) == behind(text, "/*^*/"));
 }
 
+/// Nothing is known of the packages that are imported, so an import without a name declares none.
 const BINDINGS: &str = r#"package a; func f(/*^*/p int) { var p int; /*@*/p = 1 }
 package a; var /*^*/x int; var x int; func f() { print(/*@*/x) }
 package a; var /*^*/x int; var x int; func f() { /*@*/x = 1 }
@@ -68,26 +69,12 @@ package a; var /*^*/int string; var x /*@*/int
 package a; import q "b"; var /*^*/q int; func f() { print(/*@*/q) }
 package a; func f() { var x int = /*@*/x; print(x) }
 package a; func init() {}; func f() { /*@*/init() }
-package a; import /*@*/"b""#;
+package a; import "b/q"; func f() { print(/*@*/q) }
+package a; import /*@*/"b/q""#;
 
 #[test]
 fn bindings(rt: HostRuntime) {
     for text in BINDINGS.lines() {
         is_bound(&rt, rt.alloc(), text);
     }
-}
-
-/// There is an import without a name, and it declares none where nothing is known of any package.
-#[test]
-fn an_unknown_package_gives_no_name(rt: HostRuntime) {
-    let files = files(&rt, rt.alloc(), "package a; import \"b/q\"");
-    let table = plain_table(&rt, rt.alloc(), &files);
-    holds(
-        &rt,
-        (0..table.len()).any(|u| table.role(u).is_unnamed_import()),
-    );
-    holds(
-        &rt,
-        (0..table.len()).all(|u| table.declares(u) == table.role(u).is_implied()),
-    );
 }
