@@ -225,9 +225,9 @@ impl Progress {
         let Progress { all, below } = self;
         let mut all = all;
         take_or_judge(alloc, graph, number, known, &mut all)?;
-        let mut numbers = below.built_on;
+        let mut numbers = Vec::from_slice(alloc, below.built_on.as_slice())?;
         numbers.push(number)?;
-        let found = found_now(alloc, graph, numbers.as_slice(), known, &all)?;
+        let found = found_now(alloc, graph, &numbers, known, &all)?;
         found_package(number, all, found)
     }
 }
