@@ -1,5 +1,5 @@
 -- The state after the change is the current one.
-use Rattle.std.proofs.Common.{◌≡◌, ◌≤◌, ◌<◌, ◌+◌, ◌^◌, length, refl, sym, ap, subst, ◌∙◌}
+use Rattle.std.proofs.Common.{◌≡◌, ◌<◌, ◌+◌, ◌^◌, refl, sym, ap, subst, ◌∙◌}
 use Rattle.gr_text.specs.Workspace.{Workspace}
 use Rattle.gr_history.specs.Histories.{content_of}
 use Rattle.gr_machine.specs.Machine.{Content, changed}
