@@ -1,5 +1,5 @@
 -- What a delivery comes to.
-use Rattle.std.specs.Prelude.{◌≡◌, ℕ, ⊤, length, MatchOption, Option, Some, slice_get}
+use Rattle.std.specs.Prelude.{◌≡◌, ⊤, length}
 use Rattle.gr_text.specs.Packages.{package_paths}
 use Rattle.gr_verdict.specs.Found.{KnowsVerdicts}
 use Rattle.gr_compile.specs.declared.built.Built.{Built}
@@ -21,13 +21,6 @@ ComesTo state job built (Entered finished known) =
     IsFresh state job built × ¬ (HasUnit state job.package) × Gains state.files state.finished job.package built.unit finished
     × (length finished ≡ length (package_paths state.files)) × IsRightlyBuilt built × KnowsVerdicts state.files known
 
--- what was built is of the Job's package, which has this number in the state, and both are of the state's number
-pub record AreOfState (state : State) (job : JobRecord) (built : Built) (number : ℕ) : Type 0 where
-  pub same_package : built.package ≡ job.package
-  pub job_number : job.number ≡ state.number
-  pub built_number : built.number ≡ state.number
-  pub there : slice_get (package_paths state.files) number ≡ Some job.package
-
 -- where the inputs of what was built are those of its package: this is finished, or it is finished now
 abbrev pub FinishesIn : State → Built → Outcome → Type 0
 FinishesIn state built Late = ⊥
@@ -35,11 +28,6 @@ FinishesIn state built Known = HasUnit state built.package
 FinishesIn state built (Entered finished known) =
     ¬ (HasUnit state built.package) × Gains state.files state.finished built.package built.unit finished
     × (length finished ≡ length (package_paths state.files)) × IsRightlyBuilt built × KnowsVerdicts state.files known
-
--- the number of the package, where what was built may enter
-abbrev pub FindsFresh : State → JobRecord → Built → Option ℕ → Type 0
-FindsFresh state job built found =
-    MatchOption found (¬ (IsFresh state job built)) (λ number. IsFresh state job built × (slice_get (package_paths state.files) number ≡ Some job.package))
 
 -- a table that is entered is one of the state's packages, and what is known then is right
 abbrev pub HasTable : State → Outcome → Type 0

@@ -8,7 +8,8 @@ ghost use Rattle.gr_content.specs.Entered.{entry_left, with_entry};
 
 use crate::content::Content;
 use crate::question::{Answered, Asked, Question};
-use gr_machine::{Entry, Line, entry_twice};
+use gr_history::add_entry;
+use gr_machine::{Entry, Line};
 
 /// Adds the entry of an event that was answered to the journal, if it has one. With the answer comes a copy of the entry.
 pub fn enter<A>(journal: &mut Vec<Entry>, asked: Asked, answered: Answered<A>) -> (A, Option<Entry>)
@@ -32,8 +33,7 @@ pub fn enter<A>(journal: &mut Vec<Entry>, asked: Asked, answered: Answered<A>) -
         basis: asked.basis,
         out,
     };
-    let (entry, copy) = entry_twice(line, subject, made);
-    journal.push_reserved(entry);
+    let copy = add_entry(journal, line, subject, made);
     (answer, Some(copy))
 }
 

@@ -1,8 +1,8 @@
 //! The states of a workspace with the Jobs that are out, and what events make of them.
-ghost use Rattle.std.specs.Prelude.{◌≡◌, ◌+◌, ◌≤◌, ◌↔◌, IfOk, IsTrue, OnErr, OnOk, length, vec_len};
+ghost use Rattle.std.specs.Prelude.{◌≡◌, ◌↔◌, IfOk, IsTrue, length};
 ghost use Rattle.gr_verdict.specs.Found.{KnowsVerdicts};
 ghost use Rattle.gr_compile.specs.Jobs.{IsOut};
-ghost use Rattle.gr_machine.specs.Machine.{HasNumbers, changed, content, newest, opening};
+ghost use Rattle.gr_machine.specs.Machine.{HasNumbers, content, opening};
 ghost use Rattle.gr_content.specs.Current.{BringsCurrent};
 ghost use Rattle.gr_content.specs.Handed.{handed};
 ghost use Rattle.gr_content.specs.Outcomes.{ComesTo};
@@ -15,28 +15,25 @@ use crate::handed::{Handed, take_in};
 use gr_compile::{Built, Job, Out, PackageInputs, SharedPath};
 use gr_finished::Finished;
 use gr_graph::Graph;
+use gr_history::History;
 use gr_machine::{MadeEdits, State, View, first_waiting};
 use gr_space::MadeChange;
 use gr_text::{Files, Limits, Refusal};
 use gr_verdict::{Known, SharedKnown};
 use std::alloc::{AllocError, Global};
 use std::marker::Model;
-use std::mem;
 
 /// The states of a workspace, with a cursor on the current one, and the Jobs that are out.
 pub struct Content {
     pub(crate) alloc: Global,
     pub limits: Limits,
-    pub(crate) earlier: Vec<State>,
-    pub(crate) current: State,
-    pub(crate) later: Vec<State>,
-    pub(crate) next: u64,
-    pub(crate) visit: u64,
+    pub(crate) history: History,
     pub out: Out,
 }
 
 impl Model for Content {
     ghost use Rattle.std.specs.Prelude.{◌+◌, ◌≤◌, length};
+    ghost use Rattle.gr_history.specs.Histories.{content_of};
     ghost use Rattle.gr_machine.specs.Machine.{Content};
     ghost use Rattle.std.specs.Coded.{codes};
     ghost use Rattle.gr_compile.specs.Codes.{unit_code, workspace_code};
@@ -45,19 +42,9 @@ impl Model for Content {
 
     ghost coded = { Prim.hlevel (codes, unit_code, workspace_code) };
 
-    ghost view = { λ a. record { limits = a.limits; earlier = a.earlier.items; current = a.current; later = a.later.items; next = a.next; visit = a.visit; out = a.out } };
+    ghost view = { λ a. content_of a.history a.limits a.out };
 
-    ghost invariant = { λ a. length a.earlier.items + length a.later.items ≤ a.limits.undo_depth };
-}
-
-/// Drops the oldest state where there is one too many.
-fn keep_newest(states: &mut Vec<State>, depth: usize)
-    requires { vec_len states.old ≤ depth + 1 }
-    ensures { states.new.items ≡ newest depth states.old.items }
-{
-    if states.len() > depth {
-        drop(states.remove(0));
-    }
+    ghost invariant = { λ a. length a.history.earlier.items + length a.history.later.items ≤ a.limits.undo_depth };
 }
 
 /// Whether a change was planned on some files.
@@ -79,16 +66,18 @@ impl Content {
         Ok(Content {
             alloc,
             limits,
-            earlier: Vec::new(alloc),
-            current: State {
-                number: 0,
-                files,
-                finished,
-                known,
+            history: History {
+                earlier: Vec::new(alloc),
+                current: State {
+                    number: 0,
+                    files,
+                    finished,
+                    known,
+                },
+                later: Vec::new(alloc),
+                next: 1,
+                visit: 0,
             },
-            later: Vec::new(alloc),
-            next: 1,
-            visit: 0,
             out: Out::new(alloc),
         })
     }
@@ -97,7 +86,7 @@ impl Content {
     pub fn number(&self) -> u64
         ensures { result ≡ self.now.current.number }
     {
-        self.current.number()
+        self.history.current.number()
     }
 
     /// How many Jobs are out.
@@ -117,33 +106,14 @@ impl Content {
     pub fn look(&self) -> Result<View, Refusal>
         ensures { AnswersOrLacks self.now Look (looked result) self.now }
     {
-        let snapshot = self.current.snapshot(self.limits)?;
-        let finished = self.current.finished.clone()?;
+        let snapshot = self.history.current.snapshot(self.limits)?;
+        let finished = self.history.current.finished.clone()?;
         Ok(View {
             snapshot,
             finished,
-            undo: self.earlier.len(),
-            redo: self.later.len(),
+            undo: self.history.earlier.len(),
+            redo: self.history.later.len(),
         })
-    }
-
-    /// Makes a state with the next number the current one, which no redo leaves. A visit begins.
-    fn go_on(&mut self, next: State) -> Result<u64, AllocError>
-        requires numbers { HasNumbers self.old }
-        requires number { next.number ≡ self.old.next }
-        ensures number { IfOk result (λ number. number ≡ self.old.next) }
-        ensures ok { OnOk result (self.new ≡ changed self.old next.files next.finished) }
-        ensures err { OnErr result (self.new ≡ self.old) }
-    {
-        self.earlier.reserve(1)?;
-        let number = self.next;
-        let previous = mem::replace(&mut self.current, next);
-        self.earlier.push(previous).unwrap();
-        keep_newest(&mut self.earlier, self.limits.undo_depth);
-        self.later.clear();
-        self.next += 1;
-        self.visit += 1;
-        Ok(number)
     }
 
     /// Admits a change of the current files.
@@ -153,8 +123,15 @@ impl Content {
         ensures answer { AnswersOrLacks self.old (Commit self.old.current.number change) (committed result) self.new }
         ensures edits { IfOk result (λ made. made.1 ≡ change.edits) }
     {
-        let (state, edits) = state_after(self.alloc, &self.current, self.next, change)?;
-        let number = self.go_on(state)?;
+        let (state, edits) = state_after(
+            self.alloc,
+            &self.history.current,
+            self.history.next,
+            change,
+        )?;
+        let Ok(number) = self.history.go_on(self.limits, state) else {
+            return Err(Refusal::Memory);
+        };
         Ok((number, edits))
     }
 
@@ -165,7 +142,7 @@ impl Content {
         ensures answer { AnswersOrLacks self.old (Commit basis change) (committed result) self.new }
         ensures edits { IfOk result (λ made. made.1 ≡ change.edits) }
     {
-        let current = &self.current;
+        let current = &self.history.current;
         let number = current.number;
         if basis != number || !is_based(&change, &current.files) {
             return Err(Refusal::Moved { current: number });
@@ -184,7 +161,7 @@ impl Content {
         ensures answer { AnswersOrLacks self.old (Commit basis change) (committed result) self.new }
         ensures edits { IfOk result (λ made. made.1 ≡ change.edits) }
     {
-        let number = self.current.number;
+        let number = self.history.current.number;
         if basis == number {
             return self.admit(change);
         }
@@ -195,55 +172,29 @@ impl Content {
         requires { HasNumbers self.old }
         ensures { AnswersOrLacks self.old (Undo basis) (done result) self.new }
     {
-        let number = self.current.number;
-        if basis != number {
-            return Err(Refusal::Moved { current: number });
-        }
-        if self.earlier.is_empty() {
-            return Err(Refusal::NothingToUndo);
-        }
-        self.later.reserve(1)?;
-        let previous = self.earlier.pop().unwrap();
-        let number = previous.number;
-        let left = mem::replace(&mut self.current, previous);
-        self.later.push(left).unwrap();
-        self.visit += 1;
-        Ok(number)
+        self.history.undo(basis)
     }
 
     pub fn redo(&mut self, basis: u64) -> Result<u64, Refusal>
         requires { HasNumbers self.old }
         ensures { AnswersOrLacks self.old (Redo basis) (done result) self.new }
     {
-        let number = self.current.number;
-        if basis != number {
-            return Err(Refusal::Moved { current: number });
-        }
-        if self.later.is_empty() {
-            return Err(Refusal::NothingToRedo);
-        }
-        self.earlier.reserve(1)?;
-        let next = self.later.pop().unwrap();
-        let number = next.number;
-        let left = mem::replace(&mut self.current, next);
-        self.earlier.push(left).unwrap();
-        self.visit += 1;
-        Ok(number)
+        self.history.redo(basis)
     }
 
     pub fn take(&mut self) -> Result<Job, Refusal>
         requires { HasNumbers self.old }
         ensures { AnswersOrLacks self.old Take (taken result) self.new }
     {
-        let current = &self.current;
-        let Some(number) = first_waiting(current, &self.out, self.visit) else {
+        let current = &self.history.current;
+        let Some(number) = first_waiting(current, &self.out, self.history.visit) else {
             return Err(Refusal::NoJob);
         };
         let package = SharedPath::new(self.alloc, &current.files.package(number).path)?;
         let inputs = PackageInputs::of(self.alloc, &current.files, number, &current.known)?;
         let job = self
             .out
-            .hand_out(current.number, self.visit, package, inputs)?;
+            .hand_out(current.number, self.history.visit, package, inputs)?;
         Ok(job)
     }
 
@@ -259,7 +210,7 @@ impl Content {
                 Ok(record) => {
                     drop(record);
                     drop(built);
-                    take_in(&mut self.current, outcome)
+                    take_in(&mut self.history.current, outcome)
                 }
             },
         }
@@ -272,7 +223,7 @@ impl Content {
         if !self.out.is_out(&job) {
             return Handed::Back(Refusal::NoJob, job, Some(built));
         }
-        let outcome = outcome_of(self.alloc, &self.current, &job, &built);
+        let outcome = outcome_of(self.alloc, &self.history.current, &job, &built);
         self.enter(job, built, outcome)
     }
 
@@ -281,7 +232,7 @@ impl Content {
         requires { BringsCurrent self.old.current.files job built }
         ensures { AnswersOrLacks self.old (Deliver job built) (handed result) self.new }
     {
-        let outcome = outcome_on_current(self.alloc, &self.current, &job, &built);
+        let outcome = outcome_on_current(self.alloc, &self.history.current, &job, &built);
         self.enter(job, built, outcome)
     }
 
@@ -289,7 +240,7 @@ impl Content {
     pub fn give_back(&mut self, job: Job) -> Handed
         ensures { AnswersOrLacks self.old (GiveBack job) (handed result) self.new }
     {
-        let number = self.current.number();
+        let number = self.history.current.number();
         let record = match self.out.take_back(job) {
             Ok(record) => record,
             Err(job) => return Handed::Back(Refusal::NoJob, job, None),
@@ -304,7 +255,7 @@ impl Content {
         ensures { self.new ≡ self.old }
     {
         if let Ok(known) = SharedKnown::new(self.alloc, known) {
-            self.current.learn(files, known);
+            self.history.current.learn(files, known);
         }
     }
 
@@ -314,7 +265,7 @@ impl Content {
         ensures { self.new ≡ self.old }
     {
         if let Ok(known) = SharedKnown::new(self.alloc, known) {
-            self.current.learn_own(known);
+            self.history.current.learn_own(known);
         }
     }
 
@@ -322,13 +273,16 @@ impl Content {
         let Content {
             alloc: _,
             limits: _,
+            history,
+            out,
+        } = self;
+        let History {
             earlier,
             current,
             later,
             next: _,
             visit: _,
-            out,
-        } = self;
+        } = history;
         drop(earlier);
         drop(current);
         drop(later);

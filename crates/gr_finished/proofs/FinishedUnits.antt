@@ -1,9 +1,10 @@
 -- Where the unit of a finished package stands, a number below which each package is finished, and tables in which none is.
-use Rattle.std.proofs.Common.{◌≡◌, ℕ, ◌+◌, ◌<◌, List, Option, length, replicate, None, Some, slice_get, sym, ap, subst, ◌∙◌, inl, inr, arith}
+use Rattle.std.proofs.Common.{◌≡◌, ℕ, ◌+◌, ◌<◌, List, [], ◌∷◌, ◌++◌, Option, length, None, Some, get_or, slice_get, sym, ap, subst, ◌∙◌, inl, inr}
+use Rattle.std.proofs.Common.{arith, length-append}
 use Rattle.std.proofs.Math.ListN.{set}
 use Rattle.std.proofs.lemmas.Bool.{cases_eq, cases_lt}
-use Rattle.std.proofs.lemmas.List.{get_or-set_same, get_or-set_other, length-set, get_or-replicate, length-replicate}
-use Rattle.std.proofs.lemmas.Option.{none-some, same_Some, slice_get-get_or, slice_get_within}
+use Rattle.std.proofs.lemmas.List.{get_or-set_same, get_or-set_other, length-set, get_or_append_left, get_or_push}
+use Rattle.std.proofs.lemmas.Option.{none-some, get_or_from_slice_get, slice_get-get_or, slice_get_within}
 use Rattle.gr_text.specs.Packages.{package_paths}
 use Rattle.gr_text.specs.Workspace.{Workspace}
 use Rattle.gr_graph.proofs.PackagePaths.{one_number, paths_sorted}
@@ -43,11 +44,18 @@ finished_still table n front unit within below i lt =
     ]
 
 -- ---- where none is finished
-pub none_in : (count : ℕ) → HasNone (replicate count None)
-none_in count i unit is =
+pub none_empty : HasNone []
+none_empty i unit is = absurd (none-some (Some unit) is)
+
+pub none_more : (table : Table) → HasNone table → HasNone (table ++ None ∷ [])
+none_more table none i unit is =
     let nothing : Option PackageUnit = None in
-    let table : Table = replicate count nothing in
-    let within : i < length table = slice_get_within table i (Some unit) is in
-    let below : i < count = omega (arith, within, length-replicate count nothing) in
-    none-some unit (same_Some nothing (Some unit)
-    (ap Some (sym (get_or-replicate count i nothing nothing below)) ∙ sym (slice_get-get_or table i nothing within) ∙ is))
+    let more : Table = table ++ nothing ∷ [] in
+    let within : i < length more = slice_get_within more i (Some unit) is in
+    let got : get_or more i nothing ≡ Some unit = get_or_from_slice_get more i (Some unit) nothing is in
+    elim (cases_lt i (length table)) [
+      | inl before ↦ none i unit (slice_get-get_or table i nothing before ∙ ap Some (sym (get_or_append_left table (nothing ∷ []) nothing i before) ∙ got))
+      | inr last ↦ (
+          let end : length table ≡ i = omega (arith, within, last, length-append table (nothing ∷ [])) in
+          none-some unit (sym (get_or_push table nothing nothing i end) ∙ got))
+    ]

@@ -1,5 +1,5 @@
 //! The packages of a workspace that are finished, with their units.
-ghost use Rattle.std.specs.Prelude.{◌≡◌, ◌<◌, ◌↔◌, [], IfOk, IsTrue, MatchOption, None, Some, length, replicate, slice_get, slice_set};
+ghost use Rattle.std.specs.Prelude.{◌≡◌, ◌<◌, ◌≤◌, ◌↔◌, [], IfOk, IsTrue, MatchOption, Some, length, slice_get, slice_set};
 ghost use Rattle.gr_compile.specs.declared.unit.Unit.{Unit as PackageUnit};
 ghost use Rattle.gr_finished.specs.Finished.{AreFinishedBelow, HasNone};
 
@@ -92,15 +92,37 @@ fn has_none(units: &SharedList<Option<Unit>>) -> bool
     true
 }
 
-/// A place for each of so many packages, of which none is finished.
-fn no_units(alloc: Global, count: usize) -> Result<SharedList<Option<Unit>>, AllocError>
-    ensures { IfOk result (λ units. units ≡ replicate count None) }
+/// A list in which no package is finished, or none of its places where it has more of them than so many packages.
+fn first_units(
+    alloc: Global,
+    units: &SharedList<Option<Unit>>,
+    count: usize,
+) -> Result<SharedList<Option<Unit>>, AllocError>
+    requires { HasNone units.now }
+    ensures size { IfOk result (λ first. length first ≤ count) }
+    ensures none { IfOk result HasNone }
 {
-    let mut units = SharedList::new(alloc);
-    for _number in 0..count {
-        units.push(None)?;
+    if units.len() > count {
+        return Ok(SharedList::new(alloc));
     }
-    Ok(units)
+    units.copy()
+}
+
+/// A place for each of so many packages, of which none is finished. The places of such a list are shared, as far as they are no more.
+fn unfinished_units(
+    alloc: Global,
+    units: &SharedList<Option<Unit>>,
+    count: usize,
+) -> Result<SharedList<Option<Unit>>, AllocError>
+    requires { HasNone units.now }
+    ensures size { IfOk result (λ all. length all ≡ count) }
+    ensures none { IfOk result HasNone }
+{
+    let mut all = first_units(alloc, units, count)?;
+    for _number in all.len()..count {
+        all.push(None)?;
+    }
+    Ok(all)
 }
 
 impl Finished {
@@ -118,14 +140,6 @@ impl Finished {
         let front = front_from(&units, 0);
         let is_empty = has_none(&units);
         Finished::shared(alloc, units, front, is_empty)
-    }
-
-    /// The table of so many packages, of which none is finished.
-    fn none(alloc: Global, count: usize) -> Result<Finished, AllocError>
-        ensures { IfOk result (λ table. table ≡ replicate count None) }
-    {
-        let units = no_units(alloc, count)?;
-        Finished::shared(alloc, units, 0, true)
     }
 
     fn shared(
@@ -167,7 +181,8 @@ impl Finished {
         self.is_empty
     }
 
-    /// The table of so many packages where none is finished, as none is in this one. It is shared if it is of as many.
+    /// The table of so many packages where none is finished, as none is in this one. It is shared if it is of as many, and what is missing is
+    /// added to its places if it is of fewer.
     pub fn unfinished(&self, alloc: Global, count: usize) -> Result<Finished, AllocError>
         requires { HasNone self.now }
         ensures size { IfOk result (λ table. length table ≡ count) }
@@ -177,7 +192,8 @@ impl Finished {
             let shared = self.clone()?;
             return Ok(shared);
         }
-        Finished::none(alloc, count)
+        let units = unfinished_units(alloc, &self.units, count)?;
+        Finished::shared(alloc, units, 0, true)
     }
 
     /// The table in which one package more is finished.

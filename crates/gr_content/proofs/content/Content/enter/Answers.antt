@@ -2,6 +2,7 @@
 use Rattle.std.proofs.Common.{sym, subst}
 use Rattle.std.proofs.lemmas.Result.{IfOk-at_ok}
 use Rattle.gr_machine.specs.Machine.{Content}
+use Rattle.gr_history.specs.Histories.{content_of}
 use Rattle.gr_content.specs.Handed.{handed}
 use Rattle.gr_content.specs.Outcomes.{ComesTo}
 use Rattle.gr_machine.specs.Step.{AnswersOrLacks}
@@ -15,23 +16,14 @@ take_in-requires c =
     let job = c.args.job in
     let built = c.args.built in
     let comes = IfOk-at_ok (ComesTo c.args.self.now.current job built) c.in-Ok.is c.requires in
-    has_table c.self.inside.current job built c.in-Ok.outcome
+    has_table c.self.inside.history.current job built c.in-Ok.outcome
     (subst (λ (x : Content). ComesTo x.current job built c.in-Ok.outcome) (sym c.self.view_is) comes)
 
 pub returns-in-Ok-take_back : goal.returns-in-Ok-take_back
 returns-in-Ok-take_back c =
     let job = c.args.job in
     let built = c.args.built in
-    let old : Content = record {
-      limits = c.self.inside.limits;
-      earlier = c.self.inside.earlier.items;
-      current = c.self.inside.current;
-      later =
-          c.self.inside.later.items;
-      next = c.self.inside.next;
-      visit = c.self.inside.visit;
-      out = c.self.inside.out;
-    } in
+    let old : Content = content_of c.self.inside.history c.self.inside.limits c.self.inside.out in
     let new : Content = record old { current = c.take_in.new.current; out = c.take_back.new.self } in
     let comes = IfOk-at_ok (ComesTo c.args.self.now.current job built) c.in-Ok.is c.requires in
     let here = subst (λ (x : Content). ComesTo x.current job built c.in-Ok.outcome) (sym c.self.view_is) comes in

@@ -6,5 +6,5 @@ use Rattle.gr_content.proofs.content.Content.learn_current.Goals as goal
 
 pub learn_own-requires : goal.learn_own-requires
 learn_own-requires c =
-    subst (KnowsVerdicts c.self.inside.current.files) (sym c.in-Ok.ensures)
+    subst (KnowsVerdicts c.self.inside.history.current.files) (sym c.in-Ok.ensures)
     (subst (λ (m : Content). KnowsVerdicts m.current.files c.args.known) (sym c.self.view_is) c.requires)

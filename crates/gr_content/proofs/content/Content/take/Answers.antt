@@ -6,6 +6,7 @@ use Rattle.gr_compile.specs.Inputs.{AreInputs}
 use Rattle.gr_compile.specs.Jobs.{JobsOut, label_of, with_job}
 use Rattle.gr_compile.specs.declared.job.JobRecord.{JobRecord}
 use Rattle.gr_machine.specs.State.{State}
+use Rattle.gr_history.specs.Histories.{content_of}
 use Rattle.gr_machine.specs.Machine.{Content}
 use Rattle.gr_machine.specs.Waiting.{WaitsIn, IsFirstWaiting, IsNextJob}
 use Rattle.gr_content.proofs.content.Content.take.Goals as goal
@@ -24,17 +25,8 @@ returns c =
     let n = c.in-Some.number in
     let p = c.deref.result.now in
     let job = c.in_ok-job.job in
-    let state = c.self.inside.current in
-    let m : Content = record {
-      limits = c.self.inside.limits;
-      earlier = c.self.inside.earlier.items;
-      current = c.self.inside.current;
-      later =
-          c.self.inside.later.items;
-      next = c.self.inside.next;
-      visit = c.self.inside.visit;
-      out = c.self.inside.out;
-    } in
+    let state = c.self.inside.history.current in
+    let m : Content = content_of c.self.inside.history c.self.inside.limits c.self.inside.out in
     let handed = c.in_ok-job.ensures in
     let here : slice_get (package_paths c.current.inside.files) n ≡ Some p = c.package.ensures.path ∙ ap Some (sym c.deref.ensures.value) in
     let at : slice_get (package_paths state.files) n ≡ Some p = subst (λ (s : State). slice_get (package_paths s.files) n ≡ Some p) c.current.view_is here in
