@@ -17,15 +17,10 @@ use Rattle.gr_machine.specs.Journal.{kind_of, told_of}
 use Rattle.gr_machine.specs.Machine.{Machine}
 use Rattle.gr_machine.specs.Step.{Step, looked}
 use Rattle.gr_seats.specs.declared.receipt.Receipt.{Receipt}
-use Rattle.gr_pool.specs.Call.{Calls, Gains, IsLook, IsReceiptOf, IsStepOf, Looks, StepsAt}
+use Rattle.gr_locked.specs.Steps.{IsReceiptOf}
+use Rattle.gr_pool.specs.Call.{Calls, Gains, IsLook, Looks}
 use Rattle.gr_pool.specs.Call.{Replies}
 use Rattle.gr_pool.proofs.GainsLaws.{gains_more}
-
--- what one step of a book is to its caller
-pub step_of : (old : Machine) (event : Event) (reply : Reply) (kept : Option Receipt) (new : Machine) → StepsAt old event reply kept new →
-    IsStepOf event reply kept
-step_of old event reply (Some receipt) new s = (old, new, s)
-step_of old event reply None new s = s.1.0
 
 -- the entry of a receipt is of the event's kind
 kind_is : (event : Event) (reply : Reply) (receipt : Receipt) → IsReceiptOf event reply receipt → receipt.entry.line.kind ≡ kind_of event

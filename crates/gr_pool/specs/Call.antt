@@ -1,4 +1,4 @@
--- What a call does under the lock, and what it leaves at its seat.
+-- What a call leaves at its seat.
 use Rattle.std.specs.Prelude.{◌≡◌, ◌<◌, ℕ, List, [], ◌∷◌, ◌++◌, ◌⊎◌, All, length, slice_get, Option, Some, None, Result, Ok, Err}
 use Rattle.gr_text.specs.declared.refusal.Refusal.{Refusal}
 use Rattle.gr_text.specs.declared.refusal.Refusal.TheVariants.{Memory, JournalFull}
@@ -11,28 +11,9 @@ use Rattle.gr_machine.specs.declared.event.Event.TheVariants.{Look}
 use Rattle.gr_machine.specs.declared.event.Reply.{Reply}
 use Rattle.gr_machine.specs.declared.event.Reply.TheVariants.{Looked}
 use Rattle.gr_machine.specs.declared.view.View.{View}
-use Rattle.gr_machine.specs.Kept.{IsTurnedAway, StepKept}
-use Rattle.gr_machine.specs.Machine.{Machine, content}
-use Rattle.gr_machine.specs.Run.{IsReplay}
+use Rattle.gr_machine.specs.Kept.{IsTurnedAway}
 use Rattle.gr_seats.specs.declared.receipt.Receipt.{Receipt}
-
--- the content is the replay of the journal
-abbrev pub IsReplayed : Machine → Type 0
-IsReplayed m = ∥ IsReplay m.limits m.journal (content m) ∥₁
-
--- One step of a book, with a receipt of the entry that it added.
-abbrev pub StepsAt : Machine → Event → Reply → Option Receipt → Machine → Type 0
-StepsAt old event reply (Some receipt) new = IsReplayed old × (receipt.index ≡ length old.journal) × StepKept old event reply (Some receipt.entry) new
-StepsAt old event reply None new = StepKept old event reply None new
-
--- The receipt is that of one step of some book, whose content is the replay of its journal.
-abbrev pub IsReceiptOf : Event → Reply → Receipt → Type 0
-IsReceiptOf event reply receipt = (old : Machine) × (new : Machine) × StepsAt old event reply (Some receipt) new
-
--- the receipt is that of the step, or there is none, and the event was turned away
-abbrev pub IsStepOf : Event → Reply → Option Receipt → Type 0
-IsStepOf event reply (Some receipt) = IsReceiptOf event reply receipt
-IsStepOf event reply None = IsTurnedAway event reply
+use Rattle.gr_locked.specs.Steps.{IsReceiptOf}
 
 -- The event was one step of a book, at the index that was answered, and the seat has gained its receipt; or the event was turned away, and
 -- the seat has gained none.

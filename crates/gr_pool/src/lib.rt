@@ -2,9 +2,6 @@
 #![tactic(auto)]
 
 mod built;
-mod locked;
-mod settle;
 mod shared;
 
-pub use settle::Unsettled;
 pub use shared::Shared;

@@ -2,17 +2,16 @@
 ghost use Rattle.std.specs.Prelude.{◌≡◌, ◌+◌, ◌<◌, ◌≤◌, ◌↔◌, [], if◌then◌else◌, length, vec_len, is_some, IfSome, IsOk};
 ghost use Rattle.gr_verdict.specs.Found.{KnowsVerdicts};
 ghost use Rattle.gr_machine.specs.MayReply.{MayReply};
-ghost use Rattle.gr_pool.specs.Call.{Calls, IsReplayed, IsStepOf, Looks, LooksUntilBuilt};
-ghost use Rattle.gr_pool.specs.Call.{Replies};
+ghost use Rattle.gr_locked.specs.Outcome.{book_in};
+ghost use Rattle.gr_locked.specs.Steps.{IsReplayed, IsStepOf};
+ghost use Rattle.gr_pool.specs.Call.{Calls, Looks, LooksUntilBuilt, Replies};
 ghost use Rattle.gr_seats.specs.Settled.{IsSettled, receipt_count};
-ghost use Rattle.gr_pool.specs.Outcome.{book_in};
 
 use crate::built::is_built;
-use crate::locked::{Locked, is_done};
-use crate::settle::Unsettled;
 use gr_book::{Book, Looking};
 use gr_content::Question;
 use gr_graph::Graph;
+use gr_locked::{Locked, Unsettled, is_done, turn_away};
 use gr_machine::{Line, View};
 use gr_seats::{Opening, Receipt, Seat, jobs_after, reserve};
 use gr_text::Refusal;
@@ -74,7 +73,7 @@ impl<L: Opening> Shared<L> {
         ensures kind { MayReply (Q.event question) (Q.reply result.0) }
     {
         let needed = match reserve(&mut seat.receipts, seat.jobs, question.kind()) {
-            Err(_) => return (question.refuse(Refusal::Memory), None),
+            Err(_) => return (turn_away(question), None),
             Ok(needed) => needed,
         };
         let (answer, kept) = self.step(rt, &mut seat.share, question);

@@ -31,7 +31,7 @@ use Rattle.gr_content.specs.contracts.content.Content.{the_row as content}
 use Rattle.gr_book.specs.contracts.book.Book.{the_row as book}
 use Rattle.gr_seats.specs.contracts.seat.Seat.{the_row as seat}
 use Rattle.gr_pool.specs.contracts.shared.Shared.{the_row as shared}
-use Rattle.gr_pool.specs.contracts.locked.Locked.{the_row as locked}
+use Rattle.gr_locked.specs.contracts.locked.Locked.{the_row as locked}
 use Rattle.gr_seats.specs.declared.opening.Opening.{Ghosts as Opening}
 use Rattle.gr_chunks.proofs.list.SharedList.TheSendSync.{the_send as SharedList-send, the_sync as SharedList-sync}
 use Rattle.gr_text.proofs.file_text.FileText.TheSendSync.{the_send as FileText-send, the_sync as FileText-sync}

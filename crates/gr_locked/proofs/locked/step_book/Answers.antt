@@ -1,6 +1,6 @@
 -- A step gives a reply that its event may get.
 use Rattle.gr_machine.proofs.Replies.{may_reply}
-use Rattle.gr_pool.proofs.locked.step_book.Goals as goal
+use Rattle.gr_locked.proofs.locked.step_book.Goals as goal
 
 pub returns-clause-kind : goal.returns-clause-kind
 returns-clause-kind g c =

@@ -1,6 +1,6 @@
 -- The step of the locked book is one of some book.
-use Rattle.gr_pool.proofs.CallLaws.{step_of}
-use Rattle.gr_pool.proofs.locked.Locked.call.Goals as goal
+use Rattle.gr_locked.proofs.StepLaws.{step_of}
+use Rattle.gr_locked.proofs.locked.Locked.call.Goals as goal
 
 pub returns-clause-step : goal.returns-clause-step
 returns-clause-step g c =

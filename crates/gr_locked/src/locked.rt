@@ -1,10 +1,10 @@
 //! What lies under the lock.
 ghost use Rattle.std.specs.Prelude.{◌≡◌, ◌+◌, ◌<◌, ◌≤◌, ◌↔◌, [], length, vec_len, is_some, IfSome, IsOk, if◌then◌else◌};
 ghost use Rattle.gr_verdict.specs.Found.{KnowsVerdicts};
-ghost use Rattle.gr_machine.specs.Kept.{StepKept};
+ghost use Rattle.gr_machine.specs.Kept.{IsTurnedAway, StepKept};
 ghost use Rattle.gr_machine.specs.MayReply.{MayReply};
-ghost use Rattle.gr_pool.specs.Call.{IsReplayed, IsStepOf, StepsAt};
-ghost use Rattle.gr_pool.specs.Outcome.{book_in};
+ghost use Rattle.gr_locked.specs.Steps.{IsReplayed, IsStepOf, StepsAt};
+ghost use Rattle.gr_locked.specs.Outcome.{book_in};
 ghost use Rattle.gr_seats.specs.Settled.{IsSettled, receipt_count};
 
 use crate::settle::{Unsettled, is_settled};
@@ -13,12 +13,13 @@ use gr_content::Question;
 use gr_graph::Graph;
 use gr_machine::{Entry, EntryKind, Line, Told};
 use gr_seats::{Opening, Receipt, Seat, merged};
+use gr_text::Refusal;
 use gr_verdict::Known;
 use std::alloc::Global;
 use std::sync::ledger::{self, Share};
 
 /// A book, and the count of the entries that it gained since it was shared.
-pub(crate) struct Locked<L: Opening> {
+pub struct Locked<L: Opening> {
     pub book: Book,
     pub count: ledger::Book<L>,
     /// The parts of the seats that are still to be had.
@@ -42,8 +43,16 @@ fn step_book<Q: Question>(book: &mut Book, question: Q) -> (Q::Answer, Option<En
     book.step_kept(question)
 }
 
+/// What is answered to an event that is turned away, since there is no memory for its receipt.
+pub fn turn_away<Q: Question>(question: Q) -> Q::Answer
+    ensures turned { IsTurnedAway (Q.event question) (Q.reply result) }
+    ensures kind { MayReply (Q.event question) (Q.reply result) }
+{
+    question.refuse(Refusal::Memory)
+}
+
 /// Whether an entry is of an event that may give others something to do: it changed the workspace, or handed a Job in.
-pub(crate) fn is_done(line: &Line) -> bool {
+pub fn is_done(line: &Line) -> bool {
     match (line.kind, line.out) {
         (EntryKind::Look | EntryKind::Log | EntryKind::Take, _) => false,
         (_, Told::Done(_)) => true,
