@@ -104,7 +104,7 @@ def makes(line):
     """Whether the line makes want of memory, where it is more than a type, a declaration or a pattern."""
     value = line.partition("=>")[2] if "=>" in line else line
     value = re.sub(r"\bmatches!\(.*\)", "", value)
-    value = re.sub(r"(->|Result<|impl\b|From<|fn \w+\().*", "", value)
+    value = re.sub(r"(->|Result<|impl\b|From<|fn \w+(<.*?>)?\().*", "", value)
     return bool(WANT.search(value))
 
 

@@ -129,9 +129,7 @@ impl Content {
             self.history.next,
             change,
         )?;
-        let Ok(number) = self.history.go_on(self.limits, state) else {
-            return Err(Refusal::Memory);
-        };
+        let number = self.history.go_on(self.limits, state)?;
         Ok((number, edits))
     }
 

@@ -15,7 +15,7 @@ use gr_machine::{Entry, EntryKind, Line, Told};
 use gr_seats::{Opening, Receipt, Seat, merged};
 use gr_text::Refusal;
 use gr_verdict::Known;
-use std::alloc::Global;
+use std::alloc::{AllocError, Global};
 use std::sync::ledger::{self, Share};
 
 /// A book, and the count of the entries that it gained since it was shared.
@@ -44,11 +44,11 @@ fn step_book<Q: Question>(book: &mut Book, question: Q) -> (Q::Answer, Option<En
 }
 
 /// What is answered to an event that is turned away, since there is no memory for its receipt.
-pub fn turn_away<Q: Question>(question: Q) -> Q::Answer
+pub fn turn_away<Q: Question>(question: Q, error: AllocError) -> Q::Answer
     ensures turned { IsTurnedAway (Q.event question) (Q.reply result) }
     ensures kind { MayReply (Q.event question) (Q.reply result) }
 {
-    question.refuse(Refusal::Memory)
+    question.refuse(Refusal::from(error))
 }
 
 /// Whether an entry is of an event that may give others something to do: it changed the workspace, or handed a Job in.

@@ -73,7 +73,7 @@ impl<L: Opening> Shared<L> {
         ensures kind { MayReply (Q.event question) (Q.reply result.0) }
     {
         let needed = match reserve(&mut seat.receipts, seat.jobs, question.kind()) {
-            Err(_) => return (turn_away(question), None),
+            Err(error) => return (turn_away(question, error), None),
             Ok(needed) => needed,
         };
         let (answer, kept) = self.step(rt, &mut seat.share, question);

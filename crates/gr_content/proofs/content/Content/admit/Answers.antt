@@ -1,10 +1,24 @@
 -- The state after the change is the current one.
-use Rattle.std.proofs.Common.{◌≡◌, ◌<◌, ◌+◌, ◌^◌, refl, sym, ap, subst, ◌∙◌}
+use Rattle.std.proofs.Common.{◌≡◌, ◌<◌, ◌+◌, ◌^◌, ℕ, Result, Ok, Err, refl, sym, ap, subst, ◌∙◌}
+use Rattle.std.specs.Result.{IsErrAnd}
+use Rattle.gr_text.specs.declared.refusal.Refusal.{Refusal}
+use Rattle.gr_text.specs.declared.refusal.Refusal.TheVariants.{Memory}
 use Rattle.gr_text.specs.Workspace.{Workspace}
 use Rattle.gr_history.specs.Histories.{content_of}
+use Rattle.gr_edit.specs.EditSet.{FileChanges}
+use Rattle.gr_machine.specs.declared.event.Event.{Event}
+use Rattle.gr_machine.specs.declared.event.Event.TheVariants.{Commit}
+use Rattle.gr_machine.specs.declared.event.Reply.TheVariants.{Refused}
 use Rattle.gr_machine.specs.Machine.{Content, changed}
+use Rattle.gr_machine.specs.Step.{AnswersOrLacks, BringsJob, committed}
 use Rattle.gr_content.specs.Following.{IsStateAfter}
 use Rattle.gr_content.proofs.content.Content.admit.Goals as goal
+
+-- a change for which there is no memory leaves all as it was
+lacking : (old new : Content) (event : Event) (r : Result (ℕ × FileChanges) Refusal) → (BringsJob event → ⊥) → IsErrAnd r (λ n. n ≡ Memory) →
+    new ≡ old → AnswersOrLacks old event (committed r) new
+lacking old new event (Ok made) alone lacks same = absurd lacks
+lacking old new event (Err refusal) alone lacks same = subst (λ n. AnswersOrLacks old event (Refused n) new) (sym lacks) (alone, same)
 
 pub go_on-requires : goal.go_on-requires
 go_on-requires c = record {
@@ -20,9 +34,9 @@ returns-clause-answer c =
     let state = c.in_ok-state.state in
     let after = subst (λ (x : Content). IsStateAfter x.current x.next c.args.change state) c.self.view_is c.in_ok-state.ensures.state in
     let new = content_of c.go_on.new.self c.self.inside.limits c.self.inside.out in
-    let gone = subst (λ (x : Content). new ≡ changed x state.files state.finished) c.self.view_is (c.in-Ok.ensures.ok c.self.inside.out) in (
+    let gone = subst (λ (x : Content). new ≡ changed x state.files state.finished) c.self.view_is (c.in_ok-number.ensures.ok c.self.inside.out) in (
       (refl, c.requires.base),
-      c.in-Ok.ensures.number ∙ ap (λ (x : Content). x.next) c.self.view_is,
+      c.in_ok-number.ensures.number ∙ ap (λ (x : Content). x.next) c.self.view_is,
       (
         state.finished,
         after.carried,
@@ -30,5 +44,9 @@ returns-clause-answer c =
       ),
     )
 
-pub returns-in_default-clause-answer : goal.returns-in_default-clause-answer
-returns-in_default-clause-answer c = (λ b. b, c.in_default.ensures.err c.self.inside.limits c.self.inside.out ∙ c.self.view_is)
+pub returns-in_err-number-clause-answer : goal.returns-in_err-number-clause-answer
+returns-in_err-number-clause-answer c =
+    let new = content_of c.go_on.new.self c.self.inside.limits c.self.inside.out in
+    let failed = c.from_residual-in_err-number in
+    let same = c.in_err-number.ensures.err c.self.inside.limits c.self.inside.out ∙ c.self.view_is in
+    lacking c.args.self.now new (Commit c.args.self.now.current.number c.args.change) failed.result (λ b. b) failed.ensures.1 same
