@@ -26,7 +26,7 @@ use Rattle.gr_compile.specs.contracts.unit.Compiled.{the_row as compiled}
 use Rattle.gr_compile.specs.contracts.unit.Unit.{the_row as unit}
 use Rattle.gr_finished.specs.contracts.finished.Finished.{the_row as finished}
 use Rattle.gr_machine.specs.contracts.state.State.{the_row as state}
-use Rattle.gr_history.specs.contracts.history.History.{the_row as history}
+use Rattle.gr_history.specs.contracts.history.History.{the_field as history_field}
 use Rattle.gr_content.specs.contracts.content.Content.{the_row as content}
 use Rattle.gr_book.specs.contracts.book.Book.{the_row as book}
 use Rattle.gr_seats.specs.contracts.seat.Seat.{the_row as seat}
@@ -154,11 +154,12 @@ finished_sent = search (owned, SharedList-send, SharedList-sync, unit_sent, unit
 pub state_sent : IsSend state
 state_sent = search (owned, graph_sent, finished_sent, shared_known_sent) depth 30 fits 50000
 
-pub history_sent : IsSend history
-history_sent = search (owned, state_sent) depth 30 fits 50000
+-- as a field, as a package is above
+history_field_sent : IsSend history_field.row
+history_field_sent = search (owned, state_sent) depth 30 fits 50000
 
 pub content_sent : IsSend content
-content_sent = search (owned, history_sent, Out-send) depth 30 fits 50000
+content_sent = search (owned, history_field_sent, Out-send) depth 30 fits 50000
 
 pub book_sent : IsSend book
 book_sent = search (owned, content_sent, Entry-send) depth 30 fits 50000
