@@ -24,7 +24,7 @@ object_of-requires-clause-found c =
     let right = c.requires.right in
     let below = known_right w p all right.right (right.below p c.requires.at.has_path) in
     let empty = subst (λ (g : Finding). g.faults.items ≡ []) c.finding-finding.ensures
-        (vec_empty f.faults c.is_empty.result c.is_empty.ensures c.if-not-is_empty.false) in
+    (vec_empty f.faults c.is_empty.result c.is_empty.ensures c.if-not-is_empty.false) in
     let base : IsFaultlessSeeing w all.interfaces one.interfaces p one.finding.members.items =
     seen_faultless w p all.interfaces one.interfaces one.finding below c.requires.told c.requires.verdict.right c.requires.verdict.finding empty in
     let members : IsFaultlessSeeing w all.interfaces one.interfaces p f.members.items =
