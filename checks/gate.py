@@ -1,4 +1,4 @@
-"""rt ci, with two things done otherwise that change nothing of what is proved and refused, and one more thing run.
+"""rt ci, with three things done otherwise that change nothing of what is proved and refused, and one more thing run.
 
 usage: python3 checks/gate.py
 
@@ -7,8 +7,11 @@ and takes hours. Here the sum and the libraries of each crate are found once in 
 
 Order: a gate takes no less than its longest chain of crates, one behind another. rt tells how long a chain is by lines, plans for
 more memory than proofs take, and may give each proof one processor. Here a chain is told by the seconds of checks/gate_seconds.txt, and the
-proof with the longest chain behind it has up to three processors, where that chain may be longer than what is left for each processor. Else a
-proof has one: with two or three it may take up to twice the processor time, where others are proved beside it. checks/gate.sh runs this.
+proof with the longest chain behind it has up to three processors, also where others have one of them, where that chain may be longer than what is
+left for each processor. Else a proof has one: with two or three it may take up to twice the processor time, where others are proved beside it.
+checks/gate.sh runs this.
+
+Layout: rt ci refuses a crate with a file that rt fmt lays out otherwise, before it proves it. Here all crates are asked first.
 
 The program: where rt runs a build of gr_server, all of crates/gr_server/sessions and the checks of program.py are run on the same build. One
 that is answered otherwise fails the run of the program, so the gate fails, and its last line tells of it.
@@ -117,7 +120,8 @@ def lanes_of(rt):
                         break
                     is_first = key[1] == "proof" and behind[key] >= 0.99 * behind[left[0]]
                     is_long = behind[key] > LONG * sum(seconds[it] for it in left) / processors()
-                    jobs = min(idle, PROCESSORS_OF_THE_FIRST) if is_first and is_long else 1
+                    most = max(idle, processors() - 1)
+                    jobs = min(most, PROCESSORS_OF_THE_FIRST) if is_first and is_long else 1
                     left.remove(key)
                     running[pool.submit(tasks[key][3], given, jobs)] = key, jobs
                 for it in wait(running, return_when=FIRST_COMPLETED).done:
@@ -166,8 +170,18 @@ def with_checks(rt, asked):
     return run
 
 
+def out_of_layout(rt):
+    """The crates with a file that rt fmt would lay out otherwise. rt ci asks it of each crate right before it is proved, which may be late."""
+    crates = os.path.join(os.path.dirname(CHECKS), "crates")
+    return [name for name in sorted(os.listdir(crates)) if rt.rtlib.fmt(os.path.join(crates, name), "--check", sys.stdout)]
+
+
 def main():
     rt = load(os.path.realpath(shutil.which("rt")))
+    wrong = out_of_layout(rt)
+    if wrong:
+        print(f"rt fmt lays out files of {', '.join(wrong)} otherwise\n0 passed, {len(wrong)} failed")
+        return 1
     asked = []
     rt.run = with_checks(rt, asked)
     crate = rt.rtlib.Crate
