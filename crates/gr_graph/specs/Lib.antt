@@ -17,6 +17,7 @@ pub mod Staying
 pub mod NamedFiles
 pub mod Changed
 pub mod Updated
+pub mod HeldFiles
 pub mod Reaching
 pub mod Orders
 pub mod Shifts

@@ -1,5 +1,5 @@
 -- Packages of which those at some paths are others than before, where some may come and some may go.
-use Rattle.std.specs.Prelude.{◌≡◌, ℕ, ◌<◌, ◌≤◌, ◌⊎◌, true, List, length, slice_index_or, []}
+use Rattle.std.specs.Prelude.{◌≡◌, ℕ, ◌<◌, ◌≤◌, ◌⊎◌, true, List, length, map, slice_index_or, []}
 use Rattle.std.specs.List.{Contains}
 use Rattle.std.specs.List.Sorted.{IsStrictlySortedBy}
 use Rattle.std.specs.declared.cmp.Ordering.TheVariants.{Less}
@@ -14,12 +14,19 @@ pub record IsPlace (paths : List (List ℕ)) (path : List ℕ) (place : ℕ) : T
   pub below : (k : ℕ) → k < place → path_cmp (slice_index_or paths k []) path ≡ Less
   pub above : (k : ℕ) → place ≤ k → k < length paths → path_cmp path (slice_index_or paths k []) ≡ Less
 
--- the packages that do not have the path, in order, and the path's place among them
-pub record TakesOut (path : List ℕ) (old new : List ParsedPackage) (place : ℕ) : Type 0 where
-  pub sorted : IsStrictlySortedBy path_cmp (paths_of new)
-  pub stands : IsPlace (paths_of new) path place
-  pub from : (p : ParsedPackage) → Contains new p → Contains old p
-  pub kept : (p : ParsedPackage) → Contains old p → (p.path.items ≡ path → ⊥) → Contains new p
+-- those that do not have the path, in order, and the path's place among them
+pub record TakesOut {X : Type 0} (path_of : X → List ℕ) (path : List ℕ) (old new : List X) (place : ℕ) : Type 0 where
+  pub sorted : IsStrictlySortedBy path_cmp (map path_of new)
+  pub stands : IsPlace (map path_of new) path place
+  pub from : (x : X) → Contains new x → Contains old x
+  pub kept : (x : X) → Contains old x → (path_of x ≡ path → ⊥) → Contains new x
+
+-- those that do not have the path of one, and this one, in order
+pub record PutsIn {X : Type 0} (path_of : X → List ℕ) (one : X) (old new : List X) : Type 0 where
+  pub sorted : IsStrictlySortedBy path_cmp (map path_of new)
+  pub each : (x : X) → Contains new x → (x ≡ one) ⊎ (Contains old x × (path_of x ≡ path_of one → ⊥))
+  pub own : Contains new one
+  pub kept : (x : X) → Contains old x → (path_of x ≡ path_of one → ⊥) → Contains new x
 
 -- the packages that do not have the path of one, and this one if it has a file, in order
 pub record Puts (one : ParsedPackage) (old new : List ParsedPackage) : Type 0 where

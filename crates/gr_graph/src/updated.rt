@@ -22,7 +22,7 @@ fn place_of(packages: &[SharedPackage], path: &[u8]) -> Result<usize, usize>
 /// Takes out the package that has a path, if one has it. The answer is the place where such a package would stand.
 fn take_out(packages: &mut Vec<SharedPackage>, path: &[u8]) -> usize
     requires { IsStrictlySortedBy path_cmp (paths_of packages.old.items) }
-    ensures { TakesOut path.now packages.old.items packages.new.items result }
+    ensures { TakesOut (λ p. p.path.items) path.now packages.old.items packages.new.items result }
 {
     match place_of(packages, path) {
         Ok(number) => {
