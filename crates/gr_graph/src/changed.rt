@@ -2,55 +2,15 @@
 ghost use Rattle.std.specs.Prelude.{◌≡◌, IfOk, IsTrue, length};
 ghost use Rattle.std.specs.List.{All};
 ghost use Rattle.std.specs.List.Sorted.{IsStrictlySortedBy};
-ghost use Rattle.gr_text.specs.Workspace.{path_cmp, Workspace};
-ghost use Rattle.gr_graph.specs.Changed.{AreOfFolders, AreReplaced, HasRow, KeepsPath, has_file};
-ghost use Rattle.gr_graph.specs.Filling.{names};
+ghost use Rattle.gr_text.specs.Workspace.{path_cmp};
+ghost use Rattle.gr_graph.specs.Changed.{AreReplaced, HasRow, KeepsPath, has_file};
 ghost use Rattle.gr_graph.specs.Graphs.{paths_of};
-ghost use Rattle.gr_graph.specs.NamedFiles.{AreFresh, ArePackages};
-ghost use Rattle.gr_graph.specs.Staying.{DiffersOnlyAt};
 
 use crate::import_links::ImportLinks;
-use crate::named_files::{files_at, folders_of, reset_paths};
 use crate::package::ParsedPackage;
-use crate::packages::{filled, packages_at, shared};
 use crate::rows::fill_row;
 use crate::shared_package::{SharedPackage, number_of};
-use gr_text::{Files, Path};
 use std::alloc::{AllocError, Global};
-use std::collections::BTreeSet;
-
-/// The packages of files at some folders, which have no file where a folder has no Go file. What is among the packages before is not
-/// parsed again.
-fn packages_of(
-    alloc: Global,
-    before: &[SharedPackage],
-    folders: &BTreeSet<&[u8]>,
-    files: &Files,
-) -> Result<Vec<SharedPackage>, AllocError>
-    requires { IsStrictlySortedBy path_cmp (paths_of before.now) }
-    ensures { IfOk result (λ fresh. AreOfFolders (names folders.now.keys) files.now fresh.items) }
-{
-    let empty = packages_at(alloc, folders)?;
-    let drafts = filled(alloc, before, empty, files)?;
-    shared(alloc, drafts)
-}
-
-/// The packages at the folders of the paths at which files may differ, which have no file where a folder has no Go file. No other
-/// file is looked at than those of these packages before and those at these paths.
-pub(crate) fn folder_packages(
-    alloc: Global,
-    before: &[SharedPackage],
-    files: &Files,
-    paths: &[&Path],
-) -> Result<Vec<SharedPackage>, AllocError>
-    requires { IsStrictlySortedBy path_cmp (paths_of before.now) }
-    ensures { IfOk result (λ fresh. (v : Workspace) → ArePackages v before.now → DiffersOnlyAt (names paths.now) v files.now → AreFresh v files.now fresh.items) }
-{
-    let folders = folders_of(alloc, paths)?;
-    let mut part = files_at(alloc, before, &folders)?;
-    reset_paths(&mut part, files, paths)?;
-    packages_of(alloc, before, &folders, &part)
-}
 
 pub(crate) fn has_file(one: &ParsedPackage) -> bool
     ensures { result ≡ has_file one.now }

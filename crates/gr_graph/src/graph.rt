@@ -1,4 +1,5 @@
 //! The graph of a workspace: its packages with their parsed files, and which imports which.
+ghost use Rattle.std.specs.FinMap as map;
 ghost use Rattle.std.specs.Prelude.{◌≡◌, ◌<◌, ℕ, [], ◌∷◌, true, length, IfOk, OnOk, MatchOption, Some, slice_get};
 ghost use Rattle.std.specs.List.{All, Contains};
 ghost use Rattle.std.specs.List.Sorted.{IsStrictlyIncreasing};
@@ -20,12 +21,12 @@ ghost use Rattle.gr_graph.specs.Graphs.{
   HoldsPackages,
 };
 
-use crate::changed::{folder_packages, keep_paths, keep_rows, replaced};
+use crate::changed::{keep_paths, keep_rows, replaced};
+use crate::drafts::packages_with;
 use crate::grown::{Grown, grown_links};
 use crate::import_links::ImportLinks;
 use crate::package::ParsedPackage;
 use crate::package_list::PackageList;
-use crate::packages::packages;
 use crate::packages_below::PackagesBelow;
 use crate::rows::{EarlierGraph, rows};
 use crate::shared_links::SharedLinks;
@@ -95,13 +96,12 @@ fn links_of(before: Option<&Parts>) -> Option<&SharedLinks> {
 }
 
 impl Graph {
-    /// Parses the Go files and finds which packages they import.
-    pub fn of(alloc: Global, files: Files) -> Result<Graph, AllocError>
-        ensures { IfOk result (λ graph. graph ≡ files) }
+    /// The graph of no files.
+    pub fn empty(alloc: Global) -> Result<Graph, AllocError>
+        ensures { IfOk result (λ graph. graph ≡ map.empty) }
     {
-        let none = Vec::new(alloc);
-        let packages = packages(alloc, &none, &files)?;
-        Graph::made(alloc, None, files, packages)
+        let files = Files::new(alloc);
+        Graph::made(alloc, None, files, Vec::new(alloc))
     }
 
     /// The graph of other files, whose Go files differ from those of the graph before only at some paths. Packages at the folders of
@@ -116,7 +116,7 @@ impl Graph {
         ensures { IfOk result (λ graph. graph ≡ files) }
     {
         let old: &Parts = &before.parts;
-        let fresh = folder_packages(alloc, &old.packages, &files, paths)?;
+        let fresh = packages_with(alloc, &old.packages, &files, paths)?;
         if keep_paths(&old.packages, &fresh) {
             return Graph::replaced(alloc, before, &fresh, files);
         }

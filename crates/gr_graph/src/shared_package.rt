@@ -3,10 +3,10 @@ ghost use Rattle.std.specs.Prelude.{◌≡◌, IfOk, IfSome, IsTrue, Some, slice
 ghost use Rattle.std.specs.List.{Contains};
 ghost use Rattle.std.specs.List.Sorted.{IsStrictlySortedBy};
 ghost use Rattle.gr_text.specs.Workspace.{path_cmp};
+ghost use Rattle.gr_graph.specs.Drafts.{IsDraft, IsSamePackage};
 ghost use Rattle.gr_graph.specs.Graphs.{paths_of};
 ghost use Rattle.gr_graph.specs.ImportPaths.{HoldsPaths, SomeImport};
 
-use crate::import_paths::import_paths;
 use crate::package::ParsedPackage;
 use std::alloc::{AllocError, Global};
 use std::collections::BTreeSet;
@@ -15,9 +15,9 @@ use std::sync::Arc;
 
 /// A package with the paths that its files import.
 #[derive(Drop)]
-struct PackageParts {
-    package: ParsedPackage,
-    imports: BTreeSet<Vec<u8>>,
+pub(crate) struct PackageParts {
+    pub(crate) package: ParsedPackage,
+    pub(crate) imports: Arc<BTreeSet<Vec<u8>>, Global>,
 }
 
 /// A package that no longer changes. A clone shares it.
@@ -28,7 +28,7 @@ pub(crate) struct SharedPackage {
 
 impl Model for SharedPackage {
     ghost use Rattle.std.specs.Arc.{arc_value};
-    ghost use Rattle.gr_graph.specs.ImportPaths.{HoldsPaths, SomeImport};
+    ghost use Rattle.gr_graph.specs.Drafts.{IsDraft};
     ghost use Rattle.gr_graph.specs.declared.package.ParsedPackage.{ParsedPackage};
     ghost use Rattle.gr_graph.specs.contracts.package.ParsedPackage.{the_row};
 
@@ -38,21 +38,26 @@ impl Model for SharedPackage {
 
     ghost view = { λ a. (arc_value a.parts).package };
 
-    ghost invariant = { λ a. HoldsPaths (SomeImport (arc_value a.parts).package.trees.items) (arc_value a.parts).imports.keys };
+    ghost invariant = { λ a. IsDraft (arc_value a.parts) };
 }
 
 impl SharedPackage {
-    /// Reads what the files import.
-    pub(crate) fn new(alloc: Global, whole: ParsedPackage) -> Result<SharedPackage, AllocError>
-        ensures { IfOk result (λ shared. shared ≡ whole) }
+    pub(crate) fn new(alloc: Global, parts: PackageParts) -> Result<SharedPackage, AllocError>
+        requires { IsDraft parts }
+        ensures { IfOk result (λ shared. shared ≡ parts.package) }
     {
-        let imports = import_paths(alloc, &whole.trees)?;
-        let parts = PackageParts {
-            package: whole,
-            imports,
-        };
         let parts = Arc::new(alloc, parts)?;
         Ok(SharedPackage { parts })
+    }
+
+    /// The same files and imports, of which files can be set.
+    pub(crate) fn to_parts(&self) -> Result<PackageParts, AllocError>
+        ensures draft { IfOk result IsDraft }
+        ensures package { IfOk result (λ parts. IsSamePackage parts.package self.now) }
+    {
+        let imports = Arc::try_clone(&self.parts.imports)?;
+        let package = self.parts.package.copy()?;
+        Ok(PackageParts { package, imports })
     }
 
     pub(crate) fn package(&self) -> &ParsedPackage

@@ -1,0 +1,203 @@
+-- Packages while single files of them are set.
+use Rattle.std.proofs.Common.{ℕ, ◌≡◌, ◌<◌, ◌⊎◌, ◌∷◌, ◌++◌, ◌&&◌, ◌==◌, [], List, true, false, zero, suc, map, ⊎_elim, ap, sym, subst, ◌∙◌, refl, Option, Some, None, slice_get, get_or, length}
+use Rattle.std.proofs.Math.ListN.{set}
+use Rattle.std.specs.FinMap.{get}
+use Rattle.std.specs.Cmp.Lexicographic.{pointwise, bytes_decides}
+use Rattle.std.specs.Option.{option_map}
+use Rattle.std.specs.List.{All, Contains}
+use Rattle.std.specs.List.Sorted.{IsStrictlySortedBy}
+use Rattle.std.proofs.lemmas.Bool.{and_parts, cases_eq}
+use Rattle.std.proofs.lemmas.List.{length-map}
+use Rattle.std.proofs.lemmas.List.Elements.{All-contains, Contains-append_left, Contains-append_right, Contains-get_or, Contains-push, Contains-push_cases}
+use Rattle.std.proofs.lemmas.Option.{get_or_from_slice_get, same_Some, slice_get-map, slice_get_read, slice_get_within}
+use Rattle.gr_text.specs.Path.{folder}
+use Rattle.gr_text.specs.Packages.{is_go, is_of_package}
+use Rattle.gr_text.specs.Workspace.{Workspace, path_cmp}
+use Rattle.gr_tree.specs.SourceFile.{FileParts}
+use Rattle.gr_graph.specs.Drafts.{AreDraftsAt, HasText, HoldsDraft, IsDraft, IsGone, SetsFile, SetsFiles, packages_of, tree_path}
+use Rattle.gr_graph.specs.FaultyFiles.{FaultyParts}
+use Rattle.gr_graph.specs.Graphs.{paths_of}
+use Rattle.gr_graph.specs.HeldFiles.{HoldFiles, tree_paths}
+use Rattle.gr_graph.specs.NamedFiles.{AreFresh, ArePackages, HaveFolders, Resets}
+use Rattle.gr_graph.specs.Staying.{DiffersOnlyAt, HasFiles}
+use Rattle.gr_graph.specs.Updated.{IsPlace}
+use Rattle.gr_graph.specs.declared.package.ParsedPackage.{ParsedPackage}
+use Rattle.gr_graph.specs.declared.shared_package.PackageParts.{PackageParts}
+use Rattle.gr_graph.proofs.Collected.{none_held}
+use Rattle.gr_edit.proofs.Held.{mapped_from}
+use Rattle.gr_graph.proofs.FoundFolders.{not_true}
+use Rattle.gr_graph.proofs.Filled.{set_elsewhere, set_there}
+use Rattle.gr_graph.proofs.HeldFiles.{has_held, held_apart, held_final, held_same, reset_next}
+use Rattle.gr_graph.proofs.NamedFiles.{is_among, resets_none, resets_more}
+use Rattle.gr_graph.proofs.PackagePaths.{one_number}
+use Rattle.gr_graph.proofs.SortedLists.{first_or_later}
+use Rattle.gr_graph.proofs.UpdatedPackages.{place_apart}
+
+-- ---- the tree that is gone
+tree_there : (trees : List FileParts) (i : ℕ) (t : FileParts) → slice_get trees i ≡ Some t → slice_get (tree_paths trees) i ≡ Some t.path
+tree_there trees i t at = slice_get-map tree_path trees i ∙ ap (option_map tree_path) at
+
+pub gone_one : (path : List ℕ) (trees : List FileParts) (n : ℕ) (gone : FileParts) → IsStrictlySortedBy path_cmp (tree_paths trees) →
+    slice_get (tree_paths trees) n ≡ Some path → slice_get trees n ≡ Some gone → IsGone path trees (Some gone)
+gone_one path trees n gone sorted named at t has same =
+    let there : slice_get trees has.0 ≡ Some t = slice_get_read trees (length trees) has.0 t refl has.1 (sym has.2) in
+    let number : has.0 ≡ n = one_number (tree_paths trees) sorted has.0 n path (tree_there trees has.0 t there ∙ ap Some same) named in
+    sym at ∙ ap (slice_get trees) (sym number) ∙ there
+
+pub gone_none : (path : List ℕ) (trees : List FileParts) (place : ℕ) → IsPlace (tree_paths trees) path place → IsGone path trees None
+gone_none path trees place stands t has same =
+    absurd (place_apart (tree_paths trees) path place stands (subst (Contains (tree_paths trees)) same
+    (has.0, subst (λ (m : ℕ). has.0 < m) (sym (length-map trees tree_path)) has.1, get_or_from_slice_get (tree_paths trees) has.0 t.path t.path
+    (tree_there trees has.0 t (slice_get_read trees (length trees) has.0 t refl has.1 (sym has.2))))))
+
+-- ---- a text that is there already
+text_there : (v : Workspace) (p : List ℕ) (trees : List FileParts) (faulty : List FaultyParts) (path text : List ℕ) → HoldFiles v p trees faulty →
+    HasText trees faulty path text → get v path ≡ Some text
+text_there v p trees faulty path text held has = ⊎_elim
+    (λ (t : (t : FileParts) × Contains trees t × (t.path ≡ path) × (t.cut.text ≡ text)).
+    ap (get v) (sym t.1.1.0) ∙ (held.tree t.0 t.1.0).there ∙ ap Some t.1.1.1)
+    (λ (f : (f : FaultyParts) × Contains faulty f × (f.path ≡ path) × (f.text ≡ text)).
+    ap (get v) (sym f.1.1.0) ∙ (held.fault f.0 f.1.0).there ∙ ap Some f.1.1.1)
+    has
+
+pub text_stays : (w : Workspace) (path text : List ℕ) (d : PackageParts) → IsDraft d → get w path ≡ Some text →
+    HasText d.package.trees.items d.package.faulty.items path text → SetsFile w path d d
+text_stays w path text d draft at has = record {
+  same_path = refl;
+  draft = draft;
+  files = λ v u resets held.
+      held_same resets held (at ∙ sym (text_there v d.package.path.items d.package.trees.items d.package.faulty.items path text held has));
+}
+
+-- ---- all of a list
+pub all_from : {X : Type 0} {P : X → Type 0} (xs : List X) → ((x : X) → Contains xs x → P x) → All P xs
+all_from xs each k d within = each (get_or xs k d) (Contains-get_or xs k d within)
+
+pub there : {X : Type 0} (xs : List X) (k : ℕ) (x : X) → slice_get xs k ≡ Some x → Contains xs x
+there xs k x at = (k, slice_get_within xs k x at, get_or_from_slice_get xs k x x at)
+
+pub read : {X : Type 0} (xs : List X) (x : X) (has : Contains xs x) → slice_get xs has.0 ≡ Some x
+read xs x has = slice_get_read xs (length xs) has.0 x refl has.1 (sym has.2)
+
+-- ---- what stands at several paths
+reset_to : (w v : Workspace) (paths : List (List ℕ)) → (u : Workspace) × Resets w paths v u
+reset_to w v [] = (v, resets_none w v)
+reset_to w v (path ∷ paths) =
+    let first = reset_next w v path in
+    let rest = reset_to w first.0 paths in
+    (rest.0, resets_more w (path ∷ []) paths v first.0 rest.0 first.1 rest.1)
+
+last_reset : (w v m u : Workspace) (paths : List (List ℕ)) (path : List ℕ) → Resets w paths v m → Resets w (paths ++ path ∷ []) v u →
+    Resets w (path ∷ []) m u
+last_reset w v m u paths path first all = record {
+  own = λ q has. all.own q (Contains-append_right paths (path ∷ []) q has);
+  others = λ q apart. is_among q paths
+      (λ has. all.own q (Contains-append_left paths (path ∷ []) q has) ∙ sym (first.own q has))
+      (λ never. all.others q (λ has. ⊎_elim never (λ (same : path ≡ q). apart (subst (Contains (path ∷ [])) same (Contains-push [] path)))
+      (Contains-push_cases paths path q has)) ∙ sym (first.others q never));
+}
+
+pub sets_none : (w : Workspace) (ds : List PackageParts) → All IsDraft ds → SetsFiles w [] ds ds
+sets_none w ds drafts = record {
+  same_paths = refl;
+  drafts = drafts;
+  files = λ v u resets held. all_from ds (λ d has.
+      held_final (All-contains (HoldsDraft v) ds d held has) (λ path _. resets.others path (λ none. none_held path none)));
+}
+
+pub sets_more : (w : Workspace) (paths : List (List ℕ)) (path : List ℕ) (a b c : List PackageParts) → SetsFiles w paths a b → SetsFiles w (path ∷ []) b c →
+    SetsFiles w (paths ++ path ∷ []) a c
+sets_more w paths path a b c first second = record {
+  same_paths = second.same_paths ∙ first.same_paths;
+  drafts = second.drafts;
+  files = λ v u resets held.
+      let middle = reset_to w v paths in
+      second.files middle.0 u (last_reset w v middle.0 u paths path middle.1 resets) (first.files v middle.0 middle.1 held);
+}
+
+-- ---- one path in several packages
+of_other : (p path : List ℕ) → (folder path ≡ p → ⊥) → is_of_package p path ≡ false
+of_other p path apart = not_true (is_of_package p path)
+    (λ is. apart ((bytes_decides (folder path) p).0 (and_parts (is_go path) (pointwise ◌==◌ (folder path) p) is).1))
+
+draft_path : (ds : List PackageParts) (k : ℕ) (d : PackageParts) → slice_get ds k ≡ Some d → slice_get (paths_of (packages_of ds)) k ≡ Some d.package.path.items
+draft_path ds k d at =
+    slice_get-map (λ (p : ParsedPackage). p.path.items) (packages_of ds) k
+    ∙ ap (option_map (λ (p : ParsedPackage). p.path.items)) (slice_get-map (λ (x : PackageParts). x.package) ds k
+    ∙ ap (option_map (λ (x : PackageParts). x.package)) at)
+
+set_paths : (ds : List PackageParts) (n : ℕ) (b a : PackageParts) → slice_get ds n ≡ Some b → a.package.path.items ≡ b.package.path.items →
+    paths_of (packages_of (set ds n a)) ≡ paths_of (packages_of ds)
+set_paths [] n b a at same = refl
+set_paths (d ∷ ds) zero b a at same =
+    ap (λ path. path ∷ paths_of (packages_of ds)) (same ∙ ap (λ (x : PackageParts). x.package.path.items) (sym (same_Some d b at)))
+set_paths (d ∷ ds) (suc n) b a at same = ap (λ rest. d.package.path.items ∷ rest) (set_paths ds n b a at same)
+
+-- one of a list in which one was set
+set_cases : {P : Type 0} (ds : List PackageParts) (n : ℕ) (b a d : PackageParts) → slice_get ds n ≡ Some b → Contains (set ds n a) d → (d ≡ a → P) →
+    ((k : ℕ) → (k ≡ n → ⊥) → slice_get ds k ≡ Some d → P) → P
+set_cases ds n b a d at has own other =
+    let k = has.0 in
+    let now = read (set ds n a) d has in
+    ⊎_elim
+    (λ (here : k ≡ n). own (same_Some d a (sym now ∙ ap (slice_get (set ds n a)) here ∙ set_there ds n b a at)))
+    (λ (apart : k ≡ n → ⊥). other k apart (sym (set_elsewhere ds n k a apart) ∙ now))
+    (cases_eq k n)
+
+module _ (w : Workspace) (path : List ℕ) (ds : List PackageParts) (sorted : IsStrictlySortedBy path_cmp (paths_of (packages_of ds))) (drafts : All IsDraft ds)
+    where
+  -- the path is that of a file of one of them
+  pub sets_one : (n : ℕ) (b a : PackageParts) (new : List PackageParts) → slice_get ds n ≡ Some b → new ≡ set ds n a →
+      is_go path ≡ true → folder path ≡ b.package.path.items → SetsFile w path b a → SetsFiles w (path ∷ []) ds new
+  sets_one n b a new at is go of sets = subst (SetsFiles w (path ∷ []) ds) (sym is) (record {
+    same_paths = set_paths ds n b a at sets.same_path;
+    drafts = all_from (set ds n a) (λ d has. set_cases ds n b a d at has
+        (λ own. subst IsDraft (sym own) sets.draft)
+        (λ k apart was. All-contains IsDraft ds d drafts (there ds k d was)));
+    files = λ v u resets held. all_from (set ds n a) (λ d has. set_cases ds n b a d at has
+        (λ own. subst (HoldsDraft u) (sym own) (sets.files v u resets (All-contains (HoldsDraft v) ds b held (there ds n b at))))
+        (λ k apart was. held_apart resets (All-contains (HoldsDraft v) ds d held (there ds k d was))
+        (of_other d.package.path.items path (λ same. apart (one_number (paths_of (packages_of ds)) sorted k n (folder path)
+        (draft_path ds k d was ∙ ap Some (sym same)) (draft_path ds n b at ∙ ap Some (sym of)))))));
+  })
+
+  -- or of none
+  pub sets_other : ((p : List ℕ) → Contains (paths_of (packages_of ds)) p → is_of_package p path ≡ false) → SetsFiles w (path ∷ []) ds ds
+  sets_other none = record {
+    same_paths = refl;
+    drafts = drafts;
+    files = λ v u resets held. all_from ds (λ d has. held_apart resets (All-contains (HoldsDraft v) ds d held has)
+        (none d.package.path.items (there (paths_of (packages_of ds)) has.0 d.package.path.items (draft_path ds has.0 d (read ds d has)))));
+  }
+
+  pub sets_none_there : (Contains (paths_of (packages_of ds)) (folder path) → ⊥) → SetsFiles w (path ∷ []) ds ds
+  sets_none_there never = sets_other (λ p has. of_other p path (λ same. never (subst (Contains (paths_of (packages_of ds))) (sym same) has)))
+
+  pub sets_no_go : is_go path ≡ false → SetsFiles w (path ∷ []) ds ds
+  sets_no_go no = sets_other (λ p has. ap (λ b. b && pointwise ◌==◌ (folder path) p) no)
+
+-- ---- all paths at which files may differ
+module _ (v w : Workspace) (before : List ParsedPackage) (folders paths : List (List ℕ)) (drafts made : List PackageParts) (are : ArePackages v before)
+    (at : AreDraftsAt before folders drafts) (sets : SetsFiles w paths drafts made) (have : HaveFolders paths folders) (differs : DiffersOnlyAt paths v w) where
+  paths_are : paths_of (packages_of made) ≡ folders
+  paths_are = sets.same_paths ∙ at.paths
+
+  last : (u : Workspace) × Resets w paths v u
+  last = reset_to w v paths
+
+  last_is : (q : List ℕ) → is_go q ≡ true → get w q ≡ get last.0 q
+  last_is q go = is_among q paths (λ has. sym (last.1.own q has)) (λ never. differs q go never ∙ sym (last.1.others q never))
+
+  made_files : (p : ParsedPackage) → Contains (packages_of made) p → HasFiles w p
+  made_files p has =
+      let d = mapped_from (λ (x : PackageParts). x.package) made p has in
+      let held = All-contains (HoldsDraft last.0) made d.0 (sets.files v last.0 last.1 (at.files v are)) d.1 in
+      subst (HasFiles w) d.2 (has_held w d.0.package (held_final held
+      (λ q of. last_is q (and_parts (is_go q) (pointwise ◌==◌ (folder q) d.0.package.path.items) of).0)))
+
+  pub fresh_made : AreFresh v w (packages_of made)
+  fresh_made = record {
+    sorted = subst (IsStrictlySortedBy path_cmp) (sym paths_are) at.sorted;
+    differs = λ path go apart. differs path go (λ has. apart (subst (λ ks. Contains ks (folder path)) (sym paths_are) (have path has)));
+    files = all_from (packages_of made) made_files;
+  }
