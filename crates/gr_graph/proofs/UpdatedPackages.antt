@@ -191,18 +191,19 @@ module _ {X : Type 0} (path_of : X → List ℕ) where
   })
 
   -- ---- and another put there
-  module _ (one : X) (old middle : List X) (place : ℕ) (out : TakesOut path_of (path_of one) old middle place) where
-    pub out_apart : (x : X) → Contains middle x → path_of x ≡ path_of one → ⊥
-    out_apart x has same =
-        place_apart (map path_of middle) (path_of one) place out.stands (subst (Contains (map path_of middle)) same (is_mapped path_of middle x has))
+  pub out_apart : (path : List ℕ) (old middle : List X) (place : ℕ) → TakesOut path_of path old middle place → (x : X) → Contains middle x →
+      path_of x ≡ path → ⊥
+  out_apart path old middle place out x has same =
+      place_apart (map path_of middle) path place out.stands (subst (Contains (map path_of middle)) same (is_mapped path_of middle x has))
 
+  module _ (one : X) (old middle : List X) (place : ℕ) (out : TakesOut path_of (path_of one) old middle place) where
     pub puts_in : (new : List X) → new ≡ insert middle place one → PutsIn path_of one old new
     puts_in new is = subst (PutsIn path_of one old) (sym is) (record {
       sorted = subst (IsStrictlySortedBy path_cmp) (sym (paths_insert path_of middle place one))
           (insert_sorted (map path_of middle) (path_of one) place out.sorted out.stands);
       each = λ x has. ⊎_elim
           (λ (here : one ≡ x). inl (sym here))
-          (λ (later : Contains middle x). inr (out.from x later, out_apart x later))
+          (λ (later : Contains middle x). inr (out.from x later, out_apart (path_of one) old middle place out x later))
           (first_or_later one middle x
           (Contains-permutation (insert middle place one) (one ∷ middle) x (IsPermutation-sym (one ∷ middle) (insert middle place one) same) has));
       own = Contains-permutation (one ∷ middle) (insert middle place one) one same (first_in one middle);
@@ -212,6 +213,11 @@ module _ {X : Type 0} (path_of : X → List ℕ) where
         same : IsPermutation (one ∷ middle) (insert middle place one)
         same = IsPermutation-insert middle place one
 
+  pub puts_at : (path : List ℕ) (one : X) (old middle new : List X) (place : ℕ) → path_of one ≡ path → TakesOut path_of path old middle place →
+      new ≡ insert middle place one → PutsIn path_of one old new
+  puts_at path one old middle new place same out is =
+      puts_in one old middle place (subst (λ (q : List ℕ). TakesOut path_of q old middle place) (sym same) out) new is
+
 -- ---- a package is put in the place of the one with its path
 abbrev pub path_of_package : ParsedPackage → List ℕ
 path_of_package p = p.path.items
@@ -220,7 +226,7 @@ module _ (one : ParsedPackage) (old middle : List ParsedPackage) (place : ℕ) (
   pub puts_none : has_file one ≡ false → Puts one old middle
   puts_none none = record {
     sorted = out.sorted;
-    each = λ p has. inr (out.from p has, out_apart path_of_package one old middle place out p has);
+    each = λ p has. inr (out.from p has, out_apart path_of_package one.path.items old middle place out p has);
     own = λ some. absurd (true≢false (sym some ∙ none));
     kept = out.kept;
   }
