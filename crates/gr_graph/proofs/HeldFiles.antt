@@ -1,5 +1,5 @@
 -- What stands at the paths of a folder tells the files of its package, and what a set or gone file does to them.
-use Rattle.std.proofs.Common.{◌≡◌, ℕ, ◌⊎◌, inl, inr, true, false, List, [], ◌∷◌, map, Option, Some, None, ◌==◌, refl, sym, ap, subst, ◌∙◌, ⊎_elim}
+use Rattle.std.proofs.Common.{◌≡◌, ℕ, ◌⊎◌, inl, inr, true, false, List, [], ◌∷◌, ◌++◌, map, Option, Some, None, ◌==◌, refl, sym, ap, subst, ◌∙◌, ⊎_elim}
 use Rattle.std.specs.declared.cmp.Ordering.TheVariants.{Less}
 use Rattle.std.specs.Cmp.Lexicographic.{pointwise, bytes_decides}
 use Rattle.std.specs.FinMap.{entries, entries_sorted, get, insert, remove}
@@ -17,7 +17,7 @@ use Rattle.gr_tree.specs.Faults.{IsFaultOf}
 use Rattle.gr_tree.specs.SourceFile.{FileParts, source_of}
 use Rattle.gr_graph.specs.FaultyFiles.{FaultyParts}
 use Rattle.gr_graph.specs.Graphs.{paths_of}
-use Rattle.gr_graph.specs.HeldFiles.{HoldFiles, HoldsFault, HoldsTree, fault_paths, tree_paths}
+use Rattle.gr_graph.specs.HeldFiles.{HoldFiles, HoldReset, HoldsFault, HoldsTree, SetsPath, fault_paths, tree_paths}
 use Rattle.gr_graph.specs.NamedFiles.{ArePackages, Resets}
 use Rattle.gr_graph.specs.Packages.{IsParsed}
 use Rattle.gr_graph.specs.Parsed.{AreParsed, IsFaulty, none, tree, fault}
@@ -25,7 +25,7 @@ use Rattle.gr_graph.specs.Staying.{DiffersOnlyAt, HasFiles}
 use Rattle.gr_graph.specs.Updated.{PutsIn, TakesOut}
 use Rattle.gr_graph.specs.declared.package.ParsedPackage.{ParsedPackage}
 use Rattle.gr_graph.proofs.Collected.{none_held}
-use Rattle.gr_graph.proofs.NamedFiles.{file_of, has_package, in_package, is_among, of_package, one_in, resets_one}
+use Rattle.gr_graph.proofs.NamedFiles.{file_of, has_package, in_package, is_among, of_package, one_in, resets_more, resets_none, resets_one}
 use Rattle.gr_graph.proofs.PackagePaths.{T_true, sorted_keys}
 use Rattle.gr_graph.proofs.SameFiles.{sorted_passed}
 use Rattle.gr_graph.proofs.SortedLists.{above, first_in, first_or_later, later_in, not_itself, same_first, sorted_more}
@@ -493,6 +493,15 @@ pub held_same : {w v new : Workspace} {path p : List ℕ} {ts : List FileParts} 
     get w path ≡ get v path → HoldFiles new p ts fs
 held_same {w = w} {v = v} {new = new} {path = path} {p = p} {ts = ts} {fs = fs} resets h same = is_same w v new path p resets ts fs h same
 
+-- as where one of the trees has its path and text
+pub tree_same : {w v new : Workspace} {path p : List ℕ} {ts : List FileParts} {fs : List FaultyParts} {t : FileParts} → Resets w (path ∷ []) v new →
+    HoldFiles v p ts fs → Contains ts t → t.path ≡ path → get w path ≡ Some t.cut.text → HoldFiles new p ts fs
+tree_same {v = v} {t = t} resets h has same there = held_same resets h (there ∙ sym (h.tree t has).there ∙ ap (get v) same)
+
+pub fault_same : {w v new : Workspace} {path p : List ℕ} {ts : List FileParts} {fs : List FaultyParts} {f : FaultyParts} → Resets w (path ∷ []) v new →
+    HoldFiles v p ts fs → Contains fs f → f.path ≡ path → get w path ≡ Some f.text → HoldFiles new p ts fs
+fault_same {v = v} {f = f} resets h has same there = held_same resets h (there ∙ sym (h.fault f has).there ∙ ap (get v) same)
+
 -- the path is not that of a Go file of the folder
 pub held_apart : {w v new : Workspace} {path p : List ℕ} {ts : List FileParts} {fs : List FaultyParts} → Resets w (path ∷ []) v new → HoldFiles v p ts fs →
     is_of_package p path ≡ false → HoldFiles new p ts fs
@@ -529,3 +538,17 @@ resets_fold {paths = paths} resets differs path go = is_among path paths
 pub held_all : {w v new : Workspace} {paths : List (List ℕ)} {p : List ℕ} {ts : List FileParts} {fs : List FaultyParts} → Resets w paths v new →
     DiffersOnlyAt paths v w → HoldFiles new p ts fs → HoldFiles w p ts fs
 held_all {p = p} resets differs h = held_final h (λ path of. sym (resets_fold resets differs path (folder_is p path of).0))
+
+-- ---- path by path
+pub reset_start : {w v : Workspace} {p : List ℕ} {ts : List FileParts} {fs : List FaultyParts} → HoldFiles v p ts fs → HoldReset w [] v p ts fs
+reset_start {w = w} {v = v} h = record { now = v; resets = resets_none w v; files = h }
+
+pub reset_more : {w v : Workspace} {paths : List (List ℕ)} {p : List ℕ} {ts us : List FileParts} {fs gs : List FaultyParts} → (path : List ℕ) →
+    HoldReset w paths v p ts fs → SetsPath w path p ts fs us gs → HoldReset w (paths ++ path ∷ []) v p us gs
+reset_more {w = w} {v = v} {paths = paths} path h sets =
+    let next = reset_next w h.now path in
+    record { now = next.0; resets = resets_more w paths (path ∷ []) v h.now next.0 h.resets next.1; files = sets h.now next.0 next.1 h.files }
+
+pub reset_end : {w v : Workspace} {paths : List (List ℕ)} {p : List ℕ} {ts : List FileParts} {fs : List FaultyParts} → HoldReset w paths v p ts fs →
+    DiffersOnlyAt paths v w → HoldFiles w p ts fs
+reset_end h differs = held_all h.resets differs h.files
