@@ -23,6 +23,7 @@ pub mod Asked
 pub mod ChangedPackages
 pub mod NamedFiles
 pub mod UpdatedPackages
+pub mod HeldFiles
 pub mod Told
 pub mod Below
 pub mod Shifted

@@ -199,14 +199,31 @@ of_filter test (d ∷ es) e has = elim (test d) as (λ b. Contains (cond b (d �
   | false ↦ λ among. later_in d es e (of_filter test es e among)
 ] has
 
-file_of : (v : Workspace) (p : List ℕ) (e : Entry) → Contains (package_files v p) e → get v e.0 ≡ Some e.1
+passes_filter : (test : Entry → Bool) (es : List Entry) (e : Entry) → Contains (filter test es) e → test e ≡ true
+passes_filter test [] e has = absurd (none_held e has)
+passes_filter test (d ∷ es) e has = elim (test d) as (λ b. test d ≡ b → Contains (cond b (d ∷ filter test es) (filter test es)) e → test e ≡ true) [
+  | true ↦ λ is among. ⊎_elim
+      (λ (here : d ≡ e). ap test (sym here) ∙ is)
+      (λ (later : Contains (filter test es) e). passes_filter test es e later)
+      (first_or_later d (filter test es) e among)
+  | false ↦ λ is among. passes_filter test es e among
+] refl has
+
+-- just the files of a folder
+pub in_package : (v : Workspace) (p path text : List ℕ) → is_of_package p path ≡ true → get v path ≡ Some text → Contains (package_files v p) (path, text)
+in_package v p path text of at = in_filter (λ (d : Entry). is_of_package p d.0) (entries v) (path, text) (entry_of v path text at) of
+
+pub of_package : (v : Workspace) (p : List ℕ) (e : Entry) → Contains (package_files v p) e → is_of_package p e.0 ≡ true
+of_package v p e has = passes_filter (λ (d : Entry). is_of_package p d.0) (entries v) e has
+
+pub file_of : (v : Workspace) (p : List ℕ) (e : Entry) → Contains (package_files v p) e → get v e.0 ≡ Some e.1
 file_of v p e has = get_entry v e (of_filter (λ (d : Entry). is_of_package p d.0) (entries v) e has)
 
 of_folder : (v : Workspace) (path text : List ℕ) → is_go path ≡ true → get v path ≡ Some text → Contains (package_files v (folder path)) (path, text)
-of_folder v path text go at = in_filter (λ (d : Entry). is_of_package (folder path) d.0) (entries v) (path, text) (entry_of v path text at)
-    (and_from (is_go path) (pointwise ◌==◌ (folder path) (folder path)) go ((bytes_decides (folder path) (folder path)).1 refl))
+of_folder v path text go at = in_package v (folder path) path text
+    (and_from (is_go path) (pointwise ◌==◌ (folder path) (folder path)) go ((bytes_decides (folder path) (folder path)).1 refl)) at
 
-has_package : (v : Workspace) (path text : List ℕ) → is_go path ≡ true → get v path ≡ Some text → Contains (package_paths v) (folder path)
+pub has_package : (v : Workspace) (path text : List ℕ) → is_go path ≡ true → get v path ≡ Some text → Contains (package_paths v) (folder path)
 has_package v path text go at =
     All-contains (λ (e : Entry). is_go e.0 ≡ true → Contains (package_paths v) (folder e.0)) (entries v) (path, text)
     (All-from_recursion (λ (e : Entry). is_go e.0 ≡ true → Contains (package_paths v) (folder e.0)) (entries v) (all_there v)) (entry_of v path text at) go
@@ -232,7 +249,7 @@ path_in (q ∷ ps) p has = ⊎_elim
     (λ (later : Contains ps p). later_in q.path.items (paths_of ps) p.path.items (path_in ps p later))
     (first_or_later q ps p has)
 
-one_in : (x y : List ℕ) → Contains (x ∷ []) y → x ≡ y
+pub one_in : (x y : List ℕ) → Contains (x ∷ []) y → x ≡ y
 one_in x y has = ⊎_elim (λ (is : x ≡ y). is) (λ (rest : Contains [] y). absurd (none_held y rest)) (first_or_later x [] y has)
 
 pub adds_absent : (packages : List ParsedPackage) (path : List ℕ) (part : Workspace) → (Contains (paths_of packages) path → ⊥) →

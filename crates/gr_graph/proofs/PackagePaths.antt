@@ -22,7 +22,7 @@ use Rattle.gr_text.proofs.WorkspaceLaws.{path_cmp_total, path_cmp_exact}
 use Rattle.gr_graph.specs.Filling.{names}
 use Rattle.gr_text.specs.Packages.{is_go, folders, package_paths}
 
-T_true : (b : Bool) → T b → b ≡ true
+pub T_true : (b : Bool) → T b → b ≡ true
 T_true true h = refl
 T_true false h = absurd h
 
@@ -44,7 +44,7 @@ below_keys : {X : Type 0} (k : List ℕ) (es : List (List ℕ × X)) → below_a
 below_keys k [] h = tt
 below_keys k (e ∷ es) h = let w = both_true _ _ h in (lt_is_less _ w.0, below_keys k es w.1)
 
-sorted_keys : {X : Type 0} (es : List (List ℕ × X)) → is_sorted path_cmp es ≡ true → IsStrictlySortedBy path_cmp (map (λ e. e.0) es)
+pub sorted_keys : {X : Type 0} (es : List (List ℕ × X)) → is_sorted path_cmp es ≡ true → IsStrictlySortedBy path_cmp (map (λ e. e.0) es)
 unfolding IsStrictlySortedBy
 sorted_keys [] h = tt
 sorted_keys (e ∷ es) h = let w = both_true _ _ h in (below_keys e.0 es w.0, sorted_keys es w.1)

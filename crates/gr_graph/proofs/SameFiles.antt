@@ -30,7 +30,7 @@ module _ (test : List ℕ → Bool) where
         | false ↦ below_passed k es parts.1
       ]
 
-  sorted_passed : (es : Files) → is_sorted path_cmp es ≡ true → is_sorted path_cmp (passed es) ≡ true
+  pub sorted_passed : (es : Files) → is_sorted path_cmp es ≡ true → is_sorted path_cmp (passed es) ≡ true
   sorted_passed [] h = refl
   sorted_passed (e ∷ es) h =
       let parts = and_parts (below_all path_cmp e.0 es) (is_sorted path_cmp es) h in

@@ -2,6 +2,7 @@
 use Rattle.std.proofs.Common.{zero, suc, ◌≡◌, ◌<◌, ◌⊎◌, inl, inr, List, [], ◌∷◌, length, refl, sym, ap, subst, ◌∙◌, arith}
 use Rattle.std.specs.Prelude.{Contains}
 use Rattle.std.specs.Cmp.{IsTotalOrder, tied_itself}
+use Rattle.std.specs.List.{AllByRecursion}
 use Rattle.std.specs.List.Sorted.{IsStrictlySortedBy}
 use Rattle.std.specs.Ordering.{is_lt, ordering_reverse}
 use Rattle.std.specs.declared.cmp.Ordering.{Ordering}
@@ -24,13 +25,21 @@ pub first_or_later : {X : Type 0} (x : X) (xs : List X) (y : X) → Contains (x 
 first_or_later x xs y (zero, lt, e) = inl e
 first_or_later x xs y (suc k, lt, e) = inr (k, omega arith, e)
 
+by_recursion : {X : Type 0} (P : X → Type 0) (xs : List X) → ((x : X) → Contains xs x → P x) → AllByRecursion P xs
+by_recursion P [] each = tt
+by_recursion P (x ∷ xs) each = (each x (first_in x xs), by_recursion P xs (λ y has. each y (later_in x xs y has)))
+
 -- in order
+pub sorted_more : {K : Type 0} (R : K → K → Ordering) (x : K) (xs : List K) → ((y : K) → Contains xs y → R x y ≡ Less) → IsStrictlySortedBy R xs →
+    IsStrictlySortedBy R (x ∷ xs)
+unfolding IsStrictlySortedBy
+sorted_more R x xs each s = (by_recursion (λ y. R x y ≡ Less) xs each, s)
 
 module _ {K : Type 0} {R : K → K → Ordering} (o : IsTotalOrder R) where
-  above : (x : K) (xs : List K) (y : K) → IsStrictlySortedBy R (x ∷ xs) → Contains xs y → R x y ≡ Less
+  pub above : (x : K) (xs : List K) (y : K) → IsStrictlySortedBy R (x ∷ xs) → Contains xs y → R x y ≡ Less
   above x xs y s h = All-contains (λ z. R x z ≡ Less) xs y (All-from_recursion (λ z. R x z ≡ Less) xs (sorted_head R x xs s)) h
 
-  not_itself : (x : K) (xs : List K) (y : K) → IsStrictlySortedBy R (x ∷ xs) → Contains xs y → x ≡ y → ⊥
+  pub not_itself : (x : K) (xs : List K) (y : K) → IsStrictlySortedBy R (x ∷ xs) → Contains xs y → x ≡ y → ⊥
   not_itself x xs y s h e =
       let tied : R x y ≡ Equal = subst (λ z. R x z ≡ Equal) e (tied_itself o x) in
       true≢false (ap is_lt (sym (above x xs y s h) ∙ tied))
@@ -38,7 +47,7 @@ module _ {K : Type 0} {R : K → K → Ordering} (o : IsTotalOrder R) where
   not_both : (x y : K) → R x y ≡ Less → R y x ≡ Less → ⊥
   not_both x y h k = true≢false (ap is_lt (sym h ∙ o.antisymm x y ∙ ap ordering_reverse k))
 
-  same_first : (x : K) (xs : List K) (y : K) (ys : List K) → IsStrictlySortedBy R (x ∷ xs) → IsStrictlySortedBy R (y ∷ ys) → Contains (y ∷ ys) x →
+  pub same_first : (x : K) (xs : List K) (y : K) (ys : List K) → IsStrictlySortedBy R (x ∷ xs) → IsStrictlySortedBy R (y ∷ ys) → Contains (y ∷ ys) x →
       Contains (x ∷ xs) y → x ≡ y
   same_first x xs y ys s t f g = elim (first_or_later y ys x f) [
     | inl e ↦ sym e

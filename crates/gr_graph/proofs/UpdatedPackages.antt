@@ -1,11 +1,12 @@
 -- The packages after files changed, where some come and some go, are those of the files.
-use Rattle.std.proofs.Common.{◌≡◌, ℕ, zero, suc, ◌+◌, ◌<◌, ◌≤◌, ◌⊎◌, inl, inr, Bool, true, false, List, [], ◌∷◌, ◌++◌, length, take, get_or, Some, slice_get}
-use Rattle.std.proofs.Common.{refl, sym, ap, subst, ◌∙◌, ⊎_elim, arith}
+use Rattle.std.proofs.Common.{◌≡◌, ℕ, zero, suc, ◌+◌, ◌<◌, ◌≤◌, ◌⊎◌, inl, inr, Bool, true, false, List, [], ◌∷◌, ◌++◌, length, map, take}
+use Rattle.std.proofs.Common.{get_or, Some, slice_get, refl, sym, ap, subst, ◌∙◌, ⊎_elim, arith}
 use Rattle.std.specs.declared.cmp.Ordering.TheVariants.{Less}
 use Rattle.std.specs.Cmp.{tied_itself}
 use Rattle.std.specs.FinMap.{contains_key-keys, entries}
 use Rattle.std.specs.List.{Contains, insert, list_any, remove}
 use Rattle.std.specs.List.Sorted.{IsPermutation, IsStrictlySortedBy}
+use Rattle.std.specs.Option.{option_map}
 use Rattle.std.specs.Ordering.{eq_by_cmp, is_lt}
 use Rattle.std.proofs.lemmas.Bool.{true≢false, cases_lt}
 use Rattle.std.proofs.lemmas.List.{length-map, take_more}
@@ -15,16 +16,17 @@ use Rattle.std.proofs.lemmas.List.Elements.{All-contains, Contains-append_left, 
 use Rattle.std.proofs.lemmas.List.Sorted.{Contains-permutation, IsPermutation-insert, IsPermutation-remove, IsPermutation-sym}
 use Rattle.std.proofs.lemmas.Map.Keys.{Less-from_sorted, sorted_from_all_adjacent, sorted_tail}
 use Rattle.std.proofs.lemmas.Map.Views.{Contains-from_any}
-use Rattle.std.proofs.lemmas.Option.{get_or_from_slice_get, same_Some, slice_get-get_or, slice_get_within}
+use Rattle.std.proofs.lemmas.Option.{get_or_from_slice_get, same_Some, slice_get-get_or, slice_get-map, slice_get_within}
 use Rattle.gr_text.specs.Packages.{folders, package_files, package_paths}
 use Rattle.gr_text.specs.Workspace.{Workspace, path_cmp}
 use Rattle.gr_text.proofs.WorkspaceLaws.{path_cmp_total}
+use Rattle.gr_edit.proofs.Held.{is_mapped}
 use Rattle.gr_graph.specs.Changed.{has_file, has_some}
 use Rattle.gr_graph.specs.Graphs.{paths_of}
 use Rattle.gr_graph.specs.NamedFiles.{AreFresh, ArePackages}
 use Rattle.gr_graph.specs.Parsed.{AreParsed}
 use Rattle.gr_graph.specs.Staying.{HasFiles}
-use Rattle.gr_graph.specs.Updated.{AreUpdated, IsPlace, Puts, TakesOut}
+use Rattle.gr_graph.specs.Updated.{AreUpdated, IsPlace, Puts, PutsIn, TakesOut}
 use Rattle.gr_graph.specs.declared.package.ParsedPackage.{ParsedPackage}
 use Rattle.gr_graph.proofs.ChangedPackages.{some_parsed, with_path}
 use Rattle.gr_graph.proofs.Collected.{none_held}
@@ -36,18 +38,18 @@ use Rattle.gr_graph.proofs.SameFiles.{same_files}
 use Rattle.gr_graph.proofs.SortedLists.{first_in, first_or_later, later_in}
 use Rattle.gr_graph.proofs.StayingPackages.{any_of}
 
--- ---- paths of packages after an edit
-pub paths_insert : (ps : List ParsedPackage) (i : ℕ) (x : ParsedPackage) → paths_of (insert ps i x) ≡ insert (paths_of ps) i x.path.items
-paths_insert [] zero x = refl
-paths_insert [] (suc i) x = refl
-paths_insert (p ∷ ps) zero x = refl
-paths_insert (p ∷ ps) (suc i) x = ap (λ ks. p.path.items ∷ ks) (paths_insert ps i x)
+-- ---- paths after an edit
+pub paths_insert : {X : Type 0} (path_of : X → List ℕ) (xs : List X) (i : ℕ) (x : X) → map path_of (insert xs i x) ≡ insert (map path_of xs) i (path_of x)
+paths_insert path_of [] zero x = refl
+paths_insert path_of [] (suc i) x = refl
+paths_insert path_of (y ∷ xs) zero x = refl
+paths_insert path_of (y ∷ xs) (suc i) x = ap (λ ks. path_of y ∷ ks) (paths_insert path_of xs i x)
 
-paths_remove : (ps : List ParsedPackage) (i : ℕ) → paths_of (remove ps i) ≡ remove (paths_of ps) i
-paths_remove [] zero = refl
-paths_remove [] (suc i) = refl
-paths_remove (p ∷ ps) zero = refl
-paths_remove (p ∷ ps) (suc i) = ap (λ ks. p.path.items ∷ ks) (paths_remove ps i)
+pub paths_remove : {X : Type 0} (path_of : X → List ℕ) (xs : List X) (i : ℕ) → map path_of (remove xs i) ≡ remove (map path_of xs) i
+paths_remove path_of [] zero = refl
+paths_remove path_of [] (suc i) = refl
+paths_remove path_of (y ∷ xs) zero = refl
+paths_remove path_of (y ∷ xs) (suc i) = ap (λ ks. path_of y ∷ ks) (paths_remove path_of xs i)
 
 less_at : (a b x y : List ℕ) → x ≡ a → y ≡ b → path_cmp a b ≡ Less → path_cmp x y ≡ Less
 less_at a b x y e f h = ap (λ z. path_cmp z y) e ∙ ap (path_cmp a) f ∙ h
@@ -145,73 +147,102 @@ module _ (ks : List (List ℕ)) (q : List ℕ) (n : ℕ) (sorted : IsStrictlySor
         (Less-from_sorted path_cmp ks n (k + 1) [] sorted (omega (arith, h)) (omega (arith, within, shorter)));
   }
 
-pub number_within : (ps : List ParsedPackage) (n : ℕ) (q : List ℕ) → slice_get (paths_of ps) n ≡ Some q → n < length ps
-number_within ps n q at = subst (λ (m : ℕ). n < m) (length-map ps (λ (p : ParsedPackage). p.path.items)) (slice_get_within (paths_of ps) n q at)
+module _ {X : Type 0} (path_of : X → List ℕ) where
+  pub number_within : (xs : List X) (n : ℕ) (q : List ℕ) → slice_get (map path_of xs) n ≡ Some q → n < length xs
+  number_within xs n q at = subst (λ (m : ℕ). n < m) (length-map xs path_of) (slice_get_within (map path_of xs) n q at)
 
-pub place_within : (path : List ℕ) (old new : List ParsedPackage) (place : ℕ) → TakesOut path old new place → place ≤ length new
-place_within path old new place out = subst (λ (m : ℕ). place ≤ m) (length-map new (λ (p : ParsedPackage). p.path.items)) out.stands.within
+  pub place_within : (path : List ℕ) (old new : List X) (place : ℕ) → TakesOut path_of path old new place → place ≤ length new
+  place_within path old new place out = subst (λ (m : ℕ). place ≤ m) (length-map new path_of) out.stands.within
 
--- ---- one is taken out
-pub none_out : (path : List ℕ) (ps : List ParsedPackage) (i : ℕ) → IsStrictlySortedBy path_cmp (paths_of ps) → IsPlace (paths_of ps) path i →
-    TakesOut path ps ps i
-none_out path ps i sorted place = record { sorted = sorted; stands = place; from = λ p has. has; kept = λ p has apart. has }
+  pub path_there : (xs : List X) (n : ℕ) (x : X) → slice_get xs n ≡ Some x → slice_get (map path_of xs) n ≡ Some (path_of x)
+  path_there xs n x at = slice_get-map path_of xs n ∙ ap (option_map path_of) at
 
-module _ (path : List ℕ) (ps : List ParsedPackage) (n : ℕ) (at : slice_get (paths_of ps) n ≡ Some path) (below : n < length ps) (p : ParsedPackage) where
-  abbrev goes : ParsedPackage
-  goes = get_or ps n p
+  -- ---- one is taken out
+  pub none_out : (path : List ℕ) (xs : List X) (i : ℕ) → IsStrictlySortedBy path_cmp (map path_of xs) → IsPlace (map path_of xs) path i →
+      TakesOut path_of path xs xs i
+  none_out path xs i sorted place = record { sorted = sorted; stands = place; from = λ x has. has; kept = λ x has apart. has }
 
-  goes_path : goes.path.items ≡ path
-  goes_path = same_Some goes.path.items path (sym (path_at ps n goes (slice_get-get_or ps n p below)) ∙ at)
+  module _ (path : List ℕ) (xs : List X) (n : ℕ) (at : slice_get (map path_of xs) n ≡ Some path) (below : n < length xs) (x : X) where
+    abbrev goes : X
+    goes = get_or xs n x
 
-  goes_out : IsPermutation ps (goes ∷ remove ps n)
-  goes_out = IsPermutation-remove ps n goes below (same_Some goes (get_or ps n goes) (sym (slice_get-get_or ps n p below) ∙ slice_get-get_or ps n goes below))
+    goes_path : path_of goes ≡ path
+    goes_path = same_Some (path_of goes) path (sym (path_there xs n goes (slice_get-get_or xs n x below)) ∙ at)
 
-  out_from : Contains (remove ps n) p → Contains ps p
-  out_from has = Contains-permutation (goes ∷ remove ps n) ps p (IsPermutation-sym ps (goes ∷ remove ps n) goes_out) (later_in goes (remove ps n) p has)
+    goes_out : IsPermutation xs (goes ∷ remove xs n)
+    goes_out = IsPermutation-remove xs n goes below (same_Some goes (get_or xs n goes) (sym (slice_get-get_or xs n x below) ∙ slice_get-get_or xs n goes below))
 
-  out_kept : Contains ps p → (p.path.items ≡ path → ⊥) → Contains (remove ps n) p
-  out_kept has apart = ⊎_elim
-      (λ (here : goes ≡ p). absurd (apart (ap (λ (y : ParsedPackage). y.path.items) (sym here) ∙ goes_path)))
-      (λ (later : Contains (remove ps n) p). later)
-      (first_or_later goes (remove ps n) p (Contains-permutation ps (goes ∷ remove ps n) p goes_out has))
+    out_from : Contains (remove xs n) x → Contains xs x
+    out_from has = Contains-permutation (goes ∷ remove xs n) xs x (IsPermutation-sym xs (goes ∷ remove xs n) goes_out) (later_in goes (remove xs n) x has)
 
-pub one_out : (path : List ℕ) (ps new : List ParsedPackage) (n : ℕ) → IsStrictlySortedBy path_cmp (paths_of ps) → slice_get (paths_of ps) n ≡ Some path →
-    n < length ps → new ≡ remove ps n → TakesOut path ps new n
-one_out path ps new n sorted at within is = subst (λ (l : List ParsedPackage). TakesOut path ps l n) (sym is) (record {
-  sorted = subst (IsStrictlySortedBy path_cmp) (sym (paths_remove ps n)) (remove_sorted (paths_of ps) path n sorted at);
-  stands = subst (λ ks. IsPlace ks path n) (sym (paths_remove ps n)) (remove_place (paths_of ps) path n sorted at);
-  from = λ p has. out_from path ps n at within p has;
-  kept = λ p has apart. out_kept path ps n at within p has apart;
-})
+    out_kept : Contains xs x → (path_of x ≡ path → ⊥) → Contains (remove xs n) x
+    out_kept has apart = ⊎_elim
+        (λ (here : goes ≡ x). absurd (apart (ap path_of (sym here) ∙ goes_path)))
+        (λ (later : Contains (remove xs n) x). later)
+        (first_or_later goes (remove xs n) x (Contains-permutation xs (goes ∷ remove xs n) x goes_out has))
 
--- ---- and another put there
-module _ (one : ParsedPackage) (old middle : List ParsedPackage) (place : ℕ) (out : TakesOut one.path.items old middle place) where
-  out_apart : (p : ParsedPackage) → Contains middle p → p.path.items ≡ one.path.items → ⊥
-  out_apart p has same = place_apart (paths_of middle) one.path.items place out.stands (subst (Contains (paths_of middle)) same (path_in middle p has))
+  pub one_out : (path : List ℕ) (xs new : List X) (n : ℕ) → IsStrictlySortedBy path_cmp (map path_of xs) → slice_get (map path_of xs) n ≡ Some path →
+      n < length xs → new ≡ remove xs n → TakesOut path_of path xs new n
+  one_out path xs new n sorted at within is = subst (λ (l : List X). TakesOut path_of path xs l n) (sym is) (record {
+    sorted = subst (IsStrictlySortedBy path_cmp) (sym (paths_remove path_of xs n)) (remove_sorted (map path_of xs) path n sorted at);
+    stands = subst (λ ks. IsPlace ks path n) (sym (paths_remove path_of xs n)) (remove_place (map path_of xs) path n sorted at);
+    from = λ x has. out_from path xs n at within x has;
+    kept = λ x has apart. out_kept path xs n at within x has apart;
+  })
 
+  -- ---- and another put there
+  pub out_apart : (path : List ℕ) (old middle : List X) (place : ℕ) → TakesOut path_of path old middle place → (x : X) → Contains middle x →
+      path_of x ≡ path → ⊥
+  out_apart path old middle place out x has same =
+      place_apart (map path_of middle) path place out.stands (subst (Contains (map path_of middle)) same (is_mapped path_of middle x has))
+
+  module _ (one : X) (old middle : List X) (place : ℕ) (out : TakesOut path_of (path_of one) old middle place) where
+    pub puts_in : (new : List X) → new ≡ insert middle place one → PutsIn path_of one old new
+    puts_in new is = subst (PutsIn path_of one old) (sym is) (record {
+      sorted = subst (IsStrictlySortedBy path_cmp) (sym (paths_insert path_of middle place one))
+          (insert_sorted (map path_of middle) (path_of one) place out.sorted out.stands);
+      each = λ x has. ⊎_elim
+          (λ (here : one ≡ x). inl (sym here))
+          (λ (later : Contains middle x). inr (out.from x later, out_apart (path_of one) old middle place out x later))
+          (first_or_later one middle x
+          (Contains-permutation (insert middle place one) (one ∷ middle) x (IsPermutation-sym (one ∷ middle) (insert middle place one) same) has));
+      own = Contains-permutation (one ∷ middle) (insert middle place one) one same (first_in one middle);
+      kept = λ x has apart. Contains-permutation (one ∷ middle) (insert middle place one) x same (later_in one middle x (out.kept x has apart));
+    })
+      where
+        same : IsPermutation (one ∷ middle) (insert middle place one)
+        same = IsPermutation-insert middle place one
+
+  pub puts_at : (path : List ℕ) (one : X) (old middle new : List X) (place : ℕ) → path_of one ≡ path → TakesOut path_of path old middle place →
+      new ≡ insert middle place one → PutsIn path_of one old new
+  puts_at path one old middle new place same out is =
+      puts_in one old middle place (subst (λ (q : List ℕ). TakesOut path_of q old middle place) (sym same) out) new is
+
+-- ---- a package is put in the place of the one with its path
+abbrev pub path_of_package : ParsedPackage → List ℕ
+path_of_package p = p.path.items
+
+module _ (one : ParsedPackage) (old middle : List ParsedPackage) (place : ℕ) (out : TakesOut path_of_package one.path.items old middle place) where
   pub puts_none : has_file one ≡ false → Puts one old middle
   puts_none none = record {
     sorted = out.sorted;
-    each = λ p has. inr (out.from p has, out_apart p has);
+    each = λ p has. inr (out.from p has, out_apart path_of_package one.path.items old middle place out p has);
     own = λ some. absurd (true≢false (sym some ∙ none));
     kept = out.kept;
   }
 
   pub puts_one : (new : List ParsedPackage) → has_file one ≡ true → new ≡ insert middle place one → Puts one old new
-  puts_one new some is = subst (Puts one old) (sym is) (record {
-    sorted = subst (IsStrictlySortedBy path_cmp) (sym (paths_insert middle place one))
-        (insert_sorted (paths_of middle) one.path.items place out.sorted out.stands);
-    each = λ p has. ⊎_elim
-        (λ (here : one ≡ p). inl (sym here, some))
-        (λ (later : Contains middle p). inr (out.from p later, out_apart p later))
-        (first_or_later one middle p
-        (Contains-permutation (insert middle place one) (one ∷ middle) p (IsPermutation-sym (one ∷ middle) (insert middle place one) same) has));
-    own = λ _. Contains-permutation (one ∷ middle) (insert middle place one) one same (first_in one middle);
-    kept = λ p has apart. Contains-permutation (one ∷ middle) (insert middle place one) p same (later_in one middle p (out.kept p has apart));
-  })
-    where
-      same : IsPermutation (one ∷ middle) (insert middle place one)
-      same = IsPermutation-insert middle place one
+  puts_one new some is =
+      let put = puts_in path_of_package one old middle place out new is in
+      record {
+        sorted = put.sorted;
+        each = λ p has. ⊎_elim
+            (λ (here : p ≡ one). inl (here, some))
+            (λ (stays : Contains old p × (p.path.items ≡ one.path.items → ⊥)). inr stays)
+            (put.each p has);
+        own = λ _. put.own;
+        kept = put.kept;
+      }
 
 -- ---- one after another
 pub updated_none : (before packages : List ParsedPackage) → IsStrictlySortedBy path_cmp (paths_of before) → packages ≡ before → AreUpdated before [] packages
@@ -288,7 +319,7 @@ pub updated_one : (before : List ParsedPackage) (one : ParsedPackage) (place : �
     AreUpdated before (one ∷ []) (insert before place one)
 updated_one before one place sorted alone file stands =
     updated_more before (one ∷ []) before (insert before place one) 0 one alone (omega arith) refl (updated_none before before sorted refl)
-    (puts_one one before before place (none_out one.path.items before place sorted stands) (insert before place one) file refl)
+    (puts_one one before before place (none_out path_of_package one.path.items before place sorted stands) (insert before place one) file refl)
 
 -- ---- all of them are those of the files
 module _ (v w : Workspace) (before fresh packages : List ParsedPackage) (are : ArePackages v before) (fresh_are : AreFresh v w fresh)

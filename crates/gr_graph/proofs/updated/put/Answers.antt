@@ -4,7 +4,7 @@ use Rattle.std.specs.List.{insert}
 use Rattle.gr_graph.specs.Changed.{has_file}
 use Rattle.gr_graph.specs.Updated.{TakesOut}
 use Rattle.gr_graph.specs.declared.package.ParsedPackage.{ParsedPackage}
-use Rattle.gr_graph.proofs.UpdatedPackages.{place_within, puts_none, puts_one}
+use Rattle.gr_graph.proofs.UpdatedPackages.{path_of_package, place_within, puts_none, puts_one}
 use Rattle.gr_graph.proofs.updated.put.Goals as goal
 
 pub returns-then-not-has_file : goal.returns-then-not-has_file
@@ -12,13 +12,13 @@ returns-then-not-has_file c =
     let one : ParsedPackage = c.args.one.now in
     let old = c.args.packages.now.items in
     let middle = c.take_out-place.new.packages.items in
-    puts_none one old middle c.take_out-place.result (subst (λ (q : List ℕ). TakesOut q old middle c.take_out-place.result) c.path.ensures
+    puts_none one old middle c.take_out-place.result (subst (λ (q : List ℕ). TakesOut path_of_package q old middle c.take_out-place.result) c.path.ensures
     c.take_out-place.ensures)
     (sym (c.has_file.ensures ∙ ap has_file c.package.ensures) ∙ c.if-not-has_file.true)
 
 pub insert-requires : goal.insert-requires
 insert-requires c =
-    let within = place_within c.path.result.now c.args.packages.now.items c.take_out-place.new.packages.items c.take_out-place.result
+    let within = place_within path_of_package c.path.result.now c.args.packages.now.items c.take_out-place.new.packages.items c.take_out-place.result
     c.take_out-place.ensures in
     omega (arith, within, c.take_out-place.new.packages.ok.0)
 
@@ -27,7 +27,7 @@ returns c =
     let one : ParsedPackage = c.args.one.now in
     let old = c.args.packages.now.items in
     let middle = c.take_out-place.new.packages.items in
-    puts_one one old middle c.take_out-place.result (subst (λ (q : List ℕ). TakesOut q old middle c.take_out-place.result) c.path.ensures
+    puts_one one old middle c.take_out-place.result (subst (λ (q : List ℕ). TakesOut path_of_package q old middle c.take_out-place.result) c.path.ensures
     c.take_out-place.ensures)
     c.insert.new.self.items (sym (c.has_file.ensures ∙ ap has_file c.package.ensures) ∙ c.if-not-has_file.false)
     (c.in_ok-insert.ensures.items ∙ ap (insert middle c.take_out-place.result) c.in_ok-clone.ensures.cases)
