@@ -32,3 +32,5 @@ pub mod GrownGraph
 pub mod RowRuns
 pub mod GrownSteps
 pub mod GrownStops
+pub mod RenewedImports
+pub mod SetFiles

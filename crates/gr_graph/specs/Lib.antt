@@ -22,3 +22,4 @@ pub mod Reaching
 pub mod Orders
 pub mod Shifts
 pub mod Growth
+pub mod Drafts

@@ -191,6 +191,13 @@ fn add_next(growing: Growing<'_>, index: usize, rows: &mut LinkRows) -> Result<u
     Ok(past(growing.linked, index, stop))
 }
 
+/// How many numbers all rows have after one came, or about so many.
+fn number_count(growing: Growing<'_>) -> usize {
+    let before = growing.before.number_count();
+    let more = growing.own.len().saturating_add(growing.linked.len());
+    before.saturating_add(more)
+}
+
 /// All rows after one came.
 fn grow(alloc: Global, growing: Growing<'_>) -> Result<LinkRows, AllocError>
     requires { IsGrowing growing.before.now growing.place growing.linked.now }
@@ -198,7 +205,7 @@ fn grow(alloc: Global, growing: Growing<'_>) -> Result<LinkRows, AllocError>
     ensures count { IfOk result (λ rows. length rows ≡ length growing.entry.before.now + 1) }
 {
     let count = growing.before.one_more();
-    let mut rows = LinkRows::with_capacity(alloc, count)?;
+    let mut rows = LinkRows::with_capacity(alloc, count, number_count(growing))?;
     let mut index = 0;
     while rows.len() < count {
         index = add_next(growing, index, &mut rows)?;

@@ -106,5 +106,6 @@ pub(crate) fn put_fault(faulty: &mut Vec<FaultyFile>, file: FaultyFile) -> Resul
     ensures { OnOk result (PutsIn fault_path file faulty.old.items faulty.new.items) }
 {
     let place = take_fault(faulty, file.path());
-    faulty.insert(place, file)
+    faulty.insert(place, file)?;
+    Ok(())
 }

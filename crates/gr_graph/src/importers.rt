@@ -76,7 +76,7 @@ impl Chains {
         requires { (lists : Links) × AreChained self.now lists }
         ensures { IfOk result (λ rows. (lists : Links) → AreChained self.now lists → rows ≡ lists) }
     {
-        let mut rows = LinkRows::with_capacity(alloc, self.latest.len())?;
+        let mut rows = LinkRows::with_capacity(alloc, self.latest.len(), self.noted.len())?;
         let mut row = Vec::new(alloc);
         for number in 0..self.latest.len() {
             self.fill_row(number, &mut row)?;

@@ -134,16 +134,23 @@ pub(crate) struct RowRun<'a> {
 }
 
 impl LinkRows {
-    /// No row, with room for the bounds of some.
-    pub(crate) fn with_capacity(alloc: Global, count: usize) -> Result<LinkRows, AllocError>
+    /// No row, with room for so many rows and for so many numbers in all of them.
+    pub(crate) fn with_capacity(
+        alloc: Global,
+        rows: usize,
+        numbers: usize,
+    ) -> Result<LinkRows, AllocError>
         ensures { IfOk result (λ rows. rows ≡ []) }
     {
-        let mut bounds = Vec::with_capacity(alloc, count.saturating_add(1))?;
+        let mut bounds = Vec::with_capacity(alloc, rows.saturating_add(1))?;
         bounds.push(0)?;
-        Ok(LinkRows {
-            bounds,
-            numbers: Vec::new(alloc),
-        })
+        let numbers = Vec::with_capacity(alloc, numbers)?;
+        Ok(LinkRows { bounds, numbers })
+    }
+
+    /// How many numbers are in all rows.
+    pub(crate) fn number_count(&self) -> usize {
+        last_of(&self.bounds)
     }
 
     /// How many rows there are.

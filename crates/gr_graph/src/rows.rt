@@ -106,6 +106,14 @@ fn earlier_row<'a>(earlier: Option<EarlierGraph<'a>>, path: &[u8], near: usize) 
     }
 }
 
+/// How many links an earlier graph has.
+fn earlier_count(earlier: Option<EarlierGraph<'_>>) -> usize {
+    match earlier {
+        Some(earlier) => earlier.links.import_rows().number_count(),
+        None => 0,
+    }
+}
+
 /// For each package, those that its files import. Only speed rests on the earlier graph.
 pub(crate) fn rows(
     alloc: Global,
@@ -115,7 +123,7 @@ pub(crate) fn rows(
     requires { IsStrictlySortedBy path_cmp (paths_of packages.now) }
     ensures { IfOk result (λ rows. AllZip (λ p row. IsRow (paths_of packages.now) p.trees.items row) packages.now rows) }
 {
-    let mut rows = LinkRows::with_capacity(alloc, packages.len())?;
+    let mut rows = LinkRows::with_capacity(alloc, packages.len(), earlier_count(earlier))?;
     let mut row = Vec::new(alloc);
     for package in packages {
         let before = earlier_row(earlier, package.path(), rows.len());

@@ -46,9 +46,12 @@ gone_one path trees n gone sorted named at t has same =
 
 pub gone_none : (path : List ℕ) (trees : List FileParts) (place : ℕ) → IsPlace (tree_paths trees) path place → IsGone path trees None
 gone_none path trees place stands t has same =
-    absurd (place_apart (tree_paths trees) path place stands (subst (Contains (tree_paths trees)) same
-    (has.0, subst (λ (m : ℕ). has.0 < m) (sym (length-map trees tree_path)) has.1, get_or_from_slice_get (tree_paths trees) has.0 t.path t.path
-    (tree_there trees has.0 t (slice_get_read trees (length trees) has.0 t refl has.1 (sym has.2))))))
+    absurd (place_apart (tree_paths trees) path place stands (subst (Contains (tree_paths trees)) same (
+      has.0,
+      subst (λ (m : ℕ). has.0 < m) (sym (length-map trees tree_path)) has.1,
+      get_or_from_slice_get (tree_paths trees) has.0 t.path t.path
+          (tree_there trees has.0 t (slice_get_read trees (length trees) has.0 t refl has.1 (sym has.2))),
+    )))
 
 -- ---- a text that is there already
 text_there : (v : Workspace) (p : List ℕ) (trees : List FileParts) (faulty : List FaultyParts) (path text : List ℕ) → HoldFiles v p trees faulty →
@@ -145,36 +148,36 @@ set_cases ds n b a d at has own other =
     (cases_eq k n)
 
 module _ (w : Workspace) (path : List ℕ) (ds : List PackageParts) (sorted : IsStrictlySortedBy path_cmp (paths_of (packages_of ds))) (drafts : All IsDraft ds)
-    where
-  -- the path is that of a file of one of them
-  pub sets_one : (n : ℕ) (b a : PackageParts) (new : List PackageParts) → slice_get ds n ≡ Some b → new ≡ set ds n a →
-      is_go path ≡ true → folder path ≡ b.package.path.items → SetsFile w path b a → SetsFiles w (path ∷ []) ds new
-  sets_one n b a new at is go of sets = subst (SetsFiles w (path ∷ []) ds) (sym is) (record {
-    same_paths = set_paths ds n b a at sets.same_path;
-    drafts = all_from (set ds n a) (λ d has. set_cases ds n b a d at has
-        (λ own. subst IsDraft (sym own) sets.draft)
-        (λ k apart was. All-contains IsDraft ds d drafts (there ds k d was)));
-    files = λ v u resets held. all_from (set ds n a) (λ d has. set_cases ds n b a d at has
-        (λ own. subst (HoldsDraft u) (sym own) (sets.files v u resets (All-contains (HoldsDraft v) ds b held (there ds n b at))))
-        (λ k apart was. held_apart resets (All-contains (HoldsDraft v) ds d held (there ds k d was))
-        (of_other d.package.path.items path (λ same. apart (one_number (paths_of (packages_of ds)) sorted k n (folder path)
-        (draft_path ds k d was ∙ ap Some (sym same)) (draft_path ds n b at ∙ ap Some (sym of)))))));
-  })
+  where
+    -- the path is that of a file of one of them
+    pub sets_one : (n : ℕ) (b a : PackageParts) (new : List PackageParts) → slice_get ds n ≡ Some b → new ≡ set ds n a →
+        is_go path ≡ true → folder path ≡ b.package.path.items → SetsFile w path b a → SetsFiles w (path ∷ []) ds new
+    sets_one n b a new at is go of sets = subst (SetsFiles w (path ∷ []) ds) (sym is) (record {
+      same_paths = set_paths ds n b a at sets.same_path;
+      drafts = all_from (set ds n a) (λ d has. set_cases ds n b a d at has
+          (λ own. subst IsDraft (sym own) sets.draft)
+          (λ k apart was. All-contains IsDraft ds d drafts (there ds k d was)));
+      files = λ v u resets held. all_from (set ds n a) (λ d has. set_cases ds n b a d at has
+          (λ own. subst (HoldsDraft u) (sym own) (sets.files v u resets (All-contains (HoldsDraft v) ds b held (there ds n b at))))
+          (λ k apart was. held_apart resets (All-contains (HoldsDraft v) ds d held (there ds k d was))
+          (of_other d.package.path.items path (λ same. apart (one_number (paths_of (packages_of ds)) sorted k n (folder path)
+          (draft_path ds k d was ∙ ap Some (sym same)) (draft_path ds n b at ∙ ap Some (sym of)))))));
+    })
 
-  -- or of none
-  pub sets_other : ((p : List ℕ) → Contains (paths_of (packages_of ds)) p → is_of_package p path ≡ false) → SetsFiles w (path ∷ []) ds ds
-  sets_other none = record {
-    same_paths = refl;
-    drafts = drafts;
-    files = λ v u resets held. all_from ds (λ d has. held_apart resets (All-contains (HoldsDraft v) ds d held has)
-        (none d.package.path.items (there (paths_of (packages_of ds)) has.0 d.package.path.items (draft_path ds has.0 d (read ds d has)))));
-  }
+    -- or of none
+    pub sets_other : ((p : List ℕ) → Contains (paths_of (packages_of ds)) p → is_of_package p path ≡ false) → SetsFiles w (path ∷ []) ds ds
+    sets_other none = record {
+      same_paths = refl;
+      drafts = drafts;
+      files = λ v u resets held. all_from ds (λ d has. held_apart resets (All-contains (HoldsDraft v) ds d held has)
+          (none d.package.path.items (there (paths_of (packages_of ds)) has.0 d.package.path.items (draft_path ds has.0 d (read ds d has)))));
+    }
 
-  pub sets_none_there : (Contains (paths_of (packages_of ds)) (folder path) → ⊥) → SetsFiles w (path ∷ []) ds ds
-  sets_none_there never = sets_other (λ p has. of_other p path (λ same. never (subst (Contains (paths_of (packages_of ds))) (sym same) has)))
+    pub sets_none_there : (Contains (paths_of (packages_of ds)) (folder path) → ⊥) → SetsFiles w (path ∷ []) ds ds
+    sets_none_there never = sets_other (λ p has. of_other p path (λ same. never (subst (Contains (paths_of (packages_of ds))) (sym same) has)))
 
-  pub sets_no_go : is_go path ≡ false → SetsFiles w (path ∷ []) ds ds
-  sets_no_go no = sets_other (λ p has. ap (λ b. b && pointwise ◌==◌ (folder path) p) no)
+    pub sets_no_go : is_go path ≡ false → SetsFiles w (path ∷ []) ds ds
+    sets_no_go no = sets_other (λ p has. ap (λ b. b && pointwise ◌==◌ (folder path) p) no)
 
 -- ---- all paths at which files may differ
 module _ (v w : Workspace) (before : List ParsedPackage) (folders paths : List (List ℕ)) (drafts made : List PackageParts) (are : ArePackages v before)
