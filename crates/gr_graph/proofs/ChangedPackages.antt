@@ -71,7 +71,7 @@ paths_put (p ∷ ps) zero a at = ap (λ path. path ∷ paths_of ps) (sym (same_S
 paths_put (p ∷ ps) (suc n) a at = ap (λ rest. p.path.items ∷ rest) (paths_put ps n a at)
 
 -- a clone holds the same
-pub clones_are : (xs ys : List ParsedPackage) → AllZip (λ x y. y ≡ x) xs ys → ys ≡ xs
+pub clones_are : {X : Type 0} (xs ys : List X) → AllZip (λ x y. y ≡ x) xs ys → ys ≡ xs
 clones_are [] [] are = refl
 clones_are [] (y ∷ ys) are = absurd are
 clones_are (x ∷ xs) [] are = absurd are

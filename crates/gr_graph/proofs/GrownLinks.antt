@@ -21,7 +21,8 @@ use Rattle.gr_graph.proofs.Answered.{all_rising, importer_below, importers_of_al
 use Rattle.gr_graph.proofs.Linked.{row_at, rows_count, rows_linked, rows_rising, zip_from}
 use Rattle.gr_graph.proofs.Reached.{noted_linked}
 use Rattle.gr_graph.proofs.Shifted.{insert_here, insert_shifted, shifted_cases, shifted_from, shifted_in, shifted_within}
-use Rattle.gr_graph.proofs.UpdatedPackages.{path_of_package, paths_insert}
+use Rattle.gr_graph.proofs.Numbers.{path_of_package}
+use Rattle.gr_graph.proofs.UpdatedPackages.{paths_insert}
 
 -- ---- a row of numbers that are small
 pub small_row : (row : List ℕ) (n : ℕ) → ((q : ℕ) → Contains row q → q < n) → n < 2 ^ 64 → All (λ number. number + 1 < 2 ^ 64) row

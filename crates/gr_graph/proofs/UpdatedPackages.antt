@@ -6,7 +6,6 @@ use Rattle.std.specs.Cmp.{tied_itself}
 use Rattle.std.specs.FinMap.{contains_key-keys, entries}
 use Rattle.std.specs.List.{Contains, insert, list_any, remove}
 use Rattle.std.specs.List.Sorted.{IsPermutation, IsStrictlySortedBy}
-use Rattle.std.specs.Option.{option_map}
 use Rattle.std.specs.Ordering.{eq_by_cmp, is_lt}
 use Rattle.std.proofs.lemmas.Bool.{true≢false, cases_lt}
 use Rattle.std.proofs.lemmas.List.{length-map, take_more}
@@ -16,7 +15,7 @@ use Rattle.std.proofs.lemmas.List.Elements.{All-contains, Contains-append_left, 
 use Rattle.std.proofs.lemmas.List.Sorted.{Contains-permutation, IsPermutation-insert, IsPermutation-remove, IsPermutation-sym}
 use Rattle.std.proofs.lemmas.Map.Keys.{Less-from_sorted, sorted_from_all_adjacent, sorted_tail}
 use Rattle.std.proofs.lemmas.Map.Views.{Contains-from_any}
-use Rattle.std.proofs.lemmas.Option.{get_or_from_slice_get, same_Some, slice_get-get_or, slice_get-map, slice_get_within}
+use Rattle.std.proofs.lemmas.Option.{get_or_from_slice_get, same_Some, slice_get-get_or, slice_get_within}
 use Rattle.gr_text.specs.Packages.{folders, package_files, package_paths}
 use Rattle.gr_text.specs.Workspace.{Workspace, path_cmp}
 use Rattle.gr_text.proofs.WorkspaceLaws.{path_cmp_total}
@@ -32,6 +31,7 @@ use Rattle.gr_graph.proofs.ChangedPackages.{some_parsed, with_path}
 use Rattle.gr_graph.proofs.Collected.{none_held}
 use Rattle.gr_graph.proofs.Filled.{path_at}
 use Rattle.gr_graph.proofs.NamedFiles.{is_among, path_in}
+use Rattle.gr_graph.proofs.Numbers.{path_of_package, path_there}
 use Rattle.gr_graph.proofs.PackagePaths.{exact_names, has_folder, one_number, paths_are}
 use Rattle.gr_graph.proofs.FoundFolders.{folder_found, not_true}
 use Rattle.gr_graph.proofs.SameFiles.{same_files}
@@ -154,9 +154,6 @@ module _ {X : Type 0} (path_of : X → List ℕ) where
   pub place_within : (path : List ℕ) (old new : List X) (place : ℕ) → TakesOut path_of path old new place → place ≤ length new
   place_within path old new place out = subst (λ (m : ℕ). place ≤ m) (length-map new path_of) out.stands.within
 
-  pub path_there : (xs : List X) (n : ℕ) (x : X) → slice_get xs n ≡ Some x → slice_get (map path_of xs) n ≡ Some (path_of x)
-  path_there xs n x at = slice_get-map path_of xs n ∙ ap (option_map path_of) at
-
   -- ---- one is taken out
   pub none_out : (path : List ℕ) (xs : List X) (i : ℕ) → IsStrictlySortedBy path_cmp (map path_of xs) → IsPlace (map path_of xs) path i →
       TakesOut path_of path xs xs i
@@ -167,7 +164,7 @@ module _ {X : Type 0} (path_of : X → List ℕ) where
     goes = get_or xs n x
 
     goes_path : path_of goes ≡ path
-    goes_path = same_Some (path_of goes) path (sym (path_there xs n goes (slice_get-get_or xs n x below)) ∙ at)
+    goes_path = same_Some (path_of goes) path (sym (path_there path_of xs n goes (slice_get-get_or xs n x below)) ∙ at)
 
     goes_out : IsPermutation xs (goes ∷ remove xs n)
     goes_out = IsPermutation-remove xs n goes below (same_Some goes (get_or xs n goes) (sym (slice_get-get_or xs n x below) ∙ slice_get-get_or xs n goes below))
@@ -219,9 +216,6 @@ module _ {X : Type 0} (path_of : X → List ℕ) where
       puts_in one old middle place (subst (λ (q : List ℕ). TakesOut path_of q old middle place) (sym same) out) new is
 
 -- ---- a package is put in the place of the one with its path
-abbrev pub path_of_package : ParsedPackage → List ℕ
-path_of_package p = p.path.items
-
 module _ (one : ParsedPackage) (old middle : List ParsedPackage) (place : ℕ) (out : TakesOut path_of_package one.path.items old middle place) where
   pub puts_none : has_file one ≡ false → Puts one old middle
   puts_none none = record {

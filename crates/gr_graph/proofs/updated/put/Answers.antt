@@ -4,7 +4,8 @@ use Rattle.std.specs.List.{insert}
 use Rattle.gr_graph.specs.Changed.{has_file}
 use Rattle.gr_graph.specs.Updated.{TakesOut}
 use Rattle.gr_graph.specs.declared.package.ParsedPackage.{ParsedPackage}
-use Rattle.gr_graph.proofs.UpdatedPackages.{path_of_package, place_within, puts_none, puts_one}
+use Rattle.gr_graph.proofs.Numbers.{path_of_package}
+use Rattle.gr_graph.proofs.UpdatedPackages.{place_within, puts_none, puts_one}
 use Rattle.gr_graph.proofs.updated.put.Goals as goal
 
 pub returns-then-not-has_file : goal.returns-then-not-has_file

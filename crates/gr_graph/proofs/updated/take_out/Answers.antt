@@ -5,7 +5,8 @@ use Rattle.gr_text.specs.Workspace.{path_cmp}
 use Rattle.gr_graph.specs.Graphs.{paths_of}
 use Rattle.gr_graph.specs.Updated.{IsPlace}
 use Rattle.gr_graph.specs.declared.package.ParsedPackage.{ParsedPackage}
-use Rattle.gr_graph.proofs.UpdatedPackages.{none_out, number_within, one_out, path_of_package}
+use Rattle.gr_graph.proofs.Numbers.{path_of_package}
+use Rattle.gr_graph.proofs.UpdatedPackages.{none_out, number_within, one_out}
 use Rattle.gr_graph.proofs.updated.take_out.Goals as goal
 
 pub place_of-requires : goal.place_of-requires
