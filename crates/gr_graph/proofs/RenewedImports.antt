@@ -24,9 +24,9 @@ is_path q path same apart = is_among q (path ∷ [])
     (λ never. apart (λ e. never (subst (Contains (path ∷ [])) (sym e) (first_in path []))))
 
 -- a tree that was taken out or not
-gone_imports : (path : List ℕ) (trees : List FileParts) (gone : Option FileParts) (f : FileParts) (q : List ℕ) → IsGone path trees gone → Contains trees f →
-    f.path ≡ path → ImportsPath (source_of f) q → GoneImports gone q
-gone_imports path trees gone f q is has same imports = subst (λ o. GoneImports o q) (sym (is f has same)) imports
+gone_imports : (path : List ℕ) (trees : List FileParts) (taken : Option FileParts) (f : FileParts) (q : List ℕ) → IsGone path trees taken → Contains trees f →
+    f.path ≡ path → ImportsPath (source_of f) q → GoneImports taken q
+gone_imports path trees taken f q is has same imports = subst (λ o. GoneImports o q) (sym (is f has same)) imports
 
 module _ {Z : Type 0} (keys : List (Vec ℕ Z)) (old new : List FileParts) (gone : Option FileParts) (come : List FileImport)
     (held : HoldsPaths (SomeImport old) keys) where

@@ -3,6 +3,7 @@ use Rattle.std.proofs.Common.{ℕ, ◌≡◌, ◌<◌, ◌⊎◌, ◌∷◌, ◌
 use Rattle.std.proofs.Math.ListN.{set}
 use Rattle.std.specs.FinMap.{get}
 use Rattle.std.specs.Cmp.Lexicographic.{pointwise, bytes_decides}
+use Rattle.std.specs.Arc.{arc_value}
 use Rattle.std.specs.Option.{option_map}
 use Rattle.std.specs.List.{All, Contains}
 use Rattle.std.specs.List.Sorted.{IsStrictlySortedBy}
@@ -13,23 +14,27 @@ use Rattle.std.proofs.lemmas.Option.{get_or_from_slice_get, same_Some, slice_get
 use Rattle.gr_text.specs.Path.{folder}
 use Rattle.gr_text.specs.Packages.{is_go, is_of_package}
 use Rattle.gr_text.specs.Workspace.{Workspace, path_cmp}
-use Rattle.gr_tree.specs.SourceFile.{FileParts}
-use Rattle.gr_graph.specs.Drafts.{AreDraftsAt, HasText, HoldsDraft, IsDraft, IsGone, SetsFile, SetsFiles, packages_of, tree_path}
+use Rattle.gr_tree.specs.SourceFile.{FileParts, source_of}
+use Rattle.gr_graph.specs.Drafts.{AreDraftsAt, HasText, HoldsDraft, IsDraft, IsDraftAt, IsEmptyAt, IsGone, IsSamePackage, PutsFault, PutsTree, SetsFile, SetsFiles, TakesFile, draft_path, draft_paths, fault_path, packages_of, tree_path}
 use Rattle.gr_graph.specs.FaultyFiles.{FaultyParts}
 use Rattle.gr_graph.specs.Graphs.{paths_of}
-use Rattle.gr_graph.specs.HeldFiles.{HoldFiles, tree_paths}
+use Rattle.gr_graph.specs.HeldFiles.{HoldFiles, fault_paths, tree_paths}
+use Rattle.gr_graph.specs.ImportPaths.{SomeImport}
 use Rattle.gr_graph.specs.NamedFiles.{AreFresh, ArePackages, HaveFolders, Resets}
 use Rattle.gr_graph.specs.Staying.{DiffersOnlyAt, HasFiles}
-use Rattle.gr_graph.specs.Updated.{IsPlace}
+use Rattle.gr_graph.specs.Packages.{IsParsed}
+use Rattle.gr_graph.specs.Parsed.{IsFaulty}
+use Rattle.gr_graph.specs.Updated.{IsPlace, TakesOut}
 use Rattle.gr_graph.specs.declared.package.ParsedPackage.{ParsedPackage}
 use Rattle.gr_graph.specs.declared.shared_package.PackageParts.{PackageParts}
 use Rattle.gr_graph.proofs.Collected.{none_held}
 use Rattle.gr_edit.proofs.Held.{mapped_from}
 use Rattle.gr_graph.proofs.FoundFolders.{not_true}
-use Rattle.gr_graph.proofs.Filled.{set_elsewhere, set_there}
-use Rattle.gr_graph.proofs.HeldFiles.{has_held, held_apart, held_final, held_same, reset_next}
+use Rattle.gr_graph.proofs.Filled.{path_at as package_path, set_elsewhere, set_there}
+use Rattle.gr_graph.proofs.HeldFiles.{has_held, held, held_none, held_apart, held_fault, held_final, held_gone, held_same, held_tree, reset_next}
 use Rattle.gr_graph.proofs.NamedFiles.{is_among, resets_none, resets_more}
-use Rattle.gr_graph.proofs.PackagePaths.{one_number}
+use Rattle.gr_graph.proofs.ImportedPaths.{holds_none}
+use Rattle.gr_graph.proofs.PackagePaths.{none_sorted, one_number}
 use Rattle.gr_graph.proofs.SortedLists.{first_or_later}
 use Rattle.gr_graph.proofs.UpdatedPackages.{place_apart}
 
@@ -58,9 +63,9 @@ text_there : (v : Workspace) (p : List ℕ) (trees : List FileParts) (faulty : L
     HasText trees faulty path text → get v path ≡ Some text
 text_there v p trees faulty path text held has = ⊎_elim
     (λ (t : (t : FileParts) × Contains trees t × (t.path ≡ path) × (t.cut.text ≡ text)).
-    ap (get v) (sym t.1.1.0) ∙ (held.tree t.0 t.1.0).there ∙ ap Some t.1.1.1)
+    ap (get v) (sym t.2) ∙ (held.tree t.0 t.1).there ∙ ap Some t.3)
     (λ (f : (f : FaultyParts) × Contains faulty f × (f.path ≡ path) × (f.text ≡ text)).
-    ap (get v) (sym f.1.1.0) ∙ (held.fault f.0 f.1.0).there ∙ ap Some f.1.1.1)
+    ap (get v) (sym f.2) ∙ (held.fault f.0 f.1).there ∙ ap Some f.3)
     has
 
 pub text_stays : (w : Workspace) (path text : List ℕ) (d : PackageParts) → IsDraft d → get w path ≡ Some text →
@@ -70,6 +75,35 @@ text_stays w path text d draft at has = record {
   draft = draft;
   files = λ v u resets held.
       held_same resets held (at ∙ sym (text_there v d.package.path.items d.package.trees.items d.package.faulty.items path text held has));
+}
+
+-- ---- another text
+pub tree_set : (w : Workspace) (path text : List ℕ) (t : FileParts) (old new : PackageParts) → IsParsed path text (source_of t) → PutsTree t old new →
+    get w path ≡ Some text → is_of_package old.package.path.items path ≡ true → SetsFile w path old new
+tree_set w path text t old new is puts at of = record {
+  same_path = puts.path;
+  draft = puts.draft;
+  files = λ v u resets held. subst (λ p. HoldFiles u p new.package.trees.items new.package.faulty.items) (sym puts.path)
+      (held_tree resets held at of is puts.trees
+      (subst (λ q. TakesOut fault_path q old.package.faulty.items new.package.faulty.items puts.place) is.of_path puts.faulty));
+}
+
+pub fault_set : (w : Workspace) (path text : List ℕ) (f : FaultyParts) (old new : PackageParts) → IsFaulty path text f → PutsFault f old new →
+    get w path ≡ Some text → is_of_package old.package.path.items path ≡ true → SetsFile w path old new
+fault_set w path text f old new is puts at of = record {
+  same_path = puts.path;
+  draft = puts.draft;
+  files = λ v u resets held. subst (λ p. HoldFiles u p new.package.trees.items new.package.faulty.items) (sym puts.path)
+      (held_fault resets held at of is
+      (subst (λ q. TakesOut tree_path q old.package.trees.items new.package.trees.items puts.place) is.of_path puts.trees) puts.faulty);
+}
+
+pub none_set : (w : Workspace) (path : List ℕ) (old new : PackageParts) → TakesFile path old new → get w path ≡ None → SetsFile w path old new
+none_set w path old new takes at = record {
+  same_path = takes.same_path;
+  draft = takes.draft;
+  files = λ v u resets held. subst (λ p. HoldFiles u p new.package.trees.items new.package.faulty.items) (sym takes.same_path)
+      (held_gone resets held at takes.trees takes.faulty);
 }
 
 -- ---- all of a list
@@ -118,22 +152,72 @@ sets_more w paths path a b c first second = record {
       second.files middle.0 u (last_reset w v middle.0 u paths path middle.1 resets) (first.files v middle.0 middle.1 held);
 }
 
+-- ---- the package at a folder
+pub empty_draft : (folder : List ℕ) (d : PackageParts) → draft_path d ≡ folder → d.package.trees.items ≡ [] → d.package.faulty.items ≡ [] →
+    (arc_value d.imports).keys ≡ [] → IsEmptyAt folder d
+empty_draft folder d path trees faulty imports = record {
+  path = path;
+  empty = (trees, faulty);
+  draft = record {
+    trees = subst (λ (ts : List FileParts). IsStrictlySortedBy path_cmp (tree_paths ts)) (sym trees) none_sorted;
+    faulty = subst (λ (fs : List FaultyParts). IsStrictlySortedBy path_cmp (fault_paths fs)) (sym faulty) none_sorted;
+    imports = holds_none (SomeImport d.package.trees.items) (arc_value d.imports).keys imports
+        (λ q some. none_held some.0 (subst (λ (ts : List FileParts). Contains ts some.0) trees some.1.0));
+  };
+}
+
+pub kept_at : (before : List ParsedPackage) (folder : List ℕ) (n : ℕ) (p : ParsedPackage) (d : PackageParts) → slice_get (paths_of before) n ≡ Some folder →
+    slice_get before n ≡ Some p → IsDraft d → IsSamePackage d.package p → IsDraftAt before folder d
+kept_at before folder n p d named at draft same = record {
+  path = same.path ∙ same_Some p.path.items folder (sym (package_path before n p at) ∙ named);
+  draft = draft;
+  files = λ v are.
+      let h = held v p (All-contains (HasFiles v) before p are.files (there before n p at)) in
+      subst (λ q. HoldFiles v q d.package.trees.items d.package.faulty.items) (sym same.path)
+      (subst (λ ts. HoldFiles v p.path.items ts d.package.faulty.items) (sym same.trees)
+      (subst (λ fs. HoldFiles v p.path.items p.trees.items fs) (sym same.faulty) h));
+}
+
+pub none_at : (before : List ParsedPackage) (folder : List ℕ) (d : PackageParts) → (Contains (paths_of before) folder → ⊥) → IsEmptyAt folder d →
+    IsDraftAt before folder d
+none_at before folder d never empty = record {
+  path = empty.path;
+  draft = empty.draft;
+  files = λ v are.
+      subst (λ q. HoldFiles v q d.package.trees.items d.package.faulty.items) (sym empty.path)
+      (subst (λ ts. HoldFiles v folder ts d.package.faulty.items) (sym empty.empty.0)
+      (subst (λ fs. HoldFiles v folder [] fs) (sym empty.empty.1) (held_none v before folder are never)));
+}
+
+pub paths_push : (ds : List PackageParts) (d : PackageParts) (rest : List (List ℕ)) → draft_paths (ds ++ d ∷ []) ++ rest ≡ draft_paths ds ++ draft_path d ∷ rest
+paths_push [] d rest = refl
+paths_push (x ∷ ds) d rest = ap (λ paths. draft_path x ∷ paths) (paths_push ds d rest)
+
 -- ---- one path in several packages
 of_other : (p path : List ℕ) → (folder path ≡ p → ⊥) → is_of_package p path ≡ false
 of_other p path apart = not_true (is_of_package p path)
     (λ is. apart ((bytes_decides (folder path) p).0 (and_parts (is_go path) (pointwise ◌==◌ (folder path) p) is).1))
 
-draft_path : (ds : List PackageParts) (k : ℕ) (d : PackageParts) → slice_get ds k ≡ Some d → slice_get (paths_of (packages_of ds)) k ≡ Some d.package.path.items
-draft_path ds k d at =
-    slice_get-map (λ (p : ParsedPackage). p.path.items) (packages_of ds) k
-    ∙ ap (option_map (λ (p : ParsedPackage). p.path.items)) (slice_get-map (λ (x : PackageParts). x.package) ds k
-    ∙ ap (option_map (λ (x : PackageParts). x.package)) at)
+path_at : (ds : List PackageParts) (k : ℕ) (d : PackageParts) → slice_get ds k ≡ Some d → slice_get (draft_paths ds) k ≡ Some (draft_path d)
+path_at ds k d at = slice_get-map draft_path ds k ∙ ap (option_map draft_path) at
+
+paths_same : (ds : List PackageParts) → paths_of (packages_of ds) ≡ draft_paths ds
+paths_same [] = refl
+paths_same (d ∷ ds) = ap (λ rest. d.package.path.items ∷ rest) (paths_same ds)
+
+-- the one that was found by a folder
+pub found_at : (ds : List PackageParts) (n : ℕ) (b : PackageParts) (path : List ℕ) → slice_get (draft_paths ds) n ≡ Some (folder path) → b ≡ get_or ds n b →
+    (slice_get ds n ≡ Some b) × (folder path ≡ draft_path b)
+found_at ds n b path named is =
+    let within : n < length ds = subst (λ (m : ℕ). n < m) (length-map ds draft_path) (slice_get_within (draft_paths ds) n (folder path) named) in
+    let at = slice_get_read ds (length ds) n b refl within is in
+    (at, same_Some (folder path) (draft_path b) (sym named ∙ path_at ds n b at))
 
 set_paths : (ds : List PackageParts) (n : ℕ) (b a : PackageParts) → slice_get ds n ≡ Some b → a.package.path.items ≡ b.package.path.items →
-    paths_of (packages_of (set ds n a)) ≡ paths_of (packages_of ds)
+    draft_paths (set ds n a) ≡ draft_paths ds
 set_paths [] n b a at same = refl
 set_paths (d ∷ ds) zero b a at same =
-    ap (λ path. path ∷ paths_of (packages_of ds)) (same ∙ ap (λ (x : PackageParts). x.package.path.items) (sym (same_Some d b at)))
+    ap (λ path. path ∷ draft_paths ds) (same ∙ ap (λ (x : PackageParts). x.package.path.items) (sym (same_Some d b at)))
 set_paths (d ∷ ds) (suc n) b a at same = ap (λ rest. d.package.path.items ∷ rest) (set_paths ds n b a at same)
 
 -- one of a list in which one was set
@@ -147,7 +231,7 @@ set_cases ds n b a d at has own other =
     (λ (apart : k ≡ n → ⊥). other k apart (sym (set_elsewhere ds n k a apart) ∙ now))
     (cases_eq k n)
 
-module _ (w : Workspace) (path : List ℕ) (ds : List PackageParts) (sorted : IsStrictlySortedBy path_cmp (paths_of (packages_of ds))) (drafts : All IsDraft ds)
+module _ (w : Workspace) (path : List ℕ) (ds : List PackageParts) (sorted : IsStrictlySortedBy path_cmp (draft_paths ds)) (drafts : All IsDraft ds)
   where
     -- the path is that of a file of one of them
     pub sets_one : (n : ℕ) (b a : PackageParts) (new : List PackageParts) → slice_get ds n ≡ Some b → new ≡ set ds n a →
@@ -160,30 +244,30 @@ module _ (w : Workspace) (path : List ℕ) (ds : List PackageParts) (sorted : Is
       files = λ v u resets held. all_from (set ds n a) (λ d has. set_cases ds n b a d at has
           (λ own. subst (HoldsDraft u) (sym own) (sets.files v u resets (All-contains (HoldsDraft v) ds b held (there ds n b at))))
           (λ k apart was. held_apart resets (All-contains (HoldsDraft v) ds d held (there ds k d was))
-          (of_other d.package.path.items path (λ same. apart (one_number (paths_of (packages_of ds)) sorted k n (folder path)
-          (draft_path ds k d was ∙ ap Some (sym same)) (draft_path ds n b at ∙ ap Some (sym of)))))));
+          (of_other d.package.path.items path (λ same. apart (one_number (draft_paths ds) sorted k n (folder path)
+          (path_at ds k d was ∙ ap Some (sym same)) (path_at ds n b at ∙ ap Some (sym of)))))));
     })
 
     -- or of none
-    pub sets_other : ((p : List ℕ) → Contains (paths_of (packages_of ds)) p → is_of_package p path ≡ false) → SetsFiles w (path ∷ []) ds ds
+    pub sets_other : ((p : List ℕ) → Contains (draft_paths ds) p → is_of_package p path ≡ false) → SetsFiles w (path ∷ []) ds ds
     sets_other none = record {
       same_paths = refl;
       drafts = drafts;
       files = λ v u resets held. all_from ds (λ d has. held_apart resets (All-contains (HoldsDraft v) ds d held has)
-          (none d.package.path.items (there (paths_of (packages_of ds)) has.0 d.package.path.items (draft_path ds has.0 d (read ds d has)))));
+          (none d.package.path.items (there (draft_paths ds) has.0 d.package.path.items (path_at ds has.0 d (read ds d has)))));
     }
 
-    pub sets_none_there : (Contains (paths_of (packages_of ds)) (folder path) → ⊥) → SetsFiles w (path ∷ []) ds ds
-    sets_none_there never = sets_other (λ p has. of_other p path (λ same. never (subst (Contains (paths_of (packages_of ds))) (sym same) has)))
+    pub sets_none_there : (Contains (draft_paths ds) (folder path) → ⊥) → SetsFiles w (path ∷ []) ds ds
+    sets_none_there never = sets_other (λ p has. of_other p path (λ same. never (subst (Contains (draft_paths ds)) (sym same) has)))
 
     pub sets_no_go : is_go path ≡ false → SetsFiles w (path ∷ []) ds ds
-    sets_no_go no = sets_other (λ p has. ap (λ b. b && pointwise ◌==◌ (folder path) p) no)
+    sets_no_go other = sets_other (λ p has. ap (λ b. b && pointwise ◌==◌ (folder path) p) other)
 
 -- ---- all paths at which files may differ
 module _ (v w : Workspace) (before : List ParsedPackage) (folders paths : List (List ℕ)) (drafts made : List PackageParts) (are : ArePackages v before)
     (at : AreDraftsAt before folders drafts) (sets : SetsFiles w paths drafts made) (have : HaveFolders paths folders) (differs : DiffersOnlyAt paths v w) where
   paths_are : paths_of (packages_of made) ≡ folders
-  paths_are = sets.same_paths ∙ at.paths
+  paths_are = paths_same made ∙ sets.same_paths ∙ at.paths
 
   last : (u : Workspace) × Resets w paths v u
   last = reset_to w v paths

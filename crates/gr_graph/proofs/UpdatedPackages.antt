@@ -3,7 +3,7 @@ use Rattle.std.proofs.Common.{◌≡◌, ℕ, zero, suc, ◌+◌, ◌<◌, ◌�
 use Rattle.std.proofs.Common.{get_or, Some, slice_get, refl, sym, ap, subst, ◌∙◌, ⊎_elim, arith}
 use Rattle.std.specs.declared.cmp.Ordering.TheVariants.{Less}
 use Rattle.std.specs.Cmp.{tied_itself}
-use Rattle.std.specs.FinMap.{contains_key-keys, entries}
+use Rattle.std.specs.FinMap.{contains_key-keys, empty, entries, get-empty}
 use Rattle.std.specs.List.{Contains, insert, list_any, remove}
 use Rattle.std.specs.List.Sorted.{IsPermutation, IsStrictlySortedBy}
 use Rattle.std.specs.Ordering.{eq_by_cmp, is_lt}
@@ -15,7 +15,7 @@ use Rattle.std.proofs.lemmas.List.Elements.{All-contains, Contains-append_left, 
 use Rattle.std.proofs.lemmas.List.Sorted.{Contains-permutation, IsPermutation-insert, IsPermutation-remove, IsPermutation-sym}
 use Rattle.std.proofs.lemmas.Map.Keys.{Less-from_sorted, sorted_from_all_adjacent, sorted_tail}
 use Rattle.std.proofs.lemmas.Map.Views.{Contains-from_any}
-use Rattle.std.proofs.lemmas.Option.{get_or_from_slice_get, same_Some, slice_get-get_or, slice_get_within}
+use Rattle.std.proofs.lemmas.Option.{get_or_from_slice_get, none-some, same_Some, slice_get-get_or, slice_get_within}
 use Rattle.gr_text.specs.Packages.{folders, package_files, package_paths}
 use Rattle.gr_text.specs.Workspace.{Workspace, path_cmp}
 use Rattle.gr_text.proofs.WorkspaceLaws.{path_cmp_total}
@@ -30,10 +30,10 @@ use Rattle.gr_graph.specs.declared.package.ParsedPackage.{ParsedPackage}
 use Rattle.gr_graph.proofs.ChangedPackages.{some_parsed, with_path}
 use Rattle.gr_graph.proofs.Collected.{none_held}
 use Rattle.gr_graph.proofs.Filled.{path_at}
-use Rattle.gr_graph.proofs.NamedFiles.{is_among, path_in}
+use Rattle.gr_graph.proofs.NamedFiles.{file_of, is_among, path_in}
 use Rattle.gr_graph.proofs.Numbers.{path_of_package, path_there}
 use Rattle.gr_graph.proofs.PackagePaths.{exact_names, has_folder, one_number, paths_are}
-use Rattle.gr_graph.proofs.FoundFolders.{folder_found, not_true}
+use Rattle.gr_graph.proofs.FoundFolders.{first_of, folder_found, not_true}
 use Rattle.gr_graph.proofs.SameFiles.{same_files}
 use Rattle.gr_graph.proofs.SortedLists.{first_in, first_or_later, later_in}
 use Rattle.gr_graph.proofs.StayingPackages.{any_of}
@@ -58,7 +58,7 @@ not_less : (x : List ℕ) → path_cmp x x ≡ Less → ⊥
 not_less x less = true≢false (ap is_lt (sym less ∙ tied_itself path_cmp_total x))
 
 -- a path that stands between others is none of them
-place_apart : (ks : List (List ℕ)) (q : List ℕ) (i : ℕ) → IsPlace ks q i → Contains ks q → ⊥
+pub place_apart : (ks : List (List ℕ)) (q : List ℕ) (i : ℕ) → IsPlace ks q i → Contains ks q → ⊥
 place_apart ks q i place (k, within, is) =
     let at : get_or ks k [] ≡ q = get_or_from_slice_get ks k q [] (slice_get-get_or ks k q within ∙ ap Some is) in
     ⊎_elim
@@ -375,3 +375,19 @@ module _ (v w : Workspace) (before fresh packages : List ParsedPackage) (are : A
       (λ (old : Contains before p × (Contains (paths_of fresh) p.path.items → ⊥)).
       subst (λ es. AreParsed es p.trees.items p.faulty.items) (sym (stays p.path.items old.1)) (All-contains (HasFiles v) before p are.files old.0))
       (updated.each p (i, slice_get_within packages i p at, get_or_from_slice_get packages i p p at))
+
+-- ---- no files, no packages
+abbrev no_files : Workspace
+no_files = empty
+
+nothing_in : (paths : List (List ℕ)) → ((path : List ℕ) → Contains paths path → ⊥) → paths ≡ []
+nothing_in [] never = refl
+nothing_in (path ∷ paths) never = absurd (never path (first_in path paths))
+
+pub no_paths : package_paths empty ≡ []
+no_paths = nothing_in (package_paths no_files) (λ path has.
+    let found : has_some (package_files no_files path) ≡ true =
+    sym (folder_found path (entries no_files)) ∙ sym (has_folder no_files path) ∙ contains_key-keys (folders no_files) path
+    ∙ any_of path (package_paths no_files) has in
+    let e = first_of (package_files no_files path) found in
+    none-some e.0.1 (sym (get-empty path_cmp e.0.0) ∙ file_of no_files path e.0 e.1))

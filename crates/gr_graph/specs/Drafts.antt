@@ -8,7 +8,7 @@ use Rattle.gr_text.specs.Packages.{is_of_package}
 use Rattle.gr_text.specs.Workspace.{Workspace, path_cmp}
 use Rattle.gr_tree.specs.SourceFile.{FileParts, source_of}
 use Rattle.gr_graph.specs.FaultyFiles.{FaultyParts}
-use Rattle.gr_graph.specs.Graphs.{IsEmpty, paths_of}
+use Rattle.gr_graph.specs.Graphs.{IsEmpty}
 use Rattle.gr_graph.specs.HeldFiles.{HoldFiles, fault_paths, tree_paths}
 use Rattle.gr_graph.specs.ImportPaths.{HoldsPaths, SomeImport, SomeStandFor, bytes_of_paths}
 use Rattle.gr_graph.specs.NamedFiles.{ArePackages, Resets}
@@ -108,9 +108,15 @@ SetsText path text old new = (w : Workspace) → files.get w path ≡ Some text 
 abbrev pub packages_of : List PackageParts → List ParsedPackage
 packages_of drafts = map (λ d. d.package) drafts
 
+abbrev pub draft_path : PackageParts → List ℕ
+draft_path d = d.package.path.items
+
+abbrev pub draft_paths : List PackageParts → List (List ℕ)
+draft_paths drafts = map draft_path drafts
+
 -- what is at some paths is what a workspace has there
 pub record SetsFiles (w : Workspace) (paths : List (List ℕ)) (old new : List PackageParts) : Type 0 where
-  pub same_paths : paths_of (packages_of new) ≡ paths_of (packages_of old)
+  pub same_paths : draft_paths new ≡ draft_paths old
   pub drafts : All IsDraft new
   pub files : (v u : Workspace) → Resets w paths v u → All (HoldsDraft v) old → All (HoldsDraft u) new
 
@@ -127,8 +133,8 @@ pub record IsDraftAt (packages : List ParsedPackage) (folder : List ℕ) (d : Pa
   pub files : (v : Workspace) → ArePackages v packages → HoldsDraft v d
 
 -- the packages at folders in order
-pub record AreDraftsAt (packages : List ParsedPackage) (folders : List (List ℕ)) (drafts : List PackageParts) : Type 0 where
-  pub paths : paths_of (packages_of drafts) ≡ folders
+pub record AreDraftsAt (packages : List ParsedPackage) (folders : List (List ℕ)) (ds : List PackageParts) : Type 0 where
+  pub paths : draft_paths ds ≡ folders
   pub sorted : IsStrictlySortedBy path_cmp folders
-  pub drafts : All IsDraft drafts
-  pub files : (v : Workspace) → ArePackages v packages → All (HoldsDraft v) drafts
+  pub drafts : All IsDraft ds
+  pub files : (v : Workspace) → ArePackages v packages → All (HoldsDraft v) ds

@@ -6,7 +6,7 @@ ghost use Rattle.std.specs.List.{All, Contains};
 ghost use Rattle.std.specs.List.Sorted.{IsStrictlySortedBy};
 ghost use Rattle.gr_text.specs.Packages.{is_of_package};
 ghost use Rattle.gr_text.specs.Workspace.{Workspace, path_cmp};
-ghost use Rattle.gr_graph.specs.Drafts.{AreDraftsAt, HasText, IsDraft, IsDraftAt, IsEmptyAt, packages_of};
+ghost use Rattle.gr_graph.specs.Drafts.{AreDraftsAt, HasText, IsDraft, IsDraftAt, IsEmptyAt, draft_paths, packages_of};
 ghost use Rattle.gr_graph.specs.Drafts.{IsRenewed, PutsFault, PutsTree, SetsFile, SetsFiles, SetsText, TakesFile};
 ghost use Rattle.gr_graph.specs.Filling.{names};
 ghost use Rattle.gr_graph.specs.Graphs.{paths_of};
@@ -139,8 +139,8 @@ fn set_file(
 
 /// The number of the package that has a path.
 fn draft_number(drafts: &[PackageParts], path: &[u8]) -> Option<usize>
-    requires { IsStrictlySortedBy path_cmp (paths_of (packages_of drafts.now)) }
-    ensures { MatchOption result (Contains (paths_of (packages_of drafts.now)) path.now → ⊥) (λ number. slice_get (paths_of (packages_of drafts.now)) number ≡ Some path.now) }
+    requires { IsStrictlySortedBy path_cmp (draft_paths drafts.now) }
+    ensures { MatchOption result (Contains (draft_paths drafts.now) path.now → ⊥) (λ number. slice_get (draft_paths drafts.now) number ≡ Some path.now) }
 {
     match drafts.binary_search_by(|draft| draft.package.path.as_slice().cmp(path)) {
         Ok(number) => Some(number),
@@ -155,7 +155,7 @@ fn set_in(
     files: &Files,
     path: &Path,
 ) -> Result<(), AllocError>
-    requires sorted { IsStrictlySortedBy path_cmp (paths_of (packages_of drafts.old.items)) }
+    requires sorted { IsStrictlySortedBy path_cmp (draft_paths drafts.old.items) }
     requires drafts { All IsDraft drafts.old.items }
     ensures { OnOk result (SetsFiles files.now (path.now ∷ []) drafts.old.items drafts.new.items) }
 {
@@ -174,7 +174,7 @@ fn set_all(
     files: &Files,
     paths: &[&Path],
 ) -> Result<(), AllocError>
-    requires sorted { IsStrictlySortedBy path_cmp (paths_of (packages_of drafts.old.items)) }
+    requires sorted { IsStrictlySortedBy path_cmp (draft_paths drafts.old.items) }
     requires drafts { All IsDraft drafts.old.items }
     ensures { OnOk result (SetsFiles files.now (names paths.now) drafts.old.items drafts.new.items) }
 {

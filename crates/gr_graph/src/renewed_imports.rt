@@ -80,7 +80,7 @@ fn keep_imports(
     come: &[FileImport],
     files: &[FileTree],
 ) -> Result<bool, AllocError>
-    ensures { IfOk result (λ kept. IsTrue kept → AreKept (GoneImports (option_copied gone)) come.now files.now) }
+    ensures { IfOk result (λ kept. IsTrue kept → AreKept (GoneImports (option_copied gone.entry)) come.now files.now) }
 {
     match gone {
         None => Ok(true),

@@ -1,12 +1,9 @@
 -- A package that compares equal has the path, and where none does none has it.
-use Rattle.std.proofs.Common.{List, ℕ, rules}
+use Rattle.std.proofs.Common.{rules}
 use Rattle.std.proofs.lemmas.Fn.{always_returns_same}
-use Rattle.gr_graph.specs.declared.shared_package.PackageParts.{PackageParts}
+use Rattle.gr_graph.specs.Drafts.{draft_path}
 use Rattle.gr_graph.proofs.Numbers.{found_is, none_is, search_cmp}
 use Rattle.gr_graph.proofs.drafts.draft_number.Goals as goal
-
-abbrev draft_path : PackageParts → List ℕ
-draft_path d = d.package.path.items
 
 pub returns-in-Ok : goal.returns-in-Ok
 returns-in-Ok c = found_is draft_path c.args.drafts.now c.args.path.now c.in-Ok.number c.in-Ok.ensures.bound

@@ -15,8 +15,8 @@ use Rattle.gr_graph.proofs.StayingPackages.{all_at}
 use Rattle.gr_graph.proofs.UpdatedPackages.{updated_files, updated_paths}
 use Rattle.gr_graph.proofs.graph.Graph.changed.Goals as goal
 
-pub folder_packages-requires : goal.folder_packages-requires
-folder_packages-requires c =
+pub packages_with-requires : goal.packages_with-requires
+packages_with-requires c =
     let paths : paths_of c.deref.result.now ≡ package_paths c.args.before.now = ap paths_of c.deref.ensures.value ∙
     ap (λ parts. paths_of parts.packages.items) c.deref-old.ensures ∙ c.before-2.invariant.paths ∙ ap package_paths c.before-2.view_is in
     rw paths (paths_sorted c.args.before.now)
