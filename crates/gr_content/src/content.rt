@@ -18,7 +18,7 @@ use gr_graph::Graph;
 use gr_history::History;
 use gr_machine::{MadeEdits, State, View, first_waiting};
 use gr_space::MadeChange;
-use gr_text::{Files, Limits, Refusal};
+use gr_text::{Limits, Refusal};
 use gr_verdict::{Known, SharedKnown};
 use std::alloc::{AllocError, Global};
 use std::marker::Model;
@@ -59,7 +59,7 @@ impl Content {
     pub fn new(alloc: Global, limits: Limits) -> Result<Content, AllocError>
         ensures { IfOk result (λ states. states ≡ content (opening limits)) }
     {
-        let files = Graph::of(alloc, Files::new(alloc))?;
+        let files = Graph::empty(alloc)?;
         let finished = Finished::new(alloc)?;
         let nothing = Known::new(alloc);
         let known = SharedKnown::new(alloc, nothing)?;

@@ -1,5 +1,5 @@
 -- What stands at the paths of a folder tells the files of its package, and what a set or gone file does to them.
-use Rattle.std.proofs.Common.{◌≡◌, ℕ, ◌⊎◌, inl, inr, true, false, List, [], ◌∷◌, ◌++◌, map, Option, Some, None, ◌==◌, refl, sym, ap, subst, ◌∙◌, ⊎_elim}
+use Rattle.std.proofs.Common.{◌≡◌, ℕ, ◌⊎◌, inl, inr, true, false, List, [], ◌∷◌, map, Option, Some, None, ◌==◌, refl, sym, ap, subst, ◌∙◌, ⊎_elim}
 use Rattle.std.specs.declared.cmp.Ordering.TheVariants.{Less}
 use Rattle.std.specs.Cmp.Lexicographic.{pointwise, bytes_decides}
 use Rattle.std.specs.FinMap.{entries, entries_sorted, get, insert, remove}
@@ -17,7 +17,7 @@ use Rattle.gr_tree.specs.Faults.{IsFaultOf}
 use Rattle.gr_tree.specs.SourceFile.{FileParts, source_of}
 use Rattle.gr_graph.specs.FaultyFiles.{FaultyParts}
 use Rattle.gr_graph.specs.Graphs.{paths_of}
-use Rattle.gr_graph.specs.HeldFiles.{HoldFiles, HoldReset, HoldsFault, HoldsTree, SetsPath, fault_paths, tree_paths}
+use Rattle.gr_graph.specs.HeldFiles.{HoldFiles, HoldsFault, HoldsTree, fault_path, fault_paths, tree_path, tree_paths}
 use Rattle.gr_graph.specs.NamedFiles.{ArePackages, Resets}
 use Rattle.gr_graph.specs.Packages.{IsParsed}
 use Rattle.gr_graph.specs.Parsed.{AreParsed, IsFaulty, none, tree, fault}
@@ -25,7 +25,7 @@ use Rattle.gr_graph.specs.Staying.{DiffersOnlyAt, HasFiles}
 use Rattle.gr_graph.specs.Updated.{PutsIn, TakesOut}
 use Rattle.gr_graph.specs.declared.package.ParsedPackage.{ParsedPackage}
 use Rattle.gr_graph.proofs.Collected.{none_held}
-use Rattle.gr_graph.proofs.NamedFiles.{file_of, has_package, in_package, is_among, of_package, one_in, resets_more, resets_none, resets_one}
+use Rattle.gr_graph.proofs.NamedFiles.{file_of, has_package, in_package, is_among, of_package, one_in, resets_one}
 use Rattle.gr_graph.proofs.PackagePaths.{T_true, sorted_keys}
 use Rattle.gr_graph.proofs.SameFiles.{sorted_passed}
 use Rattle.gr_graph.proofs.SortedLists.{above, first_in, first_or_later, later_in, not_itself, same_first, sorted_more}
@@ -33,12 +33,6 @@ use Rattle.gr_graph.proofs.UpdatedPackages.{out_apart}
 
 abbrev Entry : Type 0
 Entry = List ℕ × List ℕ
-
-abbrev pub path_of_tree : FileParts → List ℕ
-path_of_tree t = t.path
-
-abbrev pub path_of_fault : FaultyParts → List ℕ
-path_of_fault f = f.path
 
 abbrev entry_paths : List Entry → List (List ℕ)
 entry_paths es = map (λ e. e.0) es
@@ -65,13 +59,13 @@ record AreHeld (es : List Entry) (ts : List FileParts) (fs : List FaultyParts) :
 tree_among : (es : List Entry) (ts : List FileParts) (fs : List FaultyParts) → AreHeld es ts fs → (q : List ℕ) → Contains (tree_paths ts) q →
     Contains (entry_paths es) q
 tree_among es ts fs h q has =
-    let t = mapped_from path_of_tree ts q has in
+    let t = mapped_from tree_path ts q has in
     subst (Contains (entry_paths es)) t.2 (is_mapped (λ (e : Entry). e.0) es (tree_entry t.0) (h.sound t.0 t.1).0)
 
 fault_among : (es : List Entry) (ts : List FileParts) (fs : List FaultyParts) → AreHeld es ts fs → (q : List ℕ) → Contains (fault_paths fs) q →
     Contains (entry_paths es) q
 fault_among es ts fs h q has =
-    let f = mapped_from path_of_fault fs q has in
+    let f = mapped_from fault_path fs q has in
     subst (Contains (entry_paths es)) f.2 (is_mapped (λ (e : Entry). e.0) es (fault_entry f.0) (h.faulty f.0 f.1).0)
 
 -- the first of files in order has another path than the others
@@ -161,17 +155,17 @@ module _ (e : Entry) (es : List Entry) (sorted : IsStrictlySortedBy path_cmp (en
   -- the first is among the trees: then it is the first of them
   module _ (t : FileParts) (ts : List FileParts) (fs : List FaultyParts) (h : AreHeld (e ∷ es) (t ∷ ts) fs)
       (first : Contains (tree_paths (t ∷ ts)) e.0) where
-    tree_path : e.0 ≡ t.path
-    tree_path = same_first path_cmp_total e.0 (entry_paths es) t.path (tree_paths ts) sorted h.trees_sorted first
+    first_tree : e.0 ≡ t.path
+    first_tree = same_first path_cmp_total e.0 (entry_paths es) t.path (tree_paths ts) sorted h.trees_sorted first
         (tree_among (e ∷ es) (t ∷ ts) fs h t.path (first_in t.path (tree_paths ts)))
 
     tree_is : IsParsed e.0 e.1 (source_of t)
     tree_is =
         let s = h.sound t (first_in t ts) in
-        subst (λ (d : Entry). IsParsed d.0 d.1 (source_of t)) (sym (is_first (tree_entry t) tree_path s.0)) s.1
+        subst (λ (d : Entry). IsParsed d.0 d.1 (source_of t)) (sym (is_first (tree_entry t) first_tree s.0)) s.1
 
     not_tree : (x : FileParts) → Contains ts x → e.0 ≡ x.path → ⊥
-    not_tree x has same = not_itself path_cmp_total t.path (tree_paths ts) x.path h.trees_sorted (is_mapped path_of_tree ts x has) (sym tree_path ∙ same)
+    not_tree x has same = not_itself path_cmp_total t.path (tree_paths ts) x.path h.trees_sorted (is_mapped tree_path ts x has) (sym first_tree ∙ same)
 
     tree_rest : AreHeld es ts fs
     tree_rest = record {
@@ -182,11 +176,11 @@ module _ (e : Entry) (es : List Entry) (sorted : IsStrictlySortedBy path_cmp (en
           (not_first (tree_entry x) (not_tree x has) s.0, s.1);
       faulty = λ x has.
           let s = h.faulty x has in
-          (not_first (fault_entry x) (λ same. h.apart x.path (subst (Contains (tree_paths (t ∷ ts))) same first) (is_mapped path_of_fault fs x has)) s.0, s.1);
+          (not_first (fault_entry x) (λ same. h.apart x.path (subst (Contains (tree_paths (t ∷ ts))) same first) (is_mapped fault_path fs x has)) s.0, s.1);
       apart = λ q has has_too. h.apart q (later_in t.path (tree_paths ts) q has) has_too;
       all = λ d has. ⊎_elim
           (λ (x : Contains (tree_paths (t ∷ ts)) d.0). ⊎_elim
-          (λ (here : t.path ≡ d.0). absurd (other_path d.0 (is_mapped (λ (y : Entry). y.0) es d has) (tree_path ∙ here)))
+          (λ (here : t.path ≡ d.0). absurd (other_path d.0 (is_mapped (λ (y : Entry). y.0) es d has) (first_tree ∙ here)))
           (λ (later : Contains (tree_paths ts) d.0). inl later)
           (first_or_later t.path (tree_paths ts) d.0 x))
           (λ (y : Contains (fault_paths fs) d.0). inr y)
@@ -196,17 +190,17 @@ module _ (e : Entry) (es : List Entry) (sorted : IsStrictlySortedBy path_cmp (en
   -- or among the others
   module _ (f : FaultyParts) (ts : List FileParts) (fs : List FaultyParts) (h : AreHeld (e ∷ es) ts (f ∷ fs))
       (first : Contains (fault_paths (f ∷ fs)) e.0) where
-    fault_path : e.0 ≡ f.path
-    fault_path = same_first path_cmp_total e.0 (entry_paths es) f.path (fault_paths fs) sorted h.faulty_sorted first
+    first_fault : e.0 ≡ f.path
+    first_fault = same_first path_cmp_total e.0 (entry_paths es) f.path (fault_paths fs) sorted h.faulty_sorted first
         (fault_among (e ∷ es) ts (f ∷ fs) h f.path (first_in f.path (fault_paths fs)))
 
     fault_is : IsFaulty e.0 e.1 f
     fault_is =
         let s = h.faulty f (first_in f fs) in
-        subst (λ (d : Entry). IsFaulty d.0 d.1 f) (sym (is_first (fault_entry f) fault_path s.0)) s.1
+        subst (λ (d : Entry). IsFaulty d.0 d.1 f) (sym (is_first (fault_entry f) first_fault s.0)) s.1
 
     not_fault : (x : FaultyParts) → Contains fs x → e.0 ≡ x.path → ⊥
-    not_fault x has same = not_itself path_cmp_total f.path (fault_paths fs) x.path h.faulty_sorted (is_mapped path_of_fault fs x has) (sym fault_path ∙ same)
+    not_fault x has same = not_itself path_cmp_total f.path (fault_paths fs) x.path h.faulty_sorted (is_mapped fault_path fs x has) (sym first_fault ∙ same)
 
     fault_rest : AreHeld es ts fs
     fault_rest = record {
@@ -214,7 +208,7 @@ module _ (e : Entry) (es : List Entry) (sorted : IsStrictlySortedBy path_cmp (en
       faulty_sorted = sorted_tail path_cmp f.path (fault_paths fs) h.faulty_sorted;
       sound = λ x has.
           let s = h.sound x has in
-          (not_first (tree_entry x) (λ same. h.apart x.path (is_mapped path_of_tree ts x has) (subst (Contains (fault_paths (f ∷ fs))) same first)) s.0, s.1);
+          (not_first (tree_entry x) (λ same. h.apart x.path (is_mapped tree_path ts x has) (subst (Contains (fault_paths (f ∷ fs))) same first)) s.0, s.1);
       faulty = λ x has.
           let s = h.faulty x (later_in f fs x has) in
           (not_first (fault_entry x) (not_fault x has) s.0, s.1);
@@ -222,7 +216,7 @@ module _ (e : Entry) (es : List Entry) (sorted : IsStrictlySortedBy path_cmp (en
       all = λ d has. ⊎_elim
           (λ (x : Contains (tree_paths ts) d.0). inl x)
           (λ (y : Contains (fault_paths (f ∷ fs)) d.0). ⊎_elim
-          (λ (here : f.path ≡ d.0). absurd (other_path d.0 (is_mapped (λ (z : Entry). z.0) es d has) (fault_path ∙ here)))
+          (λ (here : f.path ≡ d.0). absurd (other_path d.0 (is_mapped (λ (z : Entry). z.0) es d has) (first_fault ∙ here)))
           (λ (later : Contains (fault_paths fs) d.0). inr later)
           (first_or_later f.path (fault_paths fs) d.0 y))
           (h.all d (later_in e es d has));
@@ -388,11 +382,11 @@ module _ (w v new : Workspace) (path p : List ℕ) (resets : Resets w (path ∷ 
           Contains (tree_paths us) q ⊎ Contains (fault_paths gs) q
       other_all q text other of at = ⊎_elim
           (λ (x : Contains (tree_paths ts) q).
-          let t = mapped_from path_of_tree ts q x in
-          inl (subst (Contains (tree_paths us)) t.2 (is_mapped path_of_tree us t.0 (trees t.0 t.1 (λ same. other (sym t.2 ∙ same))))))
+          let t = mapped_from tree_path ts q x in
+          inl (subst (Contains (tree_paths us)) t.2 (is_mapped tree_path us t.0 (trees t.0 t.1 (λ same. other (sym t.2 ∙ same))))))
           (λ (y : Contains (fault_paths fs) q).
-          let f = mapped_from path_of_fault fs q y in
-          inr (subst (Contains (fault_paths gs)) f.2 (is_mapped path_of_fault gs f.0 (faulty f.0 f.1 (λ same. other (sym f.2 ∙ same))))))
+          let f = mapped_from fault_path fs q y in
+          inr (subst (Contains (fault_paths gs)) f.2 (is_mapped fault_path gs f.0 (faulty f.0 f.1 (λ same. other (sym f.2 ∙ same))))))
           (h.all q text of (sym (at_other q other) ∙ at))
 
       -- all files, where that of the path is told
@@ -414,22 +408,22 @@ module _ (w v new : Workspace) (path p : List ℕ) (resets : Resets w (path ∷ 
 
     -- which of the lists are left
     module _ (us : List FileParts) (gs : List FaultyParts) where
-      is_gone : (i j : ℕ) → get w path ≡ None → TakesOut path_of_tree path ts us i → TakesOut path_of_fault path fs gs j → HoldFiles new p us gs
+      is_gone : (i j : ℕ) → get w path ≡ None → TakesOut tree_path path ts us i → TakesOut fault_path path fs gs j → HoldFiles new p us gs
       is_gone i j gone a b = record {
         trees_sorted = a.sorted;
         faulty_sorted = b.sorted;
-        tree = λ t has. tree_stays t (a.from t has) (out_apart path_of_tree path ts us i a t has);
-        fault = λ f has. fault_stays f (b.from f has) (out_apart path_of_fault path fs gs j b f has);
+        tree = λ t has. tree_stays t (a.from t has) (out_apart tree_path path ts us i a t has);
+        fault = λ f has. fault_stays f (b.from f has) (out_apart fault_path path fs gs j b f has);
         apart = λ q x y.
-            let t = mapped_from path_of_tree us q x in
-            let f = mapped_from path_of_fault gs q y in
-            h.apart q (subst (Contains (tree_paths ts)) t.2 (is_mapped path_of_tree ts t.0 (a.from t.0 t.1)))
-            (subst (Contains (fault_paths fs)) f.2 (is_mapped path_of_fault fs f.0 (b.from f.0 f.1)));
+            let t = mapped_from tree_path us q x in
+            let f = mapped_from fault_path gs q y in
+            h.apart q (subst (Contains (tree_paths ts)) t.2 (is_mapped tree_path ts t.0 (a.from t.0 t.1)))
+            (subst (Contains (fault_paths fs)) f.2 (is_mapped fault_path fs f.0 (b.from f.0 f.1)));
         all = files_all us gs a.kept b.kept (λ text of at. absurd (none-some text (sym gone ∙ at)));
       }
 
       is_tree : (text : List ℕ) (t : FileParts) (j : ℕ) → get w path ≡ Some text → is_of_package p path ≡ true → IsParsed path text (source_of t) →
-          PutsIn path_of_tree t ts us → TakesOut path_of_fault path fs gs j → HoldFiles new p us gs
+          PutsIn tree_path t ts us → TakesOut fault_path path fs gs j → HoldFiles new p us gs
       is_tree text t j there of is a b = record {
         trees_sorted = a.sorted;
         faulty_sorted = b.sorted;
@@ -437,18 +431,18 @@ module _ (w v new : Workspace) (path p : List ℕ) (resets : Resets w (path ∷ 
             (λ (here : x ≡ t). subst (HoldsTree new p) (sym here) own)
             (λ (stays : Contains ts x × (x.path ≡ t.path → ⊥)). tree_stays x stays.0 (λ same. stays.1 (same ∙ sym is.of_path)))
             (a.each x has);
-        fault = λ f has. fault_stays f (b.from f has) (out_apart path_of_fault path fs gs j b f has);
+        fault = λ f has. fault_stays f (b.from f has) (out_apart fault_path path fs gs j b f has);
         apart = λ q x y.
-            let d = mapped_from path_of_tree us q x in
-            let f = mapped_from path_of_fault gs q y in
+            let d = mapped_from tree_path us q x in
+            let f = mapped_from fault_path gs q y in
             ⊎_elim
-            (λ (here : d.0 ≡ t). out_apart path_of_fault path fs gs j b f.0 f.1 (f.2 ∙ sym d.2 ∙ ap path_of_tree here ∙ is.of_path))
+            (λ (here : d.0 ≡ t). out_apart fault_path path fs gs j b f.0 f.1 (f.2 ∙ sym d.2 ∙ ap tree_path here ∙ is.of_path))
             (λ (stays : Contains ts d.0 × (d.0.path ≡ t.path → ⊥)). h.apart q
-            (subst (Contains (tree_paths ts)) d.2 (is_mapped path_of_tree ts d.0 stays.0))
-            (subst (Contains (fault_paths fs)) f.2 (is_mapped path_of_fault fs f.0 (b.from f.0 f.1))))
+            (subst (Contains (tree_paths ts)) d.2 (is_mapped tree_path ts d.0 stays.0))
+            (subst (Contains (fault_paths fs)) f.2 (is_mapped fault_path fs f.0 (b.from f.0 f.1))))
             (a.each d.0 d.1);
         all = files_all us gs (λ x has other. a.kept x has (λ same. other (same ∙ is.of_path))) b.kept
-            (λ _ _ _. inl (subst (Contains (tree_paths us)) is.of_path (is_mapped path_of_tree us t a.own)));
+            (λ _ _ _. inl (subst (Contains (tree_paths us)) is.of_path (is_mapped tree_path us t a.own)));
       }
         where
           own : HoldsTree new p t
@@ -459,26 +453,26 @@ module _ (w v new : Workspace) (path p : List ℕ) (resets : Resets w (path ∷ 
           }
 
       is_fault : (text : List ℕ) (f : FaultyParts) (i : ℕ) → get w path ≡ Some text → is_of_package p path ≡ true → IsFaulty path text f →
-          TakesOut path_of_tree path ts us i → PutsIn path_of_fault f fs gs → HoldFiles new p us gs
+          TakesOut tree_path path ts us i → PutsIn fault_path f fs gs → HoldFiles new p us gs
       is_fault text f i there of is a b = record {
         trees_sorted = a.sorted;
         faulty_sorted = b.sorted;
-        tree = λ t has. tree_stays t (a.from t has) (out_apart path_of_tree path ts us i a t has);
+        tree = λ t has. tree_stays t (a.from t has) (out_apart tree_path path ts us i a t has);
         fault = λ x has. ⊎_elim
             (λ (here : x ≡ f). subst (HoldsFault new p) (sym here) own)
             (λ (stays : Contains fs x × (x.path ≡ f.path → ⊥)). fault_stays x stays.0 (λ same. stays.1 (same ∙ sym is.of_path)))
             (b.each x has);
         apart = λ q x y.
-            let t = mapped_from path_of_tree us q x in
-            let d = mapped_from path_of_fault gs q y in
+            let t = mapped_from tree_path us q x in
+            let d = mapped_from fault_path gs q y in
             ⊎_elim
-            (λ (here : d.0 ≡ f). out_apart path_of_tree path ts us i a t.0 t.1 (t.2 ∙ sym d.2 ∙ ap path_of_fault here ∙ is.of_path))
+            (λ (here : d.0 ≡ f). out_apart tree_path path ts us i a t.0 t.1 (t.2 ∙ sym d.2 ∙ ap fault_path here ∙ is.of_path))
             (λ (stays : Contains fs d.0 × (d.0.path ≡ f.path → ⊥)). h.apart q
-            (subst (Contains (tree_paths ts)) t.2 (is_mapped path_of_tree ts t.0 (a.from t.0 t.1)))
-            (subst (Contains (fault_paths fs)) d.2 (is_mapped path_of_fault fs d.0 stays.0)))
+            (subst (Contains (tree_paths ts)) t.2 (is_mapped tree_path ts t.0 (a.from t.0 t.1)))
+            (subst (Contains (fault_paths fs)) d.2 (is_mapped fault_path fs d.0 stays.0)))
             (b.each d.0 d.1);
         all = files_all us gs a.kept (λ x has other. b.kept x has (λ same. other (same ∙ is.of_path)))
-            (λ _ _ _. inr (subst (Contains (fault_paths gs)) is.of_path (is_mapped path_of_fault gs f b.own)));
+            (λ _ _ _. inr (subst (Contains (fault_paths gs)) is.of_path (is_mapped fault_path gs f b.own)));
       }
         where
           own : HoldsFault new p f
@@ -493,15 +487,6 @@ pub held_same : {w v new : Workspace} {path p : List ℕ} {ts : List FileParts} 
     get w path ≡ get v path → HoldFiles new p ts fs
 held_same {w = w} {v = v} {new = new} {path = path} {p = p} {ts = ts} {fs = fs} resets h same = is_same w v new path p resets ts fs h same
 
--- as where one of the trees has its path and text
-pub tree_same : {w v new : Workspace} {path p : List ℕ} {ts : List FileParts} {fs : List FaultyParts} {t : FileParts} → Resets w (path ∷ []) v new →
-    HoldFiles v p ts fs → Contains ts t → t.path ≡ path → get w path ≡ Some t.cut.text → HoldFiles new p ts fs
-tree_same {v = v} {t = t} resets h has same there = held_same resets h (there ∙ sym (h.tree t has).there ∙ ap (get v) same)
-
-pub fault_same : {w v new : Workspace} {path p : List ℕ} {ts : List FileParts} {fs : List FaultyParts} {f : FaultyParts} → Resets w (path ∷ []) v new →
-    HoldFiles v p ts fs → Contains fs f → f.path ≡ path → get w path ≡ Some f.text → HoldFiles new p ts fs
-fault_same {v = v} {f = f} resets h has same there = held_same resets h (there ∙ sym (h.fault f has).there ∙ ap (get v) same)
-
 -- the path is not that of a Go file of the folder
 pub held_apart : {w v new : Workspace} {path p : List ℕ} {ts : List FileParts} {fs : List FaultyParts} → Resets w (path ∷ []) v new → HoldFiles v p ts fs →
     is_of_package p path ≡ false → HoldFiles new p ts fs
@@ -509,21 +494,21 @@ held_apart {w = w} {v = v} {new = new} {path = path} {p = p} {ts = ts} {fs = fs}
 
 -- no file is there any more
 pub held_gone : {w v new : Workspace} {path p : List ℕ} {ts us : List FileParts} {fs gs : List FaultyParts} {i j : ℕ} → Resets w (path ∷ []) v new →
-    HoldFiles v p ts fs → get w path ≡ None → TakesOut path_of_tree path ts us i → TakesOut path_of_fault path fs gs j → HoldFiles new p us gs
+    HoldFiles v p ts fs → get w path ≡ None → TakesOut tree_path path ts us i → TakesOut fault_path path fs gs j → HoldFiles new p us gs
 held_gone {w = w} {v = v} {new = new} {path = path} {p = p} {ts = ts} {us = us} {fs = fs} {gs = gs} {i = i} {j = j} resets h gone a b =
     is_gone w v new path p resets ts fs h us gs i j gone a b
 
 -- a file with a tree is there
 pub held_tree : {w v new : Workspace} {path p text : List ℕ} {ts us : List FileParts} {fs gs : List FaultyParts} {t : FileParts} {j : ℕ} →
     Resets w (path ∷ []) v new → HoldFiles v p ts fs → get w path ≡ Some text → is_of_package p path ≡ true → IsParsed path text (source_of t) →
-    PutsIn path_of_tree t ts us → TakesOut path_of_fault path fs gs j → HoldFiles new p us gs
+    PutsIn tree_path t ts us → TakesOut fault_path path fs gs j → HoldFiles new p us gs
 held_tree {w = w} {v = v} {new = new} {path = path} {p = p} {text = text} {ts = ts} {us = us} {fs = fs} {gs = gs} {t = t} {j = j} resets h there of is a b =
     is_tree w v new path p resets ts fs h us gs text t j there of is a b
 
 -- a file without one is there
 pub held_fault : {w v new : Workspace} {path p text : List ℕ} {ts us : List FileParts} {fs gs : List FaultyParts} {f : FaultyParts} {i : ℕ} →
     Resets w (path ∷ []) v new → HoldFiles v p ts fs → get w path ≡ Some text → is_of_package p path ≡ true → IsFaulty path text f →
-    TakesOut path_of_tree path ts us i → PutsIn path_of_fault f fs gs → HoldFiles new p us gs
+    TakesOut tree_path path ts us i → PutsIn fault_path f fs gs → HoldFiles new p us gs
 held_fault {w = w} {v = v} {new = new} {path = path} {p = p} {text = text} {ts = ts} {us = us} {fs = fs} {gs = gs} {f = f} {i = i} resets h there of is a b =
     is_fault w v new path p resets ts fs h us gs text f i there of is a b
 
@@ -538,17 +523,3 @@ resets_fold {paths = paths} resets differs path go = is_among path paths
 pub held_all : {w v new : Workspace} {paths : List (List ℕ)} {p : List ℕ} {ts : List FileParts} {fs : List FaultyParts} → Resets w paths v new →
     DiffersOnlyAt paths v w → HoldFiles new p ts fs → HoldFiles w p ts fs
 held_all {p = p} resets differs h = held_final h (λ path of. sym (resets_fold resets differs path (folder_is p path of).0))
-
--- ---- path by path
-pub reset_start : {w v : Workspace} {p : List ℕ} {ts : List FileParts} {fs : List FaultyParts} → HoldFiles v p ts fs → HoldReset w [] v p ts fs
-reset_start {w = w} {v = v} h = record { now = v; resets = resets_none w v; files = h }
-
-pub reset_more : {w v : Workspace} {paths : List (List ℕ)} {p : List ℕ} {ts us : List FileParts} {fs gs : List FaultyParts} → (path : List ℕ) →
-    HoldReset w paths v p ts fs → SetsPath w path p ts fs us gs → HoldReset w (paths ++ path ∷ []) v p us gs
-reset_more {w = w} {v = v} {paths = paths} path h sets =
-    let next = reset_next w h.now path in
-    record { now = next.0; resets = resets_more w paths (path ∷ []) v h.now next.0 h.resets next.1; files = sets h.now next.0 next.1 h.files }
-
-pub reset_end : {w v : Workspace} {paths : List (List ℕ)} {p : List ℕ} {ts : List FileParts} {fs : List FaultyParts} → HoldReset w paths v p ts fs →
-    DiffersOnlyAt paths v w → HoldFiles w p ts fs
-reset_end h differs = held_all h.resets differs h.files

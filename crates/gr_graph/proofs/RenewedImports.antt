@@ -1,14 +1,10 @@
 -- What files import after one of them came, or went.
-use Rattle.std.proofs.Common.{ℕ, ◌≡◌, ◌⊎◌, ◌∷◌, ◌++◌, [], List, Bool, true, false, map, inl, inr, ⊎_elim, ap, sym, subst, ◌∙◌, refl, Option, Some, None, slice_get, get_or}
+use Rattle.std.proofs.Common.{ℕ, ◌≡◌, ◌∷◌, [], List, inl, inr, ⊎_elim, sym, subst, Option}
 use Rattle.std.specs.Prelude.{Vec}
 use Rattle.std.specs.List.{Contains}
-use Rattle.std.specs.List.Sorted.{IsStrictlySortedBy}
-use Rattle.std.proofs.lemmas.Bool.{true≢false}
-use Rattle.std.proofs.lemmas.Option.{get_or_from_slice_get, same_Some, slice_get-get_or, slice_get-map, slice_get_within}
-use Rattle.gr_text.specs.Workspace.{path_cmp}
 use Rattle.gr_tree.specs.SourceFile.{FileParts, source_of}
-use Rattle.gr_graph.specs.Drafts.{AreKept, GoneImports, IsGone, IsRenewed, tree_path}
-use Rattle.gr_graph.specs.HeldFiles.{tree_paths}
+use Rattle.gr_graph.specs.Drafts.{AreKept, GoneImports, IsGone, IsRenewed}
+use Rattle.gr_graph.specs.HeldFiles.{tree_path}
 use Rattle.gr_graph.specs.ImportPaths.{HoldsPaths, SomeImport, SomeStandFor, bytes_of_paths}
 use Rattle.gr_graph.specs.Packages.{ImportsPath}
 use Rattle.gr_graph.specs.Updated.{PutsIn, TakesOut}

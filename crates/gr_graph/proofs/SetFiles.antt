@@ -1,24 +1,23 @@
 -- Packages while single files of them are set.
-use Rattle.std.proofs.Common.{ℕ, ◌≡◌, ◌<◌, ◌⊎◌, ◌∷◌, ◌++◌, ◌&&◌, ◌==◌, [], List, true, false, zero, suc, map, ⊎_elim, ap, sym, subst, ◌∙◌, refl, Option, Some, None, slice_get, get_or, length}
+use Rattle.std.proofs.Common.{ℕ, ◌≡◌, ◌<◌, ◌∷◌, ◌++◌, ◌&&◌, ◌==◌, [], List, true, false, zero, suc, ⊎_elim, ap, sym, subst, ◌∙◌, refl, Some, None, slice_get, get_or, length}
 use Rattle.std.proofs.Math.ListN.{set}
 use Rattle.std.specs.FinMap.{get}
 use Rattle.std.specs.Cmp.Lexicographic.{pointwise, bytes_decides}
 use Rattle.std.specs.Arc.{arc_value}
-use Rattle.std.specs.Option.{option_map}
 use Rattle.std.specs.List.{All, Contains}
 use Rattle.std.specs.List.Sorted.{IsStrictlySortedBy}
 use Rattle.std.proofs.lemmas.Bool.{and_parts, cases_eq}
 use Rattle.std.proofs.lemmas.List.{length-map}
 use Rattle.std.proofs.lemmas.List.Elements.{All-contains, Contains-append_left, Contains-append_right, Contains-get_or, Contains-push, Contains-push_cases}
-use Rattle.std.proofs.lemmas.Option.{get_or_from_slice_get, same_Some, slice_get-map, slice_get_read, slice_get_within}
+use Rattle.std.proofs.lemmas.Option.{get_or_from_slice_get, same_Some, slice_get_read, slice_get_within}
 use Rattle.gr_text.specs.Path.{folder}
 use Rattle.gr_text.specs.Packages.{is_go, is_of_package}
 use Rattle.gr_text.specs.Workspace.{Workspace, path_cmp}
 use Rattle.gr_tree.specs.SourceFile.{FileParts, source_of}
-use Rattle.gr_graph.specs.Drafts.{AreDraftsAt, HasText, HoldsDraft, IsDraft, IsDraftAt, IsEmptyAt, IsGone, IsSamePackage, PutsFault, PutsTree, SetsFile, SetsFiles, TakesFile, draft_path, draft_paths, fault_path, packages_of, tree_path}
+use Rattle.gr_graph.specs.Drafts.{AreDraftsAt, HasText, HoldsDraft, IsDraft, IsDraftAt, IsEmptyAt, IsGone, IsSamePackage, PutsFault, PutsTree, SetsFile, SetsFiles, TakesFile, draft_path, draft_paths, packages_of}
 use Rattle.gr_graph.specs.FaultyFiles.{FaultyParts}
 use Rattle.gr_graph.specs.Graphs.{paths_of}
-use Rattle.gr_graph.specs.HeldFiles.{HoldFiles, fault_paths, tree_paths}
+use Rattle.gr_graph.specs.HeldFiles.{HoldFiles, fault_path, fault_paths, tree_path, tree_paths}
 use Rattle.gr_graph.specs.ImportPaths.{SomeImport}
 use Rattle.gr_graph.specs.NamedFiles.{AreFresh, ArePackages, HaveFolders, Resets}
 use Rattle.gr_graph.specs.Staying.{DiffersOnlyAt, HasFiles}
@@ -30,23 +29,20 @@ use Rattle.gr_graph.specs.declared.shared_package.PackageParts.{PackageParts}
 use Rattle.gr_graph.proofs.Collected.{none_held}
 use Rattle.gr_edit.proofs.Held.{mapped_from}
 use Rattle.gr_graph.proofs.FoundFolders.{not_true}
-use Rattle.gr_graph.proofs.Filled.{path_at as package_path, set_elsewhere, set_there}
-use Rattle.gr_graph.proofs.HeldFiles.{has_held, held, held_none, held_apart, held_fault, held_final, held_gone, held_same, held_tree, reset_next}
+use Rattle.gr_graph.proofs.Filled.{set_elsewhere, set_there}
+use Rattle.gr_graph.proofs.HeldFiles.{has_held, held, held_none, held_apart, held_fault, held_all, held_final, held_gone, held_same, held_tree, reset_next}
 use Rattle.gr_graph.proofs.NamedFiles.{is_among, resets_none, resets_more}
 use Rattle.gr_graph.proofs.ImportedPaths.{holds_none}
+use Rattle.gr_graph.proofs.Numbers.{path_of_package, path_there}
 use Rattle.gr_graph.proofs.PackagePaths.{none_sorted, one_number}
-use Rattle.gr_graph.proofs.SortedLists.{first_or_later}
 use Rattle.gr_graph.proofs.UpdatedPackages.{place_apart}
 
 -- ---- the tree that is gone
-tree_there : (trees : List FileParts) (i : ℕ) (t : FileParts) → slice_get trees i ≡ Some t → slice_get (tree_paths trees) i ≡ Some t.path
-tree_there trees i t at = slice_get-map tree_path trees i ∙ ap (option_map tree_path) at
-
 pub gone_one : (path : List ℕ) (trees : List FileParts) (n : ℕ) (gone : FileParts) → IsStrictlySortedBy path_cmp (tree_paths trees) →
     slice_get (tree_paths trees) n ≡ Some path → slice_get trees n ≡ Some gone → IsGone path trees (Some gone)
 gone_one path trees n gone sorted named at t has same =
     let there : slice_get trees has.0 ≡ Some t = slice_get_read trees (length trees) has.0 t refl has.1 (sym has.2) in
-    let number : has.0 ≡ n = one_number (tree_paths trees) sorted has.0 n path (tree_there trees has.0 t there ∙ ap Some same) named in
+    let number : has.0 ≡ n = one_number (tree_paths trees) sorted has.0 n path (path_there tree_path trees has.0 t there ∙ ap Some same) named in
     sym at ∙ ap (slice_get trees) (sym number) ∙ there
 
 pub gone_none : (path : List ℕ) (trees : List FileParts) (place : ℕ) → IsPlace (tree_paths trees) path place → IsGone path trees None
@@ -55,7 +51,7 @@ gone_none path trees place stands t has same =
       has.0,
       subst (λ (m : ℕ). has.0 < m) (sym (length-map trees tree_path)) has.1,
       get_or_from_slice_get (tree_paths trees) has.0 t.path t.path
-          (tree_there trees has.0 t (slice_get_read trees (length trees) has.0 t refl has.1 (sym has.2))),
+          (path_there tree_path trees has.0 t (slice_get_read trees (length trees) has.0 t refl has.1 (sym has.2))),
     )))
 
 -- ---- a text that is there already
@@ -169,7 +165,7 @@ empty_draft folder d path trees faulty imports = record {
 pub kept_at : (before : List ParsedPackage) (folder : List ℕ) (n : ℕ) (p : ParsedPackage) (d : PackageParts) → slice_get (paths_of before) n ≡ Some folder →
     slice_get before n ≡ Some p → IsDraft d → IsSamePackage d.package p → IsDraftAt before folder d
 kept_at before folder n p d named at draft same = record {
-  path = same.path ∙ same_Some p.path.items folder (sym (package_path before n p at) ∙ named);
+  path = same.path ∙ same_Some p.path.items folder (sym (path_there path_of_package before n p at) ∙ named);
   draft = draft;
   files = λ v are.
       let h = held v p (All-contains (HasFiles v) before p are.files (there before n p at)) in
@@ -198,9 +194,6 @@ of_other : (p path : List ℕ) → (folder path ≡ p → ⊥) → is_of_package
 of_other p path apart = not_true (is_of_package p path)
     (λ is. apart ((bytes_decides (folder path) p).0 (and_parts (is_go path) (pointwise ◌==◌ (folder path) p) is).1))
 
-path_at : (ds : List PackageParts) (k : ℕ) (d : PackageParts) → slice_get ds k ≡ Some d → slice_get (draft_paths ds) k ≡ Some (draft_path d)
-path_at ds k d at = slice_get-map draft_path ds k ∙ ap (option_map draft_path) at
-
 paths_same : (ds : List PackageParts) → paths_of (packages_of ds) ≡ draft_paths ds
 paths_same [] = refl
 paths_same (d ∷ ds) = ap (λ rest. d.package.path.items ∷ rest) (paths_same ds)
@@ -211,7 +204,7 @@ pub found_at : (ds : List PackageParts) (n : ℕ) (b : PackageParts) (path : Lis
 found_at ds n b path named is =
     let within : n < length ds = subst (λ (m : ℕ). n < m) (length-map ds draft_path) (slice_get_within (draft_paths ds) n (folder path) named) in
     let at = slice_get_read ds (length ds) n b refl within is in
-    (at, same_Some (folder path) (draft_path b) (sym named ∙ path_at ds n b at))
+    (at, same_Some (folder path) (draft_path b) (sym named ∙ path_there draft_path ds n b at))
 
 set_paths : (ds : List PackageParts) (n : ℕ) (b a : PackageParts) → slice_get ds n ≡ Some b → a.package.path.items ≡ b.package.path.items →
     draft_paths (set ds n a) ≡ draft_paths ds
@@ -245,7 +238,7 @@ module _ (w : Workspace) (path : List ℕ) (ds : List PackageParts) (sorted : Is
           (λ own. subst (HoldsDraft u) (sym own) (sets.files v u resets (All-contains (HoldsDraft v) ds b held (there ds n b at))))
           (λ k apart was. held_apart resets (All-contains (HoldsDraft v) ds d held (there ds k d was))
           (of_other d.package.path.items path (λ same. apart (one_number (draft_paths ds) sorted k n (folder path)
-          (path_at ds k d was ∙ ap Some (sym same)) (path_at ds n b at ∙ ap Some (sym of)))))));
+          (path_there draft_path ds k d was ∙ ap Some (sym same)) (path_there draft_path ds n b at ∙ ap Some (sym of)))))));
     })
 
     -- or of none
@@ -254,7 +247,7 @@ module _ (w : Workspace) (path : List ℕ) (ds : List PackageParts) (sorted : Is
       same_paths = refl;
       drafts = drafts;
       files = λ v u resets held. all_from ds (λ d has. held_apart resets (All-contains (HoldsDraft v) ds d held has)
-          (none d.package.path.items (there (draft_paths ds) has.0 d.package.path.items (path_at ds has.0 d (read ds d has)))));
+          (none d.package.path.items (there (draft_paths ds) has.0 d.package.path.items (path_there draft_path ds has.0 d (read ds d has)))));
     }
 
     pub sets_none_there : (Contains (draft_paths ds) (folder path) → ⊥) → SetsFiles w (path ∷ []) ds ds
@@ -272,15 +265,11 @@ module _ (v w : Workspace) (before : List ParsedPackage) (folders paths : List (
   last : (u : Workspace) × Resets w paths v u
   last = reset_to w v paths
 
-  last_is : (q : List ℕ) → is_go q ≡ true → get w q ≡ get last.0 q
-  last_is q go = is_among q paths (λ has. sym (last.1.own q has)) (λ never. differs q go never ∙ sym (last.1.others q never))
-
   made_files : (p : ParsedPackage) → Contains (packages_of made) p → HasFiles w p
   made_files p has =
       let d = mapped_from (λ (x : PackageParts). x.package) made p has in
       let held = All-contains (HoldsDraft last.0) made d.0 (sets.files v last.0 last.1 (at.files v are)) d.1 in
-      subst (HasFiles w) d.2 (has_held w d.0.package (held_final held
-      (λ q of. last_is q (and_parts (is_go q) (pointwise ◌==◌ (folder q) d.0.package.path.items) of).0)))
+      subst (HasFiles w) d.2 (has_held w d.0.package (held_all last.1 differs held))
 
   pub fresh_made : AreFresh v w (packages_of made)
   fresh_made = record {

@@ -1,19 +1,10 @@
 -- Packages of which only those at some folders changed, where no package comes and none goes.
 use Rattle.std.specs.Prelude.{◌≡◌, ℕ, ◌⊎◌, ◌||◌, Bool, true, false, List, [], ◌∷◌, Some, slice_get}
-use Rattle.std.specs.List.{All, Contains}
-use Rattle.std.specs.List.Sorted.{IsStrictlySortedBy}
-use Rattle.gr_text.specs.Workspace.{Workspace, path_cmp}
+use Rattle.std.specs.List.{Contains}
 use Rattle.gr_graph.specs.Graphs.{paths_of}
 use Rattle.gr_graph.specs.Imports.{Links, imports_of}
 use Rattle.gr_graph.specs.Rows.{IsRow}
-use Rattle.gr_graph.specs.Staying.{HasFiles}
 use Rattle.gr_graph.specs.declared.package.ParsedPackage.{ParsedPackage}
-
--- the packages at the folders, each with its files
-pub record AreOfFolders (folders : List (List ℕ)) (w : Workspace) (packages : List ParsedPackage) : Type 0 where
-  pub paths : paths_of packages ≡ folders
-  pub sorted : IsStrictlySortedBy path_cmp folders
-  pub files : All (HasFiles w) packages
 
 abbrev pub has_some : {X : Type 0} → List X → Bool
 has_some [] = false

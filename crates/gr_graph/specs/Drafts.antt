@@ -9,7 +9,7 @@ use Rattle.gr_text.specs.Workspace.{Workspace, path_cmp}
 use Rattle.gr_tree.specs.SourceFile.{FileParts, source_of}
 use Rattle.gr_graph.specs.FaultyFiles.{FaultyParts}
 use Rattle.gr_graph.specs.Graphs.{IsEmpty}
-use Rattle.gr_graph.specs.HeldFiles.{HoldFiles, fault_paths, tree_paths}
+use Rattle.gr_graph.specs.HeldFiles.{HoldFiles, fault_path, fault_paths, tree_path, tree_paths}
 use Rattle.gr_graph.specs.ImportPaths.{HoldsPaths, SomeImport, SomeStandFor, bytes_of_paths}
 use Rattle.gr_graph.specs.NamedFiles.{ArePackages, Resets}
 use Rattle.gr_graph.specs.Packages.{ImportsPath}
@@ -36,12 +36,6 @@ pub record IsRenewed {Z : Type 0} (keys : List (Vec ℕ Z)) (gone : Option FileP
   pub came : (q : List ℕ) → SomeStandFor come q → SomeImport trees q
 
 -- ---- a package while files are set
-
-abbrev pub tree_path : FileParts → List ℕ
-tree_path t = t.path
-
-abbrev pub fault_path : FaultyParts → List ℕ
-fault_path f = f.path
 
 -- the tree that has the path is the one that is gone
 abbrev pub IsGone : List ℕ → List FileParts → Option FileParts → Type 0

@@ -1,5 +1,5 @@
 -- The files of a folder as a package has them, told by what stands at the paths of a workspace.
-use Rattle.std.specs.Prelude.{◌≡◌, ℕ, ◌⊎◌, true, List, [], ◌∷◌, map, Some}
+use Rattle.std.specs.Prelude.{◌≡◌, ℕ, ◌⊎◌, true, List, map, Some}
 use Rattle.std.specs.FinMap as files
 use Rattle.std.specs.List.{Contains}
 use Rattle.std.specs.List.Sorted.{IsStrictlySortedBy}
@@ -7,16 +7,21 @@ use Rattle.gr_text.specs.Packages.{is_of_package}
 use Rattle.gr_text.specs.Workspace.{Workspace, path_cmp}
 use Rattle.gr_tree.specs.SourceFile.{FileParts, source_of}
 use Rattle.gr_graph.specs.FaultyFiles.{FaultyParts}
-use Rattle.gr_graph.specs.NamedFiles.{Resets}
 use Rattle.gr_graph.specs.Packages.{IsParsed}
 use Rattle.gr_graph.specs.Parsed.{IsFaulty}
 
 -- the paths of files that have trees, and of others
+abbrev pub tree_path : FileParts → List ℕ
+tree_path t = t.path
+
+abbrev pub fault_path : FaultyParts → List ℕ
+fault_path f = f.path
+
 abbrev pub tree_paths : List FileParts → List (List ℕ)
-tree_paths trees = map (λ t. t.path) trees
+tree_paths trees = map tree_path trees
 
 abbrev pub fault_paths : List FaultyParts → List (List ℕ)
-fault_paths faulty = map (λ f. f.path) faulty
+fault_paths faulty = map fault_path faulty
 
 -- a Go file of the folder, with its tree
 pub record HoldsTree (w : Workspace) (p : List ℕ) (t : FileParts) : Type 0 where
@@ -38,13 +43,3 @@ pub record HoldFiles (w : Workspace) (p : List ℕ) (ts : List FileParts) (fs : 
   pub fault : (f : FaultyParts) → Contains fs f → HoldsFault w p f
   pub apart : (path : List ℕ) → Contains (tree_paths ts) path → Contains (fault_paths fs) path → ⊥
   pub all : (path text : List ℕ) → is_of_package p path ≡ true → files.get w path ≡ Some text → Contains (tree_paths ts) path ⊎ Contains (fault_paths fs) path
-
--- the files of the folder, where at some paths stands what another workspace has there
-pub record HoldReset (w : Workspace) (paths : List (List ℕ)) (v : Workspace) (p : List ℕ) (ts : List FileParts) (fs : List FaultyParts) : Type 0 where
-  pub now : Workspace
-  pub resets : Resets w paths v now
-  pub files : HoldFiles now p ts fs
-
--- files of the folder become those where at one path more stands what the workspace has there
-abbrev pub SetsPath : Workspace → List ℕ → List ℕ → List FileParts → List FaultyParts → List FileParts → List FaultyParts → Type 0
-SetsPath w path p ts fs us gs = (old new : Workspace) → Resets w (path ∷ []) old new → HoldFiles old p ts fs → HoldFiles new p us gs

@@ -3,8 +3,8 @@ ghost use Rattle.std.specs.Prelude.{◌≡◌, IfOk, IfSome, IsTrue, OnOk, Some,
 ghost use Rattle.std.specs.List.{Contains};
 ghost use Rattle.std.specs.List.Sorted.{IsStrictlySortedBy};
 ghost use Rattle.gr_text.specs.Workspace.{path_cmp};
-ghost use Rattle.gr_graph.specs.Drafts.{IsGone, fault_path, tree_path};
-ghost use Rattle.gr_graph.specs.HeldFiles.{fault_paths, tree_paths};
+ghost use Rattle.gr_graph.specs.Drafts.{IsGone};
+ghost use Rattle.gr_graph.specs.HeldFiles.{fault_path, fault_paths, tree_path, tree_paths};
 ghost use Rattle.gr_graph.specs.Updated.{IsPlace, PutsIn, TakesOut};
 
 use crate::faulty_file::FaultyFile;

@@ -1,5 +1,5 @@
 -- One more path, and all of them at the end.
-use Rattle.std.proofs.Common.{List, [], ◌∷◌, Bor, ℕ, subst, sym, arith, take}
+use Rattle.std.proofs.Common.{List, Bor, ℕ, subst, sym, arith, take}
 use Rattle.std.specs.List.Sorted.{IsStrictlySortedBy}
 use Rattle.std.proofs.lemmas.List.{take_all}
 use Rattle.gr_text.specs.Workspace.{path_cmp}

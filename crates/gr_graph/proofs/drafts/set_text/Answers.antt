@@ -1,7 +1,6 @@
 -- The text is there, or it is parsed and put there.
 use Rattle.std.proofs.Common.{subst}
 use Rattle.std.proofs.lemmas.Result.{on_ok_weaker}
-use Rattle.gr_graph.specs.Drafts.{PutsFault, PutsTree, SetsText}
 use Rattle.gr_graph.specs.Parsed.{IsParsedAs}
 use Rattle.gr_graph.proofs.SetFiles.{fault_set, text_stays, tree_set}
 use Rattle.gr_graph.proofs.drafts.set_text.Goals as goal

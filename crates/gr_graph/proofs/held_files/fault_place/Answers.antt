@@ -1,7 +1,7 @@
 -- A file that compares equal has the path, and where none does the place is between those before it and those behind it.
 use Rattle.std.proofs.Common.{rules}
 use Rattle.std.proofs.lemmas.Fn.{always_returns_same}
-use Rattle.gr_graph.specs.Drafts.{fault_path}
+use Rattle.gr_graph.specs.HeldFiles.{fault_path}
 use Rattle.gr_graph.proofs.Numbers.{place_or_number, search_cmp}
 use Rattle.gr_graph.proofs.held_files.fault_place.Goals as goal
 

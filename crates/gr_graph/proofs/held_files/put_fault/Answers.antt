@@ -1,6 +1,6 @@
 -- The file is put where the one with its path was.
-use Rattle.std.proofs.Common.{sym, ◌∙◌}
-use Rattle.gr_graph.specs.Drafts.{fault_path}
+use Rattle.std.proofs.Common.{sym}
+use Rattle.gr_graph.specs.HeldFiles.{fault_path}
 use Rattle.gr_graph.proofs.UpdatedPackages.{puts_at}
 use Rattle.gr_graph.proofs.held_files.put_fault.Goals as goal
 

@@ -1,6 +1,6 @@
 -- The tree is put where the one with its path was.
 use Rattle.std.proofs.Common.{sym, ◌∙◌}
-use Rattle.gr_graph.specs.Drafts.{tree_path}
+use Rattle.gr_graph.specs.HeldFiles.{tree_path}
 use Rattle.gr_graph.proofs.UpdatedPackages.{puts_at}
 use Rattle.gr_graph.proofs.held_files.put_tree.Goals as goal
 

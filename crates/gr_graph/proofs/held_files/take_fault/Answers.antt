@@ -1,8 +1,7 @@
 -- The file of the number is taken out, or none.
 use Rattle.std.proofs.Common.{◌≡◌, List, Some, slice_get, ap, sym, ◌∙◌}
-use Rattle.gr_graph.specs.Drafts.{fault_path}
 use Rattle.gr_graph.specs.FaultyFiles.{FaultyParts}
-use Rattle.gr_graph.specs.HeldFiles.{fault_paths}
+use Rattle.gr_graph.specs.HeldFiles.{fault_path, fault_paths}
 use Rattle.gr_graph.proofs.UpdatedPackages.{number_within, one_out}
 use Rattle.gr_graph.proofs.held_files.take_fault.Goals as goal
 

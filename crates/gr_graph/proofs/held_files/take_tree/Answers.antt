@@ -2,8 +2,7 @@
 use Rattle.std.proofs.Common.{◌≡◌, List, Some, slice_get, length, refl, ap, sym, subst, ◌∙◌}
 use Rattle.std.proofs.lemmas.Option.{slice_get_read}
 use Rattle.gr_tree.specs.SourceFile.{FileParts}
-use Rattle.gr_graph.specs.Drafts.{tree_path}
-use Rattle.gr_graph.specs.HeldFiles.{tree_paths}
+use Rattle.gr_graph.specs.HeldFiles.{tree_path, tree_paths}
 use Rattle.gr_graph.specs.Updated.{IsPlace}
 use Rattle.gr_graph.proofs.SetFiles.{gone_none, gone_one}
 use Rattle.gr_graph.proofs.UpdatedPackages.{number_within, one_out}

@@ -1,5 +1,5 @@
 -- One more import, and all of them at the end.
-use Rattle.std.proofs.Common.{ℕ, List, ◌+◌, ◌∷◌, ◌++◌, [], ⊎_elim, ap, sym, subst, ◌∙◌, take, arith}
+use Rattle.std.proofs.Common.{List, ◌+◌, ◌∷◌, ◌++◌, [], ⊎_elim, ap, sym, subst, ◌∙◌, take, arith}
 use Rattle.std.proofs.lemmas.List.{take_more, take_all}
 use Rattle.gr_graph.specs.Drafts.{AreKept}
 use Rattle.gr_graph.specs.ImportPaths.{SomeStandFor, StandsFor}

@@ -1,5 +1,5 @@
 -- The import has the path that one of the files imports.
-use Rattle.std.proofs.Common.{IsTrue, inr, sym, subst, ◌∙◌, Global, ℕ}
+use Rattle.std.proofs.Common.{IsTrue, inr, subst, ◌∙◌, Global, ℕ}
 use Rattle.std.specs.Prelude.{Option, Vec}
 use Rattle.std.proofs.lemmas.Result.{IfOk-weaker}
 use Rattle.gr_graph.specs.Drafts.{AreKept}
