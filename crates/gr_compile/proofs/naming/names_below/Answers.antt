@@ -1,70 +1,15 @@
 -- The answers to the goals of `naming::names_below`.
-use Rattle.std.proofs.Common.{◌≡◌, ◌+◌, ◌<◌, List, ℕ, take, length, get_or, map, refl, sym, ap, subst, ◌∙◌, arith}
-use Rattle.std.proofs.lemmas.List.{take_all}
-use Rattle.std.proofs.lemmas.List.Elements.{Contains-get_or}
-use Rattle.std.proofs.lemmas.Option.{slice_get_within}
 use Rattle.gr_text.specs.Packages.{package_paths}
-use Rattle.gr_tree.specs.SourceFile.{source_of}
 use Rattle.gr_meanings.proofs.BoundLists.{slice_get_some}
-use Rattle.gr_verdict.proofs.Members.{taken_or_next, still_taken, next_taken}
-use Rattle.gr_object.specs.PackagesView.{package_in}
-use Rattle.gr_compile.specs.Compiling.{IsPackageAt}
-use Rattle.gr_compile.specs.Units.{AreFilesOf}
-use Rattle.gr_compile.specs.declared.package_at.PackageAt.{PackageAt}
-use Rattle.gr_compile.proofs.Named.{AreNamed, IsCalled, none_named, named_next, all_named}
+use Rattle.gr_compile.proofs.Named.{with_tables}
 use Rattle.gr_compile.proofs.naming.names_below.Goals as goal
 
--- a package of the closure is one of the graph
-within : (at : PackageAt) (p : List ℕ) → IsPackageAt at p → (k : ℕ) → k < length at.closure.now →
-    get_or at.closure.now k 0 < length (package_paths at.graph.now)
-within at p is k lt =
-    let items = at.closure.now in
-    let s = (is.closure (get_or items k 0)).0 (Contains-get_or items k 0 lt) in
-    slice_get_within (package_paths at.graph.now) (get_or items k 0) s.0 s.1
-
-pub loop-other-init : goal.loop-other-init
-loop-other-init c = none_named c.args.at.graph.now _ c.in_ok-packages.packages refl c.in_ok-packages.ensures
-
-pub package-files-requires : goal.package-files-requires
-package-files-requires c =
+pub near_tables-requires : goal.near_tables-requires
+near_tables-requires c =
     let at = c.args.at in
     let p = slice_get_some (package_paths at.graph.now) at.number c.requires.number in
-    within at p.0 (c.requires.at p.0 p.1) c.loop-other.other-index (omega arith)
-
-pub path_of-requires : goal.path_of-requires
-path_of-requires c =
-    let at = c.args.at in
-    let p = slice_get_some (package_paths at.graph.now) at.number c.requires.number in
-    let is = c.requires.at p.0 p.1 in
-    record { number = within at p.0 is c.loop-other.other-index (omega arith); known = is.known }
-
-pub loop-other-preserved : goal.loop-other-preserved
-loop-other-preserved c =
-    let w = c.args.at.graph.now in
-    let items = c.args.at.closure.now in
-    let k = c.loop-other.other-index in
-    let lt : k < length items = omega arith in
-    let n = get_or items k 0 in
-    let files = c.package-files.result.now in
-    let q = files.path.items in
-    let old = c.loop-other.packages in
-    let new = c.add.new.self in
-    let names = c.in_ok-names.names in
-    let key : c.in_ok-path.path ≡ q = c.in_ok-path.ensures q c.package-files.ensures.path in
-    let are : AreFilesOf w q (map source_of files.trees.items) =
-    record { parts = files.trees.items; faulty = files.faulty.items; parsed = c.package-files.ensures.files; are_files = refl } in
-    let called : IsCalled new q (map source_of files.trees.items) =
-    record { names = names; known = ap (package_in new) (sym key) ∙ c.in_ok-add.ensures.here; are_names = c.in_ok-names.ensures } in
-    named_next w (take k items) (take (k + 1) items) n q c.package-files.ensures.path (λ m h. taken_or_next items k 0 m lt h)
-    (λ m h. still_taken items k 0 m lt h) (next_taken items k 0 lt)
-    old new (map source_of files.trees.items) are called
-    (λ r ne. c.in_ok-add.ensures.elsewhere r (λ e. ne (e ∙ key)))
-    c.loop-other.invariant
+    record { number = c.requires.number; known = (c.requires.at p.0 p.1).known }
 
 pub returns : goal.returns
 returns c = λ p at.
-    let w = c.args.at.graph.now in
-    let items = c.args.at.closure.now in
-    let packages = c.loop-other.packages in
-    all_named w p items packages (c.requires.at p at).closure
-    (subst (λ l. AreNamed w l packages) (take_all c.loop-other.other-index items (omega arith)) c.loop-other.invariant)
+    with_tables c.args.at.graph.now p c.in_ok-names.names c.in_ok-tables.tables c.in_ok-tables.ensures (c.in_ok-names.ensures p at)
