@@ -67,7 +67,7 @@ fn type_at<'a>(
     tables: Option<&DeclaredTables<'a>>,
     rank: usize,
 ) -> Option<TypeDef<'a>>
-    ensures { option_map type_of result ≡ type_of_rank (map source_of files.now) (option_copied tables) rank }
+    ensures { option_map type_of result ≡ type_of_rank (map source_of files.now) (option_copied tables.entry) rank }
 {
     match tables {
         None => walks::type_at(files, rank),
@@ -81,7 +81,7 @@ fn function_named<'a>(
     tables: Option<&DeclaredTables<'a>>,
     rank: usize,
 ) -> Option<FunctionName<'a>>
-    ensures { option_map function_of result ≡ function_of_rank names.now.path.now (map source_of names.now.files.now) (option_copied tables) rank }
+    ensures { option_map function_of result ≡ function_of_rank names.now.path.now (map source_of names.now.files.now) (option_copied tables.entry) rank }
 {
     match tables {
         None => function_walked(names.path, names.files, rank),
@@ -95,7 +95,7 @@ fn position_at(
     tables: Option<&DeclaredTables<'_>>,
     rank: usize,
 ) -> Option<usize>
-    ensures { result ≡ position_of_rank (map source_of files.now) (option_copied tables) rank }
+    ensures { result ≡ position_of_rank (map source_of files.now) (option_copied tables.entry) rank }
 {
     match tables {
         None => walks::position_at(files, rank),

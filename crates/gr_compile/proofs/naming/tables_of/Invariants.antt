@@ -3,4 +3,4 @@ use Rattle.gr_compile.specs.Naming.{AreTablesBy}
 use Rattle.gr_compile.proofs.naming.tables_of.Given as goal
 
 abbrev pub invariant-loop-other : goal.invariant-loop-other
-invariant-loop-other l = AreTablesBy l.names.now l.tables
+invariant-loop-other l = AreTablesBy l.names l.tables
