@@ -1,5 +1,5 @@
 -- What the declarations of packages are called, one package further.
-use Rattle.std.proofs.Common.{ℕ, ◌≡◌, ◌⊎◌, inl, inr, List, [], ◌∷◌, ◌++◌, refl, sym, ap, subst, ◌∙◌, MatchOption}
+use Rattle.std.proofs.Common.{ℕ, ◌≡◌, ◌<◌, ◌⊎◌, inl, inr, List, [], ◌∷◌, ◌++◌, refl, sym, ap, subst, ◌∙◌, MatchOption}
 use Rattle.std.specs.Prelude.{Contains, Option, Some, None, slice_get}
 use Rattle.std.specs.declared.cmp.Ordering.TheVariants.{Greater}
 use Rattle.std.specs.FinMap.{find}
@@ -53,14 +53,14 @@ StandBefore w numbers named = (m : ℕ) (q : List ℕ) → slice_get (package_pa
 
 -- both of them, where packages are named one after the other
 pub record AreNamedUpTo (w : Workspace) (numbers : List ℕ) (named : List (List ℕ × CalledNames)) : Type 0 where
-  pub named : AreNamed w numbers named
+  pub are : AreNamed w numbers named
   pub before : StandBefore w numbers named
 
 -- no package yet
 
 pub none_named : (w : Workspace) (numbers : List ℕ) (named : List (List ℕ × CalledNames)) → numbers ≡ [] → named ≡ [] → AreNamedUpTo w numbers named
 none_named w numbers named e none = record {
-  named = record {
+  are = record {
     files_of = λ q. [];
     each = λ q. inr (λ s. nothing_in s.place (subst (λ l. Contains l s.place) e s.among), refl, ap (find path_cmp q) none);
   };
@@ -114,9 +114,9 @@ module _ (w : Workspace) (xs ys : List ℕ) (n : ℕ) (q : List ℕ) (at : slice
 
     pub named_next : AreNamedUpTo w ys new
     named_next = record {
-      named = record {
-        files_of = λ r. one_more (cases_bytes r q) files (h.named.files_of r);
-        each = λ r. next_at r (cases_bytes r q) (h.named.files_of r) (h.named.each r);
+      are = record {
+        files_of = λ r. one_more (cases_bytes r q) files (h.are.files_of r);
+        each = λ r. next_at r (cases_bytes r q) (h.are.files_of r) (h.are.each r);
       };
       before = λ m r at_m below. subst (StandsBehind r) (sym pushed)
           (behind_pushed r q names old (later_path w n m q r at at_m (below n here)) behind);

@@ -1,5 +1,5 @@
 -- The answers to the goals of `naming::add_tables`.
-use Rattle.std.proofs.Common.{◌≡◌, inl, inr, map, sym, ap, subst, ◌∙◌}
+use Rattle.std.proofs.Common.{◌≡◌, inl, inr, map, Some, sym, ap, subst, ◌∙◌}
 use Rattle.std.specs.FinMap.{find}
 use Rattle.std.proofs.lemmas.Option.{same_Some}
 use Rattle.std.proofs.lemmas.Result.{on_ok_weaker}

@@ -86,4 +86,4 @@ returns c = λ p at.
     let items = c.args.at.closure.now in
     let names = c.loop-other.names in
     all_named w p items names (c.requires.at p at).closure
-    (subst (λ l. AreNamed w l names) (take_all c.loop-other.other-index items (omega arith)) c.loop-other.invariant.named)
+    (subst (λ l. AreNamed w l names) (take_all c.loop-other.other-index items (omega arith)) c.loop-other.invariant.are)
