@@ -104,17 +104,18 @@ fn all_names<'a>(alloc: Global, at: PackageAt<'a>) -> Result<PathTable<CalledNam
 fn add_tables<'a>(
     alloc: Global,
     names: &PathTable<CalledNames<'a>>,
-    path: SharedPath,
+    path: &[u8],
     tables: &mut PathTable<DeclaredTables<'a>>,
 ) -> Result<(), AllocError>
     requires { AreTablesBy names.now tables.old }
     ensures { OnOk result (AreTablesBy names.now tables.new) }
 {
-    match names.get(path.path()) {
+    match names.entry_from(path, 0) {
         None => Ok(()),
-        Some(called) => {
-            let made = DeclaredTables::of(alloc, called.files)?;
-            tables.put(path, made)
+        Some(entry) => {
+            let shared = entry.path.clone()?;
+            let made = DeclaredTables::of(alloc, entry.value.files)?;
+            tables.put(shared, made)
         }
     }
 }
@@ -126,14 +127,12 @@ fn tables_of<'a>(
     names: &PathTable<CalledNames<'a>>,
     numbers: &[usize],
 ) -> Result<PathTable<DeclaredTables<'a>>, AllocError>
-    requires { KnowsVerdicts at.graph.now at.known.now }
     ensures { IfOk result (AreTablesBy names.now) }
 {
     let mut tables = PathTable::new(alloc);
     for other in numbers {
         if *other < at.graph.len() {
-            let path = path_of(alloc, at.graph, *other, at.known)?;
-            add_tables(alloc, names, path, &mut tables)?;
+            add_tables(alloc, names, &at.graph.package(*other).path, &mut tables)?;
         }
     }
     Ok(tables)
@@ -145,8 +144,7 @@ fn near_tables<'a>(
     at: PackageAt<'a>,
     names: &PathTable<CalledNames<'a>>,
 ) -> Result<PathTable<DeclaredTables<'a>>, AllocError>
-    requires number { at.number < length (package_paths at.graph.now) }
-    requires known { KnowsVerdicts at.graph.now at.known.now }
+    requires { at.number < length (package_paths at.graph.now) }
     ensures { IfOk result (AreTablesBy names.now) }
 {
     let numbers = near(alloc, at.graph, at.number)?;

@@ -14,15 +14,17 @@ use Rattle.gr_compile.proofs.naming.add_tables.Goals as goal
 pub returns-in_ok-made-in-Some : goal.returns-in_ok-made-in-Some
 returns-in_ok-made-in-Some c = on_ok_weaker c.put.result (λ put. λ q n t named there.
     let old = c.args.tables.now in
-    let path = c.args.path in
+    let names = c.args.names.now in
+    let entry = c.in-Some.entry in
+    let shared = c.in_ok-shared-in-Some.shared in
     let made = c.in_ok-made-in-Some.made in
-    elim (cases_bytes q path) [
+    let key : shared ≡ c.args.path.now = c.in_ok-shared-in-Some.ensures.cases ∙ c.in-Some.ensures.has_path in
+    elim (cases_bytes q shared) [
       | inl e ↦ (
-          let is : made ≡ t = same_Some made t (sym (found_put path made old) ∙ sym (ap (find path_cmp path) put) ∙
-              subst (λ x. find path_cmp x c.put.new.self ≡ Some t) e there) in
-          let own : c.in-Some.called.now ≡ n = same_Some _ n (c.in-Some.ensures ∙
-              ap (λ x. find path_cmp x c.args.names.now) (c.path-2.ensures ∙ sym e) ∙ named) in
+          let is : made ≡ t = same_Some made t (sym (found_put shared made old) ∙ sym (ap (find path_cmp shared) put) ∙
+          subst (λ x. find path_cmp x c.put.new.self ≡ Some t) e there) in
+          let own : entry.value.now ≡ n = same_Some _ n (sym c.in-Some.ensures.has_value ∙ ap (λ x. find path_cmp x names) (sym key ∙ sym e) ∙ named) in
           subst (λ x. AreTablesOf (map source_of n.files.now) x) is
           (subst (λ x. AreTablesOf (map source_of x.files.now) made) own c.in_ok-made-in-Some.ensures))
-      | inr ne ↦ c.requires q n t named (sym (others_put path made old q ne) ∙ sym (ap (find path_cmp q) put) ∙ there)
+      | inr ne ↦ c.requires q n t named (sym (others_put shared made old q ne) ∙ sym (ap (find path_cmp q) put) ∙ there)
     ]) c.put.ensures.ok
