@@ -1,6 +1,7 @@
 -- What is found on the way to a unit.
 use Rattle.std.specs.Prelude.{ℕ, ◌≡◌, List, [], Option, None, Some, slice_get}
 use Rattle.std.specs.Global.{Vec}
+use Rattle.std.specs.List.Sorted.{IsStrictlyIncreasing}
 use Rattle.gr_text.specs.Packages.{package_paths}
 use Rattle.gr_text.specs.Workspace.{Workspace}
 use Rattle.gr_tree.specs.SourceFile.{SourceFile}
@@ -25,10 +26,11 @@ use Rattle.gr_compile.specs.declared.package_at.PackageAt.{PackageAt}
 use Rattle.gr_compile.specs.declared.unit.Unit.{Unit as PackageUnit}
 use Rattle.gr_compile.specs.Units.{AreFilesBelow, IsUnitIn, IsUnitOf, KnowsOnly, unit_value, Faults}
 
--- p has the number, the closure is its closure, and what is known is right
+-- p has the number, the closure is its closure, by numbers that rise, and what is known is right
 pub record IsPackageAt (at : PackageAt) (p : List ℕ) : Type 0 where
   pub has_path : slice_get (package_paths at.graph.now) at.number ≡ Some p
   pub closure : HoldsPackages at.graph.now (IsInClosure at.graph.now p) at.closure.now
+  pub rising : IsStrictlyIncreasing at.closure.now
   pub known : KnowsVerdicts at.graph.now at.known.now
 
 -- what the declarations of the packages in the closure of p are called

@@ -6,5 +6,6 @@ pub mod Jobs
 pub mod Units
 pub mod BuiltUnits
 pub mod Builds
+pub mod Naming
 pub mod Compiling
 pub mod Laws

@@ -1,61 +1,56 @@
 //! What the declarations of the packages in a closure are called.
-ghost use Rattle.std.specs.Prelude.{◌≡◌, ◌<◌, ℕ, List, None, length, map, IfOk};
+ghost use Rattle.std.specs.Prelude.{◌≡◌, ◌<◌, length, IfOk, OnOk};
 ghost use Rattle.gr_text.specs.Packages.{package_paths};
-ghost use Rattle.gr_tree.specs.SourceFile.{source_of};
 ghost use Rattle.gr_graph.specs.Graphs.{OfPackage};
 ghost use Rattle.gr_verdict.specs.Found.{KnowsVerdicts};
-ghost use Rattle.gr_object.specs.NamesView.{AreNamesOf};
-ghost use Rattle.gr_object.specs.PackagesView.{package_in};
 ghost use Rattle.gr_compile.specs.Compiling.{HaveNamesBelow, IsPackageAt};
+ghost use Rattle.gr_compile.specs.Naming.{AreTablesBy, names_alone};
 
 use crate::package_at::PackageAt;
 use gr_expr::symbol::SharedPath;
 use gr_graph::{Graph, ParsedPackage};
-use gr_object::packages::{CalledNames, CalledPackages};
+use gr_object::packages::{CalledNames, CalledPackages, DeclaredTables};
 use gr_path_table::PathTable;
-use gr_verdict::{Known, is_marked};
+use gr_verdict::Known;
 use std::alloc::{AllocError, Global};
 
-/// Marks a package.
-fn mark(marks: &mut Vec<bool>, number: usize) {
-    if number < marks.len() {
+/// Notes a package, unless it is marked.
+fn note(found: &mut Vec<usize>, marks: &mut Vec<bool>, number: usize) -> Result<(), AllocError> {
+    if number < marks.len() && !marks[number] {
         marks[number] = true;
+        found.push(number)?;
     }
+    Ok(())
 }
 
-/// Marks what a package imports directly.
-fn mark_imports(graph: &Graph, number: usize, marks: &mut Vec<bool>) {
+/// Notes what a package imports directly.
+fn note_imports(
+    graph: &Graph,
+    number: usize,
+    found: &mut Vec<usize>,
+    marks: &mut Vec<bool>,
+) -> Result<(), AllocError> {
     if number < graph.len() {
         for import in graph.imports(number) {
-            mark(marks, *import);
+            note(found, marks, *import)?;
         }
     }
+    Ok(())
 }
 
-/// Marks the packages of which much may be asked by one: that one, what it imports directly, and what these import directly. Only speed
+/// The packages of which much may be asked by one: that one, what it imports directly, and what these import directly. Only speed
 /// rests on them.
-fn near(alloc: Global, graph: &Graph, number: usize) -> Result<Vec<bool>, AllocError>
+fn near(alloc: Global, graph: &Graph, number: usize) -> Result<Vec<usize>, AllocError>
     requires { number < length (package_paths graph.now) }
 {
     let mut marks = vec![in alloc; false; graph.len()]?;
-    mark(&mut marks, number);
+    let mut found = Vec::new(alloc);
+    note(&mut found, &mut marks, number)?;
     for import in graph.imports(number) {
-        mark(&mut marks, *import);
-        mark_imports(graph, *import, &mut marks);
+        note(&mut found, &mut marks, *import)?;
+        note_imports(graph, *import, &mut found, &mut marks)?;
     }
-    Ok(marks)
-}
-
-/// What the declarations of a package are called: by tables if much is asked of it, or else by its files, at which nothing looks before
-/// a name is asked for.
-fn names_of(alloc: Global, files: &ParsedPackage, near: bool) -> Result<CalledNames<'_>, AllocError>
-    ensures { IfOk result (λ names. AreNamesOf files.now.path.items (map source_of files.now.trees.items) names) }
-{
-    if near {
-        CalledNames::of(alloc, &files.path, &files.trees)
-    } else {
-        Ok(CalledNames::untold(&files.path, &files.trees))
-    }
+    Ok(found)
 }
 
 /// The path of a package, shared with what is known of it, if anything is.
@@ -78,12 +73,82 @@ fn path_of(
     }
 }
 
-/// No names, with room for those of so many packages.
-fn no_names<'a>(alloc: Global, count: usize) -> Result<CalledPackages<'a>, AllocError>
-    ensures { IfOk result (λ packages. (path : List ℕ) → package_in packages path ≡ None) }
+/// What the declarations of a package are called: nothing looks at its files before a name is asked for.
+fn names_of(files: &ParsedPackage) -> CalledNames<'_>
+    ensures path { result.path.now ≡ files.now.path.items }
+    ensures files { result.files.now ≡ files.now.trees.items }
 {
-    let names = PathTable::with_capacity(alloc, count)?;
-    Ok(CalledPackages { names })
+    CalledNames {
+        path: &files.path,
+        files: &files.trees,
+    }
+}
+
+/// What the declarations of a package are called, and of all that it imports, directly or indirectly, without tables. Their paths rise
+/// as their numbers do.
+fn all_names<'a>(alloc: Global, at: PackageAt<'a>) -> Result<PathTable<CalledNames<'a>>, AllocError>
+    requires number { at.number < length (package_paths at.graph.now) }
+    requires at { OfPackage at.graph.now at.number (IsPackageAt at) }
+    ensures { IfOk result (λ names. OfPackage at.entry.graph.now at.entry.number (λ p. HaveNamesBelow at.entry.graph.now p (names_alone names))) }
+{
+    let mut names = PathTable::with_capacity(alloc, at.closure.len())?;
+    for other in at.closure {
+        let files = at.graph.package(*other);
+        let path = path_of(alloc, at.graph, *other, at.known)?;
+        names.push(path, names_of(files))?;
+    }
+    Ok(names)
+}
+
+/// Adds tables of what the package of a path declares, if it is one of those with names.
+fn add_tables<'a>(
+    alloc: Global,
+    names: &PathTable<CalledNames<'a>>,
+    path: &[u8],
+    tables: &mut PathTable<DeclaredTables<'a>>,
+) -> Result<(), AllocError>
+    requires { AreTablesBy names.now tables.old }
+    ensures { OnOk result (AreTablesBy names.now tables.new) }
+{
+    match names.entry_from(path, 0) {
+        None => Ok(()),
+        Some(entry) => {
+            let shared = entry.path.clone()?;
+            let made = DeclaredTables::of(alloc, entry.value.files)?;
+            tables.put(shared, made)
+        }
+    }
+}
+
+/// Tables of what some packages declare.
+fn tables_of<'a>(
+    alloc: Global,
+    at: PackageAt<'a>,
+    names: &PathTable<CalledNames<'a>>,
+    numbers: &[usize],
+) -> Result<PathTable<DeclaredTables<'a>>, AllocError>
+    ensures { IfOk result (AreTablesBy names.now) }
+{
+    let mut tables = PathTable::new(alloc);
+    for other in numbers {
+        if *other < at.graph.len() {
+            add_tables(alloc, names, &at.graph.package(*other).path, &mut tables)?;
+        }
+    }
+    Ok(tables)
+}
+
+/// Tables of what the packages declare of which much may be asked.
+fn near_tables<'a>(
+    alloc: Global,
+    at: PackageAt<'a>,
+    names: &PathTable<CalledNames<'a>>,
+) -> Result<PathTable<DeclaredTables<'a>>, AllocError>
+    requires { at.number < length (package_paths at.graph.now) }
+    ensures { IfOk result (AreTablesBy names.now) }
+{
+    let numbers = near(alloc, at.graph, at.number)?;
+    tables_of(alloc, at, names, &numbers)
 }
 
 /// What the declarations of a package are called, and of all that it imports, directly or indirectly.
@@ -95,13 +160,7 @@ pub(crate) fn names_below<'a>(
     requires at { OfPackage at.graph.now at.number (IsPackageAt at) }
     ensures { IfOk result (λ packages. OfPackage at.entry.graph.now at.entry.number (λ p. HaveNamesBelow at.entry.graph.now p packages)) }
 {
-    let marks = near(alloc, at.graph, at.number)?;
-    let mut packages = no_names(alloc, at.closure.len())?;
-    for other in at.closure {
-        let files = at.graph.package(*other);
-        let path = path_of(alloc, at.graph, *other, at.known)?;
-        let names = names_of(alloc, files, is_marked(&marks, *other))?;
-        packages.add(path, names)?;
-    }
-    Ok(packages)
+    let names = all_names(alloc, at)?;
+    let tables = near_tables(alloc, at, &names)?;
+    Ok(CalledPackages { names, tables })
 }

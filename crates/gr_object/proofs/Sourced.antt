@@ -28,8 +28,8 @@ use Rattle.gr_object.specs.Names.{type_called, type_name, type_names, functions_
 use Rattle.gr_object.specs.NamesView.{AreNamesOf, AreTablesOf}
 use Rattle.gr_object.specs.Numbering.{slot_from}
 use Rattle.gr_object.specs.ObjectView.{HaveNames}
-use Rattle.gr_object.specs.PackagesView.{package_in, type_of_rank, function_of_rank, position_of_rank, type_at, type_in, function_at, function_in}
-use Rattle.gr_object.specs.PackagesView.{position_at, position_in}
+use Rattle.gr_object.specs.PackagesView.{package_in, tables_in, type_of_rank, function_of_rank, position_of_rank, type_at, type_in}
+use Rattle.gr_object.specs.PackagesView.{function_at, function_in, position_at, position_in}
 use Rattle.gr_object.specs.Sources.{IsSourceOf, type_before}
 use Rattle.gr_object.specs.SourceView.{source_of, type_used}
 use Rattle.gr_object.specs.TablesView.{IsTabled}
@@ -74,14 +74,14 @@ type_of_ranks : (files : List SourceFile) (o : Option DeclaredTables) (rank : �
 type_of_ranks files None rank are = refl
 type_of_ranks files (Some t) rank are = sym (slice_get-map definition_of t.declared.types.items rank) ∙ ap (λ xs. slice_get xs rank) (are t refl).types
 
-type_at_names : (path : List ℕ) (files : List SourceFile) (o : Option CalledNames) (rank : ℕ) →
-    MatchOption o (files ≡ []) (λ names. AreNamesOf path files names) →
-    type_at o rank ≡ slice_get (type_names path files) rank
-type_at_names path files None rank e = ap (λ fs. slice_get (type_names path fs) rank) (sym e)
-type_at_names path files (Some names) rank h =
-    ap (λ p. option_map (type_called p (map file.source_of names.files.now)) (type_of_rank (map file.source_of names.files.now) names.tables rank)) h.has_path
-    ∙ (ap (λ fs. option_map (type_called path fs) (type_of_rank fs names.tables rank)) h.has_files
-    ∙ (ap (option_map (type_called path files)) (type_of_ranks files names.tables rank h.tables)
+type_at_names : (path : List ℕ) (files : List SourceFile) (o : Option CalledNames) (made : Option DeclaredTables) (rank : ℕ) →
+    MatchOption o (files ≡ []) (λ names. AreNamesOf path files names made) →
+    type_at o made rank ≡ slice_get (type_names path files) rank
+type_at_names path files None made rank e = ap (λ fs. slice_get (type_names path fs) rank) (sym e)
+type_at_names path files (Some names) made rank h =
+    ap (λ p. option_map (type_called p (map file.source_of names.files.now)) (type_of_rank (map file.source_of names.files.now) made rank)) h.has_path
+    ∙ (ap (λ fs. option_map (type_called path fs) (type_of_rank fs made rank)) h.has_files
+    ∙ (ap (option_map (type_called path files)) (type_of_ranks files made rank h.tables)
     ∙ sym (slice_get-map (type_called path files) (declared_types files) rank)))
 
 function_of_ranks : (path : List ℕ) (files : List SourceFile) (o : Option DeclaredTables) (rank : ℕ) →
@@ -90,30 +90,30 @@ function_of_ranks : (path : List ℕ) (files : List SourceFile) (o : Option Decl
 function_of_ranks path files None rank are = refl
 function_of_ranks path files (Some t) rank are = ap (λ fs. slice_get (functions_behind path files 0 fs) rank) (are t refl).functions
 
-function_at_names : (path : List ℕ) (files : List SourceFile) (o : Option CalledNames) (rank : ℕ) →
-    MatchOption o (files ≡ []) (λ names. AreNamesOf path files names) →
-    function_at o rank ≡ slice_get (function_names path files) rank
-function_at_names path files None rank e = ap (λ fs. slice_get (function_names path fs) rank) (sym e)
-function_at_names path files (Some names) rank h =
-    ap (λ p. function_of_rank p (map file.source_of names.files.now) names.tables rank) h.has_path
-    ∙ (ap (λ fs. function_of_rank path fs names.tables rank) h.has_files
-    ∙ function_of_ranks path files names.tables rank h.tables)
+function_at_names : (path : List ℕ) (files : List SourceFile) (o : Option CalledNames) (made : Option DeclaredTables) (rank : ℕ) →
+    MatchOption o (files ≡ []) (λ names. AreNamesOf path files names made) →
+    function_at o made rank ≡ slice_get (function_names path files) rank
+function_at_names path files None made rank e = ap (λ fs. slice_get (function_names path fs) rank) (sym e)
+function_at_names path files (Some names) made rank h =
+    ap (λ p. function_of_rank p (map file.source_of names.files.now) made rank) h.has_path
+    ∙ (ap (λ fs. function_of_rank path fs made rank) h.has_files
+    ∙ function_of_ranks path files made rank h.tables)
 
 position_of_ranks : (files : List SourceFile) (o : Option DeclaredTables) (rank : ℕ) → ((t : DeclaredTables) → o ≡ Some t → AreTablesOf files t) →
     position_of_rank files o rank ≡ slice_get (field_positions files) rank
 position_of_ranks files None rank are = refl
 position_of_ranks files (Some t) rank are = ap (λ xs. slice_get xs rank) (are t refl).positions
 
-position_at_names : (path : List ℕ) (files : List SourceFile) (o : Option CalledNames) (rank : ℕ) →
-    MatchOption o (files ≡ []) (λ names. AreNamesOf path files names) →
-    position_at o rank ≡ slice_get (field_positions files) rank
-position_at_names path files None rank e = ap (λ fs. slice_get (field_positions fs) rank) (sym e)
-position_at_names path files (Some names) rank h =
-    ap (λ fs. position_of_rank fs names.tables rank) h.has_files ∙ position_of_ranks files names.tables rank h.tables
+position_at_names : (path : List ℕ) (files : List SourceFile) (o : Option CalledNames) (made : Option DeclaredTables) (rank : ℕ) →
+    MatchOption o (files ≡ []) (λ names. AreNamesOf path files names made) →
+    position_at o made rank ≡ slice_get (field_positions files) rank
+position_at_names path files None made rank e = ap (λ fs. slice_get (field_positions fs) rank) (sym e)
+position_at_names path files (Some names) made rank h =
+    ap (λ fs. position_of_rank fs made rank) h.has_files ∙ position_of_ranks files made rank h.tables
 
 pub types_named : (packages : CalledPackages) (files_of : List ℕ → List SourceFile) → HaveNames packages files_of → type_in packages ≡ type_name files_of
 types_named packages files_of have = fun_ext (λ (s : Symbol).
-    type_at_names s.package (files_of s.package) (package_in packages s.package) s.rank (have s.package))
+    type_at_names s.package (files_of s.package) (package_in packages s.package) (tables_in packages s.package) s.rank (have s.package))
 
 -- all of it
 pub is_source : (p : Package) (n : ℕ) (f : SourceFile) (w : World) (uses : List MemberUse) (packages : CalledPackages) (s : Source) → IsOneWorld p →
@@ -134,7 +134,9 @@ is_source p n f w uses packages s one at tabled judged spelling files_of have ar
       number = λ token. ap number_of (ap (λ v. spelling_of (name_in v token)) same ∙ (spelling token ∙ ap (λ o. spelled_at o token) at));
       text = λ token. tabled.texts f at token;
       function = λ symbol. ap (λ ps. function_in ps symbol) tabled.packages ∙
-          function_at_names symbol.package (files_of symbol.package) (package_in packages symbol.package) symbol.rank (have symbol.package);
+          function_at_names symbol.package (files_of symbol.package) (package_in packages symbol.package) (tables_in packages symbol.package)
+          symbol.rank (have symbol.package);
       position = λ symbol. ap (λ ps. position_in ps symbol) tabled.packages ∙
-          position_at_names symbol.package (files_of symbol.package) (package_in packages symbol.package) symbol.rank (have symbol.package);
+          position_at_names symbol.package (files_of symbol.package) (package_in packages symbol.package) (tables_in packages symbol.package)
+          symbol.rank (have symbol.package);
     }

@@ -1,5 +1,5 @@
 -- What is known of the names of a package, by its files.
-use Rattle.std.specs.Prelude.{ℕ, ◌≡◌, List, Some, map}
+use Rattle.std.specs.Prelude.{ℕ, ◌≡◌, List, Option, Some, map}
 use Rattle.gr_tree.specs.SourceFile.{SourceFile, source_of}
 use Rattle.gr_declared.specs.DeclaredView.{type_of, function_of as placed_function}
 use Rattle.gr_declared.specs.Package.{declared_types, declared_functions}
@@ -14,7 +14,7 @@ pub record AreTablesOf (files : List SourceFile) (tables : DeclaredTables) : Typ
   pub positions : tables.positions.items ≡ field_positions files
 
 -- what is known of the package of a path, from its files; if there are tables, they are of these
-pub record AreNamesOf (path : List ℕ) (files : List SourceFile) (names : CalledNames) : Type 0 where
+pub record AreNamesOf (path : List ℕ) (files : List SourceFile) (names : CalledNames) (made : Option DeclaredTables) : Type 0 where
   pub has_path : names.path.now ≡ path
   pub has_files : map source_of names.files.now ≡ files
-  pub tables : (t : DeclaredTables) → names.tables ≡ Some t → AreTablesOf files t
+  pub tables : (t : DeclaredTables) → made ≡ Some t → AreTablesOf files t

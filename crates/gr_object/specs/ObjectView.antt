@@ -17,7 +17,7 @@ use Rattle.gr_object.specs.LineView.{function_of}
 use Rattle.gr_object.specs.Source.{Source}
 use Rattle.gr_object.specs.Sources.{IsObjectText, IsSourceOf}
 use Rattle.gr_object.specs.NamesView.{AreNamesOf}
-use Rattle.gr_object.specs.PackagesView.{package_in, type_in}
+use Rattle.gr_object.specs.PackagesView.{package_in, tables_in, type_in}
 use Rattle.gr_object.specs.Objects.{declared_in, names_behind_all}
 use Rattle.gr_object.specs.ObjectText.{declaration_text}
 
@@ -30,7 +30,8 @@ pub record AreOwnDefinitions (p : Package) (found : List Definition) : Type 0 wh
 
 -- the names of the packages whose files are known
 abbrev pub HaveNames : CalledPackages → (List ℕ → List SourceFile) → Type 0
-HaveNames packages files_of = (path : List ℕ) → MatchOption (package_in packages path) (files_of path ≡ []) (λ names. AreNamesOf path (files_of path) names)
+HaveNames packages files_of = (path : List ℕ) → MatchOption (package_in packages path) (files_of path ≡ [])
+    (λ names. AreNamesOf path (files_of path) names (tables_in packages path))
 
 -- the text of what a file of the package declares was added; its functions are those behind so many, and those of the files
 -- behind it are the others

@@ -16,6 +16,10 @@ use Rattle.gr_object.specs.Names.{type_called, function_names, functions_behind,
 abbrev pub package_in : CalledPackages → List ℕ → Option CalledNames
 package_in ps path = find path_cmp path ps.names
 
+-- tables of what it declares
+abbrev pub tables_in : CalledPackages → List ℕ → Option DeclaredTables
+tables_in ps path = find path_cmp path ps.tables
+
 -- by the tables of a package, or else by its files
 
 abbrev pub type_of_rank : List SourceFile → Option DeclaredTables → ℕ → Option PlacedType
@@ -30,23 +34,23 @@ abbrev pub position_of_rank : List SourceFile → Option DeclaredTables → ℕ 
 position_of_rank files None rank = slice_get (field_positions files) rank
 position_of_rank files (Some t) rank = slice_get t.positions.items rank
 
-abbrev pub type_at : Option CalledNames → ℕ → Option GlobalName
-type_at None rank = None
-type_at (Some p) rank = option_map (type_called p.path.now (map source_of p.files.now)) (type_of_rank (map source_of p.files.now) p.tables rank)
+abbrev pub type_at : Option CalledNames → Option DeclaredTables → ℕ → Option GlobalName
+type_at None t rank = None
+type_at (Some p) t rank = option_map (type_called p.path.now (map source_of p.files.now)) (type_of_rank (map source_of p.files.now) t rank)
 
 abbrev pub type_in : CalledPackages → Symbol → Option GlobalName
-type_in ps s = type_at (package_in ps s.package) s.rank
+type_in ps s = type_at (package_in ps s.package) (tables_in ps s.package) s.rank
 
-abbrev pub function_at : Option CalledNames → ℕ → Option FunctionName
-function_at None rank = None
-function_at (Some p) rank = function_of_rank p.path.now (map source_of p.files.now) p.tables rank
+abbrev pub function_at : Option CalledNames → Option DeclaredTables → ℕ → Option FunctionName
+function_at None t rank = None
+function_at (Some p) t rank = function_of_rank p.path.now (map source_of p.files.now) t rank
 
 abbrev pub function_in : CalledPackages → Symbol → Option FunctionName
-function_in ps s = function_at (package_in ps s.package) s.rank
+function_in ps s = function_at (package_in ps s.package) (tables_in ps s.package) s.rank
 
-abbrev pub position_at : Option CalledNames → ℕ → Option ℕ
-position_at None rank = None
-position_at (Some p) rank = position_of_rank (map source_of p.files.now) p.tables rank
+abbrev pub position_at : Option CalledNames → Option DeclaredTables → ℕ → Option ℕ
+position_at None t rank = None
+position_at (Some p) t rank = position_of_rank (map source_of p.files.now) t rank
 
 abbrev pub position_in : CalledPackages → Symbol → Option ℕ
-position_in ps s = position_at (package_in ps s.package) s.rank
+position_in ps s = position_at (package_in ps s.package) (tables_in ps s.package) s.rank

@@ -11,17 +11,16 @@ pub struct DeclaredTables<'a> {
     pub positions: Vec<usize>,
 }
 
-/// The path of a package and its files, by which what it declares is called, of which each name is made where it is asked for. Where
-/// much is asked there are tables; else its files are gone over.
+/// The path of a package and its files, by which what it declares is called, of which each name is made where it is asked for.
 #[derive(Drop)]
 pub struct CalledNames<'a> {
     pub path: &'a [u8],
     pub files: &'a [FileTree],
-    pub tables: Option<DeclaredTables<'a>>,
 }
 
-/// The same of packages, by their paths.
+/// The same of packages, by their paths. Where much is asked of one there are tables; else its files are gone over.
 #[derive(Drop)]
 pub struct CalledPackages<'a> {
     pub names: PathTable<CalledNames<'a>>,
+    pub tables: PathTable<DeclaredTables<'a>>,
 }

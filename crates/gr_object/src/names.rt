@@ -7,10 +7,10 @@ ghost use Rattle.gr_tree.specs.SourceFile.{source_of};
 ghost use Rattle.gr_declared.specs.DeclaredView.{type_of, function_of as placed_function};
 ghost use Rattle.gr_object.specs.LineView.{global_of, function_of};
 ghost use Rattle.gr_object.specs.Names.{body_positions, function_behind, function_called, functions_behind, initializers_among, initializers_with, is_initializer, names_of_fields, positions_from, spelled_in, type_called, type_positions};
-ghost use Rattle.gr_object.specs.NamesView.{AreNamesOf};
+ghost use Rattle.gr_object.specs.NamesView.{AreTablesOf};
 
 use crate::instructions::{FunctionName, GlobalName};
-use crate::packages::{CalledNames, DeclaredTables};
+use crate::packages::DeclaredTables;
 use gr_declared::{Declared, Function, TypeDef};
 use gr_tree::FileTree;
 use gr_tree::tree::{FieldDecl, Item, TypeBody};
@@ -180,35 +180,16 @@ fn field_positions(alloc: Global, types: &[TypeDef<'_>]) -> Result<Vec<usize>, A
     Ok(positions)
 }
 
-impl<'a> CalledNames<'a> {
-    /// What the declarations of the package of a path are called, by tables. Its files are in the order of their paths.
-    pub fn of(
-        alloc: Global,
-        path: &'a [u8],
-        files: &'a [FileTree],
-    ) -> Result<CalledNames<'a>, AllocError>
-        ensures { IfOk result (λ names. AreNamesOf path.now (map source_of files.now) names) }
+impl<'a> DeclaredTables<'a> {
+    /// What a package declares, by tables. Its files are in the order of their paths.
+    pub fn of(alloc: Global, files: &'a [FileTree]) -> Result<DeclaredTables<'a>, AllocError>
+        ensures { IfOk result (AreTablesOf (map source_of files.now)) }
     {
         let declared = Declared::of(alloc, files)?;
         let positions = field_positions(alloc, &declared.types)?;
-        Ok(CalledNames {
-            path,
-            files,
-            tables: Some(DeclaredTables {
-                declared,
-                positions,
-            }),
+        Ok(DeclaredTables {
+            declared,
+            positions,
         })
-    }
-
-    /// The same without tables: no file is looked at until a name is asked for.
-    pub fn untold(path: &'a [u8], files: &'a [FileTree]) -> CalledNames<'a>
-        ensures { AreNamesOf path.now (map source_of files.now) result }
-    {
-        CalledNames {
-            path,
-            files,
-            tables: None,
-        }
     }
 }

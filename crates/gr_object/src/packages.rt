@@ -1,10 +1,11 @@
 //! What the types, functions and fields of packages are called in objects.
-ghost use Rattle.std.specs.Prelude.{◌≡◌, ℕ, List, Some, map, option_map, slice_get, OnOk};
+ghost use Rattle.std.specs.Prelude.{◌≡◌, map, option_map, slice_get};
+ghost use Rattle.std.specs.Option.{option_copied};
 ghost use Rattle.gr_tree.specs.SourceFile.{source_of};
 ghost use Rattle.gr_declared.specs.DeclaredView.{type_of, function_of as placed_function};
 ghost use Rattle.gr_object.specs.LineView.{global_of, function_of};
 ghost use Rattle.gr_object.specs.Names.{function_names, functions_behind};
-ghost use Rattle.gr_object.specs.PackagesView.{package_in, type_of_rank, type_at, type_in, function_at, function_in, position_at, position_in};
+ghost use Rattle.gr_object.specs.PackagesView.{type_of_rank, type_in, function_of_rank, function_in, position_of_rank, position_in};
 
 pub use crate::called::{CalledNames, CalledPackages, DeclaredTables};
 use crate::instructions::{FunctionName, GlobalName};
@@ -12,9 +13,8 @@ use crate::names::{function_called, initializers, is_initializer, type_called};
 use crate::walks;
 use crate::walks::initializers_below;
 use gr_declared::{Function, TypeDef};
-use gr_expr::symbol::{SharedPath, Symbol};
+use gr_expr::symbol::Symbol;
 use gr_tree::FileTree;
-use std::alloc::AllocError;
 
 /// What the function of a rank is called, if there is one. How many functions `init` stand before it is counted for such a function
 /// alone.
@@ -61,35 +61,58 @@ fn function_walked<'a>(
     }
 }
 
-impl<'a> CalledNames<'a> {
-    /// The type definition of a rank.
-    fn type_at(&self, rank: usize) -> Option<TypeDef<'a>>
-        ensures { option_map type_of result ≡ type_of_rank (map source_of self.now.files.now) self.now.tables rank }
-    {
-        match &self.tables {
-            None => walks::type_at(self.files, rank),
-            Some(tables) => tables.declared.types.get(rank).copied(),
-        }
+/// The type definition of a rank, by tables of what the files declare, if there are some.
+fn type_at<'a>(
+    files: &'a [FileTree],
+    tables: Option<&DeclaredTables<'a>>,
+    rank: usize,
+) -> Option<TypeDef<'a>>
+    ensures { option_map type_of result ≡ type_of_rank (map source_of files.now) (option_copied tables.entry) rank }
+{
+    match tables {
+        None => walks::type_at(files, rank),
+        Some(tables) => tables.declared.types.get(rank).copied(),
+    }
+}
+
+/// What the function of a rank is called, by such tables, if there are some.
+fn function_named<'a>(
+    names: &CalledNames<'a>,
+    tables: Option<&DeclaredTables<'a>>,
+    rank: usize,
+) -> Option<FunctionName<'a>>
+    ensures { option_map function_of result ≡ function_of_rank names.now.path.now (map source_of names.now.files.now) (option_copied tables.entry) rank }
+{
+    match tables {
+        None => function_walked(names.path, names.files, rank),
+        Some(tables) => function_at(names.path, names.files, &tables.declared.functions, rank),
+    }
+}
+
+/// Where the field of a rank stands in its struct, by such tables, if there are some.
+fn position_at(
+    files: &[FileTree],
+    tables: Option<&DeclaredTables<'_>>,
+    rank: usize,
+) -> Option<usize>
+    ensures { result ≡ position_of_rank (map source_of files.now) (option_copied tables.entry) rank }
+{
+    match tables {
+        None => walks::position_at(files, rank),
+        Some(tables) => tables.positions.get(rank).copied(),
     }
 }
 
 impl<'a> CalledPackages<'a> {
-    /// Adds the names of a package, in the place of those that are there.
-    pub fn add(&mut self, path: SharedPath, names: CalledNames<'a>) -> Result<(), AllocError>
-        ensures here { OnOk result (package_in self.new path ≡ Some names.entry) }
-        ensures elsewhere { OnOk result ((other : List ℕ) → (other ≡ path → ⊥) → package_in self.new other ≡ package_in self.old other) }
-    {
-        self.names.put(path, names)
-    }
-
     /// What a type definition is called.
     pub(crate) fn type_name(&self, symbol: &Symbol) -> Option<GlobalName<'a>>
         ensures { option_map global_of result ≡ type_in self.now symbol.now }
     {
-        let Some(names) = self.names.get(symbol.package.path()) else {
+        let path = symbol.package.path();
+        let Some(names) = self.names.get(path) else {
             return None;
         };
-        match names.type_at(symbol.rank) {
+        match type_at(names.files, self.tables.get(path), symbol.rank) {
             None => None,
             Some(own) => Some(type_called(names.path, names.files, own)),
         }
@@ -99,13 +122,10 @@ impl<'a> CalledPackages<'a> {
     pub(crate) fn function(&self, symbol: &Symbol) -> Option<FunctionName<'a>>
         ensures { option_map function_of result ≡ function_in self.now symbol.now }
     {
-        let Some(names) = self.names.get(symbol.package.path()) else {
-            return None;
-        };
-        let rank = symbol.rank;
-        match &names.tables {
-            None => function_walked(names.path, names.files, rank),
-            Some(tables) => function_at(names.path, names.files, &tables.declared.functions, rank),
+        let path = symbol.package.path();
+        match self.names.get(path) {
+            None => None,
+            Some(names) => function_named(names, self.tables.get(path), symbol.rank),
         }
     }
 
@@ -113,12 +133,10 @@ impl<'a> CalledPackages<'a> {
     pub(crate) fn position(&self, symbol: &Symbol) -> Option<usize>
         ensures { result ≡ position_in self.now symbol.now }
     {
-        let Some(names) = self.names.get(symbol.package.path()) else {
-            return None;
-        };
-        match &names.tables {
-            None => walks::position_at(names.files, symbol.rank),
-            Some(tables) => tables.positions.get(symbol.rank).copied(),
+        let path = symbol.package.path();
+        match self.names.get(path) {
+            None => None,
+            Some(names) => position_at(names.files, self.tables.get(path), symbol.rank),
         }
     }
 }

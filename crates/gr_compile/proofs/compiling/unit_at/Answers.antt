@@ -1,6 +1,7 @@
 -- The answers to the goals of `compiling::unit_at`.
 use Rattle.std.proofs.Common.{sym, subst}
 use Rattle.std.proofs.lemmas.Option.{slice_get_within}
+use Rattle.std.specs.List.Sorted.{IsStrictlyIncreasing}
 use Rattle.gr_text.specs.Packages.{package_paths}
 use Rattle.gr_graph.specs.Graphs.{HoldsPackages}
 use Rattle.gr_graph.specs.Packages.{IsInClosure}
@@ -16,5 +17,6 @@ unit_of-requires c =
     record {
       has_path = c.requires.at;
       closure = subst (HoldsPackages w (IsInClosure w p)) (sym c.as_slice.ensures) (c.in_ok-closure.ensures.closure p c.requires.at);
+      rising = subst IsStrictlyIncreasing (sym c.as_slice.ensures) c.in_ok-closure.ensures.rising;
       known = c.requires.known;
     }

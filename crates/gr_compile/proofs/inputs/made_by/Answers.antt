@@ -1,5 +1,6 @@
 -- The answers to the goals of `inputs::made_by`.
 use Rattle.std.proofs.Common.{◌≡◌, List, ℕ, sym, ap, subst, ◌∙◌}
+use Rattle.std.specs.List.Sorted.{IsStrictlyIncreasing}
 use Rattle.std.specs.Prelude.{Some, slice_get}
 use Rattle.std.proofs.lemmas.Option.{same_Some, slice_get_within}
 use Rattle.std.proofs.lemmas.Result.{IfOk-weaker}
@@ -30,6 +31,7 @@ unit_of-requires c =
     record {
       has_path = at;
       closure = subst (HoldsPackages w (IsInClosure w p)) (sym c.as_slice.ensures) holds;
+      rising = subst IsStrictlyIncreasing (sym c.as_slice.ensures) is.rising;
       known = subst (KnowsVerdicts w) (sym c.get-known.ensures) c.requires.known;
     }
 
