@@ -65,11 +65,11 @@ module _ (w : Workspace) (places numbers : List ℕ) (behind : StandBehindImport
   pub tell_all : AreCycleNumbers w numbers → TellCycles w numbers
   tell_all are i j p q lt at_i at_j imports = (
     λ e. (
-      let a = are.each i p at_i in
-      let b = are.each j q at_j in
-      let same : b.path ≡ a.path =
-      same_Some b.path a.path (sym b.has_path ∙ subst (λ n. slice_get (package_paths w) n ≡ Some a.path) e a.has_path) in
-      in_closure_then w q a.path p (subst (IsInClosure w q) same b.on_cycle.there) a.on_cycle.back),
+        let a = are.each i p at_i in
+        let b = are.each j q at_j in
+        let same : b.path ≡ a.path =
+        same_Some b.path a.path (sym b.has_path ∙ subst (λ n. slice_get (package_paths w) n ≡ Some a.path) e a.has_path) in
+        in_closure_then w q a.path p (subst (IsInClosure w q) same b.on_cycle.there) a.on_cycle.back),
     λ back. elim (cases_eq (get_or numbers j 0) (get_or numbers i 0)) [
       | inl same ↦ sym same
       | inr ne ↦ (

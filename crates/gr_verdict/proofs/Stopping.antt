@@ -131,4 +131,4 @@ module _ (w : Workspace) (known : Verdicts) (p : List ℕ) (files : List FilePar
     faults = lists;
     interface = gone;
   }
-  stopped_by name_of interface_of c (inside sound package checked) = absurd (not_faultless sound)
+  stopped_by name_of interface_of c (inside sound whole checked) = absurd (not_faultless sound)

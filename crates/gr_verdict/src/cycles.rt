@@ -126,11 +126,7 @@ fn add_cycle_from(
 }
 
 /// A number for each package, which those on one cycle share: all of them, if an order has been found in which a cycle's stand together.
-fn cycle_numbers(
-    alloc: Global,
-    graph: &Graph,
-    places: &[usize],
-) -> Result<Vec<usize>, AllocError>
+fn cycle_numbers(alloc: Global, graph: &Graph, places: &[usize]) -> Result<Vec<usize>, AllocError>
     ensures { IfOk result (λ numbers. AreCycleNumbers graph.now numbers.items) }
 {
     let mut numbers = own_numbers(alloc, graph.len())?;
