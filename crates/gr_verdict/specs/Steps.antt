@@ -1,6 +1,7 @@
 -- What is found on the way: an order of the packages, what one of them sees, its faults with their places, and what is found
 -- with one package more.
-use Rattle.std.specs.Prelude.{ℕ, ◌≡◌, ◌<◌, ◌↔◌, ◌⊎◌, true, List, [], ◌∷◌, ◌++◌, length, map, Option, Some, None, slice_get, slice_index_or, MatchOption, Contains}
+use Rattle.std.specs.Prelude.{ℕ, ◌≡◌, ◌<◌, ◌↔◌, ◌⊎◌, true, List, [], ◌∷◌, ◌++◌, length, map, Option, Some, None}
+use Rattle.std.specs.Prelude.{slice_get, slice_index_or, MatchOption, Contains}
 use Rattle.std.specs.List.Sorted.{IsStrictlyIncreasing}
 use Rattle.std.proofs.Math.ListN.{set}
 use Rattle.gr_text.specs.Workspace.{Workspace}
