@@ -106,10 +106,10 @@ tree_of (tree {e = d} {es = es} {t = t} {ts = ts} so rest) e c s is = elim (firs
 
 wrong : (w : Workspace) (known : Verdicts) (p q : List ℕ) (s : ImportState) → (known q).faulty ≡ true → IsStateOf w known p q s →
     (fault : FaultKind) × (import_fault s ≡ Some fault)
-wrong w known p q s faulty (is_missing gone) = (kind.Missing, refl)
-wrong w known p q s faulty (is_on_cycle back) = (kind.Cycle, refl)
-wrong w known p q s faulty (is_faulty on e) = (kind.Import, refl)
-wrong w known p q s faulty (is_good on e) = absurd (true≢false (sym faulty ∙ e))
+wrong w known p q _ faulty (is_missing gone) = (kind.Missing, refl)
+wrong w known p q _ faulty (is_on_cycle back) = (kind.Cycle, refl)
+wrong w known p q _ faulty (is_faulty on e) = (kind.Import, refl)
+wrong w known p q _ faulty (is_good on e) = absurd (true≢false (sym faulty ∙ e))
 
 module _ (w : Workspace) (known : Verdicts) (p : List ℕ) (files : List FileParts) (parsed : AreParsed (package_files w p) files [])
     (state : List ℕ → ImportState) (are_states : AreStates w known p state) (h : ImportsFaulty w known p) where

@@ -25,4 +25,4 @@ loop-number-preserved c = λ i p lt at.
 pub returns : goal.returns
 returns c = λ t i p at.
     let within : i < length (package_paths c.args.graph.now) = slice_get_within (package_paths c.args.graph.now) i p at in
-    c.loop-number.invariant i p (omega (arith, within, c.loop-number-test.false, c.len.ensures)) at
+    c.loop-number.invariant i p (omega (arith, within, c.loop-number-test.false, c.len-number-end.ensures)) at

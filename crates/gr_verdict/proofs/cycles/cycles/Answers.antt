@@ -12,5 +12,5 @@ returns-then-are_behind_imports c =
     tell_all w places numbers
     (subst (StandBehindImports w places) c.deref-3.ensures.value (c.are_behind_imports.ensures c.if-are_behind_imports.true)) c.in_ok-numbers.ensures
 
-pub returns-else-are_behind_imports : goal.returns-else-are_behind_imports
-returns-else-are_behind_imports c = λ i j p q none at_i at_j imports. absurd (omega (arith, none, ap length c.new.ensures.items))
+pub returns : goal.returns
+returns c = λ i j p q none at_i at_j imports. absurd (omega (arith, none, ap length c.new.ensures.items))
