@@ -1,5 +1,5 @@
 -- The answers to the goals of `cycles::give_number`.
-use Rattle.std.proofs.Common.{◌≡◌, inl, inr, get_or, sym, ap, subst, ◌∙◌, arith}
+use Rattle.std.proofs.Common.{inl, inr, get_or, sym, ap, subst, ◌∙◌, arith}
 use Rattle.std.proofs.lemmas.List.Elements.{Contains-get_or}
 use Rattle.std.proofs.lemmas.Option.{slice_get_within}
 use Rattle.gr_text.specs.Packages.{package_paths}

@@ -1,5 +1,5 @@
 -- The answers to the goals of `cycles::own_numbers`.
-use Rattle.std.proofs.Common.{ℕ, ◌≡◌, ◌+◌, ◌<◌, inl, inr, [], ◌∷◌, length, get_or, length-append, sym, ap, subst, ◌∙◌, arith}
+use Rattle.std.proofs.Common.{◌≡◌, ◌+◌, inl, inr, [], ◌∷◌, length, get_or, length-append, sym, ap, ◌∙◌, arith}
 use Rattle.std.proofs.lemmas.Bool.{cases_lt}
 use Rattle.std.proofs.lemmas.List.{get_or_push, get_or_append_left}
 use Rattle.gr_verdict.proofs.cycles.own_numbers.Goals as goal
