@@ -49,14 +49,9 @@ placed_as ts us faults y e h = record {
 }
 
 module _ (w : Workspace) (known : Verdicts) (p : List ℕ) (own : Contains (package_paths w) p) (files : List FileParts)
-    (parsed : AreParsed (package_files w p) files [])
-    (name_of : List ℕ → Option (List ℕ)) (interface_at : List ℕ → Interface) (are_seen : AreSeen w known p name_of interface_at)
-    (state : List ℕ → ImportState) (are_states : AreStates w known p state) where
+    (parsed : AreParsed (package_files w p) files []) (state : List ℕ → ImportState) (are_states : AreStates w known p state) where
   abbrev Outer : Fault → Type 0
   Outer = IsOuterFault state (map source_of files)
-
-  abbrev is_checked : (c : Package) → IsPackageOf p files name_of interface_at c → IsPackageIn w known p c
-  is_checked c h = record { files = files; parsed = parsed; name_of = name_of; interface_of = interface_at; are_seen = are_seen; is_package = h }
 
   has_file : 0 < length files
   has_file = let e = package_file w p own in some_tree parsed e.0 e.1
@@ -65,11 +60,6 @@ module _ (w : Workspace) (known : Verdicts) (p : List ℕ) (own : Contains (pack
 
   in_some_file : (f : Fault) → f.file < length (map source_of files) → (y : FileFault) × IsPlacedAs files f y
   in_some_file f lt = let s = some_source (map source_of files) f lt in (placed_in s.0 f, record { source = s.0; in_file = s.1; at = refl })
-
-  later_in_file : (c : Package) → IsPackageOf p files name_of interface_at c → (f : Fault) → IsLaterFault c f → f.file < length (map source_of files)
-  later_in_file c h f is =
-      let at : f.file < length c.files = in_later c (identifiers_stand w known p c (is_checked c h) has_file) f is in
-      subst (λ k. f.file < k) (ap (λ (x : Package). length x.files) h.is_package) at
 
   placed_some : (faults : List Fault) (found : List FileFault) → ((y : FileFault) → Contains found y ↔ IsPlacedOf files faults y) → (f : Fault) →
       Contains faults f → f.file < length (map source_of files) → found ≡ [] → ⊥
@@ -147,58 +137,67 @@ module _ (w : Workspace) (known : Verdicts) (p : List ℕ) (own : Contains (pack
         qualified = λ e. absurd (filled e);
       }
 
-  -- those of the later stages, or none
+  module _ (name_of : List ℕ → Option (List ℕ)) (interface_at : List ℕ → Interface) (are_seen : AreSeen w known p name_of interface_at) where
+    abbrev is_checked : (c : Package) → IsPackageOf p files name_of interface_at c → IsPackageIn w known p c
+    is_checked c h = record { files = files; parsed = parsed; name_of = name_of; interface_of = interface_at; are_seen = are_seen; is_package = h }
 
-  inside_back : (c : Package) → IsPackageOf p files name_of interface_at c → HasNone Outer → (y : FileFault) (r : IsReadFault w known p y) →
-      IsLaterFault c r.fault
-  inside_back c h sound y r = elim r.is_fault [
-    | inl o ↦ absurd (sound r.fault (outer_here y r r.fault o))
-    | inr i ↦ subst (λ (d : Package). IsLaterFault d r.fault) (one_checked w known p i.1.checked c i.1.is_package (is_checked c h)) i.1.is_fault
-  ]
+    later_in_file : (c : Package) → IsPackageOf p files name_of interface_at c → (f : Fault) → IsLaterFault c f → f.file < length (map source_of files)
+    later_in_file c h f is =
+        let at : f.file < length c.files = in_later c (identifiers_stand w known p c (is_checked c h) has_file) f is in
+        subst (λ k. f.file < k) (ap (λ (x : Package). length x.files) h.is_package) at
 
-  interface_by : (c : Package) (faults : List Fault) (found : List FileFault) (o : Option FoundInterface) → IsPackageOf p files name_of interface_at c →
-      (found ≡ [] → faults ≡ []) → (faults ≡ [] → found ≡ []) →
-      MatchOption o (faults ≡ [] → ⊥) (λ i. (faults ≡ []) × IsInterface c (interface_of c.path i)) →
-      MatchOption o (found ≡ [] → ⊥) (λ i. (found ≡ []) × HasInterface w known p (interface_of p i))
-  interface_by c faults found None h to from m = λ e. m (to e)
-  interface_by c faults found (Some i) h to from m =
-      let path : c.path ≡ p = ap (λ (x : Package). x.path) h.is_package in
-      (from m.0, record { checked = c; is_package = is_checked c h; is_interface = subst (λ q. IsInterface c (interface_of q i)) path m.1 })
+    -- those of the later stages, or none
 
-  pub judged_inside : (c : Package) (x : Checked) (j : Judged) → HasNone Outer → IsPackageOf p files name_of interface_at c →
-      IsCheckedBy (IsLaterFault c) c x → j.interface ≡ x.interface → j.members ≡ x.members → j.qualified ≡ x.qualified →
-      IsStrictlySortedBy fault_cmp j.faults.items →
-      ((y : FileFault) → Contains j.faults.items y ↔ IsPlacedOf files x.faults.items y) → IsJudged w known p j
-  judged_inside c x j sound h checked same_interface same_members same_qualified sorted each =
-      let to : j.faults.items ≡ [] → x.faults.items ≡ [] = λ e.
-      empty_by x.faults.items (λ f k. placed_some x.faults.items j.faults.items each f k (later_in_file c h f (checked.faults.only f k)) e) in
-      let from : x.faults.items ≡ [] → j.faults.items ≡ [] = λ e.
-      empty_by j.faults.items (λ y k. let a = (each y).0 k in nothing_in a.fault (subst (λ l. Contains l a.fault) e a.among)) in
-      record {
-        listed = record {
-          in_order = sorted;
-          each = listed_by (IsLaterFault c) x.faults.items j.faults.items checked.faults each
-              (λ f l. inr (sound, record { checked = c; is_package = is_checked c h; is_fault = l })) (inside_back c h sound);
-        };
-        has_interface = subst (λ o. MatchOption o (j.faults.items ≡ [] → ⊥) (λ i. (j.faults.items ≡ []) × HasInterface w known p (interface_of p i)))
-            (sym same_interface)
-            (interface_by c x.faults.items j.faults.items x.interface h to from checked.interface);
-        uses = λ e. record {
-          checked = c;
-          is_package = is_checked c h;
-          are_uses = subst (λ (ms : Vec (Vec MemberUse)). AreMemberUses c (map uses_in ms.items)) (sym same_members) (checked.members (to e));
-        };
-        qualified = λ e. record {
-          checked = c;
-          is_package = is_checked c h;
-          are_qualified = subst (λ (qs : Vec Qualified). AreQualified c qs.items) (sym same_qualified) (checked.qualified (to e));
-        };
-      }
+    inside_back : (c : Package) → IsPackageOf p files name_of interface_at c → HasNone Outer → (y : FileFault) (r : IsReadFault w known p y) →
+        IsLaterFault c r.fault
+    inside_back c h sound y r = elim r.is_fault [
+      | inl o ↦ absurd (sound r.fault (outer_here y r r.fault o))
+      | inr i ↦ subst (λ (d : Package). IsLaterFault d r.fault) (one_checked w known p i.1.checked c i.1.is_package (is_checked c h)) i.1.is_fault
+    ]
 
-  pub judged_by : (x : Checked) (j : Judged) → IsFoundIn p files state name_of interface_at x → j.interface ≡ x.interface → j.members ≡ x.members →
-      j.qualified ≡ x.qualified → IsStrictlySortedBy fault_cmp j.faults.items →
-      ((y : FileFault) → Contains j.faults.items y ↔ IsPlacedOf files x.faults.items y) → IsJudged w known p j
-  judged_by x j (outside some lists gone) same_interface same_members same_qualified sorted each =
-      judged_outside x j some lists gone same_interface sorted each
-  judged_by x j (inside {p = c} sound h checked) same_interface same_members same_qualified sorted each =
-      judged_inside c x j sound h checked same_interface same_members same_qualified sorted each
+    interface_by : (c : Package) (faults : List Fault) (found : List FileFault) (o : Option FoundInterface) → IsPackageOf p files name_of interface_at c →
+        (found ≡ [] → faults ≡ []) → (faults ≡ [] → found ≡ []) →
+        MatchOption o (faults ≡ [] → ⊥) (λ i. (faults ≡ []) × IsInterface c (interface_of c.path i)) →
+        MatchOption o (found ≡ [] → ⊥) (λ i. (found ≡ []) × HasInterface w known p (interface_of p i))
+    interface_by c faults found None h to from m = λ e. m (to e)
+    interface_by c faults found (Some i) h to from m =
+        let path : c.path ≡ p = ap (λ (x : Package). x.path) h.is_package in
+        (from m.0, record { checked = c; is_package = is_checked c h; is_interface = subst (λ q. IsInterface c (interface_of q i)) path m.1 })
+
+    pub judged_inside : (c : Package) (x : Checked) (j : Judged) → HasNone Outer → IsPackageOf p files name_of interface_at c →
+        IsCheckedBy (IsLaterFault c) c x → j.interface ≡ x.interface → j.members ≡ x.members → j.qualified ≡ x.qualified →
+        IsStrictlySortedBy fault_cmp j.faults.items →
+        ((y : FileFault) → Contains j.faults.items y ↔ IsPlacedOf files x.faults.items y) → IsJudged w known p j
+    judged_inside c x j sound h checked same_interface same_members same_qualified sorted each =
+        let to : j.faults.items ≡ [] → x.faults.items ≡ [] = λ e.
+        empty_by x.faults.items (λ f k. placed_some x.faults.items j.faults.items each f k (later_in_file c h f (checked.faults.only f k)) e) in
+        let from : x.faults.items ≡ [] → j.faults.items ≡ [] = λ e.
+        empty_by j.faults.items (λ y k. let a = (each y).0 k in nothing_in a.fault (subst (λ l. Contains l a.fault) e a.among)) in
+        record {
+          listed = record {
+            in_order = sorted;
+            each = listed_by (IsLaterFault c) x.faults.items j.faults.items checked.faults each
+                (λ f l. inr (sound, record { checked = c; is_package = is_checked c h; is_fault = l })) (inside_back c h sound);
+          };
+          has_interface = subst (λ o. MatchOption o (j.faults.items ≡ [] → ⊥) (λ i. (j.faults.items ≡ []) × HasInterface w known p (interface_of p i)))
+              (sym same_interface)
+              (interface_by c x.faults.items j.faults.items x.interface h to from checked.interface);
+          uses = λ e. record {
+            checked = c;
+            is_package = is_checked c h;
+            are_uses = subst (λ (ms : Vec (Vec MemberUse)). AreMemberUses c (map uses_in ms.items)) (sym same_members) (checked.members (to e));
+          };
+          qualified = λ e. record {
+            checked = c;
+            is_package = is_checked c h;
+            are_qualified = subst (λ (qs : Vec Qualified). AreQualified c qs.items) (sym same_qualified) (checked.qualified (to e));
+          };
+        }
+
+    pub judged_by : (x : Checked) (j : Judged) → IsFoundIn p files state name_of interface_at x → j.interface ≡ x.interface → j.members ≡ x.members →
+        j.qualified ≡ x.qualified → IsStrictlySortedBy fault_cmp j.faults.items →
+        ((y : FileFault) → Contains j.faults.items y ↔ IsPlacedOf files x.faults.items y) → IsJudged w known p j
+    judged_by x j (outside some lists gone) same_interface same_members same_qualified sorted each =
+        judged_outside x j some lists gone same_interface sorted each
+    judged_by x j (inside {p = c} sound h checked) same_interface same_members same_qualified sorted each =
+        judged_inside c x j sound h checked same_interface same_members same_qualified sorted each

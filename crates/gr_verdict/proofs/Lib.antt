@@ -22,6 +22,8 @@ pub mod Rising
 pub mod Sharing
 pub mod Just
 pub mod Noting
+pub mod Stopping
+pub mod CycleNumbers
 pub mod Placed
 pub mod Unread
 pub mod Judged

@@ -7,5 +7,6 @@ pub mod Laws
 pub mod Told
 pub mod Found
 pub mod Steps
+pub mod Cycles
 pub mod Earlier
 pub mod Steady

@@ -1,18 +1,21 @@
 -- What is found on the way: an order of the packages, what one of them sees, its faults with their places, and what is found
 -- with one package more.
-use Rattle.std.specs.Prelude.{ℕ, ◌≡◌, ◌<◌, ◌↔◌, ◌⊎◌, List, [], ◌∷◌, ◌++◌, length, map, Option, Some, None, slice_get, slice_index_or, MatchOption, Contains}
+use Rattle.std.specs.Prelude.{ℕ, ◌≡◌, ◌<◌, ◌↔◌, ◌⊎◌, true, List, [], ◌∷◌, ◌++◌, length, map, Option, Some, None}
+use Rattle.std.specs.Prelude.{slice_get, slice_index_or, MatchOption, Contains}
 use Rattle.std.specs.List.Sorted.{IsStrictlyIncreasing}
 use Rattle.std.proofs.Math.ListN.{set}
 use Rattle.gr_text.specs.Workspace.{Workspace}
 use Rattle.gr_text.specs.Packages.{package_paths, package_files}
 use Rattle.gr_fault.specs.declared.fault.Fault.{Fault}
+use Rattle.gr_fault.specs.Listing.{Lists}
 use Rattle.gr_tree.specs.SourceFile.{SourceFile, FileParts, source_of}
 use Rattle.gr_graph.specs.FaultyFiles.{FaultyParts}
 use Rattle.gr_graph.specs.Graphs.{HoldsPackages, OfPackage}
-use Rattle.gr_graph.specs.Packages.{IsInClosure}
+use Rattle.gr_graph.specs.Packages.{IsInClosure, PackageImports}
 use Rattle.gr_graph.specs.Parsed.{AreParsed}
 use Rattle.gr_graph.specs.Reaching.{AreBackMarks}
 use Rattle.gr_imports.specs.declared.states.ImportState.{ImportState}
+use Rattle.gr_stages.specs.Stages.{IsOuterFault}
 use Rattle.gr_declared.specs.InterfacesView.{name_in, interface_in, interface_of, KnowsSame, AddsInterface}
 use Rattle.gr_declared.specs.Package.{Interface as Seen}
 use Rattle.gr_expr.specs.declared.interfaces.Interface.{Interface}
@@ -98,6 +101,22 @@ pub record IsCheckedIn (w : Workspace) (known : Verdicts) (p : List ℕ) (c : Ch
   pub interface_of : List ℕ → Seen
   pub are_seen : AreSeen w known p name_of interface_of
   pub is_found : IsFoundIn p files state name_of interface_of c
+
+-- p imports a package with faults
+pub record ImportsFaulty (w : Workspace) (known : Verdicts) (p : List ℕ) : Type 0 where
+  pub path : List ℕ
+  pub imports : PackageImports w p path
+  pub is_faulty : (known path).faulty ≡ true
+
+-- what checking found in p, each of whose files has a tree, where it went no further than to faults of clauses or imports
+pub record IsStoppedIn (w : Workspace) (known : Verdicts) (p : List ℕ) (c : Checked) : Type 0 where
+  pub files : List FileParts
+  pub parsed : AreParsed (package_files w p) files []
+  pub state : List ℕ → ImportState
+  pub are_states : AreStates w known p state
+  pub some : c.faults.items ≡ [] → ⊥
+  pub faults : Lists (IsOuterFault state (map source_of files)) c.faults.items
+  pub interface : c.interface ≡ None
 
 -- the faults of p, or what others see of it, its uses of members and its qualified identifiers
 pub record IsJudged (w : Workspace) (known : Verdicts) (p : List ℕ) (j : Judged) : Type 0 where

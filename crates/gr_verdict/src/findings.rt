@@ -4,12 +4,14 @@ ghost use Rattle.gr_text.specs.Packages.{package_paths};
 ghost use Rattle.gr_text.specs.Workspace.{Workspace};
 ghost use Rattle.gr_graph.specs.Graphs.{OfPackage};
 ghost use Rattle.gr_declared.specs.InterfacesView.{name_in};
+ghost use Rattle.gr_verdict.specs.Cycles.{TellCycles};
 ghost use Rattle.gr_verdict.specs.Earlier.{AreSteady, HaveSameImports};
 ghost use Rattle.gr_verdict.specs.Found.{IsFound, KnowsVerdicts};
 ghost use Rattle.gr_verdict.specs.Steady.{ArePassedBelow};
 ghost use Rattle.gr_verdict.specs.Told.{known_by, AreWhole};
 ghost use Rattle.gr_verdict.specs.Steps.{AreAllGathered, AreGathered, IsBuildOrder, IsGathered, IsJudged, KnowsAll, MayAdd, Learns, LearnsOf, MayLearn, somes};
 
+use crate::cycles::cycles;
 use crate::earlier::Earlier;
 use crate::finding::{Finding, SharedFinding};
 use crate::gathered::{Gathered, gather, known_now};
@@ -81,15 +83,17 @@ fn judge_one(
     graph: &Graph,
     number: usize,
     path: SharedPath,
+    cycles: &[usize],
     all: &mut Interfaces,
 ) -> Result<Finding, AllocError>
     requires in_range { number < length (package_paths graph.now) }
     requires path { OfPackage graph.now number (λ p. path ≡ p) }
+    requires cycles { TellCycles graph.now cycles.now }
     requires whole { AreWhole all.old }
     requires fresh { OfPackage graph.now number (λ p. name_in all.old p ≡ None) }
     ensures { IfOk result (λ finding. OfPackage graph.now number (λ p. Learns graph.now p finding all.old all.new)) }
 {
-    let judged = judge(alloc, graph, number, &path, all)?;
+    let judged = judge(alloc, graph, number, &path, cycles, all)?;
     enter_judged(alloc, path, judged, all)
 }
 
@@ -98,15 +102,17 @@ fn judge_unknown(
     alloc: Global,
     graph: &Graph,
     number: usize,
+    cycles: &[usize],
     all: &mut Gathered,
 ) -> Result<(), AllocError>
     requires in_range { number < length (package_paths graph.now) }
+    requires cycles { TellCycles graph.now cycles.now }
     requires all { AreGathered graph.now (length (package_paths graph.now)) all.old }
     requires unknown { IsGathered all.old.findings.items number → ⊥ }
     ensures { OnOk result (OfPackage graph.now number (λ p. LearnsOf graph.now p number all.old all.new)) }
 {
     let path = SharedPath::new(alloc, &graph.package(number).path)?;
-    let finding = judge_one(alloc, graph, number, path, &mut all.interfaces)?;
+    let finding = judge_one(alloc, graph, number, path, cycles, &mut all.interfaces)?;
     let finding = SharedFinding::new(alloc, finding)?;
     all.findings[number] = Some(finding);
     Ok(())
@@ -117,16 +123,18 @@ pub(crate) fn judge_next(
     alloc: Global,
     graph: &Graph,
     number: usize,
+    cycles: &[usize],
     all: &mut Gathered,
 ) -> Result<(), AllocError>
     requires in_range { number < length (package_paths graph.now) }
+    requires cycles { TellCycles graph.now cycles.now }
     requires all { AreGathered graph.now (length (package_paths graph.now)) all.old }
     ensures { OnOk result (OfPackage graph.now number (λ p. MayLearn graph.now p number all.old all.new)) }
 {
     if all.knows(number) {
         return Ok(());
     }
-    judge_unknown(alloc, graph, number, all)?;
+    judge_unknown(alloc, graph, number, cycles, all)?;
     Ok(())
 }
 
@@ -135,14 +143,16 @@ fn judge_all(
     alloc: Global,
     graph: &Graph,
     order: &[usize],
+    cycles: &[usize],
     all: &mut Gathered,
 ) -> Result<(), AllocError>
     requires order { IsBuildOrder graph.now order.now }
+    requires cycles { TellCycles graph.now cycles.now }
     requires all { AreGathered graph.now (length (package_paths graph.now)) all.old }
     ensures { OnOk result (AreAllGathered graph.now order.now all.new) }
 {
     for number in order {
-        judge_next(alloc, graph, *number, all)?;
+        judge_next(alloc, graph, *number, cycles, all)?;
     }
     Ok(())
 }
@@ -152,11 +162,13 @@ fn keep_or_judge(
     alloc: Global,
     graph: &Graph,
     number: usize,
+    cycles: &[usize],
     earlier: &Earlier,
     steady: &Steady,
     all: &mut Gathered,
 ) -> Result<(), AllocError>
     requires in_range { number < length (package_paths graph.now) }
+    requires cycles { TellCycles graph.now cycles.now }
     requires all { AreGathered graph.now (length (package_paths graph.now)) all.old }
     requires same { HaveSameImports earlier.now.graph graph.now }
     requires steady { AreSteady graph.now earlier.now.verdicts.items all.old steady.now.marks.items }
@@ -170,7 +182,7 @@ fn keep_or_judge(
         all.keep(alloc, number, &graph.package(number).path, verdict)?;
         return Ok(());
     }
-    judge_unknown(alloc, graph, number, all)?;
+    judge_unknown(alloc, graph, number, cycles, all)?;
     Ok(())
 }
 
@@ -179,17 +191,19 @@ fn judge_changed(
     alloc: Global,
     graph: &Graph,
     order: &[usize],
+    cycles: &[usize],
     earlier: &Earlier,
     all: &mut Gathered,
 ) -> Result<(), AllocError>
     requires order { IsBuildOrder graph.now order.now }
+    requires cycles { TellCycles graph.now cycles.now }
     requires all { AreGathered graph.now (length (package_paths graph.now)) all.old }
     requires same { HaveSameImports earlier.now.graph graph.now }
     ensures { OnOk result (AreAllGathered graph.now order.now all.new) }
 {
     let mut steady = Steady::new(alloc, graph)?;
     for number in order {
-        keep_or_judge(alloc, graph, *number, earlier, &steady, all)?;
+        keep_or_judge(alloc, graph, *number, cycles, earlier, &steady, all)?;
         let same = is_steady(earlier, graph, *number, &all.interfaces);
         steady.pass(alloc, graph, *number, same)?;
     }
@@ -201,16 +215,18 @@ fn judge_in(
     alloc: Global,
     graph: &Graph,
     order: &[usize],
+    cycles: &[usize],
     known: &Known,
     all: &mut Gathered,
 ) -> Result<(), AllocError>
     requires order { IsBuildOrder graph.now order.now }
+    requires cycles { TellCycles graph.now cycles.now }
     requires all { AreGathered graph.now (length (package_paths graph.now)) all.old }
     ensures { OnOk result (AreAllGathered graph.now order.now all.new) }
 {
     match known.earlier(graph) {
-        Some(earlier) => judge_changed(alloc, graph, order, earlier, all),
-        None => judge_all(alloc, graph, order, all),
+        Some(earlier) => judge_changed(alloc, graph, order, cycles, earlier, all),
+        None => judge_all(alloc, graph, order, cycles, all),
     }
 }
 
@@ -228,7 +244,8 @@ fn judge_rest(
         return Ok(());
     }
     let order = order(alloc, graph)?;
-    judge_in(alloc, graph, &order, known, all)
+    let cycles = cycles(alloc, graph, &order)?;
+    judge_in(alloc, graph, &order, &cycles, known, all)
 }
 
 /// Findings, each of which is there.

@@ -41,7 +41,7 @@ pub(crate) fn take_or_judge(
         return Ok(());
     }
     take_known(alloc, graph, number, known, all)?;
-    judge_next(alloc, graph, number, all)?;
+    judge_next(alloc, graph, number, &[], all)?;
     Ok(())
 }
 

@@ -1,16 +1,17 @@
 //! The faults of one package, or its interface, its uses of members and its qualified identifiers.
-ghost use Rattle.std.specs.Prelude.{ℕ, ◌≡◌, ◌<◌, List, [], length, Contains, IfOk};
+ghost use Rattle.std.specs.Prelude.{ℕ, ◌≡◌, ◌<◌, List, [], length, Contains, IfOk, IsTrue};
 ghost use Rattle.gr_text.specs.Packages.{package_files, package_paths};
 ghost use Rattle.gr_text.specs.Workspace.{Workspace};
 ghost use Rattle.gr_graph.specs.Graphs.{IsPackage, OfPackage};
 ghost use Rattle.gr_graph.specs.Parsed.{AreParsed};
+ghost use Rattle.gr_verdict.specs.Cycles.{TellCycles};
 ghost use Rattle.gr_verdict.specs.Verdicts.{Verdicts};
 ghost use Rattle.gr_verdict.specs.Told.{known_by, AreWhole};
-ghost use Rattle.gr_verdict.specs.Steps.{IsCheckedIn, IsJudged};
+ghost use Rattle.gr_verdict.specs.Steps.{ImportsFaulty, IsCheckedIn, IsJudged, IsStoppedIn};
 
 use crate::fault::{FileFault, sort};
 use crate::placing::{placed_faults, unread_faults};
-use crate::seeing::seen_imports;
+use crate::seeing::{imports_faulty, seen_imports, states_by};
 use gr_declared::{Interface, Interfaces};
 use gr_expr::found::MemberUse;
 use gr_expr::symbol::SharedPath;
@@ -49,7 +50,8 @@ pub(crate) fn place_checked(
     files: &ParsedPackage,
     checked: Checked,
 ) -> Result<Judged, AllocError>
-    ensures { IfOk result (λ j. (w : Workspace) → (known : Verdicts) → (p : List ℕ) → Contains (package_paths w) p → AreParsed (package_files w p) files.now.trees.items [] → IsCheckedIn w known p checked → IsJudged w known p j) }
+    ensures checked { IfOk result (λ j. (w : Workspace) → (known : Verdicts) → (p : List ℕ) → Contains (package_paths w) p → AreParsed (package_files w p) files.now.trees.items [] → IsCheckedIn w known p checked → IsJudged w known p j) }
+    ensures stopped { IfOk result (λ j. (w : Workspace) → (known : Verdicts) → (p : List ℕ) → Contains (package_paths w) p → AreParsed (package_files w p) files.now.trees.items [] → IsStoppedIn w known p checked → IsJudged w known p j) }
 {
     let Checked {
         faults,
@@ -67,6 +69,43 @@ pub(crate) fn place_checked(
     })
 }
 
+/// Whether a package imports one with faults, where it is known which packages lie on one cycle.
+fn is_stopped(graph: &Graph, number: usize, cycles: &[usize], all: &Interfaces) -> bool
+    requires { number < length (package_paths graph.now) }
+    ensures known { IsTrue result → number < length cycles.now }
+    ensures faulty { IsTrue result → OfPackage graph.now number (ImportsFaulty graph.now (known_by all.now)) }
+{
+    if number >= cycles.len() {
+        return false;
+    }
+    imports_faulty(graph, number, all)
+}
+
+/// What is found in a package each of whose files has a tree, and which imports one with faults: what those tell that it builds on is not
+/// asked for.
+fn judge_stopped(
+    alloc: Global,
+    graph: &Graph,
+    number: usize,
+    files: &ParsedPackage,
+    path: &SharedPath,
+    cycles: &[usize],
+    all: &Interfaces,
+) -> Result<Judged, AllocError>
+    requires in_range { number < length (package_paths graph.now) }
+    requires files { IsPackage graph.now number files.now }
+    requires read { files.now.faulty.items ≡ [] }
+    requires path { OfPackage graph.now number (λ p. path.now ≡ p) }
+    requires cycles { TellCycles graph.now cycles.now }
+    requires known { number < length cycles.now }
+    requires faulty { OfPackage graph.now number (ImportsFaulty graph.now (known_by all.now)) }
+    ensures { IfOk result (λ j. OfPackage graph.now number (λ p. IsJudged graph.now (known_by all.now) p j)) }
+{
+    let noted = states_by(alloc, graph, number, cycles, all)?;
+    let checked = check(alloc, path, &files.trees, &noted)?;
+    place_checked(alloc, files, checked)
+}
+
 /// What is found in a package each of whose files has a tree.
 fn judge_read(
     alloc: Global,
@@ -74,15 +113,20 @@ fn judge_read(
     number: usize,
     files: &ParsedPackage,
     path: &SharedPath,
+    cycles: &[usize],
     all: &Interfaces,
 ) -> Result<Judged, AllocError>
     requires in_range { number < length (package_paths graph.now) }
     requires files { IsPackage graph.now number files.now }
     requires read { files.now.faulty.items ≡ [] }
     requires path { OfPackage graph.now number (λ p. path.now ≡ p) }
+    requires cycles { TellCycles graph.now cycles.now }
     requires whole { AreWhole all.now }
     ensures { IfOk result (λ j. OfPackage graph.now number (λ p. IsJudged graph.now (known_by all.now) p j)) }
 {
+    if is_stopped(graph, number, cycles, all) {
+        return judge_stopped(alloc, graph, number, files, path, cycles, all);
+    }
     let interfaces = seen_imports(alloc, graph, number, all)?;
     let checked = check(alloc, path, &files.trees, &interfaces)?;
     place_checked(alloc, files, checked)
@@ -94,16 +138,18 @@ pub(crate) fn judge(
     graph: &Graph,
     number: usize,
     path: &SharedPath,
+    cycles: &[usize],
     all: &Interfaces,
 ) -> Result<Judged, AllocError>
     requires in_range { number < length (package_paths graph.now) }
     requires path { OfPackage graph.now number (λ p. path.now ≡ p) }
+    requires cycles { TellCycles graph.now cycles.now }
     requires whole { AreWhole all.now }
     ensures { IfOk result (λ j. OfPackage graph.now number (λ p. IsJudged graph.now (known_by all.now) p j)) }
 {
     let files = graph.package(number);
     if files.faulty.is_empty() {
-        judge_read(alloc, graph, number, files, path, all)
+        judge_read(alloc, graph, number, files, path, cycles, all)
     } else {
         judge_unread(alloc, files)
     }

@@ -2,6 +2,7 @@
 //! of members.
 #![tactic(auto)]
 
+mod cycles;
 mod earlier;
 mod fault;
 mod fault_list;

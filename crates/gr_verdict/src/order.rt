@@ -19,11 +19,12 @@ fn sizes(alloc: Global, graph: &Graph) -> Result<Vec<usize>, AllocError>
     Ok(sizes)
 }
 
-fn size_at(sizes: &[usize], number: usize) -> usize
-    ensures { result ≡ slice_index_or sizes.now number 0 }
+/// The number that a list has at a place, or zero.
+pub(crate) fn number_at(numbers: &[usize], place: usize) -> usize
+    ensures { result ≡ slice_index_or numbers.now place 0 }
 {
-    match sizes.get(number) {
-        Some(size) => *size,
+    match numbers.get(place) {
+        Some(number) => *number,
         None => 0,
     }
 }
@@ -45,7 +46,7 @@ fn order_by_sizes(alloc: Global, graph: &Graph) -> Result<Vec<usize>, AllocError
 {
     let sizes = sizes(alloc, graph)?;
     let mut order = numbers(alloc, graph.len())?;
-    order.sort_by_key(|number| size_at(&sizes, *number))?;
+    order.sort_by_key(|number| number_at(&sizes, *number))?;
     Ok(order)
 }
 

@@ -4,6 +4,7 @@ ghost use Rattle.gr_text.specs.Packages.{package_paths};
 ghost use Rattle.gr_text.specs.Workspace.{Workspace};
 ghost use Rattle.gr_graph.specs.Graphs.{OfPackage};
 ghost use Rattle.gr_imports.specs.States.{state_in};
+ghost use Rattle.gr_verdict.specs.Cycles.{TellCycles};
 ghost use Rattle.gr_verdict.specs.Found.{AreVerdictsOf, IsFoundBy, KnowsVerdicts};
 ghost use Rattle.gr_verdict.specs.Steps.{
   AreGathered,
@@ -21,6 +22,7 @@ ghost use Rattle.gr_verdict.specs.Steps.{
 ghost use Rattle.gr_verdict.specs.Told.{known_by};
 ghost use Rattle.gr_verdict.specs.Verdicts.{AreStates};
 
+use crate::cycles::cycles;
 use crate::finding::SharedFinding;
 use crate::findings::{enter_judged, judge_next};
 use crate::found_package::{FoundPackage, found_now, found_package, take_or_judge};
@@ -49,15 +51,17 @@ fn judge_among(
     graph: &Graph,
     below: &[usize],
     number: usize,
+    cycles: &[usize],
     all: &mut Gathered,
 ) -> Result<(), AllocError>
     requires in_range { number < length (package_paths graph.now) }
     requires below { HoldAllBelow graph.now below.now }
+    requires cycles { TellCycles graph.now cycles.now }
     requires all { AreGathered graph.now (length (package_paths graph.now)) all.old }
     ensures { OnOk result (OfPackage graph.now number (λ p. MayLearnAmong graph.now below.now p number all.old all.new)) }
 {
     if is_among(below, number) {
-        judge_next(alloc, graph, number, all)
+        judge_next(alloc, graph, number, cycles, all)
     } else {
         Ok(())
     }
@@ -68,16 +72,18 @@ fn judge_ordered(
     alloc: Global,
     graph: &Graph,
     order: &[usize],
+    cycles: &[usize],
     below: &[usize],
     all: &mut Gathered,
 ) -> Result<(), AllocError>
     requires order { IsBuildOrder graph.now order.now }
+    requires cycles { TellCycles graph.now cycles.now }
     requires below { HoldAllBelow graph.now below.now }
     requires all { AreGatheredOf graph.now below.now all.old }
     ensures { OnOk result (KnowsJust graph.now below.now all.new) }
 {
     for next in order {
-        judge_among(alloc, graph, below, *next, all)?;
+        judge_among(alloc, graph, below, *next, cycles, all)?;
     }
     Ok(())
 }
@@ -97,7 +103,8 @@ fn judge_below(
         return Ok(());
     }
     let order = order(alloc, graph)?;
-    judge_ordered(alloc, graph, &order, below, all)
+    let cycles = cycles(alloc, graph, &order)?;
+    judge_ordered(alloc, graph, &order, &cycles, below, all)
 }
 
 /// What is found in some packages, where it is known of some of them.

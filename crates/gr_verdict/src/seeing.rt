@@ -1,5 +1,5 @@
 //! What a package sees of others, and what each path is that it imports.
-ghost use Rattle.std.specs.Prelude.{ℕ, ◌≡◌, ◌<◌, List, length, IfOk, OnOk};
+ghost use Rattle.std.specs.Prelude.{ℕ, ◌≡◌, ◌<◌, List, length, IfOk, IsTrue, OnOk, true};
 ghost use Rattle.std.specs.List.Sorted.{IsStrictlyIncreasing};
 ghost use Rattle.gr_text.specs.Packages.{package_paths};
 ghost use Rattle.gr_graph.specs.Graphs.{HoldsPackages, OfPackage};
@@ -10,8 +10,10 @@ ghost use Rattle.gr_imports.specs.declared.states.ImportState.TheVariants.{Missi
 ghost use Rattle.gr_declared.specs.InterfacesView.{name_in, interface_in};
 ghost use Rattle.gr_verdict.specs.Verdicts.{IsStateOf, AreStates, AreSeen};
 ghost use Rattle.gr_verdict.specs.Told.{known_by, AreWhole};
-ghost use Rattle.gr_verdict.specs.Steps.{KnowsSameOfOthers};
+ghost use Rattle.gr_verdict.specs.Cycles.{TellCycles};
+ghost use Rattle.gr_verdict.specs.Steps.{ImportsFaulty, KnowsSameOfOthers};
 
+use crate::cycles::share_cycle;
 use crate::marks::is_marked;
 use gr_declared::Interfaces;
 use gr_graph::Graph;
@@ -128,6 +130,75 @@ pub(crate) fn import_states(
 {
     let mut noted = Interfaces::new(alloc);
     note_imports(alloc, &mut noted, graph, number, back, all)?;
+    Ok(noted)
+}
+
+/// Whether no name is known of a package.
+fn is_unknown(graph: &Graph, number: usize, all: &Interfaces) -> bool
+    requires { number < length (package_paths graph.now) }
+    ensures { IsTrue result → OfPackage graph.now number (λ q. (known_by all.now q).faulty ≡ true) }
+{
+    match all.name(&graph.package(number).path) {
+        None => true,
+        Some(_) => false,
+    }
+}
+
+/// Whether a package imports one of which no name is known.
+pub(crate) fn imports_faulty(graph: &Graph, number: usize, all: &Interfaces) -> bool
+    requires { number < length (package_paths graph.now) }
+    ensures { IsTrue result → OfPackage graph.now number (ImportsFaulty graph.now (known_by all.now)) }
+{
+    for import in graph.imports(number) {
+        if is_unknown(graph, *import, all) {
+            return true;
+        }
+    }
+    false
+}
+
+/// What an imported package is to the one that imports it. The numbers tell which packages lie on one cycle.
+fn state_by(
+    graph: &Graph,
+    number: usize,
+    cycles: &[usize],
+    import: usize,
+    all: &Interfaces,
+) -> ImportState
+    requires in_range { import < length (package_paths graph.now) }
+    requires cycles { TellCycles graph.now cycles.now }
+    requires known { number < length cycles.now }
+    requires imports { OfPackage graph.now number (λ p. OfPackage graph.now import (λ q. PackageImports graph.now p q)) }
+    ensures { OfPackage graph.now number (λ p. OfPackage graph.now import (λ q. IsStateOf graph.now (known_by all.now) p q result)) }
+{
+    if share_cycle(cycles, number, import) {
+        ImportState::OnCycle
+    } else {
+        match all.name(&graph.package(import).path) {
+            None => ImportState::Faulty,
+            Some(_) => ImportState::Good,
+        }
+    }
+}
+
+/// What each path is that a package imports, as interfaces that note just that. The numbers tell which packages lie on one cycle.
+pub(crate) fn states_by(
+    alloc: Global,
+    graph: &Graph,
+    number: usize,
+    cycles: &[usize],
+    all: &Interfaces,
+) -> Result<Interfaces, AllocError>
+    requires in_range { number < length (package_paths graph.now) }
+    requires cycles { TellCycles graph.now cycles.now }
+    requires known { number < length cycles.now }
+    ensures { IfOk result (λ noted. OfPackage graph.now number (λ p. AreStates graph.now (known_by all.now) p (state_in noted.states))) }
+{
+    let mut noted = Interfaces::new(alloc);
+    for import in graph.imports(number) {
+        let path = Vec::from_slice(alloc, &graph.package(*import).path)?;
+        noted.note(path, state_by(graph, number, cycles, *import, all))?;
+    }
     Ok(noted)
 }
 

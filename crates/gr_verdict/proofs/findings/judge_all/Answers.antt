@@ -21,6 +21,7 @@ judge_next-requires c =
     let lt : k < length order = omega arith in
     record {
       in_range = (c.requires.order.each (get_or order k 0)).0 (Contains-get_or order k 0 lt);
+      cycles = c.requires.cycles;
       all = c.loop-number.invariant.right;
     }
 

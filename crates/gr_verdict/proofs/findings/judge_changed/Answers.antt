@@ -34,6 +34,7 @@ keep_or_judge-requires c =
     let there = slice_get-get_or order k 0 lt in
     record {
       in_range = (c.requires.order.each n).0 (Contains-get_or order k 0 lt);
+      cycles = c.requires.cycles;
       all = c.loop-number.invariant.0.right;
       same = c.requires.same;
       steady = c.loop-number.invariant.1;

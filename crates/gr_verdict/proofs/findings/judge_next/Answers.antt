@@ -9,6 +9,7 @@ returns-then-knows c = λ p at. inr (c.knows.ensures.0 c.if-knows.true, refl)
 pub judge_unknown-requires : goal.judge_unknown-requires
 judge_unknown-requires c = record {
   in_range = c.requires.in_range;
+  cycles = c.requires.cycles;
   all = c.requires.all;
   unknown = λ g.
       false≢true (sym c.if-knows.false ∙ c.knows.ensures.1 g);

@@ -1,13 +1,15 @@
 -- The answers to the goals of `findings::judge_rest`.
 use Rattle.std.proofs.Common.{sym, subst}
 use Rattle.std.proofs.lemmas.Result.{on_ok_weaker}
+use Rattle.gr_verdict.specs.Cycles.{TellCycles}
 use Rattle.gr_verdict.specs.Steps.{IsBuildOrder}
 use Rattle.gr_verdict.proofs.Gathering.{all_known, knows_each}
 use Rattle.gr_verdict.proofs.findings.judge_rest.Goals as goal
 
 pub judge_in-requires : goal.judge_in-requires
 judge_in-requires c = record {
-  order = subst (IsBuildOrder c.args.graph.now) (sym c.deref.ensures.value) c.in_ok-order.ensures;
+  order = subst (IsBuildOrder c.args.graph.now) (sym c.deref-2.ensures.value) c.in_ok-order.ensures;
+  cycles = subst (TellCycles c.args.graph.now) (sym c.deref-3.ensures.value) c.in_ok-cycles.ensures;
   all = c.requires;
 }
 
@@ -18,5 +20,5 @@ pub returns : goal.returns
 returns c =
     let w = c.args.graph.now in
     on_ok_weaker c.judge_in.result
-    (all_known w c.deref.result.now c.judge_in.new.all (subst (IsBuildOrder w) (sym c.deref.ensures.value) c.in_ok-order.ensures))
+    (all_known w c.deref-2.result.now c.judge_in.new.all (subst (IsBuildOrder w) (sym c.deref-2.ensures.value) c.in_ok-order.ensures))
     c.judge_in.ensures

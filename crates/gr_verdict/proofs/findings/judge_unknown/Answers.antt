@@ -9,6 +9,7 @@ pub judge_one-requires : goal.judge_one-requires
 judge_one-requires c = record {
   in_range = c.requires.in_range;
   path = λ p at. c.in_ok-path.ensures ∙ c.deref.ensures.value ∙ same_Some c.package.result.now.path.items p (sym c.package.ensures.path ∙ at);
+  cycles = c.requires.cycles;
   whole = c.requires.all.verdicts.whole;
   fresh = λ p at. c.requires.all.verdicts.fresh c.args.number p c.requires.unknown at;
 }

@@ -1,5 +1,5 @@
 -- The answers to the goals of `found_package::take_or_judge`.
-use Rattle.std.proofs.Common.{sym, ◌∙◌}
+use Rattle.std.proofs.Common.{sym, ◌∙◌, arith}
 use Rattle.std.proofs.lemmas.Bool.{false≢true}
 use Rattle.gr_verdict.proofs.Underway.{judged_behind}
 use Rattle.gr_verdict.proofs.found_package.take_or_judge.Goals as goal
@@ -16,7 +16,11 @@ take_known-requires c = record {
 }
 
 pub judge_next-requires : goal.judge_next-requires
-judge_next-requires c = record { in_range = c.requires.number; all = c.in_ok-take_known.ensures.right }
+judge_next-requires c = record {
+  in_range = c.requires.number;
+  cycles = λ i j p q none at_i at_j imports. absurd (omega (arith, none));
+  all = c.in_ok-take_known.ensures.right;
+}
 
 pub returns : goal.returns
 returns c = λ p at.

@@ -15,6 +15,7 @@ judge_read-requires c = record {
   files = c.package-files.ensures;
   read = vec_empty c.package-files.result.now.faulty c.is_empty.result c.is_empty.ensures c.if-is_empty.true;
   path = c.requires.path;
+  cycles = c.requires.cycles;
   whole = c.requires.whole;
 }
 

@@ -11,6 +11,17 @@ use Rattle.gr_types.specs.Check.{IsFoundIn}
 use Rattle.gr_verdict.specs.Told.{known_by}
 use Rattle.gr_verdict.proofs.judging.judge_read.Goals as goal
 
+pub judge_stopped-requires : goal.judge_stopped-requires
+judge_stopped-requires c = record {
+  in_range = c.requires.in_range;
+  files = c.requires.files;
+  read = c.requires.read;
+  path = c.requires.path;
+  cycles = c.requires.cycles;
+  known = c.is_stopped.ensures.known c.if-is_stopped.true;
+  faulty = c.is_stopped.ensures.faulty c.if-is_stopped.true;
+}
+
 pub returns : goal.returns
 returns c =
     let w = c.args.graph.now in
@@ -35,4 +46,4 @@ returns c =
       are_seen = c.in_ok-interfaces.ensures.seen p at;
       is_found = found;
     }))
-    c.place_checked.ensures
+    c.place_checked.ensures.checked

@@ -1,24 +1,31 @@
 -- The answers to the goals of `judging::place_checked`.
-use Rattle.std.proofs.Common.{◌↔◌, refl, subst, sym}
+use Rattle.std.proofs.Common.{◌≡◌, ◌↔◌, List, map, refl, subst, sym}
 use Rattle.std.specs.Prelude.{Contains}
+use Rattle.gr_tree.specs.SourceFile.{FileParts, source_of}
 use Rattle.gr_verdict.specs.declared.fault.FileFault.{FileFault}
 use Rattle.gr_verdict.specs.Steps.{IsPlacedOf}
-use Rattle.gr_verdict.proofs.Judged.{judged_by, placed_as}
+use Rattle.gr_verdict.proofs.Judged.{judged_by, judged_outside, placed_as}
 use Rattle.gr_verdict.proofs.OnePackage.{one_sources}
 use Rattle.gr_verdict.proofs.judging.place_checked.Goals as goal
 
 pub returns : goal.returns
-returns c = λ w known p own parsed is.
+returns c =
     let trees = c.args.files.now.trees.items in
     let checked = c.args.checked in
     let list = checked.faults.items in
-    let same = one_sources parsed is.parsed in
     let placed : (y : FileFault) → Contains c.in_ok-faults.faults.items y ↔ IsPlacedOf trees list y = λ y.
     subst (λ fs. Contains c.in_ok-faults.faults.items y ↔ IsPlacedOf trees fs y) c.deref-2.ensures.value
     (subst (λ ts. Contains c.in_ok-faults.faults.items y ↔ IsPlacedOf ts c.deref-2.result.now y) c.deref.ensures.value (c.in_ok-faults.ensures y)) in
-    judged_by w known p own is.files is.parsed is.name_of is.interface_of is.are_seen is.state is.are_states checked _ is.is_found refl refl refl
-    c.sort.ensures.order
-    (λ y. (
-      λ k. placed_as trees is.files list y same ((placed y).0 ((c.sort.ensures.same y).0 k)),
-      λ h. (c.sort.ensures.same y).1 ((placed y).1 (placed_as is.files trees list y (sym same) h)),
-    ))
+    let each : (files : List FileParts) → map source_of trees ≡ map source_of files → (y : FileFault) →
+    Contains c.sort.new.found.items y ↔ IsPlacedOf files list y = λ files same y. (
+      λ k. placed_as trees files list y same ((placed y).0 ((c.sort.ensures.same y).0 k)),
+      λ h. (c.sort.ensures.same y).1 ((placed y).1 (placed_as files trees list y (sym same) h)),
+    ) in
+    record {
+      checked = λ w known p own parsed is.
+          judged_by w known p own is.files is.parsed is.state is.are_states is.name_of is.interface_of is.are_seen checked _ is.is_found refl refl refl
+          c.sort.ensures.order (each is.files (one_sources parsed is.parsed));
+      stopped = λ w known p own parsed is.
+          judged_outside w known p own is.files is.parsed is.state is.are_states checked _ is.some is.faults is.interface refl
+          c.sort.ensures.order (each is.files (one_sources parsed is.parsed));
+    }

@@ -21,6 +21,7 @@ judge_among-requires c =
     record {
       in_range = (c.requires.order.each (get_or order k 0)).0 (Contains-get_or order k 0 lt);
       below = c.requires.below;
+      cycles = c.requires.cycles;
       all = c.loop-next.invariant.gathered.right;
     }
 

@@ -21,7 +21,7 @@ returns c = λ p at.
     let folder : files.path.items ≡ p = same_Some files.path.items p (sym c.package.ensures.path ∙ at) in
     let all = subst (λ q. AreParsed (package_files w q) files.trees.items files.faulty.items) folder c.package.ensures.files in
     let parsed = subst (λ fs. AreParsed (package_files w p) files.trees.items fs) (all_read all checked.parsed) all in
-    let judged = c.in_ok-judged.ensures w (known_by old.interfaces) p (at_contains w n p at) parsed checked in
+    let judged = c.in_ok-judged.ensures.checked w (known_by old.interfaces) p (at_contains w n p at) parsed checked in
     record {
       finding = c.in_ok-finding-2.finding;
       is_set = refl;
