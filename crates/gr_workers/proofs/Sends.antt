@@ -90,10 +90,10 @@ folder_field_shared : IsSync folder_field.row
 folder_field_shared = search (owned, file_tree_shared) depth 30 fits 50000
 
 pub package_parts_sent : IsSend package_parts
-package_parts_sent = search (sendable, crosses, maps, set_sent, set_shared, Global-send, Global-sync, folder_field_sent) depth 30 fits 50000
+package_parts_sent = search (sendable, crosses, maps, set_sent, set_shared, folder_field_sent) depth 30 fits 50000
 
 pub package_parts_shared : IsSync package_parts
-package_parts_shared = search (sendable, crosses, maps, set_sent, set_shared, Global-send, Global-sync, folder_field_shared) depth 30 fits 50000
+package_parts_shared = search (sendable, crosses, maps, set_sent, set_shared, folder_field_shared) depth 30 fits 50000
 
 pub shared_package_sent : IsSend shared_package
 shared_package_sent = search (owned, package_parts_sent, package_parts_shared) depth 30 fits 50000
