@@ -1,5 +1,6 @@
 -- Packages while single files of them are set.
-use Rattle.std.proofs.Common.{ℕ, ◌≡◌, ◌<◌, ◌∷◌, ◌++◌, ◌&&◌, ◌==◌, [], List, true, false, zero, suc, ⊎_elim, ap, sym, subst, ◌∙◌, refl, Some, None, slice_get, get_or, length}
+use Rattle.std.proofs.Common.{ℕ, ◌≡◌, ◌<◌, ◌∷◌, ◌++◌, ◌&&◌, ◌==◌, [], List, true, false, zero}
+use Rattle.std.proofs.Common.{suc, ⊎_elim, ap, sym, subst, ◌∙◌, refl, Some, None, slice_get, get_or, length}
 use Rattle.std.proofs.Math.ListN.{set}
 use Rattle.std.specs.FinMap.{get}
 use Rattle.std.specs.Cmp.Lexicographic.{pointwise, bytes_decides}
@@ -14,7 +15,8 @@ use Rattle.gr_text.specs.Path.{folder}
 use Rattle.gr_text.specs.Packages.{is_go, is_of_package}
 use Rattle.gr_text.specs.Workspace.{Workspace, path_cmp}
 use Rattle.gr_tree.specs.SourceFile.{FileParts, source_of}
-use Rattle.gr_graph.specs.Drafts.{AreDraftsAt, HasText, HoldsDraft, IsDraft, IsDraftAt, IsEmptyAt, IsGone, IsSamePackage, PutsFault, PutsTree, SetsFile, SetsFiles, TakesFile, draft_path, draft_paths, packages_of}
+use Rattle.gr_graph.specs.Drafts.{AreDraftsAt, HasText, HoldsDraft, IsDraft, IsDraftAt, IsEmptyAt, IsGone, IsSamePackage}
+use Rattle.gr_graph.specs.Drafts.{PutsFault, PutsTree, SetsFile, SetsFiles, TakesFile, draft_path, draft_paths, packages_of}
 use Rattle.gr_graph.specs.FaultyFiles.{FaultyParts}
 use Rattle.gr_graph.specs.Graphs.{paths_of}
 use Rattle.gr_graph.specs.HeldFiles.{HoldFiles, fault_path, fault_paths, tree_path, tree_paths}

@@ -116,7 +116,7 @@ pub(crate) struct FileChange<'a> {
 }
 
 /// Whether files import what they imported before. Other files than the one that changed are read only where it imported a path that
-/// it imports no more.
+/// it imports no more. A no tells nothing: what they import is read again then.
 pub(crate) fn stay(alloc: Global, change: FileChange<'_>) -> Result<bool, AllocError>
     requires { IsRenewed change.imports.now.keys (option_copied change.gone) change.come.now change.files.now }
     ensures { IfOk result (λ stay. IsTrue stay → HoldsPaths (SomeImport change.entry.files.now) change.entry.imports.now.keys) }
