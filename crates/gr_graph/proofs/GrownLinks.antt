@@ -31,7 +31,7 @@ small_row row n below small k d lt =
 
 -- ---- what files import, after a path came among others
 module _ (ks : List (List ℕ)) (place : ℕ) (path : List ℕ) (files : List FileParts) (within : place ≤ length ks) where
-  some_shifted : (i : ℕ) → SomeImports (insert ks place path) files (shifted place i) ↔ SomeImports ks files i
+  pub some_shifted : (i : ℕ) → SomeImports (insert ks place path) files (shifted place i) ↔ SomeImports ks files i
   some_shifted i = (
     λ s. (s.0, s.1, (s.2.0, sym (insert_shifted ks place path i within) ∙ s.2.1, s.2.2)),
     λ s. (s.0, s.1, (s.2.0, insert_shifted ks place path i within ∙ s.2.1, s.2.2)),
@@ -73,13 +73,13 @@ module _ (packages : List ParsedPackage) (links : Links) (place : ℕ) (grows : 
   abbrev path : List ℕ
   path = grows.one.path.items
 
-  paths_are : paths_of packages ≡ insert ks place path
+  pub paths_are : paths_of packages ≡ insert ks place path
   paths_are = ap paths_of grows.put ∙ paths_insert path_of_package grows.before place grows.one
 
   ks_size : length ks ≡ length grows.before
   ks_size = length-map grows.before (λ (p : ParsedPackage). p.path.items)
 
-  ks_within : place ≤ length ks
+  pub ks_within : place ≤ length ks
   ks_within = omega (arith, ks_size, grows.within)
 
   pub one_more : length packages ≡ length links + 1
@@ -104,7 +104,7 @@ module _ (packages : List ParsedPackage) (links : Links) (place : ℕ) (grows : 
   pub place_one : slice_get packages place ≡ Some grows.one
   place_one = ap (λ l. slice_get l place) grows.put ∙ insert_here grows.before place grows.one grows.within
 
-  package_shifted : (i : ℕ) → slice_get packages (shifted place i) ≡ slice_get grows.before i
+  pub package_shifted : (i : ℕ) → slice_get packages (shifted place i) ≡ slice_get grows.before i
   package_shifted i = ap (λ l. slice_get l (shifted place i)) grows.put ∙ insert_shifted grows.before place grows.one i grows.within
 
   pub before_inside : (number before : ℕ) → shifted place before ≡ number → number < length packages → before < length links

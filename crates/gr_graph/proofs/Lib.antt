@@ -28,8 +28,10 @@ pub mod Told
 pub mod Below
 pub mod Shifted
 pub mod GrownLinks
+pub mod CountedImports
 pub mod GrownGraph
 pub mod RowRuns
+pub mod InPlace
 pub mod GrownSteps
 pub mod GrownStops
 pub mod RenewedImports

@@ -1,6 +1,6 @@
 -- What files import after one of them came, or went.
-use Rattle.std.proofs.Common.{ℕ, ◌≡◌, ◌∷◌, [], List, inl, inr, ⊎_elim, sym, subst, Option}
-use Rattle.std.specs.Prelude.{Vec}
+use Rattle.std.proofs.Common.{None, Some, ℕ, ◌≡◌, ◌∷◌, [], List, inl, inr, ⊎_elim, sym, subst, Option}
+use Rattle.std.specs.Prelude.{IfSome, Vec}
 use Rattle.std.specs.List.{Contains}
 use Rattle.gr_tree.specs.SourceFile.{FileParts, source_of}
 use Rattle.gr_graph.specs.Drafts.{AreKept, GoneImports, IsGone, IsRenewed}
@@ -74,3 +74,8 @@ stay_imported keys gone come trees renewed among kept = record {
         (renewed.now q some),
   );
 }
+
+-- what is told of paths, if some are told
+pub some_weaker : {X : Type 0} {P Q : X → Type 0} (o : Option X) → ((x : X) → P x → Q x) → IfSome o P → IfSome o Q
+some_weaker None gives has = tt
+some_weaker (Some x) gives has = gives x has

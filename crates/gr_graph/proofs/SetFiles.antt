@@ -4,7 +4,6 @@ use Rattle.std.proofs.Common.{suc, ⊎_elim, ap, sym, subst, ◌∙◌, refl, So
 use Rattle.std.proofs.Math.ListN.{set}
 use Rattle.std.specs.FinMap.{get}
 use Rattle.std.specs.Cmp.Lexicographic.{pointwise, bytes_decides}
-use Rattle.std.specs.Arc.{arc_value}
 use Rattle.std.specs.List.{All, Contains}
 use Rattle.std.specs.List.Sorted.{IsStrictlySortedBy}
 use Rattle.std.proofs.lemmas.Bool.{and_parts, cases_eq}
@@ -15,26 +14,24 @@ use Rattle.gr_text.specs.Path.{folder}
 use Rattle.gr_text.specs.Packages.{is_go, is_of_package}
 use Rattle.gr_text.specs.Workspace.{Workspace, path_cmp}
 use Rattle.gr_tree.specs.SourceFile.{FileParts, source_of}
-use Rattle.gr_graph.specs.Drafts.{AreDraftsAt, HasText, HoldsDraft, IsDraft, IsDraftAt, IsEmptyAt, IsGone, IsSamePackage}
-use Rattle.gr_graph.specs.Drafts.{PutsFault, PutsTree, SetsFile, SetsFiles, TakesFile, draft_path, draft_paths, packages_of}
+use Rattle.gr_graph.specs.Drafts.{AreDraftsAt, HasText, HoldsDraft, HoldsImports, IsDraft, IsDraftAt, IsEmptyAt, IsGone}
+use Rattle.gr_graph.specs.Drafts.{IsSamePackage, PutsFault, PutsTree, SetsFile, SetsFiles, TakesFile, draft_path, draft_paths, packages_of}
 use Rattle.gr_graph.specs.FaultyFiles.{FaultyParts}
 use Rattle.gr_graph.specs.Graphs.{paths_of}
 use Rattle.gr_graph.specs.HeldFiles.{HoldFiles, fault_path, fault_paths, tree_path, tree_paths}
-use Rattle.gr_graph.specs.ImportPaths.{SomeImport}
 use Rattle.gr_graph.specs.NamedFiles.{AreFresh, ArePackages, HaveFolders, Resets}
 use Rattle.gr_graph.specs.Staying.{DiffersOnlyAt, HasFiles}
 use Rattle.gr_graph.specs.Packages.{IsParsed}
 use Rattle.gr_graph.specs.Parsed.{IsFaulty}
 use Rattle.gr_graph.specs.Updated.{IsPlace, TakesOut}
 use Rattle.gr_graph.specs.declared.package.ParsedPackage.{ParsedPackage}
-use Rattle.gr_graph.specs.declared.shared_package.PackageParts.{PackageParts}
+use Rattle.gr_graph.specs.declared.drafts.Draft.{Draft}
 use Rattle.gr_graph.proofs.Collected.{none_held}
 use Rattle.gr_edit.proofs.Held.{mapped_from}
 use Rattle.gr_graph.proofs.FoundFolders.{not_true}
 use Rattle.gr_graph.proofs.Filled.{set_elsewhere, set_there}
 use Rattle.gr_graph.proofs.HeldFiles.{has_held, held, held_none, held_apart, held_fault, held_all, held_final, held_gone, held_same, held_tree, reset_next}
 use Rattle.gr_graph.proofs.NamedFiles.{is_among, resets_none, resets_more}
-use Rattle.gr_graph.proofs.ImportedPaths.{holds_none}
 use Rattle.gr_graph.proofs.Numbers.{path_of_package, path_there}
 use Rattle.gr_graph.proofs.PackagePaths.{none_sorted, one_number}
 use Rattle.gr_graph.proofs.UpdatedPackages.{place_apart}
@@ -66,7 +63,7 @@ text_there v p trees faulty path text held has = ⊎_elim
     ap (get v) (sym f.2) ∙ (held.fault f.0 f.1).there ∙ ap Some f.3)
     has
 
-pub text_stays : (w : Workspace) (path text : List ℕ) (d : PackageParts) → IsDraft d → get w path ≡ Some text →
+pub text_stays : (w : Workspace) (path text : List ℕ) (d : Draft) → IsDraft d → get w path ≡ Some text →
     HasText d.package.trees.items d.package.faulty.items path text → SetsFile w path d d
 text_stays w path text d draft at has = record {
   same_path = refl;
@@ -76,7 +73,7 @@ text_stays w path text d draft at has = record {
 }
 
 -- ---- another text
-pub tree_set : (w : Workspace) (path text : List ℕ) (t : FileParts) (old new : PackageParts) → IsParsed path text (source_of t) → PutsTree t old new →
+pub tree_set : (w : Workspace) (path text : List ℕ) (t : FileParts) (old new : Draft) → IsParsed path text (source_of t) → PutsTree t old new →
     get w path ≡ Some text → is_of_package old.package.path.items path ≡ true → SetsFile w path old new
 tree_set w path text t old new is puts at of = record {
   same_path = puts.path;
@@ -86,7 +83,7 @@ tree_set w path text t old new is puts at of = record {
       (subst (λ q. TakesOut fault_path q old.package.faulty.items new.package.faulty.items puts.place) is.of_path puts.faulty));
 }
 
-pub fault_set : (w : Workspace) (path text : List ℕ) (f : FaultyParts) (old new : PackageParts) → IsFaulty path text f → PutsFault f old new →
+pub fault_set : (w : Workspace) (path text : List ℕ) (f : FaultyParts) (old new : Draft) → IsFaulty path text f → PutsFault f old new →
     get w path ≡ Some text → is_of_package old.package.path.items path ≡ true → SetsFile w path old new
 fault_set w path text f old new is puts at of = record {
   same_path = puts.path;
@@ -96,7 +93,7 @@ fault_set w path text f old new is puts at of = record {
       (subst (λ q. TakesOut tree_path q old.package.trees.items new.package.trees.items puts.place) is.of_path puts.trees) puts.faulty);
 }
 
-pub none_set : (w : Workspace) (path : List ℕ) (old new : PackageParts) → TakesFile path old new → get w path ≡ None → SetsFile w path old new
+pub none_set : (w : Workspace) (path : List ℕ) (old new : Draft) → TakesFile path old new → get w path ≡ None → SetsFile w path old new
 none_set w path old new takes at = record {
   same_path = takes.same_path;
   draft = takes.draft;
@@ -132,7 +129,7 @@ last_reset w v m u paths path first all = record {
       (Contains-push_cases paths path q has)) ∙ sym (first.others q never));
 }
 
-pub sets_none : (w : Workspace) (ds : List PackageParts) → All IsDraft ds → SetsFiles w [] ds ds
+pub sets_none : (w : Workspace) (ds : List Draft) → All IsDraft ds → SetsFiles w [] ds ds
 sets_none w ds drafts = record {
   same_paths = refl;
   drafts = drafts;
@@ -140,7 +137,7 @@ sets_none w ds drafts = record {
       held_final (All-contains (HoldsDraft v) ds d held has) (λ path _. resets.others path (λ none. none_held path none)));
 }
 
-pub sets_more : (w : Workspace) (paths : List (List ℕ)) (path : List ℕ) (a b c : List PackageParts) → SetsFiles w paths a b → SetsFiles w (path ∷ []) b c →
+pub sets_more : (w : Workspace) (paths : List (List ℕ)) (path : List ℕ) (a b c : List Draft) → SetsFiles w paths a b → SetsFiles w (path ∷ []) b c →
     SetsFiles w (paths ++ path ∷ []) a c
 sets_more w paths path a b c first second = record {
   same_paths = second.same_paths ∙ first.same_paths;
@@ -151,20 +148,19 @@ sets_more w paths path a b c first second = record {
 }
 
 -- ---- the package at a folder
-pub empty_draft : (folder : List ℕ) (d : PackageParts) → draft_path d ≡ folder → d.package.trees.items ≡ [] → d.package.faulty.items ≡ [] →
-    (arc_value d.imports).keys ≡ [] → IsEmptyAt folder d
+pub empty_draft : (folder : List ℕ) (d : Draft) → draft_path d ≡ folder → d.package.trees.items ≡ [] → d.package.faulty.items ≡ [] → HoldsImports d →
+    IsEmptyAt folder d
 empty_draft folder d path trees faulty imports = record {
   path = path;
   empty = (trees, faulty);
   draft = record {
     trees = subst (λ (ts : List FileParts). IsStrictlySortedBy path_cmp (tree_paths ts)) (sym trees) none_sorted;
     faulty = subst (λ (fs : List FaultyParts). IsStrictlySortedBy path_cmp (fault_paths fs)) (sym faulty) none_sorted;
-    imports = holds_none (SomeImport d.package.trees.items) (arc_value d.imports).keys imports
-        (λ q some. none_held some.0 (subst (λ (ts : List FileParts). Contains ts some.0) trees some.1.0));
+    imports = imports;
   };
 }
 
-pub kept_at : (before : List ParsedPackage) (folder : List ℕ) (n : ℕ) (p : ParsedPackage) (d : PackageParts) → slice_get (paths_of before) n ≡ Some folder →
+pub kept_at : (before : List ParsedPackage) (folder : List ℕ) (n : ℕ) (p : ParsedPackage) (d : Draft) → slice_get (paths_of before) n ≡ Some folder →
     slice_get before n ≡ Some p → IsDraft d → IsSamePackage d.package p → IsDraftAt before folder d
 kept_at before folder n p d named at draft same = record {
   path = same.path ∙ same_Some p.path.items folder (sym (path_there path_of_package before n p at) ∙ named);
@@ -176,7 +172,7 @@ kept_at before folder n p d named at draft same = record {
       (subst (λ fs. HoldFiles v p.path.items p.trees.items fs) (sym same.faulty) h));
 }
 
-pub none_at : (before : List ParsedPackage) (folder : List ℕ) (d : PackageParts) → (Contains (paths_of before) folder → ⊥) → IsEmptyAt folder d →
+pub none_at : (before : List ParsedPackage) (folder : List ℕ) (d : Draft) → (Contains (paths_of before) folder → ⊥) → IsEmptyAt folder d →
     IsDraftAt before folder d
 none_at before folder d never empty = record {
   path = empty.path;
@@ -187,7 +183,7 @@ none_at before folder d never empty = record {
       (subst (λ fs. HoldFiles v folder [] fs) (sym empty.empty.1) (held_none v before folder are never)));
 }
 
-pub paths_push : (ds : List PackageParts) (d : PackageParts) (rest : List (List ℕ)) → draft_paths (ds ++ d ∷ []) ++ rest ≡ draft_paths ds ++ draft_path d ∷ rest
+pub paths_push : (ds : List Draft) (d : Draft) (rest : List (List ℕ)) → draft_paths (ds ++ d ∷ []) ++ rest ≡ draft_paths ds ++ draft_path d ∷ rest
 paths_push [] d rest = refl
 paths_push (x ∷ ds) d rest = ap (λ paths. draft_path x ∷ paths) (paths_push ds d rest)
 
@@ -196,27 +192,27 @@ of_other : (p path : List ℕ) → (folder path ≡ p → ⊥) → is_of_package
 of_other p path apart = not_true (is_of_package p path)
     (λ is. apart ((bytes_decides (folder path) p).0 (and_parts (is_go path) (pointwise ◌==◌ (folder path) p) is).1))
 
-paths_same : (ds : List PackageParts) → paths_of (packages_of ds) ≡ draft_paths ds
+paths_same : (ds : List Draft) → paths_of (packages_of ds) ≡ draft_paths ds
 paths_same [] = refl
 paths_same (d ∷ ds) = ap (λ rest. d.package.path.items ∷ rest) (paths_same ds)
 
 -- the one that was found by a folder
-pub found_at : (ds : List PackageParts) (n : ℕ) (b : PackageParts) (path : List ℕ) → slice_get (draft_paths ds) n ≡ Some (folder path) → b ≡ get_or ds n b →
+pub found_at : (ds : List Draft) (n : ℕ) (b : Draft) (path : List ℕ) → slice_get (draft_paths ds) n ≡ Some (folder path) → b ≡ get_or ds n b →
     (slice_get ds n ≡ Some b) × (folder path ≡ draft_path b)
 found_at ds n b path named is =
     let within : n < length ds = subst (λ (m : ℕ). n < m) (length-map ds draft_path) (slice_get_within (draft_paths ds) n (folder path) named) in
     let at = slice_get_read ds (length ds) n b refl within is in
     (at, same_Some (folder path) (draft_path b) (sym named ∙ path_there draft_path ds n b at))
 
-set_paths : (ds : List PackageParts) (n : ℕ) (b a : PackageParts) → slice_get ds n ≡ Some b → a.package.path.items ≡ b.package.path.items →
+set_paths : (ds : List Draft) (n : ℕ) (b a : Draft) → slice_get ds n ≡ Some b → a.package.path.items ≡ b.package.path.items →
     draft_paths (set ds n a) ≡ draft_paths ds
 set_paths [] n b a at same = refl
 set_paths (d ∷ ds) zero b a at same =
-    ap (λ path. path ∷ draft_paths ds) (same ∙ ap (λ (x : PackageParts). x.package.path.items) (sym (same_Some d b at)))
+    ap (λ path. path ∷ draft_paths ds) (same ∙ ap (λ (x : Draft). x.package.path.items) (sym (same_Some d b at)))
 set_paths (d ∷ ds) (suc n) b a at same = ap (λ rest. d.package.path.items ∷ rest) (set_paths ds n b a at same)
 
 -- one of a list in which one was set
-set_cases : {P : Type 0} (ds : List PackageParts) (n : ℕ) (b a d : PackageParts) → slice_get ds n ≡ Some b → Contains (set ds n a) d → (d ≡ a → P) →
+set_cases : {P : Type 0} (ds : List Draft) (n : ℕ) (b a d : Draft) → slice_get ds n ≡ Some b → Contains (set ds n a) d → (d ≡ a → P) →
     ((k : ℕ) → (k ≡ n → ⊥) → slice_get ds k ≡ Some d → P) → P
 set_cases ds n b a d at has own other =
     let k = has.0 in
@@ -226,10 +222,10 @@ set_cases ds n b a d at has own other =
     (λ (apart : k ≡ n → ⊥). other k apart (sym (set_elsewhere ds n k a apart) ∙ now))
     (cases_eq k n)
 
-module _ (w : Workspace) (path : List ℕ) (ds : List PackageParts) (sorted : IsStrictlySortedBy path_cmp (draft_paths ds)) (drafts : All IsDraft ds)
+module _ (w : Workspace) (path : List ℕ) (ds : List Draft) (sorted : IsStrictlySortedBy path_cmp (draft_paths ds)) (drafts : All IsDraft ds)
   where
     -- the path is that of a file of one of them
-    pub sets_one : (n : ℕ) (b a : PackageParts) (new : List PackageParts) → slice_get ds n ≡ Some b → new ≡ set ds n a →
+    pub sets_one : (n : ℕ) (b a : Draft) (new : List Draft) → slice_get ds n ≡ Some b → new ≡ set ds n a →
         is_go path ≡ true → folder path ≡ b.package.path.items → SetsFile w path b a → SetsFiles w (path ∷ []) ds new
     sets_one n b a new at is go of sets = subst (SetsFiles w (path ∷ []) ds) (sym is) (record {
       same_paths = set_paths ds n b a at sets.same_path;
@@ -259,7 +255,7 @@ module _ (w : Workspace) (path : List ℕ) (ds : List PackageParts) (sorted : Is
     sets_no_go other = sets_other (λ p has. ap (λ b. b && pointwise ◌==◌ (folder path) p) other)
 
 -- ---- all paths at which files may differ
-module _ (v w : Workspace) (before : List ParsedPackage) (folders paths : List (List ℕ)) (drafts made : List PackageParts) (are : ArePackages v before)
+module _ (v w : Workspace) (before : List ParsedPackage) (folders paths : List (List ℕ)) (drafts made : List Draft) (are : ArePackages v before)
     (at : AreDraftsAt before folders drafts) (sets : SetsFiles w paths drafts made) (have : HaveFolders paths folders) (differs : DiffersOnlyAt paths v w) where
   paths_are : paths_of (packages_of made) ≡ folders
   paths_are = paths_same made ∙ sets.same_paths ∙ at.paths
@@ -269,7 +265,7 @@ module _ (v w : Workspace) (before : List ParsedPackage) (folders paths : List (
 
   made_files : (p : ParsedPackage) → Contains (packages_of made) p → HasFiles w p
   made_files p has =
-      let d = mapped_from (λ (x : PackageParts). x.package) made p has in
+      let d = mapped_from (λ (x : Draft). x.package) made p has in
       let held = All-contains (HoldsDraft last.0) made d.0 (sets.files v last.0 last.1 (at.files v are)) d.1 in
       subst (HasFiles w) d.2 (has_held w d.0.package (held_all last.1 differs held))
 

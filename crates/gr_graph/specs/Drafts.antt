@@ -1,5 +1,5 @@
 -- Packages while single files of them are set.
-use Rattle.std.specs.Prelude.{◌≡◌, ◌⊎◌, ℕ, true, List, [], ◌∷◌, map, Option, Some, None, Vec}
+use Rattle.std.specs.Prelude.{IfSome, ◌≡◌, ◌⊎◌, ℕ, true, List, [], ◌∷◌, map, Option, Some, None, Vec}
 use Rattle.std.specs.Arc.{arc_value}
 use Rattle.std.specs.FinMap as files
 use Rattle.std.specs.List.{All, Contains}
@@ -16,7 +16,7 @@ use Rattle.gr_graph.specs.Packages.{ImportsPath}
 use Rattle.gr_graph.specs.Updated.{PutsIn, TakesOut}
 use Rattle.gr_graph.specs.declared.file_imports.FileImport.{FileImport}
 use Rattle.gr_graph.specs.declared.package.ParsedPackage.{ParsedPackage}
-use Rattle.gr_graph.specs.declared.shared_package.PackageParts.{PackageParts}
+use Rattle.gr_graph.specs.declared.drafts.Draft.{Draft}
 
 -- ---- what files import after one of them changed
 
@@ -42,10 +42,24 @@ abbrev pub IsGone : List ℕ → List FileParts → Option FileParts → Type 0
 IsGone path trees gone = (t : FileParts) → Contains trees t → t.path ≡ path → gone ≡ Some t
 
 -- the trees and the other files stand in the order of their paths, and the paths are those that the trees import
-pub record IsDraft (d : PackageParts) : Type 0 where
+pub record IsPackageParts {Z : Type 0} (p : ParsedPackage) (keys : List (Vec ℕ Z)) : Type 0 where
+  pub trees : IsStrictlySortedBy path_cmp (tree_paths p.trees.items)
+  pub faulty : IsStrictlySortedBy path_cmp (fault_paths p.faulty.items)
+  pub imports : HoldsPaths (SomeImport p.trees.items) keys
+
+-- where a draft tells paths, they are those that its trees import
+abbrev pub HoldsImports : Draft → Type 0
+HoldsImports d = IfSome d.imports (λ paths. HoldsPaths (SomeImport d.package.trees.items) (arc_value paths).keys)
+
+-- where it tells paths, they are those that its trees imported before one came, or went
+abbrev pub MayBeRenewed : Draft → Option FileParts → List FileImport → Type 0
+MayBeRenewed d gone come = IfSome d.imports (λ paths. IsRenewed (arc_value paths).keys gone come d.package.trees.items)
+
+-- the trees and the other files stand in the order of their paths
+pub record IsDraft (d : Draft) : Type 0 where
   pub trees : IsStrictlySortedBy path_cmp (tree_paths d.package.trees.items)
   pub faulty : IsStrictlySortedBy path_cmp (fault_paths d.package.faulty.items)
-  pub imports : HoldsPaths (SomeImport d.package.trees.items) (arc_value d.imports).keys
+  pub imports : HoldsImports d
 
 -- both have the same path and the same files
 pub record IsSamePackage (p q : ParsedPackage) : Type 0 where
@@ -54,11 +68,11 @@ pub record IsSamePackage (p q : ParsedPackage) : Type 0 where
   pub faulty : p.faulty.items ≡ q.faulty.items
 
 -- the package has the files of its folder
-abbrev pub HoldsDraft : Workspace → PackageParts → Type 0
+abbrev pub HoldsDraft : Workspace → Draft → Type 0
 HoldsDraft w d = HoldFiles w d.package.path.items d.package.trees.items d.package.faulty.items
 
 -- a file that has a tree was put in the place of what was at its path
-pub record PutsTree (t : FileParts) (old new : PackageParts) : Type 0 where
+pub record PutsTree (t : FileParts) (old new : Draft) : Type 0 where
   pub path : new.package.path.items ≡ old.package.path.items
   pub draft : IsDraft new
   pub trees : PutsIn tree_path t old.package.trees.items new.package.trees.items
@@ -66,7 +80,7 @@ pub record PutsTree (t : FileParts) (old new : PackageParts) : Type 0 where
   pub faulty : TakesOut fault_path t.path old.package.faulty.items new.package.faulty.items place
 
 -- a file that has no tree was put in the place of what was at its path
-pub record PutsFault (f : FaultyParts) (old new : PackageParts) : Type 0 where
+pub record PutsFault (f : FaultyParts) (old new : Draft) : Type 0 where
   pub path : new.package.path.items ≡ old.package.path.items
   pub draft : IsDraft new
   pub faulty : PutsIn fault_path f old.package.faulty.items new.package.faulty.items
@@ -74,7 +88,7 @@ pub record PutsFault (f : FaultyParts) (old new : PackageParts) : Type 0 where
   pub trees : TakesOut tree_path f.path old.package.trees.items new.package.trees.items place
 
 -- what was at a path was taken out
-pub record TakesFile (path : List ℕ) (old new : PackageParts) : Type 0 where
+pub record TakesFile (path : List ℕ) (old new : Draft) : Type 0 where
   pub same_path : new.package.path.items ≡ old.package.path.items
   pub draft : IsDraft new
   pub tree_place : ℕ
@@ -88,46 +102,46 @@ HasText trees faulty path text = ((t : FileParts) × Contains trees t × (t.path
     ((f : FaultyParts) × Contains faulty f × (f.path ≡ path) × (f.text ≡ text))
 
 -- what is at a path is what a workspace has there
-pub record SetsFile (w : Workspace) (path : List ℕ) (old new : PackageParts) : Type 0 where
+pub record SetsFile (w : Workspace) (path : List ℕ) (old new : Draft) : Type 0 where
   pub same_path : new.package.path.items ≡ old.package.path.items
   pub draft : IsDraft new
   pub files : (v u : Workspace) → Resets w (path ∷ []) v u → HoldsDraft v old → HoldsDraft u new
 
 -- the same where the workspace has a text there, and the package is of the path's folder
-abbrev pub SetsText : List ℕ → List ℕ → PackageParts → PackageParts → Type 0
+abbrev pub SetsText : List ℕ → List ℕ → Draft → Draft → Type 0
 SetsText path text old new = (w : Workspace) → files.get w path ≡ Some text → is_of_package old.package.path.items path ≡ true → SetsFile w path old new
 
 -- ---- several packages
 
-abbrev pub packages_of : List PackageParts → List ParsedPackage
+abbrev pub packages_of : List Draft → List ParsedPackage
 packages_of drafts = map (λ d. d.package) drafts
 
-abbrev pub draft_path : PackageParts → List ℕ
+abbrev pub draft_path : Draft → List ℕ
 draft_path d = d.package.path.items
 
-abbrev pub draft_paths : List PackageParts → List (List ℕ)
+abbrev pub draft_paths : List Draft → List (List ℕ)
 draft_paths drafts = map draft_path drafts
 
 -- what is at some paths is what a workspace has there
-pub record SetsFiles (w : Workspace) (paths : List (List ℕ)) (old new : List PackageParts) : Type 0 where
+pub record SetsFiles (w : Workspace) (paths : List (List ℕ)) (old new : List Draft) : Type 0 where
   pub same_paths : draft_paths new ≡ draft_paths old
   pub drafts : All IsDraft new
   pub files : (v u : Workspace) → Resets w paths v u → All (HoldsDraft v) old → All (HoldsDraft u) new
 
 -- a package with no file
-pub record IsEmptyAt (folder : List ℕ) (d : PackageParts) : Type 0 where
+pub record IsEmptyAt (folder : List ℕ) (d : Draft) : Type 0 where
   pub path : d.package.path.items ≡ folder
   pub empty : IsEmpty d.package
   pub draft : IsDraft d
 
 -- the package at a folder as it is among some, or with no file
-pub record IsDraftAt (packages : List ParsedPackage) (folder : List ℕ) (d : PackageParts) : Type 0 where
+pub record IsDraftAt (packages : List ParsedPackage) (folder : List ℕ) (d : Draft) : Type 0 where
   pub path : d.package.path.items ≡ folder
   pub draft : IsDraft d
   pub files : (v : Workspace) → ArePackages v packages → HoldsDraft v d
 
 -- the packages at folders in order
-pub record AreDraftsAt (packages : List ParsedPackage) (folders : List (List ℕ)) (ds : List PackageParts) : Type 0 where
+pub record AreDraftsAt (packages : List ParsedPackage) (folders : List (List ℕ)) (ds : List Draft) : Type 0 where
   pub paths : draft_paths ds ≡ folders
   pub sorted : IsStrictlySortedBy path_cmp folders
   pub drafts : All IsDraft ds

@@ -1,62 +1,84 @@
 //! Packages of which single files are set, each made from the package before.
 ghost use Rattle.std.specs.Prelude.{◌≡◌, ◌∷◌, [], true, slice_get, IfOk, IsTrue, MatchOption, OnOk, Some};
-ghost use Rattle.std.specs.Arc.{arc_value};
 ghost use Rattle.std.specs.Option.{option_copied};
 ghost use Rattle.std.specs.List.{All, Contains};
 ghost use Rattle.std.specs.List.Sorted.{IsStrictlySortedBy};
 ghost use Rattle.gr_text.specs.Packages.{is_of_package};
 ghost use Rattle.gr_text.specs.Workspace.{Workspace, path_cmp};
 ghost use Rattle.gr_graph.specs.Drafts.{AreDraftsAt, HasText, IsDraft, IsDraftAt, IsEmptyAt, draft_paths, packages_of};
-ghost use Rattle.gr_graph.specs.Drafts.{IsRenewed, PutsFault, PutsTree, SetsFile, SetsFiles, SetsText, TakesFile};
+ghost use Rattle.gr_graph.specs.Drafts.{HoldsImports, MayBeRenewed, PutsFault, PutsTree, SetsFile, SetsFiles, SetsText, TakesFile};
 ghost use Rattle.gr_graph.specs.Filling.{names};
 ghost use Rattle.gr_graph.specs.Graphs.{paths_of};
-ghost use Rattle.gr_graph.specs.ImportPaths.{HoldsPaths, SomeImport};
 ghost use Rattle.gr_graph.specs.NamedFiles.{AreFresh, ArePackages};
 ghost use Rattle.gr_graph.specs.Staying.{DiffersOnlyAt};
 
 use crate::faulty_file::FaultyFile;
 use crate::file_imports::{FileImport, read_imports};
 use crate::held_files::{fault_at, put_fault, put_tree, take_fault, take_tree, tree_at};
-use crate::import_paths::import_paths;
 use crate::named_files::folders_of;
 use crate::package::ParsedPackage;
 use crate::parsed::{ParsedFile, parse};
 use crate::renewed_imports::{FileChange, stay};
-use crate::shared_package::{PackageParts, SharedPackage, number_of};
+use crate::shared_package::{SharedPackage, number_of};
 use gr_text::{FileText, Files, Path};
 use gr_tree::FileTree;
 use std::alloc::{AllocError, Global};
 use std::collections::BTreeSet;
 use std::sync::Arc;
 
-/// Tells a package what its files import after one of them changed: by the file that is gone, if it had a tree, and by what the one
-/// that came imports.
+/// A package of which files are set, with the paths that its files import, unless these are to be read again, and whether a file was set.
+#[derive(Drop)]
+pub(crate) struct Draft {
+    pub(crate) package: ParsedPackage,
+    pub(crate) imports: Option<Arc<BTreeSet<Vec<u8>>, Global>>,
+    pub(crate) changed: bool,
+}
+
+/// Whether the files of a package import what they imported before one of them was set: the one that is gone, if it had a tree, and
+/// what the one that came imports, are told.
+fn keeps_imports(
+    alloc: Global,
+    draft: &Draft,
+    gone: Option<&FileTree>,
+    come: &[FileImport],
+) -> Result<bool, AllocError>
+    requires { MayBeRenewed draft.now (option_copied gone) come.now }
+    ensures { IfOk result (λ kept. IsTrue kept → HoldsImports draft.now) }
+{
+    match &draft.imports {
+        None => Ok(false),
+        Some(imports) => {
+            let change = FileChange {
+                imports,
+                gone,
+                come,
+                files: &draft.package.trees,
+            };
+            stay(alloc, change)
+        }
+    }
+}
+
+/// Leaves what the files of a package import to be read again, unless just one of them was set and they import the same.
 fn renew_imports(
     alloc: Global,
-    draft: &mut PackageParts,
+    draft: &mut Draft,
     gone: Option<&FileTree>,
     come: &[FileImport],
 ) -> Result<(), AllocError>
-    requires { IsRenewed (arc_value draft.old.imports).keys (option_copied gone) come.now draft.old.package.trees.items }
+    requires { MayBeRenewed draft.old (option_copied gone) come.now }
     ensures package { draft.new.package ≡ draft.old.package }
-    ensures imports { OnOk result (HoldsPaths (SomeImport draft.new.package.trees.items) (arc_value draft.new.imports).keys) }
+    ensures imports { OnOk result (HoldsImports draft.new) }
 {
-    let change = FileChange {
-        imports: &draft.imports,
-        gone,
-        come,
-        files: &draft.package.trees,
-    };
-    if stay(alloc, change)? {
-        return Ok(());
+    if draft.changed || !keeps_imports(alloc, draft, gone, come)? {
+        draft.imports = None;
     }
-    let imports = import_paths(alloc, &draft.package.trees)?;
-    draft.imports = Arc::new(alloc, imports)?;
+    draft.changed = true;
     Ok(())
 }
 
 /// Puts a file that has a tree in the place of what is at its path.
-fn set_tree(alloc: Global, draft: &mut PackageParts, tree: FileTree) -> Result<(), AllocError>
+fn set_tree(alloc: Global, draft: &mut Draft, tree: FileTree) -> Result<(), AllocError>
     requires { IsDraft draft.old }
     ensures { OnOk result (PutsTree tree draft.old draft.new) }
 {
@@ -67,7 +89,7 @@ fn set_tree(alloc: Global, draft: &mut PackageParts, tree: FileTree) -> Result<(
 }
 
 /// Puts a file that has no tree in the place of what is at its path.
-fn set_fault(alloc: Global, draft: &mut PackageParts, file: FaultyFile) -> Result<(), AllocError>
+fn set_fault(alloc: Global, draft: &mut Draft, file: FaultyFile) -> Result<(), AllocError>
     requires { IsDraft draft.old }
     ensures { OnOk result (PutsFault file draft.old draft.new) }
 {
@@ -77,7 +99,7 @@ fn set_fault(alloc: Global, draft: &mut PackageParts, file: FaultyFile) -> Resul
 }
 
 /// Takes out what is at a path.
-fn take_out(alloc: Global, draft: &mut PackageParts, path: &Path) -> Result<(), AllocError>
+fn take_out(alloc: Global, draft: &mut Draft, path: &Path) -> Result<(), AllocError>
     requires { IsDraft draft.old }
     ensures { OnOk result (TakesFile path.now draft.old draft.new) }
 {
@@ -87,7 +109,7 @@ fn take_out(alloc: Global, draft: &mut PackageParts, path: &Path) -> Result<(), 
 }
 
 /// Whether a package has a text at a path.
-fn has_text(draft: &PackageParts, path: &Path, text: &FileText) -> bool
+fn has_text(draft: &Draft, path: &Path, text: &FileText) -> bool
     requires { IsDraft draft.now }
     ensures { IsTrue result → HasText draft.now.package.trees.items draft.now.package.faulty.items path.now text.now }
 {
@@ -103,7 +125,7 @@ fn has_text(draft: &PackageParts, path: &Path, text: &FileText) -> bool
 /// Sets the text of a path. It is parsed, unless it is there already.
 fn set_text(
     alloc: Global,
-    draft: &mut PackageParts,
+    draft: &mut Draft,
     path: &Path,
     text: &FileText,
 ) -> Result<(), AllocError>
@@ -121,12 +143,7 @@ fn set_text(
 }
 
 /// Sets what is at a path of the package's folder to what a workspace has there.
-fn set_file(
-    alloc: Global,
-    draft: &mut PackageParts,
-    files: &Files,
-    path: &Path,
-) -> Result<(), AllocError>
+fn set_file(alloc: Global, draft: &mut Draft, files: &Files, path: &Path) -> Result<(), AllocError>
     requires draft { IsDraft draft.old }
     requires of_package { is_of_package draft.old.package.path.items path.now ≡ true }
     ensures { OnOk result (SetsFile files.now path.now draft.old draft.new) }
@@ -138,7 +155,7 @@ fn set_file(
 }
 
 /// The number of the package that has a path.
-fn draft_number(drafts: &[PackageParts], path: &[u8]) -> Option<usize>
+fn draft_number(drafts: &[Draft], path: &[u8]) -> Option<usize>
     requires { IsStrictlySortedBy path_cmp (draft_paths drafts.now) }
     ensures { MatchOption result (Contains (draft_paths drafts.now) path.now → ⊥) (λ number. slice_get (draft_paths drafts.now) number ≡ Some path.now) }
 {
@@ -151,7 +168,7 @@ fn draft_number(drafts: &[PackageParts], path: &[u8]) -> Option<usize>
 /// Sets what is at a path to what a workspace has there, if it is that of a Go file in the folder of one of the packages.
 fn set_in(
     alloc: Global,
-    drafts: &mut Vec<PackageParts>,
+    drafts: &mut Vec<Draft>,
     files: &Files,
     path: &Path,
 ) -> Result<(), AllocError>
@@ -170,7 +187,7 @@ fn set_in(
 /// The same for several paths.
 fn set_all(
     alloc: Global,
-    drafts: &mut Vec<PackageParts>,
+    drafts: &mut Vec<Draft>,
     files: &Files,
     paths: &[&Path],
 ) -> Result<(), AllocError>
@@ -185,7 +202,7 @@ fn set_all(
 }
 
 /// A package with no file.
-fn empty_package(alloc: Global, folder: &[u8]) -> Result<PackageParts, AllocError>
+fn empty_package(alloc: Global, folder: &[u8]) -> Result<Draft, AllocError>
     ensures { IfOk result (λ made. IsEmptyAt folder.now made) }
 {
     let package = ParsedPackage {
@@ -193,21 +210,20 @@ fn empty_package(alloc: Global, folder: &[u8]) -> Result<PackageParts, AllocErro
         trees: Vec::new(alloc),
         faulty: Vec::new(alloc),
     };
-    let imports = Arc::new(alloc, BTreeSet::new(alloc))?;
-    Ok(PackageParts { package, imports })
+    Ok(Draft {
+        package,
+        imports: None,
+        changed: false,
+    })
 }
 
 /// The package at a folder, with no file where there is none.
-fn draft_at(
-    alloc: Global,
-    before: &[SharedPackage],
-    folder: &[u8],
-) -> Result<PackageParts, AllocError>
+fn draft_at(alloc: Global, before: &[SharedPackage], folder: &[u8]) -> Result<Draft, AllocError>
     requires { IsStrictlySortedBy path_cmp (paths_of before.now) }
     ensures { IfOk result (IsDraftAt before.now folder.now) }
 {
     match number_of(before, folder) {
-        Some(number) => before[number].to_parts(),
+        Some(number) => before[number].to_draft(),
         None => empty_package(alloc, folder),
     }
 }
@@ -217,7 +233,7 @@ fn drafts_at(
     alloc: Global,
     before: &[SharedPackage],
     folders: &BTreeSet<&[u8]>,
-) -> Result<Vec<PackageParts>, AllocError>
+) -> Result<Vec<Draft>, AllocError>
     requires { IsStrictlySortedBy path_cmp (paths_of before.now) }
     ensures { IfOk result (λ drafts. AreDraftsAt before.now (names folders.now.keys) drafts.items) }
 {
@@ -229,13 +245,13 @@ fn drafts_at(
 }
 
 /// Packages that no longer change.
-fn shared(alloc: Global, drafts: Vec<PackageParts>) -> Result<Vec<SharedPackage>, AllocError>
+fn shared(alloc: Global, drafts: Vec<Draft>) -> Result<Vec<SharedPackage>, AllocError>
     requires { All IsDraft drafts.items }
     ensures { IfOk result (λ packages. packages.items ≡ packages_of drafts.items) }
 {
     let mut packages = Vec::new(alloc);
     for draft in drafts {
-        packages.push(SharedPackage::new(alloc, draft)?)?;
+        packages.push(SharedPackage::of(alloc, draft)?)?;
     }
     Ok(packages)
 }

@@ -37,23 +37,6 @@ fn imports_path(one: &SharedPackage, path: &[u8]) -> bool
     imports.contains(path)
 }
 
-/// The packages whose files import a path, by number.
-fn importing(
-    alloc: Global,
-    packages: &[SharedPackage],
-    path: &[u8],
-) -> Result<Vec<usize>, AllocError>
-    ensures { IfOk result (λ list. HoldsBelow (ImportsAt packages.now path.now) (length packages.now) list.items) }
-{
-    let mut list = Vec::new(alloc);
-    for number in 0..packages.len() {
-        if imports_path(&packages[number], path) {
-            list.push(number)?;
-        }
-    }
-    Ok(list)
-}
-
 /// The index in a list behind a number, where the list was passed below the number.
 fn past(list: &[usize], index: usize, number: usize) -> usize
     requires rising { IsStrictlyIncreasing list.now }
@@ -76,6 +59,55 @@ fn number_before(number: usize, place: usize) -> Option<usize>
         return None;
     }
     Some(if number < place { number } else { number - 1 })
+}
+
+/// Whether each path that the files of a package import had a package before one came, so that none of them is that of the one that
+/// came: as many packages were imported as paths are.
+fn imports_had(grown: Grown<'_>, number: usize) -> bool
+    requires sorted { IsStrictlySortedBy path_cmp (paths_of grown.packages.now) }
+    requires grown { Grows grown.packages.now grown.links.now grown.place }
+    requires number { number < length grown.packages.now }
+    ensures { IsTrue result → (path : List ℕ) → slice_get (paths_of grown.entry.packages.now) grown.entry.place ≡ Some path → ImportsAt grown.entry.packages.now path number → ⊥ }
+{
+    let Some(before) = number_before(number, grown.place) else {
+        return false;
+    };
+    let row = grown.links.imports(before);
+    let imports = grown.packages[number].imports();
+    if imports.len() > row.len() {
+        return false;
+    }
+    true
+}
+
+/// Whether the files of the package of a number import the path of the one that came.
+fn imports_coming(grown: Grown<'_>, number: usize, path: &[u8]) -> bool
+    requires sorted { IsStrictlySortedBy path_cmp (paths_of grown.packages.now) }
+    requires grown { Grows grown.packages.now grown.links.now grown.place }
+    requires path { slice_get (paths_of grown.packages.now) grown.place ≡ Some path.now }
+    requires number { number < length grown.packages.now }
+    ensures { IsTrue result ↔ ImportsAt grown.entry.packages.now path.now number }
+{
+    if imports_had(grown, number) {
+        return false;
+    }
+    imports_path(&grown.packages[number], path)
+}
+
+/// The packages whose files import the path of the one that came, by number.
+fn importing(alloc: Global, grown: Grown<'_>, path: &[u8]) -> Result<Vec<usize>, AllocError>
+    requires sorted { IsStrictlySortedBy path_cmp (paths_of grown.packages.now) }
+    requires grown { Grows grown.packages.now grown.links.now grown.place }
+    requires path { slice_get (paths_of grown.packages.now) grown.place ≡ Some path.now }
+    ensures { IfOk result (λ list. HoldsBelow (ImportsAt grown.entry.packages.now path.now) (length grown.entry.packages.now) list.items) }
+{
+    let mut list = Vec::new(alloc);
+    for number in 0..grown.packages.len() {
+        if imports_coming(grown, number, path) {
+            list.push(number)?;
+        }
+    }
+    Ok(list)
 }
 
 /// How many numbers of a row are below a number, up to the first that is not.
@@ -249,7 +281,7 @@ pub(crate) fn grown_links(alloc: Global, grown: Grown<'_>) -> Result<ImportLinks
     ensures { IfOk result (AreRows grown.entry.packages.now) }
 {
     let one = &grown.packages[grown.place];
-    let importing = importing(alloc, grown.packages, one.path())?;
+    let importing = importing(alloc, grown, one.path())?;
     let mut own = Vec::new(alloc);
     fill_row(grown.packages, one, &[], &mut own)?;
     grown_by(alloc, grown, &own, &importing)

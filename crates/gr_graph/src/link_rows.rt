@@ -1,5 +1,5 @@
 //! Links in two lists: the rows of all packages one behind another, and where each ends.
-ghost use Rattle.std.specs.Prelude.{◌≡◌, ◌<◌, ◌≤◌, ◌+◌, ◌-◌, ◌^◌, ◌++◌, ℕ, [], ◌∷◌, length, map, take, slice_index_or, slice_range, IfOk, IsTrue, OnOk};
+ghost use Rattle.std.specs.Prelude.{◌≡◌, ◌<◌, ◌≤◌, ◌+◌, ◌-◌, ◌^◌, ◌++◌, ℕ, [], ◌∷◌, length, map, take, drop, slice_index_or, slice_range, IfOk, IsTrue, OnOk};
 ghost use Rattle.std.specs.List.{All, insert};
 ghost use Rattle.gr_graph.specs.Imports.{imports_of};
 ghost use Rattle.gr_graph.specs.LinkRows.{last_bound};
@@ -78,15 +78,27 @@ fn shifted(number: usize, place: usize) -> usize
     if number < place { number } else { number + 1 }
 }
 
+/// Changes numbers from an index on to what they are after one came at a place.
+fn shift_from(numbers: &mut Vec<usize>, begin: usize, place: usize)
+    requires begin { begin ≤ length numbers.old.items }
+    requires small { All (λ number. number + 1 < 2 ^ 64) (drop begin numbers.old.items) }
+    ensures { numbers.new.items ≡ take begin numbers.old.items ++ row_shifted place (drop begin numbers.old.items) }
+{
+    for index in begin..numbers.len() {
+        let number = numbers[index];
+        numbers[index] = shifted(number, place);
+    }
+}
+
 /// Adds numbers at the end as they are after one came at a place.
 fn push_shifted(numbers: &mut Vec<usize>, row: &[usize], place: usize) -> Result<(), AllocError>
     requires { All (λ number. number + 1 < 2 ^ 64) row.now }
     ensures longer { length numbers.old.items ≤ length numbers.new.items }
     ensures added { OnOk result (numbers.new.items ≡ numbers.old.items ++ row_shifted place row.now) }
 {
-    for number in row {
-        numbers.push(shifted(*number, place))?;
-    }
+    let begin = numbers.len();
+    numbers.extend_from_slice(row)?;
+    shift_from(numbers, begin, place);
     Ok(())
 }
 
@@ -108,6 +120,18 @@ fn push_shifted_around(
     push_shifted(numbers, rest, place)
 }
 
+/// Moves bounds from an index on, so much lower and then so much higher.
+fn move_from(bounds: &mut Vec<usize>, begin: usize, down: usize, up: usize)
+    requires begin { begin ≤ length bounds.old.items }
+    requires fits { All (λ end. (down ≤ end) × (end - down + up < 2 ^ 64)) (drop begin bounds.old.items) }
+    ensures { bounds.new.items ≡ take begin bounds.old.items ++ map (λ end. end - down + up) (drop begin bounds.old.items) }
+{
+    for index in begin..bounds.len() {
+        let end = bounds[index];
+        bounds[index] = end - down + up;
+    }
+}
+
 /// Adds bounds at the end, so much lower and then so much higher.
 fn push_moved(
     bounds: &mut Vec<usize>,
@@ -119,9 +143,9 @@ fn push_moved(
     ensures some { (k : ℕ) × (k ≤ length ends.now) × (bounds.new.items ≡ bounds.old.items ++ map (λ end. end - down + up) (take k ends.now)) }
     ensures all { OnOk result (bounds.new.items ≡ bounds.old.items ++ map (λ end. end - down + up) ends.now) }
 {
-    for end in ends {
-        bounds.push(*end - down + up)?;
-    }
+    let begin = bounds.len();
+    bounds.extend_from_slice(ends)?;
+    move_from(bounds, begin, down, up);
     Ok(())
 }
 

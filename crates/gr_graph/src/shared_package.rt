@@ -1,5 +1,6 @@
 //! Packages that several graphs share.
 ghost use Rattle.std.specs.Prelude.{◌≡◌, IfOk, IfSome, IsTrue, Some, slice_get, MatchOption};
+ghost use Rattle.std.specs.Arc.{arc_value};
 ghost use Rattle.std.specs.List.{Contains};
 ghost use Rattle.std.specs.List.Sorted.{IsStrictlySortedBy};
 ghost use Rattle.gr_text.specs.Workspace.{path_cmp};
@@ -7,6 +8,8 @@ ghost use Rattle.gr_graph.specs.Drafts.{IsDraft, IsSamePackage};
 ghost use Rattle.gr_graph.specs.Graphs.{paths_of};
 ghost use Rattle.gr_graph.specs.ImportPaths.{HoldsPaths, SomeImport};
 
+use crate::drafts::Draft;
+use crate::import_paths::import_paths;
 use crate::package::ParsedPackage;
 use std::alloc::{AllocError, Global};
 use std::collections::BTreeSet;
@@ -15,9 +18,23 @@ use std::sync::Arc;
 
 /// A package with the paths that its files import.
 #[derive(Drop)]
-pub(crate) struct PackageParts {
-    pub(crate) package: ParsedPackage,
-    pub(crate) imports: Arc<BTreeSet<Vec<u8>>, Global>,
+struct PackageParts {
+    package: ParsedPackage,
+    imports: Arc<BTreeSet<Vec<u8>>, Global>,
+}
+
+/// The paths that the files of a draft import.
+fn imports_of(alloc: Global, draft: &Draft) -> Result<Arc<BTreeSet<Vec<u8>>, Global>, AllocError>
+    requires { IsDraft draft.now }
+    ensures { IfOk result (λ paths. HoldsPaths (SomeImport draft.now.package.trees.items) (arc_value paths).keys) }
+{
+    match &draft.imports {
+        Some(imports) => Arc::try_clone(imports),
+        None => {
+            let imports = import_paths(alloc, &draft.package.trees)?;
+            Ok(Arc::new(alloc, imports)?)
+        }
+    }
 }
 
 /// A package that no longer changes. A clone shares it.
@@ -28,7 +45,7 @@ pub(crate) struct SharedPackage {
 
 impl Model for SharedPackage {
     ghost use Rattle.std.specs.Arc.{arc_value};
-    ghost use Rattle.gr_graph.specs.Drafts.{IsDraft};
+    ghost use Rattle.gr_graph.specs.Drafts.{IsPackageParts};
     ghost use Rattle.gr_graph.specs.declared.package.ParsedPackage.{ParsedPackage};
     ghost use Rattle.gr_graph.specs.contracts.package.ParsedPackage.{the_row};
 
@@ -38,26 +55,37 @@ impl Model for SharedPackage {
 
     ghost view = { λ a. (arc_value a.parts).package };
 
-    ghost invariant = { λ a. IsDraft (arc_value a.parts) };
+    ghost invariant = { λ a. IsPackageParts (arc_value a.parts).package (arc_value (arc_value a.parts).imports).keys };
 }
 
 impl SharedPackage {
-    pub(crate) fn new(alloc: Global, parts: PackageParts) -> Result<SharedPackage, AllocError>
-        requires { IsDraft parts }
-        ensures { IfOk result (λ shared. shared ≡ parts.package) }
+    /// Reads what the files import where the draft does not tell it.
+    pub(crate) fn of(alloc: Global, draft: Draft) -> Result<SharedPackage, AllocError>
+        requires { IsDraft draft }
+        ensures { IfOk result (λ shared. shared ≡ draft.package) }
     {
-        let parts = Arc::new(alloc, parts)?;
-        Ok(SharedPackage { parts })
+        let imports = imports_of(alloc, &draft)?;
+        let parts = PackageParts {
+            package: draft.package,
+            imports,
+        };
+        Ok(SharedPackage {
+            parts: Arc::new(alloc, parts)?,
+        })
     }
 
     /// The same files and imports, of which files can be set.
-    pub(crate) fn to_parts(&self) -> Result<PackageParts, AllocError>
+    pub(crate) fn to_draft(&self) -> Result<Draft, AllocError>
         ensures draft { IfOk result IsDraft }
-        ensures package { IfOk result (λ parts. IsSamePackage parts.package self.now) }
+        ensures package { IfOk result (λ draft. IsSamePackage draft.package self.now) }
     {
         let imports = Arc::try_clone(&self.parts.imports)?;
         let package = self.parts.package.copy()?;
-        Ok(PackageParts { package, imports })
+        Ok(Draft {
+            package,
+            imports: Some(imports),
+            changed: false,
+        })
     }
 
     pub(crate) fn package(&self) -> &ParsedPackage

@@ -16,7 +16,7 @@ returns-in-Some c =
     let n = c.in-Some.number in
     let p = c.index-before-number.result in
     let at = slice_get_read before (length before) n p refl (number_within path_of_package before n folder c.in-Some.ensures) c.index-before-number.is in
-    ok_both c.to_parts.result (λ d draft same. kept_at before folder n p d c.in-Some.ensures at draft same) c.to_parts.ensures.draft c.to_parts.ensures.package
+    ok_both c.to_draft.result (λ d draft same. kept_at before folder n p d c.in-Some.ensures at draft same) c.to_draft.ensures.draft c.to_draft.ensures.package
 
 pub returns-in-None : goal.returns-in-None
 returns-in-None c = IfOk-weaker c.empty_package.result (IsEmptyAt c.args.folder.now) (IsDraftAt c.args.before.now c.args.folder.now)

@@ -8,7 +8,7 @@ use Rattle.std.proofs.lemmas.Result.{on_ok_weaker}
 use Rattle.gr_text.specs.Path.{folder}
 use Rattle.gr_text.specs.Packages.{is_go}
 use Rattle.gr_graph.specs.Drafts.{draft_path, draft_paths}
-use Rattle.gr_graph.specs.declared.shared_package.PackageParts.{PackageParts}
+use Rattle.gr_graph.specs.declared.drafts.Draft.{Draft}
 use Rattle.gr_graph.proofs.SetFiles.{found_at, sets_no_go, sets_none_there, sets_one}
 use Rattle.gr_graph.proofs.drafts.set_in.Goals as goal
 
@@ -17,9 +17,9 @@ set_file-requires-clause-of_package c =
     let old = c.args.drafts.now.items in
     let path = c.args.path.now in
     let n = c.in-Some.number in
-    let b : PackageParts = c.index_mut.result.now in
+    let b : Draft = c.index_mut.result.now in
     let named : slice_get (draft_paths old) n ≡ Some (folder path) =
-    ap (λ (ds : List PackageParts). slice_get (draft_paths ds) n) (sym c.deref.ensures.value) ∙ c.in-Some.ensures ∙ ap Some c.folder.ensures in
+    ap (λ (ds : List Draft). slice_get (draft_paths ds) n) (sym c.deref.ensures.value) ∙ c.in-Some.ensures ∙ ap Some c.folder.ensures in
     and_from (is_go path) (pointwise ◌==◌ (folder path) (draft_path b)) (sym c.is_go.ensures ∙ c.if-is_go.true)
     ((bytes_decides (folder path) (draft_path b)).1 (found_at old n b path named c.index_mut.ensures.value).1)
 
@@ -28,10 +28,10 @@ returns-in-Some c =
     let old = c.args.drafts.now.items in
     let path = c.args.path.now in
     let n = c.in-Some.number in
-    let b : PackageParts = c.index_mut.result.now in
-    let a : PackageParts = c.set_file.new.draft in
+    let b : Draft = c.index_mut.result.now in
+    let a : Draft = c.set_file.new.draft in
     let named : slice_get (draft_paths old) n ≡ Some (folder path) =
-    ap (λ (ds : List PackageParts). slice_get (draft_paths ds) n) (sym c.deref.ensures.value) ∙ c.in-Some.ensures ∙ ap Some c.folder.ensures in
+    ap (λ (ds : List Draft). slice_get (draft_paths ds) n) (sym c.deref.ensures.value) ∙ c.in-Some.ensures ∙ ap Some c.folder.ensures in
     let found = found_at old n b path named c.index_mut.ensures.value in
     on_ok_weaker c.set_file.result
     (λ sets. sets_one c.args.files.now path old c.requires.sorted c.requires.drafts n b a (set old n a) found.0 refl (sym c.is_go.ensures ∙ c.if-is_go.true)
@@ -43,7 +43,7 @@ returns-in_default c =
     let ds = c.args.drafts.now.items in
     sets_none_there c.args.files.now c.args.path.now ds c.requires.sorted c.requires.drafts
     (λ there. c.in_default.ensures (subst (Contains (draft_paths c.deref.result.now)) (sym c.folder.ensures)
-    (subst (λ (l : List PackageParts). Contains (draft_paths l) (folder c.args.path.now)) (sym c.deref.ensures.value) there)))
+    (subst (λ (l : List Draft). Contains (draft_paths l) (folder c.args.path.now)) (sym c.deref.ensures.value) there)))
 
 pub returns-else-is_go : goal.returns-else-is_go
 returns-else-is_go c =

@@ -5,16 +5,15 @@ use Rattle.gr_tree.specs.SourceFile.{source_of}
 use Rattle.gr_graph.specs.Drafts.{IsRenewed}
 use Rattle.gr_graph.specs.FileImports.{ListsImports}
 use Rattle.gr_graph.proofs.ImportedPaths.{imports_are}
-use Rattle.gr_graph.proofs.RenewedImports.{renewed_put}
+use Rattle.gr_graph.proofs.RenewedImports.{renewed_put, some_weaker}
 use Rattle.gr_graph.proofs.drafts.set_tree.Goals as goal
 
 pub renew_imports-requires : goal.renew_imports-requires
 renew_imports-requires c =
-    let keys = (arc_value c.args.draft.now.imports).keys in
     let old = c.args.draft.now.package.trees.items in
     let new = c.put_tree.new.trees.items in
     let come = c.deref.result.now in
     let lists = subst (ListsImports (source_of c.args.tree)) (sym c.deref.ensures.value) c.in_ok-come.ensures in
-    subst (λ gone. IsRenewed keys gone come new) (sym c.as_ref.ensures.value)
-    (renewed_put keys old new c.in_ok-gone.gone come c.requires.imports c.args.tree c.in_ok-gone.ensures.put c.in_ok-gone.ensures.gone
-    (λ q. (imports_are c.args.tree come lists q).0) (λ q. (imports_are c.args.tree come lists q).1))
+    some_weaker c.args.draft.now.imports (λ paths held. subst (λ gone. IsRenewed (arc_value paths).keys gone come new) (sym c.as_ref.ensures.value)
+    (renewed_put (arc_value paths).keys old new c.in_ok-gone.gone come held c.args.tree c.in_ok-gone.ensures.put c.in_ok-gone.ensures.gone
+    (λ q. (imports_are c.args.tree come lists q).0) (λ q. (imports_are c.args.tree come lists q).1))) c.requires.imports

@@ -1,5 +1,5 @@
 -- The row of the one that came, and what imports it.
-use Rattle.std.proofs.Common.{ℕ, ◌≡◌, List, length, get_or, sym, subst, ◌∙◌}
+use Rattle.std.proofs.Common.{ℕ, ◌≡◌, List, length, get_or, Some, sym, ap, subst, ◌∙◌}
 use Rattle.std.proofs.lemmas.Option.{same_Some, slice_get-get_or}
 use Rattle.gr_graph.specs.Graphs.{paths_of}
 use Rattle.gr_graph.specs.Growth.{ImportsAt}
@@ -9,6 +9,14 @@ use Rattle.gr_graph.specs.declared.package.ParsedPackage.{ParsedPackage}
 use Rattle.gr_graph.proofs.Filled.{path_at}
 use Rattle.gr_graph.proofs.GrownLinks.{place_inside}
 use Rattle.gr_graph.proofs.grown.grown_links.Goals as goal
+
+pub importing-requires-clause-path : goal.importing-requires-clause-path
+importing-requires-clause-path c =
+    let packages = c.args.grown.packages.now in
+    let place = c.args.grown.place in
+    let inside = place_inside packages c.args.grown.links.now place c.requires.grown in
+    let one : ParsedPackage = get_or packages place c.index-grown-grown.result in
+    path_at packages place one (slice_get-get_or packages place c.index-grown-grown.result inside) ∙ ap Some (sym c.path.ensures)
 
 pub grown_by-requires-clause-own : goal.grown_by-requires-clause-own
 grown_by-requires-clause-own c = λ p at.

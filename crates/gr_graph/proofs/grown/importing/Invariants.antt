@@ -4,4 +4,4 @@ use Rattle.gr_graph.specs.Imports.{HoldsBelow}
 use Rattle.gr_graph.proofs.grown.importing.Given as goal
 
 abbrev pub invariant-loop-number : goal.invariant-loop-number
-invariant-loop-number l = HoldsBelow (ImportsAt l.packages l.path) l.number l.list.items
+invariant-loop-number l = HoldsBelow (ImportsAt l.grown.packages.now l.path) l.number l.list.items
