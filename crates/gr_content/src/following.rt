@@ -8,8 +8,8 @@ ghost use Rattle.gr_content.specs.Following.{IsStateAfter};
 
 use gr_finished::Finished;
 use gr_graph::Graph;
-use gr_inputs::marks_of;
-use gr_keep::{Marks, carried_units, kept, nothing_carried};
+use gr_inputs::{kept, marks_of, nothing_carried};
+use gr_keep::{Marks, carried_units};
 use gr_machine::{MadeEdits, State};
 use gr_space::MadeChange;
 use gr_verdict::SharedKnown;

@@ -3,6 +3,10 @@
 
 mod changed;
 mod finished;
+mod folders;
+mod near;
 
 pub use changed::has_text;
 pub use finished::Finished;
+pub use folders::folder_marks;
+pub use near::number_near;

@@ -2,4 +2,4 @@
 pub mod LearnedVerdicts
 pub mod ParsedFiles
 pub mod SameInputs
-pub mod AmongFolders
+pub mod ChangedFiles

@@ -2,7 +2,7 @@
 use Rattle.std.proofs.Common.{◌≡◌, ℕ, zero, suc, ◌+◌, ◌<◌, ◌≤◌, List, [], ◌∷◌, ◌++◌, length, take, map as mapped, get_or, Some, slice_get}
 use Rattle.std.proofs.Common.{refl, sym, ap, subst, ◌∙◌, inl, inr, ⊎_elim, arith}
 use Rattle.std.proofs.Math.Path.{ap₂}
-use Rattle.std.specs.FinMap.{entries, get}
+use Rattle.std.specs.FinMap.{entries}
 use Rattle.std.specs.List.{Contains}
 use Rattle.std.specs.List.Sorted.{IsStrictlyIncreasing, IsStrictlySortedBy}
 use Rattle.std.proofs.lemmas.Bool.{cases_lt}
@@ -23,7 +23,6 @@ use Rattle.gr_graph.proofs.Asked.{has_file, number}
 use Rattle.gr_graph.proofs.OneFile.{file_or_fault}
 use Rattle.gr_graph.proofs.PackagePaths.{paths_sorted}
 use Rattle.gr_graph.proofs.SameFiles.{one_list}
-use Rattle.gr_space.proofs.NamedPaths.{one_option}
 use Rattle.gr_verdict.specs.Earlier.{tree_file}
 use Rattle.gr_verdict.proofs.Closed.{to_package}
 use Rattle.gr_verdict.proofs.Members.{one_sorted, passes, passed}
@@ -32,7 +31,7 @@ use Rattle.gr_compile.specs.Inputs.{AreGoFiles, AreInputs}
 use Rattle.gr_compile.proofs.Part.{own_folder}
 use Rattle.gr_finished.specs.Changes.{HasSameFiles}
 use Rattle.gr_inputs.specs.Inputs.{ArePackages, faulty_file}
-use Rattle.gr_finished.proofs.ChangedFolders.{package_has, in_package}
+use Rattle.gr_inputs.proofs.ChangedFiles.{same_texts}
 use Rattle.gr_inputs.proofs.ParsedFiles.{parsed_files}
 use Rattle.gr_finished.proofs.ClosureTexts.{inputs_keep}
 
@@ -92,9 +91,7 @@ same_by_parsed v w p a b trees faulty e = (parsed_here a b trees faulty e, parse
 
 -- a package that has the same files has them in the same order
 pub one_package : (v w : Workspace) (p : List ℕ) → HasSameFiles v w p → package_files v p ≡ package_files w p
-one_package v w p same = one_list (is_of_package p) w v (λ path is. one_option (get v path) (get w path)
-    (λ t got. package_has w p (path, t) ((same (path, t)).0 (in_package v p path t is got)))
-    (λ t got. package_has v p (path, t) ((same (path, t)).1 (in_package w p path t is got))))
+one_package v w p same = one_list (is_of_package p) w v (λ path is. sym (same_texts v w p same path is))
 
 pub parsed_alike : (v w : Workspace) (p : List ℕ) {ts us : List FileParts} {fs gs : List FaultyParts} → AreParsed (package_files v p) ts fs →
     AreParsed (package_files w p) us gs → HasSameFiles v w p → (mapped tree_file ts ≡ mapped tree_file us) × (mapped faulty_file fs ≡ mapped faulty_file gs)

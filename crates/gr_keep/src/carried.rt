@@ -8,10 +8,9 @@ ghost use Rattle.gr_finished.specs.Changes.{AreMarks, KeepsUnit};
 ghost use Rattle.gr_finished.specs.Finished.{HasNone};
 
 use crate::changes::Marks;
-use crate::near::number_near;
 use gr_chunks::SharedList;
 use gr_compile::Unit;
-use gr_finished::Finished;
+use gr_finished::{Finished, number_near};
 use gr_graph::Graph;
 use gr_verdict::is_marked;
 use std::alloc::{AllocError, Global};
@@ -58,7 +57,7 @@ fn kept_unit(
 }
 
 /// The table after a change where no package is finished before it, in whatever workspace: none is.
-pub(crate) fn none_carried(
+pub fn none_carried(
     alloc: Global,
     finished: &Finished,
     after: &Graph,

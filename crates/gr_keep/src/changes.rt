@@ -1,23 +1,11 @@
 //! In whose closures the packages are that have other files after a change.
 ghost use Rattle.std.specs.Prelude.{IfOk};
 ghost use Rattle.gr_graph.specs.Filling.{names};
-ghost use Rattle.gr_finished.specs.Changes.{MarkClosures, MarkFolders};
+ghost use Rattle.gr_finished.specs.Changes.{MarkClosures};
 
+use gr_finished::folder_marks;
 use gr_graph::Graph;
 use std::alloc::{AllocError, Global};
-
-/// A mark for each package that is among some folders.
-fn folder_marks(alloc: Global, graph: &Graph, folders: &[&[u8]]) -> Result<Vec<bool>, AllocError>
-    ensures { IfOk result (λ marks. MarkFolders graph.now (names folders.now) marks.items) }
-{
-    let mut marks = vec![in alloc; false; graph.len()]?;
-    for folder in folders {
-        if let Some(number) = graph.number_of(folder) {
-            marks[number] = true;
-        }
-    }
-    Ok(marks)
-}
 
 /// A mark for each package whose closure holds one that is among some folders. One search finds them all.
 pub fn closure_marks(

@@ -4,9 +4,7 @@
 mod carried;
 mod changes;
 mod knowing;
-mod near;
 
-pub use carried::{carried_units, keeps_texts};
+pub use carried::{carried_units, keeps_texts, none_carried};
 pub use changes::{Marks, closure_marks};
-pub use knowing::{kept, known_after, nothing_carried};
-pub use near::number_near;
+pub use knowing::verdicts_after;

@@ -15,10 +15,10 @@ use Rattle.gr_edit.specs.declared.change.Fate.TheVariants.{Stays, Moves, Dropped
 use Rattle.gr_edit.proofs.Changes.{change_found, path_of_file}
 use Rattle.gr_edit.proofs.FilesAfter.{IsOldFile, comes_from, has_file}
 use Rattle.gr_graph.specs.Filling.{names}
-use Rattle.gr_graph.specs.Staying.{DiffersOnlyAt, DiffersOnlyIn}
+use Rattle.gr_graph.specs.Staying.{DiffersOnlyAt}
 use Rattle.gr_space.specs.Made.{IsMade}
 use Rattle.gr_space.specs.declared.change.Change.{Change}
-use Rattle.gr_space.specs.Named.{AddsPaths, HoldsFolders, HoldsPaths, IsNamed, IsOfChange}
+use Rattle.gr_space.specs.Named.{AddsPaths, HoldsPaths, IsNamed, IsOfChange}
 
 -- ---- one path more
 pub adds_path : (old new : List (Bor (List ℕ))) (k : Bor (List ℕ)) → new ≡ old ++ k ∷ [] → AddsPaths (λ p. k.now ≡ p) (names old) (names new)
@@ -117,14 +117,8 @@ differs_only_at s w fits paths holds path go apart =
     let not_named : IsNamed s path → ⊥ = λ named. apart (holds path named) in
     one_option (get (edited s w) path) (get w path) (λ t. there_before s w path not_named t) (λ t. there_after s w path not_named fits t)
 
-pub differs_only_in : (s : FileChanges) (w : Workspace) → Fits s w → (folders : List (List ℕ)) → HoldsFolders (IsNamed s) folders →
-    DiffersOnlyIn folders w (edited s w)
-differs_only_in s w fits folders holds path go apart =
-    let not_named : IsNamed s path → ⊥ = λ named. apart (holds path named) in
-    one_option (get (edited s w) path) (get w path) (λ t. there_before s w path not_named t) (λ t. there_after s w path not_named fits t)
-
 -- the same of a change whose files are made
-pub made_differs : (change : Change) → IsMade change → (folders : List (List ℕ)) → HoldsFolders (IsNamed change.edits) folders →
-    DiffersOnlyIn folders change.base change.files
-made_differs change made folders holds =
-    subst (DiffersOnlyIn folders change.base) (sym made.files) (differs_only_in change.edits change.base made.fits folders holds)
+pub made_differs : (change : Change) → IsMade change → (paths : List (List ℕ)) → HoldsPaths (IsNamed change.edits) paths →
+    DiffersOnlyAt paths change.base change.files
+made_differs change made paths holds =
+    subst (DiffersOnlyAt paths change.base) (sym made.files) (differs_only_at change.edits change.base made.fits paths holds)

@@ -1,7 +1,6 @@
--- The paths of the files that an edit set names, and their folders.
+-- The paths of the files that an edit set names.
 use Rattle.std.specs.Prelude.{◌≡◌, ℕ, ◌⊎◌, List, Some}
 use Rattle.std.specs.List.{Contains}
-use Rattle.gr_text.specs.Path.{folder}
 use Rattle.gr_edit.specs.EditSet.{FileChanges}
 use Rattle.gr_edit.specs.Fits.{new_path}
 use Rattle.gr_edit.specs.declared.change.FileChange.{FileChange}
@@ -19,10 +18,6 @@ IsOfAdded added path = (e : List ℕ × List ℕ) × (Contains added e × (e.0 �
 -- a path that the edit set names
 abbrev pub IsNamed : FileChanges → List ℕ → Type 0
 IsNamed s path = IsOfChanges s.changed path ⊎ IsOfAdded s.added path
-
--- the folder of each path of which P holds is among the folders
-abbrev pub HoldsFolders : (List ℕ → Type 0) → List (List ℕ) → Type 0
-HoldsFolders P folders = (path : List ℕ) → P path → Contains folders (folder path)
 
 -- each path of which P holds is among the paths
 abbrev pub HoldsPaths : (List ℕ → Type 0) → List (List ℕ) → Type 0

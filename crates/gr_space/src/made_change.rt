@@ -3,16 +3,15 @@ ghost use Rattle.std.specs.Prelude.{◌≡◌, IfOk};
 ghost use Rattle.gr_edit.specs.EditSet.{edited};
 ghost use Rattle.gr_edit.specs.Fits.{Fits};
 ghost use Rattle.gr_graph.specs.Filling.{names};
-ghost use Rattle.gr_graph.specs.Staying.{DiffersOnlyIn};
+ghost use Rattle.gr_graph.specs.Staying.{DiffersOnlyAt};
 
 use crate::change::{Change, ChangeKind};
-use crate::named::{named_folders, named_paths};
+use crate::named::named_paths;
 use crate::snapshot::Snapshot;
 use gr_edit::{EditSet, Prepared, prepare};
 use gr_graph::Graph;
-use gr_text::Files;
+use gr_text::{Files, Path};
 use std::alloc::{AllocError, Global};
-use std::collections::BTreeSet;
 use std::marker::Model;
 
 /// A change whose files are what its edit set, which fits its base, makes of that. Contracts see the change alone.
@@ -95,10 +94,10 @@ impl MadeChange {
         change
     }
 
-    /// The folders of all files that the edit set names. Go files of other folders stay as they are.
-    pub fn folders<'a>(&'a self, alloc: Global) -> Result<BTreeSet<&'a [u8]>, AllocError>
-        ensures { IfOk result (λ folders. DiffersOnlyIn (names folders.keys) self.now.base self.now.files) }
+    /// The paths of all files that the edit set names. One may come several times. Go files at other paths stay as they are.
+    pub fn paths<'a>(&'a self, alloc: Global) -> Result<Vec<&'a Path>, AllocError>
+        ensures { IfOk result (λ paths. DiffersOnlyAt (names paths.items) self.now.base self.now.files) }
     {
-        named_folders(alloc, &self.change.edits)
+        named_paths(alloc, &self.change.edits)
     }
 }

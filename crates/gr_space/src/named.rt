@@ -1,13 +1,11 @@
-//! The paths of the files that an edit set names, and their folders.
+//! The paths of the files that an edit set names.
 ghost use Rattle.std.specs.Prelude.{◌≡◌, IfOk, OnOk};
 ghost use Rattle.gr_graph.specs.Filling.{names};
-ghost use Rattle.gr_space.specs.Named.{AddsPaths, HoldsFolders, HoldsPaths, IsNamed, IsOfAdded, IsOfChange, IsOfChanges};
+ghost use Rattle.gr_space.specs.Named.{AddsPaths, HoldsPaths, IsNamed, IsOfAdded, IsOfChange, IsOfChanges};
 
 use gr_edit::{EditSet, Fate, FileChange};
-use gr_graph::folders_of;
 use gr_text::{FileText, Path};
 use std::alloc::{AllocError, Global};
-use std::collections::BTreeSet;
 
 fn add_path<'a>(paths: &mut Vec<&'a Path>, path: &'a Path) -> Result<(), AllocError>
     ensures { OnOk result (AddsPaths (λ p. path.now ≡ p) (names paths.old.items) (names paths.new.items)) }
@@ -57,15 +55,4 @@ pub(crate) fn named_paths<'a>(
     add_changes(&mut paths, edits.changed())?;
     add_added(&mut paths, edits.added())?;
     Ok(paths)
-}
-
-/// The folders of all files that an edit set names.
-pub(crate) fn named_folders<'a>(
-    alloc: Global,
-    edits: &'a EditSet,
-) -> Result<BTreeSet<&'a [u8]>, AllocError>
-    ensures { IfOk result (λ folders. HoldsFolders (IsNamed edits.now) (names folders.keys)) }
-{
-    let paths = named_paths(alloc, edits)?;
-    folders_of(alloc, &paths)
 }

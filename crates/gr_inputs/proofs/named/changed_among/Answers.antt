@@ -1,45 +1,41 @@
--- One more folder, and all of them at the end.
-use Rattle.std.proofs.Common.{◌≡◌, ◌++◌, ◌∷◌, [], ap, sym, subst, ◌∙◌}
-use Rattle.std.specs.Map.Iter.{deref}
+-- One more file, and all of them at the end.
+use Rattle.std.proofs.Common.{◌≡◌, ◌+◌, ◌++◌, ◌∷◌, [], Bor, Global, List, Vec, ℕ, take, arith, sym, subst, ◌∙◌}
 use Rattle.std.proofs.lemmas.Bool.{true≢false}
-use Rattle.std.proofs.lemmas.Map.Iter.{rest_more, rest_all}
+use Rattle.std.proofs.lemmas.List.{take_all}
 use Rattle.gr_graph.specs.Filling.{names}
-use Rattle.gr_finished.specs.Changes.{HasSameFiles}
-use Rattle.gr_finished.proofs.ChangedFolders.{names_push}
-use Rattle.gr_inputs.proofs.AmongFolders.{AreFound, found_skip, found_more, found_all}
+use Rattle.gr_graph.proofs.NamedFiles.{names_more}
+use Rattle.gr_inputs.specs.Named.{AddsFolder}
+use Rattle.gr_inputs.proofs.ChangedFiles.{AreNoted, all_noted, noted_changed, noted_kept}
+use Rattle.gr_inputs.proofs.named.changed_among.Goals.{then-not-keeps_file+in_ok-add_folder, else-not-keeps_file}
 use Rattle.gr_inputs.proofs.named.changed_among.Goals as goal
 
-pub loop-folder-preserved : goal.loop-folder-preserved
-loop-folder-preserved c =
+pub loop-path-preserved : goal.loop-path-preserved
+loop-path-preserved c =
     let v = c.args.before.now in
     let w = c.args.after.now in
-    let all = names c.args.folders.now.keys in
-    let found = c.loop-folder.changed.items in
-    let f = c.in-Some.folder.now in
-    let left = rest_more deref _ _ _ c.in-Some.folder c.in-Some.is c.next.ensures.steps in
-    let so : AreFound v w all (f.now ∷ names c.next.new.self) (names found) = subst (λ ks. AreFound v w all (names ks) (names found)) left
-    c.loop-folder.invariant in
-    found_skip v w all f.now (names c.next.new.self) (names found) (c.keeps_folder.ensures.0 c.if-not-keeps_folder.false) so
-
-pub loop-folder-preserved-in-Continue-1 : goal.loop-folder-preserved-in-Continue-1
-loop-folder-preserved-in-Continue-1 c =
-    let v = c.args.before.now in
-    let w = c.args.after.now in
-    let all = names c.args.folders.now.keys in
-    let found = c.loop-folder.changed.items in
-    let f = c.in-Some.folder.now in
-    let left = rest_more deref _ _ _ c.in-Some.folder c.in-Some.is c.next.ensures.steps in
-    let so : AreFound v w all (f.now ∷ names c.next.new.self) (names found) = subst (λ ks. AreFound v w all (names ks) (names found)) left
-    c.loop-folder.invariant in
-    let differs : HasSameFiles v w f.now → ⊥ = λ same. true≢false (sym (c.keeps_folder.ensures.1 same) ∙ c.if-not-keeps_folder.true) in
-    let pushed : names c.push.new.self.items ≡ names found ++ f.now ∷ [] = ap names c.in_ok-push.ensures.items ∙ names_push found f in
-    subst (AreFound v w all (names c.next.new.self)) (sym pushed) (found_more v w all f.now (names c.next.new.self) (names found) differs so)
+    let all = c.args.paths.now in
+    let k = c.loop-path.path-index in
+    let path = c.path-item.result.now in
+    let passed = names (take k all) in
+    let found = names c.loop-path.changed.items in
+    let more : names (take (k + 1) all) ≡ passed ++ path ∷ [] = names_more all k c.path-item.result c.loop-path-test.true c.path-item.is in
+    let holds : Vec (Bor (List ℕ)) Global → Type 0 = λ folders. AreNoted v w (passed ++ path ∷ []) (names folders.items) in
+    subst (λ ps. AreNoted v w ps (names c.if-not-keeps_file.changed.items)) (sym more)
+    (elim c.if-not-keeps_file.branch [
+      | then-not-keeps_file+in_ok-add_folder b ↦ subst holds (sym b.changed-is)
+          (noted_changed v w passed found path c.loop-path.invariant (names b.add_folder.new.folders.items)
+          (λ keeps. true≢false (sym (c.keeps_file.ensures.1 keeps) ∙ b.if-not-keeps_file.true))
+          (subst (λ f. AddsFolder f found (names b.add_folder.new.folders.items)) b.folder.ensures b.in_ok-add_folder.ensures))
+      | else-not-keeps_file b ↦ subst holds (sym b.changed-is)
+          (noted_kept v w passed found path c.loop-path.invariant (c.keeps_file.ensures.0 b.if-not-keeps_file.false))
+    ])
 
 pub returns : goal.returns
 returns c =
     let v = c.args.before.now in
     let w = c.args.after.now in
-    let all = names c.args.folders.now.keys in
-    let none = rest_all deref _ _ _ c.in-None.is c.next.ensures.steps in
-    found_all v w all (names c.loop-folder.changed.items) c.requires
-    (subst (λ ks. AreFound v w all (names ks) (names c.loop-folder.changed.items)) none c.loop-folder.invariant)
+    let all = c.args.paths.now in
+    let found = names c.loop-path.changed.items in
+    all_noted v w (names all) found c.requires
+    (subst (λ (ps : List (Bor (List ℕ))). AreNoted v w (names ps) found) (take_all c.loop-path.path-index all (omega (arith, c.loop-path-test.false)))
+    c.loop-path.invariant)

@@ -1,18 +1,20 @@
 -- The base, and the files of the change.
-use Rattle.std.proofs.Common.{IfOk, sym, ap, subst}
+use Rattle.std.proofs.Common.{Bor, IfOk, List, ℕ, sym, ap, subst}
 use Rattle.gr_text.specs.Workspace.{Workspace}
 use Rattle.gr_graph.specs.Filling.{names}
-use Rattle.gr_graph.specs.Staying.{DiffersOnlyIn}
+use Rattle.gr_graph.specs.Staying.{DiffersOnlyAt}
 use Rattle.gr_finished.specs.Changes.{AreMarks}
 use Rattle.gr_space.specs.declared.change.Change.{Change}
 use Rattle.gr_inputs.proofs.named.marks_of.Goals as goal
 
 pub marks_among-requires : goal.marks_among-requires
 marks_among-requires c =
-    let folders = names c.in_ok-folders.folders.keys in
+    let paths = names c.deref.result.now in
     let files = ap (λ (x : Change). x.files) (sym c.get.ensures) in
-    subst (λ (w : Workspace). DiffersOnlyIn folders c.args.base.now w) files
-    (subst (λ (v : Workspace). DiffersOnlyIn folders v c.args.change.now.files) c.requires c.in_ok-folders.ensures)
+    subst (λ (w : Workspace). DiffersOnlyAt paths c.args.base.now w) files
+    (subst (λ (v : Workspace). DiffersOnlyAt paths v c.args.change.now.files) c.requires
+    (subst (λ (ps : List (Bor (List ℕ))). DiffersOnlyAt (names ps) c.args.change.now.base c.args.change.now.files) (sym c.deref.ensures.value)
+    c.in_ok-paths.ensures))
 
 pub returns-clause-before : goal.returns-clause-before
 returns-clause-before c =

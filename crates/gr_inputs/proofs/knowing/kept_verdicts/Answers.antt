@@ -3,7 +3,7 @@ use Rattle.std.proofs.lemmas.Result.{IfOk-weaker}
 use Rattle.gr_text.specs.Workspace.{Workspace}
 use Rattle.gr_verdict.specs.Found.{KnowsVerdicts}
 use Rattle.gr_verdict.proofs.Telling.{known_still}
-use Rattle.gr_keep.proofs.knowing.kept_verdicts.Goals as goal
+use Rattle.gr_inputs.proofs.knowing.kept_verdicts.Goals as goal
 
 pub returns-then-is_empty : goal.returns-then-is_empty
 returns-then-is_empty c =

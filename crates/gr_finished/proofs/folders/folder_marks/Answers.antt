@@ -3,8 +3,8 @@ use Rattle.std.proofs.Common.{◌+◌, Bool, Global, Vec, take, sym, subst}
 use Rattle.gr_graph.specs.Filling.{names}
 use Rattle.gr_finished.specs.Changes.{MarkFolders}
 use Rattle.gr_finished.proofs.ChangedFolders.{mark_one, mark_none}
-use Rattle.gr_keep.proofs.changes.folder_marks.Goals.{in-Some, in_default}
-use Rattle.gr_keep.proofs.changes.folder_marks.Goals as goal
+use Rattle.gr_finished.proofs.folders.folder_marks.Goals.{in-Some, in_default}
+use Rattle.gr_finished.proofs.folders.folder_marks.Goals as goal
 
 pub loop-folder-preserved : goal.loop-folder-preserved
 loop-folder-preserved c =

@@ -1,7 +1,7 @@
 -- Nothing is right of whatever workspace.
 use Rattle.std.proofs.Common.{sym, subst}
 use Rattle.gr_verdict.specs.Found.{KnowsVerdicts}
-use Rattle.gr_keep.proofs.knowing.nothing_carried.Goals as goal
+use Rattle.gr_inputs.proofs.knowing.nothing_carried.Goals as goal
 
 pub returns-clause-units : goal.returns-clause-units
 returns-clause-units c = c.in_ok-units.ensures

@@ -2,7 +2,7 @@
 use Rattle.std.proofs.Common.{◌≡◌, sym, subst}
 use Rattle.std.proofs.lemmas.Result.{IfOk-weaker}
 use Rattle.gr_verdict.specs.Found.{KnowsVerdicts}
-use Rattle.gr_keep.proofs.knowing.kept.Goals as goal
+use Rattle.gr_inputs.proofs.knowing.kept.Goals as goal
 
 pub returns : goal.returns
 returns c =

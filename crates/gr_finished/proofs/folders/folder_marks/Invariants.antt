@@ -2,7 +2,7 @@
 use Rattle.std.proofs.Common.{take}
 use Rattle.gr_graph.specs.Filling.{names}
 use Rattle.gr_finished.specs.Changes.{MarkFolders}
-use Rattle.gr_keep.proofs.changes.folder_marks.Given as goal
+use Rattle.gr_finished.proofs.folders.folder_marks.Given as goal
 
 abbrev pub invariant-loop-folder : goal.invariant-loop-folder
 invariant-loop-folder l = MarkFolders l.graph (names (take l.folder-index l.folders)) l.marks.items
