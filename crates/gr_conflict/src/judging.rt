@@ -8,7 +8,7 @@ ghost use Rattle.gr_revision.specs.RevisionsOfEdits.{called_by};
 ghost use Rattle.gr_bound.specs.Binding.{BindsByScope, BindsByPackage};
 ghost use Rattle.gr_bound.specs.Members.{definitions_seen};
 ghost use Rattle.gr_bound.specs.Workspaces.{IsPackageAt};
-ghost use Rattle.gr_members_after.specs.MembersAfter.{CountsAfter};
+ghost use Rattle.gr_fields_after.specs.MembersAfter.{CountsAfter};
 ghost use Rattle.gr_conflict.specs.Afterwards.{IsBoundByScopes, IsBoundByPackage, IsExportAfter, IsMemberNow};
 ghost use Rattle.gr_conflict.specs.Conflicts.{IsConflictIn, IsNoted, IsOtherNoted, IsOtherAt, IsLostAt, IsLostAtFound, IsLostThere, IsMemberConflict, IsMemberConflictAmong, IsOnlyBehind, IsAhead, HoldsAhead, HoldsAtToken, HoldsAtFound, UseStays, UsesStay, Takes};
 ghost use Rattle.gr_conflict.specs.Judging.{KnowsChange, workspace_in, known_verdicts, known_packages, change_in, becomes_in};
@@ -29,6 +29,7 @@ use gr_change_places::symbol;
 use gr_declared::{Index, Package};
 use gr_expr::found::MemberUse;
 use gr_expr::world::Definition;
+use gr_members_after::counts;
 use gr_placed::beginning;
 use gr_qualified::package_before;
 use gr_scope::model::Position;
@@ -368,7 +369,7 @@ fn note_by_name(
     ensures takes { OnOk result (Takes (IsLostThere (known_packages judge.now) (change_in judge.now) place old.now) first.old first.new) }
     ensures stays { OnOk result (IsAhead first.new place → CountsAfter (known_packages judge.now) (change_in judge.now) old.now) }
 {
-    if judge.types().counts(old)? {
+    if counts(&judge.types(), old)? {
         return Ok(());
     }
     note_lost(first, place);

@@ -9,7 +9,7 @@ ghost use Rattle.gr_expr.specs.View.{type_of};
 ghost use Rattle.gr_expr.specs.WorldView.{underlying_in};
 ghost use Rattle.gr_bound.specs.Members.{definitions_seen};
 ghost use Rattle.gr_bound.specs.Steps.{IsDeclarationFound};
-ghost use Rattle.gr_members_after.specs.MembersAfter.{IsMemberAfter};
+ghost use Rattle.gr_fields_after.specs.MembersAfter.{IsMemberAfter};
 ghost use Rattle.gr_scoped.specs.Scopes.{package_scoped};
 ghost use Rattle.gr_change_places.specs.ScopeBindings.{IsScopeUse};
 ghost use Rattle.gr_conflict.specs.Afterwards.{IsBoundByScopes, IsExportAfter};
@@ -23,7 +23,8 @@ use gr_declared::Package;
 use gr_expr::found::MemberUse;
 use gr_expr::symbol::SharedPath;
 use gr_expr::world::{Definition, World};
-use gr_members_after::Written;
+use gr_fields_after::Written;
+use gr_members_after::member;
 use gr_scoped::{PackageScopes, scopes_at};
 use gr_text::{Path, Place};
 use gr_tree::FileTree;
@@ -167,7 +168,7 @@ fn member_called(
         own: unit.path.path(),
         name: called,
     };
-    judge.types().member(name, &world, &found.before)
+    member(&judge.types(), name, &world, &found.before)
 }
 
 /// What a name behind another dot, or a key, is bound to: the member that the type before it has under the new names.

@@ -1,6 +1,6 @@
 //! The members that types have under the new names of a change. Types, structs and methods are those of the workspace before.
 #![tactic(auto)]
 
-mod types_after;
+mod looking;
 
-pub use types_after::{TypesAfter, Written};
+pub use looking::{counts, member};
