@@ -17,10 +17,11 @@ use Rattle.gr_scope.specs.FileSites.{file_sites}
 use Rattle.gr_scope.proofs.Regions.{Each, each_append, Segment, segment_join, segment_widen, segment_outward, Plain, segment_plain_before, Flat, Level}
 use Rattle.gr_scope.proofs.Regions.{segment_level, level_plain, Together, segment_head, together_plain}
 use Rattle.gr_scope.proofs.PlainSites.{plain_append, plain_list, plain_type}
-use Rattle.gr_scope.proofs.StatementRegions.{idents_together, ident_together, statements_fits}
+use Rattle.gr_scope.proofs.StatementRegions.{each_rising, idents_together, ident_together, statements_fits}
 use Rattle.gr_scope.proofs.Rising.{Rises, rises_le, rises_up, rises_down, rises_split}
 use Rattle.gr_tree.specs.declared.syntax.Kind.TheVariants as kind
-use Rattle.gr_tree.specs.Flatten.{sign, tokens_if, all_tokens, list_tokens, group_tokens, param_tokens, receiver_tokens, result_tokens, block_tokens}
+use Rattle.gr_tree.specs.Flatten.{sign, sign_if, tokens_if, all_tokens, list_tokens, group_tokens, ident_tokens, type_tokens, param_tokens}
+use Rattle.gr_tree.specs.Flatten.{receiver_tokens, result_tokens, block_tokens}
 use Rattle.gr_tree.specs.Flatten.{statements_tokens, global_tokens, type_spec_tokens, func_tokens, imports_tokens, decl_tokens, flatten}
 use Rattle.gr_tree.specs.WellFormed.{IsFunc, IsDecl, IsFile, IsBlock}
 use Rattle.gr_tree.specs.Tree.{Item, Group, single, several, GlobalTree, FieldTree, BodyTree, Other, Struct, TypeSpecTree, ReceiverTree, ParamTree}
@@ -107,24 +108,31 @@ Head s o c xs = Each (Together s.rank o c o o) xs
 head_append : (s : Source) (o c : ℕ) (xs ys : List Site) → Head s o c xs → Head s o c ys → Head s o c (xs ++ ys)
 head_append s o c xs ys a b = each_append (Together s.rank o c o o) xs ys a b
 
-head_receiver : (s : Source) (o c : ℕ) (r : Option ReceiverTree) → Head s o c (sites_if (receiver_sites s (Inner s.rank o c) o) r)
-unfolding receiver_sites
-head_receiver s o c None = tt
-head_receiver s o c (Some r) =
-    head_append s o c (ident_sites s (Declaring (Inner s.rank o c) o) r.name) (site s r.type_name Use ∷ []) (ident_together s o c o o r.name)
-    ((λ m. absurd_may m), tt)
+head_receiver : (s : Source) (o c n m : ℕ) (r : Option ReceiverTree) → m ≤ o → Rises n (tokens_if receiver_tokens r) m →
+    Head s o c (sites_if (receiver_sites s (Inner s.rank o c) o) r)
+unfolding receiver_sites receiver_tokens
+head_receiver s o c n m None mo h = tt
+head_receiver s o c n m (Some r) mo h =
+    let behind = sign_if kind.Star r.star ++ (sign kind.Name r.type_name ∷ (sign_if kind.Comma r.comma ++ (sign kind.RightParen r.rparen ∷ []))) in
+    let u = rises_split (suc r.lparen) (ident_tokens r.name) behind m h.1 in
+    let um : u.0 ≤ m = rises_le u.0 behind m u.1.1 in
+    head_append s o c (ident_sites s (Declaring (Inner s.rank o c) o) r.name) (site s r.type_name Use ∷ [])
+    (ident_together s o c o o (suc r.lparen) u.0 r.name (omega arith) u.1.0) ((λ m. absurd_may m), tt)
 
-head_param : (s : Source) (o c : ℕ) (p : ParamTree) → Head s o c (param_sites s (Inner s.rank o c) o p)
-unfolding param_sites
-head_param s o c p =
-    head_append s o c (list_sites (ident_sites s (Declaring (Inner s.rank o c) o)) p.names) (type_sites s p.type_use) (idents_together s o c o o p.names)
+head_param : (s : Source) (o c n m : ℕ) (p : ParamTree) → m ≤ o → Rises n (param_tokens p) m → Head s o c (param_sites s (Inner s.rank o c) o p)
+unfolding param_sites param_tokens
+head_param s o c n m p mo h =
+    let u = rises_split n (list_tokens kind.Comma ident_tokens p.names) (type_tokens p.type_use) m h in
+    let um : u.0 ≤ m = rises_le u.0 (type_tokens p.type_use) m u.1.1 in
+    head_append s o c (list_sites (ident_sites s (Declaring (Inner s.rank o c) o)) p.names) (type_sites s p.type_use)
+    (idents_together s o c o o n u.0 p.names (omega arith) u.1.0)
     (together_plain s.rank o c o o (type_sites s p.type_use) (plain_type s p.type_use))
 
-head_params : (s : Source) (o c : ℕ) (ps : List (Item ParamTree)) → Head s o c (list_sites (param_sites s (Inner s.rank o c) o) ps)
-head_params s o c [] = tt
-head_params s o c (p ∷ ps) =
-    head_append s o c (param_sites s (Inner s.rank o c) o p.value) (list_sites (param_sites s (Inner s.rank o c) o) ps) (head_param s o c p.value)
-    (head_params s o c ps)
+head_params : (s : Source) (o c n m : ℕ) (ps : List (Item ParamTree)) → m ≤ o → Rises n (list_tokens kind.Comma param_tokens ps) m →
+    Head s o c (list_sites (param_sites s (Inner s.rank o c) o) ps)
+head_params s o c n m ps mo h =
+    each_rising (Together s.rank o c o o) param_tokens (param_sites s (Inner s.rank o c) o) kind.Comma 0 o
+    (λ i j p z le r. head_param s o c i j p le r) n m ps (omega arith) mo h
 
 init_name : (s : Source) (o c i : ℕ) (b : Bool) → Together s.rank o c o o (site s i (if b then NotLexical purpose.InitFunction else Declaring Package 0))
 init_name s o c i true = λ m. absurd_may m
@@ -147,16 +155,17 @@ body_fits s k m (block o ss c) w h =
 -- what stands before the body, and the body
 func_body : (s : Source) (o c : ℕ) (receiver : Option ReceiverTree) (name : ℕ) (role : Role) (params : List (Item ParamTree)) (result : ResultTree)
     (body : List Site) →
-    Together s.rank o c o o (site s name role) → o < c → Segment s.rank o c (suc o) c body →
+    Head s o c (sites_if (receiver_sites s (Inner s.rank o c) o) receiver) → Together s.rank o c o o (site s name role) →
+    Head s o c (list_sites (param_sites s (Inner s.rank o c) o) params) → o < c → Segment s.rank o c (suc o) c body →
     Segment s.rank o c o c (sites_if (receiver_sites s (Inner s.rank o c) o) receiver ++
     (site s name role ∷ (list_sites (param_sites s (Inner s.rank o c) o) params ++ (result_sites s result ++ body))))
-func_body s o c receiver name role params result body named oc y =
+func_body s o c receiver name role params result body received named given oc y =
     let rs = sites_if (receiver_sites s (Inner s.rank o c) o) receiver in
     let ps = list_sites (param_sites s (Inner s.rank o c) o) params in
     let all = result_sites s result ++ body in
-    segment_head s.rank o c rs (site s name role ∷ (ps ++ all)) (omega arith) (head_receiver s o c receiver)
+    segment_head s.rank o c rs (site s name role ∷ (ps ++ all)) (omega arith) received
     (segment_head s.rank o c (site s name role ∷ []) (ps ++ all) (omega arith) (named, tt)
-    (segment_head s.rank o c ps all (omega arith) (head_params s o c params)
+    (segment_head s.rank o c ps all (omega arith) given
     (segment_plain_before s.rank o c o c (result_sites s result) body (plain_result s result)
     (segment_widen s.rank o c (suc o) c o c body (omega arith) (omega arith) y))))
 
@@ -189,7 +198,8 @@ func_fits s b n m f w mb h =
         cm,
         segment_outward s.rank o c o c 0 b n c (func_sites s f) oc (omega arith) (omega arith) (omega arith) (omega arith) (omega arith)
             (func_body s o c f.receiver f.name (func_role f.receiver (s.spell f.name)) f.params f.result (block_sites s f.body)
-            (func_name s o c f.name f.receiver (s.spell f.name)) oc y.3),
+            (head_receiver s o c n r.0 f.receiver (omega arith) r.1.0) (func_name s o c f.name f.receiver (s.spell f.name))
+            (head_params s o c (suc f.lparen) u.0 f.params (omega arith) u.1.0) oc y.3),
       ),
     )
 

@@ -1,17 +1,12 @@
 -- What a table keeps of its identifiers, one identifier after another.
 use Rattle.std.proofs.Common.{ℕ, ◌≡◌, ◌+◌, ◌<◌, inl, inr, List, [], ◌∷◌, ◌++◌, length, get_or, Bool, Option, IsTrue, sym, ◌∙◌, ap, subst, arith, length-append}
+use Rattle.std.proofs.Math.ListN.{set}
 use Rattle.std.proofs.lemmas.Grind.{common_steps}
+use Rattle.std.proofs.lemmas.List.{get_or-set_same, get_or-set_other}
 use Rattle.std.specs.Prelude.{◌↔◌}
 use Rattle.std.proofs.lemmas.Bool.{cases_order}
-use Rattle.indexmap.specs.IndexMap.{IndexMap}
-use Rattle.gr_scope.specs.declared.links.LinkKey.{LinkKey}
-use Rattle.gr_scope.specs.declared.model.Identifier.{Identifier}
-use Rattle.gr_scope.specs.Bindings.{Layout, Names, Declares}
-use Rattle.gr_scope.specs.Chains.{AreLinks}
-use Rattle.gr_scope.specs.Known.{AreMarks, AreFirst, AreBindings, IsBinding}
-use Rattle.gr_scope.specs.Leading.{Leads}
-use Rattle.gr_scope.specs.Numbering.{told}
-use Rattle.gr_scope.specs.Table.{layout_of}
+use Rattle.gr_scope.specs.Bindings.{Layout, Names}
+use Rattle.gr_scope.specs.Known.{AreMarks, AreBindings, IsBinding}
 use Rattle.gr_scope.proofs.Uniqueness.{same_or_not}
 
 -- what is true of each entry of a list stays true of one more
@@ -39,6 +34,19 @@ module _ {A : Type 0} (P : ℕ → A → Type 0) where
             subst Q (sym (earlier_entry xs y x k within)) (h k x less)
       ])
 
+  -- one entry is set
+  pub each_set : (xs : List A) (i : ℕ) (y : A) (n : ℕ) → i < length xs → P i y → ((k : ℕ) (x : A) → k < n → (k ≡ i → ⊥) → P k (get_or xs k x)) →
+      (k : ℕ) (x : A) → k < n → P k (get_or (set xs i y) k x)
+  each_set xs i y n within here h k x lt = elim (same_or_not k i) [
+    | inl same ↦
+        let Q : ℕ → Type 0 = λ j. P j (get_or (set xs i y) j x) in
+        let R : A → Type 0 = λ z. P i z in
+        subst Q (sym same) (subst R (sym (get_or-set_same xs i y x within)) here)
+    | inr other ↦
+        let R : A → Type 0 = λ z. P k z in
+        subst R (sym (get_or-set_other xs i k y x other)) (h k x lt other)
+  ]
+
 pub sized_next : {A : Type 0} (xs new : List A) (y : A) (n : ℕ) → length xs ≡ n → new ≡ xs ++ (y ∷ []) → length new ≡ n + 1
 sized_next xs new y n s e = ap length e ∙ length-append xs (y ∷ []) ∙ (omega arith)
 
@@ -51,20 +59,6 @@ marks_next P n marks new mark h e m = record {
 
 pub marks_none : (P : ℕ → Type 0) (marks : List Bool) → marks ≡ [] → AreMarks P 0 marks
 marks_none P marks e = record { sized = ap length e; exact = λ d x lt. absurd (omega arith) }
-
--- the links and marks of one more identifier
-pub first_next : {S : Type 0} (xs : List Identifier) (numbers : List ℕ) (n : ℕ) (after : IndexMap LinkKey ℕ S) (new : List (Option ℕ))
-    (declaring marked leading led : List Bool) (mark lead : Bool) →
-    AreLinks (layout_of xs) (told numbers) after new → length new ≡ n + 1 → AreMarks (Declares (layout_of xs) (told numbers)) n declaring →
-    marked ≡ declaring ++ (mark ∷ []) →
-    IsTrue mark ↔ Declares (layout_of xs) (told numbers) n → AreMarks (Leads (layout_of xs) (told numbers)) n leading → led ≡ leading ++ (lead ∷ []) →
-    IsTrue lead ↔ Leads (layout_of xs) (told numbers) n → AreFirst xs numbers (n + 1) after new marked led
-first_next xs numbers n after new declaring marked leading led mark lead links sized marks e m firsts f h = record {
-  links = links;
-  sized = sized;
-  marks = marks_next (Declares (layout_of xs) (told numbers)) n declaring marked mark marks e m;
-  firsts = marks_next (Leads (layout_of xs) (told numbers)) n leading led lead firsts f h;
-}
 
 pub bindings_none : (l : Layout) (names : Names) (bindings : List (Option ℕ)) → bindings ≡ [] → AreBindings l names 0 bindings
 bindings_none l names bindings e = record { sized = ap length e; each = λ u x lt. absurd (omega arith) }

@@ -17,8 +17,9 @@ use Rattle.gr_scope.specs.Named.{is_unnamed_import, named_where, named_site, nam
 use Rattle.gr_scope.specs.Site.{Site, found_site, sites_layout}
 use Rattle.gr_scope.specs.Table.{layout_of}
 use Rattle.gr_scope.specs.Trees.{AreNumbered}
-use Rattle.gr_scope.specs.WellFormed.{WellFormed, AreImportsLevel, FollowBlocks, IsLaidOut, IsIn}
+use Rattle.gr_scope.specs.WellFormed.{WellFormed, AreImportsLevel, FollowBlocks, IsUpTo, FollowPlaces, IsLaidOut, IsIn}
 use Rattle.gr_scope.proofs.Declared.{layout-sites}
+use Rattle.gr_scope.proofs.PackagePlaces.{package_follows_places}
 use Rattle.gr_scope.proofs.PackageRegions.{From, may_at, each_at, not_may, package_agrees, package_well_formed, package_follows_blocks}
 
 -- one more identifier
@@ -145,6 +146,24 @@ module _ (k l : Layout) (n : ℕ) (finite : (d : ℕ) → MayDeclare k d → d <
         subst P (sym h) (o.behind d g f a b a' b' lt (may d e md) (may g h mg) (within d f a b e i) (within g f a' b' h j) out within_it);
   }
 
+  pub follow_places_still : (size : ℕ) → FollowPlaces l size → FollowPlaces k size
+  follow_places_still size o = record {
+    rising = λ u v less lt.
+        let P : Position → Type 0 = λ p. IsUpTo p (k.place v) in
+        let Q : Position → Type 0 = λ p. IsUpTo (l.place u) p in
+        subst P (sym (places u)) (subst Q (sym (places v)) (o.rising u v less lt));
+    before_scope = λ d f a b md i.
+        let e = inner_stays d f a b i in
+        let P : Position → Type 0 = λ p. (p.file ≡ f) × (p.index < start_of (k.role d)) in
+        let R : Role → Type 0 = λ r. ((l.place d).file ≡ f) × ((l.place d).index < start_of r) in
+        subst P (sym (places d)) (subst R (sym e) (o.before_scope d f a b (may d e md) (within d f a b e i)));
+  }
+
+pub named_length : (names : ℕ → Option (List ℕ)) (xs : List Site) → length (named_sites names xs) ≡ length xs
+unfolding named_sites
+named_length names [] = refl
+named_length names (x ∷ xs) = let h : length (named_sites (λ k. names (suc k)) xs) ≡ length xs = named_length (λ k. names (suc k)) xs in omega arith
+
 pub named_well_formed : (names : ℕ → Option (List ℕ)) (xs : List Site) → WellFormed (sites_layout xs) → AreImportsLevel (sites_layout xs) →
     WellFormed (sites_layout (named_sites names xs))
 named_well_formed names xs w level =
@@ -157,13 +176,20 @@ named_level names xs w level =
     imports_stay_level (sites_layout (named_sites names xs)) (sites_layout xs) (length (named_sites names xs)) (may_at (named_sites names xs))
     (role_stays names xs) (place_stays names xs) w level
 
-pub named_laid_out : (names : ℕ → Option (List ℕ)) (xs : List Site) → IsLaidOut (sites_layout xs) → IsLaidOut (sites_layout (named_sites names xs))
-named_laid_out names xs h = record {
-  well_formed = named_well_formed names xs h.well_formed h.imports;
-  imports = named_level names xs h.well_formed h.imports;
-  ordered = follow_blocks_still (sites_layout (named_sites names xs)) (sites_layout xs) (length (named_sites names xs)) (may_at (named_sites names xs))
-      (role_stays names xs) (place_stays names xs) h.well_formed h.imports h.ordered;
-}
+pub named_laid_out : (names : ℕ → Option (List ℕ)) (xs : List Site) → IsLaidOut (sites_layout xs) (length xs) →
+    IsLaidOut (sites_layout (named_sites names xs)) (length (named_sites names xs))
+named_laid_out names xs h =
+    let k = sites_layout (named_sites names xs) in
+    let l = sites_layout xs in
+    let n = length (named_sites names xs) in
+    let P : ℕ → Type 0 = λ size. FollowPlaces k size in
+    record {
+      well_formed = named_well_formed names xs h.well_formed h.imports;
+      imports = named_level names xs h.well_formed h.imports;
+      ordered = follow_blocks_still k l n (may_at (named_sites names xs)) (role_stays names xs) (place_stays names xs) h.well_formed h.imports h.ordered;
+      placed = subst P (sym (named_length names xs))
+          (follow_places_still k l n (may_at (named_sites names xs)) (role_stays names xs) (place_stays names xs) h.well_formed h.imports (length xs) h.placed);
+    }
 
 level_role : (r : Role) (f : ℕ) → (may_declare r ≡ true → (start_of r ≡ 0) ⊎ (block_of r ≡ File f → ⊥)) → block_of r ≡ File f → start_of r ≡ 0
 level_role Use f h e = refl
@@ -200,16 +226,27 @@ pub found_none : (names : ℕ → Option (List ℕ)) (none : List Identifier) (x
 unfolding named_sites
 found_none names none xs e = ap (map site_of) e
 
-pub named_list_laid_out : (names : ℕ → Option (List ℕ)) (xs : List Identifier) (ys : List Site) → map site_of xs ≡ named_sites names ys →
-    IsLaidOut (sites_layout ys) → IsLaidOut (layout_of xs)
-named_list_laid_out names xs ys e h = subst IsLaidOut (sym (layout-sites xs ∙ ap sites_layout e)) (named_laid_out names ys h)
+-- a list of identifiers is laid out as its sites are
+pub list_laid_out : (xs : List Identifier) (zs : List Site) → map site_of xs ≡ zs → IsLaidOut (sites_layout zs) (length zs) →
+    IsLaidOut (layout_of xs) (length xs)
+list_laid_out xs zs e h =
+    let S : List Site → Type 0 = λ ys. IsLaidOut (sites_layout ys) (length ys) in
+    let L : Layout → Type 0 = λ l. IsLaidOut l (length (map site_of xs)) in
+    let N : ℕ → Type 0 = λ n. IsLaidOut (layout_of xs) n in
+    subst N (length-map xs site_of) (subst L (sym (layout-sites xs)) (subst S (sym e) h))
 
-package_laid_out : (files : List SpelledFile) → AreNumbered files → IsLaidOut (sites_layout (package_sites files))
+pub named_list_laid_out : (names : ℕ → Option (List ℕ)) (xs : List Identifier) (ys : List Site) → map site_of xs ≡ named_sites names ys →
+    IsLaidOut (sites_layout ys) (length ys) → IsLaidOut (layout_of xs) (length xs)
+named_list_laid_out names xs ys e h = list_laid_out xs (named_sites names ys) e (named_laid_out names ys h)
+
+package_laid_out : (files : List SpelledFile) → AreNumbered files → IsLaidOut (sites_layout (package_sites files)) (length (package_sites files))
 package_laid_out files w = record {
   well_formed = package_well_formed files w;
   imports = package_level files w;
   ordered = package_follows_blocks files w;
+  placed = package_follows_places files w;
 }
 
-pub declared_laid_out : (xs : List Identifier) (files : List SpelledFile) → map site_of xs ≡ package_sites files → AreNumbered files → IsLaidOut (layout_of xs)
-declared_laid_out xs files e w = subst IsLaidOut (sym (layout-sites xs ∙ ap sites_layout e)) (package_laid_out files w)
+pub declared_laid_out : (xs : List Identifier) (files : List SpelledFile) → map site_of xs ≡ package_sites files → AreNumbered files →
+    IsLaidOut (layout_of xs) (length xs)
+declared_laid_out xs files e w = list_laid_out xs (package_sites files) e (package_laid_out files w)

@@ -36,7 +36,8 @@ at_of_fits f b n q x pos qb h m = elim (h m) [
       not_empty = pos;
       low = o.above;
       high = omega (arith, o.high);
-      left = λ left. let w = o.left left in (w.0, w.1, w.3);
+      stands = o.stands;
+      left = λ left. (o.left left).0;
     })
     | inr i ↦ inr i.frame
   ]
@@ -137,7 +138,7 @@ module _ (xs : List Site) (each : Each (From 0) xs) (pairs : EachPair Related xs
   abbrev l : Layout
   l = sites_layout xs
 
-  frame : (d f a b : ℕ) → MayDeclare l d → IsIn l d (Inner f a b) → (g : ℕ) × Framed g (at d)
+  pub frame : (d f a b : ℕ) → MayDeclare l d → IsIn l d (Inner f a b) → (g : ℕ) × Framed g (at d)
   frame d f a b m e = elim (each_at (From 0) (λ w. not_may w) xs each d m) [
     | inl flat ↦ absurd (flat.apart f a b e)
     | inr s ↦ (s.0, s.1.1)
@@ -190,8 +191,8 @@ module _ (xs : List Site) (each : Each (From 0) xs) (pairs : EachPair Related xs
       ]
     ];
     in_order = λ d e md me s lt. (pair d e lt md me).in_order s;
-    left_inner = λ x left. let s = left_frame x left in let w = s.1.left left in (s.0, s.1.from, s.1.to, s.1.block, w.0, w.1);
-    left_before = λ x left. ((left_frame x left).1.left left).2;
+    left_inner = λ x left. let s = left_frame x left in (s.0, s.1.from, s.1.to, s.1.block, s.1.stands.0, s.1.left left);
+    left_before = λ x left. (left_frame x left).1.stands.1;
     left_directly = λ x z g p q p' q' left mz hx hz lt le. elim (cases_order x z) [
       | inl s ↦ (let e : p ≡ p' = same_from x z g p q p' q' s hx hz in absurd (omega arith))
       | inr o ↦ elim o [

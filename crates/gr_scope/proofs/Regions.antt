@@ -53,7 +53,8 @@ pub record Own (f a b n q : ℕ) (x : Site) : Type 0 where
   pub above : a ≤ start_of x.role
   pub low : n ≤ start_of x.role
   pub high : start_of x.role ≤ q
-  pub left : is_left_name x.role ≡ true → (x.place.file ≡ f) × (a ≤ x.place.index) × (n ≤ x.place.index) × (x.place.index < start_of x.role)
+  pub stands : (x.place.file ≡ f) × (x.place.index < start_of x.role)
+  pub left : is_left_name x.role ≡ true → (a ≤ x.place.index) × (n ≤ x.place.index)
 
 -- a declaration of a block
 pub record Framed (f : ℕ) (x : Site) : Type 0 where
@@ -63,7 +64,8 @@ pub record Framed (f : ℕ) (x : Site) : Type 0 where
   pub not_empty : from < to
   pub low : from ≤ start_of x.role
   pub high : start_of x.role ≤ to
-  pub left : is_left_name x.role ≡ true → (x.place.file ≡ f) × (from ≤ x.place.index) × (x.place.index < start_of x.role)
+  pub stands : (x.place.file ≡ f) × (x.place.index < start_of x.role)
+  pub left : is_left_name x.role ≡ true → from ≤ x.place.index
 
 -- a declaration of a block that lies in the block and in the region
 pub record Inside (f a b n q : ℕ) (x : Site) : Type 0 where
@@ -141,7 +143,7 @@ module _ (f a b n q r : ℕ) (x y : Site) where
               blocks = inr (inr (inl (omega arith, omega arith)));
               first_outside = λ lt le. omega arith;
               second_outside = λ lt le. absurd (omega arith);
-              first_directly = λ left lt le. inl (let w : x.place.index < start_of x.role = (sx.left left).3 in omega arith);
+              first_directly = λ left lt le. inl (let w : x.place.index < start_of x.role = sx.stands.1 in omega arith);
               second_directly = λ left lt le. absurd (omega arith);
             };
       }
@@ -165,7 +167,7 @@ module _ (f a b n q r : ℕ) (x y : Site) where
               first_outside = λ lt le. absurd (omega arith);
               second_outside = λ lt le. omega arith;
               first_directly = λ left lt le. absurd (omega arith);
-              second_directly = λ left lt le. inr (let w : suc q ≤ y.place.index = (sy.left left).2 in omega arith);
+              second_directly = λ left lt le. inr (let w : suc q ≤ y.place.index = (sy.left left).1 in omega arith);
             };
       }
 
@@ -222,7 +224,8 @@ wider f a b n q n' q' hn hq x h m = elim (h m) [
       above = o.above;
       low = omega (arith, o.low);
       high = omega (arith, o.high);
-      left = λ left. let w = o.left left in (w.0, w.1, omega (arith, w.2), w.3);
+      stands = o.stands;
+      left = λ left. let w = o.left left in (w.0, omega (arith, w.1));
     }))
     | inr i ↦ inr (inr (record { frame = i.frame; above = i.above; below = i.below; first = omega (arith, i.first); last = omega (arith, i.last) }))
   ]
@@ -241,7 +244,8 @@ outward f c d n q a b n' q' cd qd ac db nc dq x h m = elim (h m) [
         not_empty = cd;
         low = o.above;
         high = omega (arith, o.high);
-        left = λ left. let w = o.left left in (w.0, w.1, w.3);
+        stands = o.stands;
+        left = λ left. (o.left left).0;
       };
       above = ac;
       below = db;
@@ -320,7 +324,8 @@ level_plain xs p = each_map (λ x. may_declare x.role ≡ false) (λ x. may_decl
 pub record AtStart (f a b n q : ℕ) (x : Site) : Type 0 where
   pub block : block_of x.role ≡ Inner f a b
   pub start : start_of x.role ≡ q
-  pub left : is_left_name x.role ≡ true → (x.place.file ≡ f) × (a ≤ x.place.index) × (n ≤ x.place.index) × (x.place.index < q)
+  pub stands : (x.place.file ≡ f) × (x.place.index < q)
+  pub left : is_left_name x.role ≡ true → (a ≤ x.place.index) × (n ≤ x.place.index)
 
 abbrev pub Together : ℕ → ℕ → ℕ → ℕ → ℕ → Site → Type 0
 Together f a b n q x = may_declare x.role ≡ true → Flat x ⊎ AtStart f a b n q x
@@ -334,7 +339,8 @@ segment_together f a b n q xs aq nq h = (
       above = omega arith;
       low = omega arith;
       high = omega arith;
-      left = λ left. let w = s.left left in (w.0, w.1, w.2, omega (arith, w.3));
+      stands = (s.stands.0, omega (arith, s.stands.1));
+      left = s.left;
     })))
   ]) xs h,
   pairs_of_each Related (Together f a b n q) (λ x y t u mx my. elim (t mx) [
@@ -363,7 +369,8 @@ head_first f a b x y t h mx my = elim (t mx) [
             above = omega arith;
             low = omega arith;
             high = omega arith;
-            left = λ left. let w = s.left left in (w.0, w.1, w.2, omega (arith, w.3));
+            stands = (s.stands.0, omega (arith, s.stands.1));
+            left = s.left;
           })
           (record { frame = i.frame; above = i.above; below = i.below; first = i.above; last = i.last })
     ]

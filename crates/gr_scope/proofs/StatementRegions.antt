@@ -1,5 +1,5 @@
 -- The identifiers of statements whose tokens rise fit into the region of these tokens.
-use Rattle.std.proofs.Common.{ℕ, ◌≡◌, ◌<◌, ◌≤◌, List, [], ◌∷◌, ◌++◌, Option, Some, None, true, false, refl, sym, subst, arith, suc, inl, inr}
+use Rattle.std.proofs.Common.{ℕ, ◌≡◌, ◌<◌, ◌≤◌, List, [], ◌∷◌, ◌++◌, Option, Some, None, true, false, refl, sym, subst, arith, suc, inr}
 use Rattle.std.specs.Option.{unwrap_or}
 use Rattle.std.specs.List.{All}
 use Rattle.std.proofs.lemmas.List.Elements.{All-head, All-tail}
@@ -17,7 +17,8 @@ use Rattle.gr_scope.proofs.Rising.{Rises, rises_le, rises_up, rises_down, rises_
 use Rattle.gr_tree.specs.declared.syntax.Kind.{Kind}
 use Rattle.gr_tree.specs.declared.syntax.Kind.TheVariants as kind
 use Rattle.gr_tree.specs.declared.syntax.Token.{Token}
-use Rattle.gr_tree.specs.Flatten.{sign, sign_if, tokens_if, all_tokens, item_tokens, list_tokens, group_tokens, expr_tokens, exprs_tokens, simple_tokens}
+use Rattle.gr_tree.specs.Flatten.{sign, sign_if, tokens_if, all_tokens, item_tokens, list_tokens, group_tokens, ident_tokens, type_tokens, value_tokens}
+use Rattle.gr_tree.specs.Flatten.{expr_tokens, exprs_tokens, simple_tokens}
 use Rattle.gr_tree.specs.Flatten.{local_tokens, init_tokens, for_tokens, statement_tokens, block_tokens, statements_tokens, if_tokens, else_tokens}
 use Rattle.gr_tree.specs.WellFormed.{IsSeparated, IsGroup, Perhaps, IsPost, IsFor, IsLocal, IsStatement, IsBlock, AreStatements, IsIf, IsElse}
 use Rattle.gr_tree.specs.Tree.{Item, Group, single, several, IdentTree, Named, Underscore, ExprTree, Number, Text, Name, Blank, Composite, Paren, Prefix}
@@ -25,62 +26,51 @@ use Rattle.gr_tree.specs.Tree.{Address, Chain, Binary, SimpleTree, Alone, Step, 
 use Rattle.gr_tree.specs.Tree.{clauses, StatementTree, Empty, Var, Simple, Inner, If, For, Break, Continue, Return, BlockTree, block, StatementTrees}
 use Rattle.gr_tree.specs.Tree.{no_statement, statement, IfTree, if_tree, ElseTree, no_else, else_if, else_block}
 
--- what begins later begins late enough
-together_down : (f a b n k q : ℕ) (xs : List Site) → n ≤ k → Each (Together f a b k q) xs → Each (Together f a b n q) xs
-together_down f a b n k q [] le h = tt
-together_down f a b n k q (x ∷ xs) le h = (
-  λ m. elim (h.0 m) [
-    | inl flat ↦ inl flat
-    | inr s ↦ inr (record { block = s.block; start = s.start; left = λ left. let w = s.left left in (w.0, w.1, omega (arith, w.2), w.3) })
-  ],
-  together_down f a b n k q xs le h.1,
-)
-
--- items whose tokens rise
-module _ {X : Type 0} (tokens : X → List Token) (sites : X → List Site) (sort : Kind) (f a b q : ℕ)
-    (one : (n m : ℕ) (x : X) → a ≤ n → m ≤ q → Rises n (tokens x) m → Each (Together f a b n q) (sites x)) where
-  pub together_list : (n m : ℕ) (xs : List (Item X)) → a ≤ n → m ≤ q → Rises n (list_tokens sort tokens xs) m → Each (Together f a b n q) (list_sites sites xs)
+-- items whose tokens rise, from one bound on and up to another
+module _ {X : Type 0} (P : Site → Type 0) (tokens : X → List Token) (sites : X → List Site) (sort : Kind) (k q : ℕ)
+    (one : (n m : ℕ) (x : X) → k ≤ n → m ≤ q → Rises n (tokens x) m → Each P (sites x)) where
+  pub each_rising : (n m : ℕ) (xs : List (Item X)) → k ≤ n → m ≤ q → Rises n (list_tokens sort tokens xs) m → Each P (list_sites sites xs)
   unfolding all_tokens
-  together_list n m [] an mq h = tt
-  together_list n m (x ∷ xs) an mq h =
+  each_rising n m [] kn mq h = tt
+  each_rising n m (x ∷ xs) kn mq h =
       let r = rises_split n (item_tokens sort tokens x) (all_tokens (item_tokens sort tokens) xs) m h in
       let u = rises_split n (tokens x.value) (sign_if sort x.separator) r.0 r.1.0 in
       let le : r.0 ≤ m = rises_le r.0 (all_tokens (item_tokens sort tokens) xs) m r.1.1 in
       let nk : n ≤ r.0 = rises_le n (item_tokens sort tokens x) r.0 r.1.0 in
       let ur : u.0 ≤ r.0 = rises_le u.0 (sign_if sort x.separator) r.0 u.1.1 in
-      each_append (Together f a b n q) (sites x.value) (list_sites sites xs)
-      (one n u.0 x.value an (omega arith) u.1.0)
-      (together_down f a b n r.0 q (list_sites sites xs) nk (together_list r.0 m xs (omega arith) mq r.1.1))
+      each_append P (sites x.value) (list_sites sites xs) (one n u.0 x.value kn (omega arith) u.1.0) (each_rising r.0 m xs (omega arith) mq r.1.1)
 
 not_left : {A : Type 0} → false ≡ true → A
 not_left e = cc
 
-left_together : (s : Source) (a b q n m : ℕ) (x : ExprTree) → a ≤ n → m ≤ q → Rises n (expr_tokens x) m →
-    Each (Together s.rank a b n q) (left_sites s (blocks.Inner s.rank a b) q x)
+left_together : (s : Source) (a b q k : ℕ) → a ≤ k → (n m : ℕ) (x : ExprTree) → k ≤ n → m ≤ q → Rises n (expr_tokens x) m →
+    Each (Together s.rank a b k q) (left_sites s (blocks.Inner s.rank a b) q x)
 unfolding expr_tokens
-left_together s a b q n m (Name i) an mq h =
-    ((λ may. inr (record { block = refl; start = refl; left = λ left. (refl, omega (arith, h.0), h.0, omega (arith, h.1)) })), tt)
-left_together s a b q n m (Blank i) an mq h = ((λ may. not_left may), tt)
-left_together s a b q n m (Number i) an mq h = together_plain s.rank a b n q (expr_sites s (Number i)) (plain_expr s (Number i))
-left_together s a b q n m (Text i) an mq h = together_plain s.rank a b n q (expr_sites s (Text i)) (plain_expr s (Text i))
-left_together s a b q n m (Composite l) an mq h = together_plain s.rank a b n q (expr_sites s (Composite l)) (plain_expr s (Composite l))
-left_together s a b q n m (Paren o e c) an mq h = together_plain s.rank a b n q (expr_sites s (Paren o e c)) (plain_expr s (Paren o e c))
-left_together s a b q n m (Prefix op p e) an mq h = together_plain s.rank a b n q (expr_sites s (Prefix op p e)) (plain_expr s (Prefix op p e))
-left_together s a b q n m (Address p l) an mq h = together_plain s.rank a b n q (expr_sites s (Address p l)) (plain_expr s (Address p l))
-left_together s a b q n m (Chain e ls) an mq h = together_plain s.rank a b n q (expr_sites s (Chain e ls)) (plain_expr s (Chain e ls))
-left_together s a b q n m (Binary e os) an mq h = together_plain s.rank a b n q (expr_sites s (Binary e os)) (plain_expr s (Binary e os))
+left_together s a b q k ak n m (Name i) kn mq h = (
+  (λ may. inr (record { block = refl; start = refl; stands = (refl, omega (arith, h.1)); left = λ left. (omega (arith, h.0), omega (arith, h.0)) })),
+  tt,
+)
+left_together s a b q k ak n m (Blank i) kn mq h = ((λ may. not_left may), tt)
+left_together s a b q k ak n m (Number i) kn mq h = together_plain s.rank a b k q (expr_sites s (Number i)) (plain_expr s (Number i))
+left_together s a b q k ak n m (Text i) kn mq h = together_plain s.rank a b k q (expr_sites s (Text i)) (plain_expr s (Text i))
+left_together s a b q k ak n m (Composite l) kn mq h = together_plain s.rank a b k q (expr_sites s (Composite l)) (plain_expr s (Composite l))
+left_together s a b q k ak n m (Paren o e c) kn mq h = together_plain s.rank a b k q (expr_sites s (Paren o e c)) (plain_expr s (Paren o e c))
+left_together s a b q k ak n m (Prefix op p e) kn mq h = together_plain s.rank a b k q (expr_sites s (Prefix op p e)) (plain_expr s (Prefix op p e))
+left_together s a b q k ak n m (Address p l) kn mq h = together_plain s.rank a b k q (expr_sites s (Address p l)) (plain_expr s (Address p l))
+left_together s a b q k ak n m (Chain e ls) kn mq h = together_plain s.rank a b k q (expr_sites s (Chain e ls)) (plain_expr s (Chain e ls))
+left_together s a b q k ak n m (Binary e os) kn mq h = together_plain s.rank a b k q (expr_sites s (Binary e os)) (plain_expr s (Binary e os))
 
-pub ident_together : (s : Source) (a b q n : ℕ) (x : IdentTree) → Each (Together s.rank a b n q) (ident_sites s (Declaring (blocks.Inner s.rank a b) q) x)
-ident_together s a b q n (Named i) = ((λ may. inr (record { block = refl; start = refl; left = λ left. not_left left })), tt)
-ident_together s a b q n (Underscore i) = ((λ may. not_left may), tt)
+pub ident_together : (s : Source) (a b q k n m : ℕ) (x : IdentTree) → m ≤ q → Rises n (ident_tokens x) m →
+    Each (Together s.rank a b k q) (ident_sites s (Declaring (blocks.Inner s.rank a b) q) x)
+ident_together s a b q k n m (Named i) mq h =
+    ((λ may. inr (record { block = refl; start = refl; stands = (refl, omega (arith, h.1)); left = λ left. not_left left })), tt)
+ident_together s a b q k n m (Underscore i) mq h = ((λ may. not_left may), tt)
 
-pub idents_together : (s : Source) (a b q n : ℕ) (xs : List (Item IdentTree)) →
-    Each (Together s.rank a b n q) (list_sites (ident_sites s (Declaring (blocks.Inner s.rank a b) q)) xs)
-idents_together s a b q n [] = tt
-idents_together s a b q n (x ∷ xs) =
-    each_append (Together s.rank a b n q) (ident_sites s (Declaring (blocks.Inner s.rank a b) q) x.value)
-    (list_sites (ident_sites s (Declaring (blocks.Inner s.rank a b) q)) xs)
-    (ident_together s a b q n x.value) (idents_together s a b q n xs)
+pub idents_together : (s : Source) (a b q k n m : ℕ) (xs : List (Item IdentTree)) → m ≤ q → Rises n (list_tokens kind.Comma ident_tokens xs) m →
+    Each (Together s.rank a b k q) (list_sites (ident_sites s (Declaring (blocks.Inner s.rank a b) q)) xs)
+idents_together s a b q k n m xs mq h =
+    each_rising (Together s.rank a b k q) ident_tokens (ident_sites s (Declaring (blocks.Inner s.rank a b) q)) kind.Comma 0 q
+    (λ i j x z le r. ident_together s a b q k i j x le r) n m xs (omega arith) mq h
 
 pub simple_fits : (s : Source) (a b n following : ℕ) (x : SimpleTree) → a ≤ n → Rises n (simple_tokens x) following →
     Segment s.rank a b n following (simple_sites s (blocks.Inner s.rank a b) following x)
@@ -98,7 +88,8 @@ simple_fits s a b n q (Define es p fs) an h =
     let kq : r.0 ≤ q = rises_le r.0 (sign kind.Define p ∷ exprs_tokens fs) q r.1.1 in
     segment_plain_after s.rank a b n q (list_sites (left_sites s (blocks.Inner s.rank a b) q) es) (exprs_sites s fs)
     (segment_together s.rank a b n q (list_sites (left_sites s (blocks.Inner s.rank a b) q) es) (omega arith) (omega arith)
-    (together_list expr_tokens (left_sites s (blocks.Inner s.rank a b) q) kind.Comma s.rank a b q (left_together s a b q) n r.0 es an kq r.1.0))
+    (each_rising (Together s.rank a b n q) expr_tokens (left_sites s (blocks.Inner s.rank a b) q) kind.Comma n q (left_together s a b q n an) n r.0 es
+    (omega arith) kq r.1.0))
     (plain_exprs s fs)
 
 post_plain : (s : Source) (b : Block) (q : ℕ) (x : SimpleTree) → IsPost x → Plain (simple_sites s b q x)
@@ -118,10 +109,13 @@ pub local_fits : (s : Source) (a b n following : ℕ) (x : LocalTree) → a ≤ 
 unfolding local_sites local_tokens
 local_fits s a b n q x an h =
     let nq : n ≤ q = rises_le n (local_tokens x) q h in
+    let behind = tokens_if type_tokens x.type_use ++ tokens_if (value_tokens expr_tokens) x.values in
+    let r = rises_split n (list_tokens kind.Comma ident_tokens x.names) behind q h in
+    let rq : r.0 ≤ q = rises_le r.0 behind q r.1.1 in
     segment_plain_after s.rank a b n q (list_sites (ident_sites s (Declaring (blocks.Inner s.rank a b) q)) x.names)
     (sites_if (type_sites s) x.type_use ++ sites_if (value_sites s) x.values)
     (segment_together s.rank a b n q (list_sites (ident_sites s (Declaring (blocks.Inner s.rank a b) q)) x.names) (omega arith) nq
-    (idents_together s a b q n x.names))
+    (idents_together s a b q n n r.0 x.names rq r.1.0))
     (plain_append (sites_if (type_sites s) x.type_use) (sites_if (value_sites s) x.values) (plain_if (type_sites s) (plain_type s) x.type_use)
     (plain_if (value_sites s) (plain_values s) x.values))
 

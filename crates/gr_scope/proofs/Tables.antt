@@ -1,11 +1,11 @@
 -- What is true of a table's list of identifiers is true of the value that the table stands for.
-use Rattle.std.proofs.Common.{ℕ, ◌≡◌, List, length, map, inl, inr, Option, Some, None, sym, ap, subst, ◌∙◌, ◌<◌, get_or}
+use Rattle.std.proofs.Common.{ℕ, zero, suc, ◌≡◌, List, [], ◌∷◌, arith, length, map, inl, inr, Option, Some, None, sym, ap, subst, ◌∙◌, ◌<◌, get_or}
 use Rattle.std.specs.Prelude.{slice_get, MatchOption}
 use Rattle.std.proofs.lemmas.Bool.{cases_order}
 use Rattle.std.proofs.lemmas.Option.{slice_get-get_or}
 use Rattle.gr_tree.specs.SourceFile.{FileParts}
 use Rattle.gr_scope.specs.declared.model.Identifier.{Identifier}
-use Rattle.gr_scope.specs.Bindings.{Layout, Names}
+use Rattle.gr_scope.specs.Bindings.{Layout, Names, MayDeclare}
 use Rattle.gr_scope.specs.Found.{site_of}
 use Rattle.gr_scope.specs.Scoped.{ScopedPackage, layout_in, names_in}
 use Rattle.gr_scope.specs.Site.{Site, sites_layout, sites_names}
@@ -39,3 +39,8 @@ pub resolved : (P : ℕ → Type 0) (B : ℕ → ℕ → Type 0) (size u : ℕ) 
     MatchOption r ((v d : ℕ) → IsFirstOf P size v → B v d → ⊥) (λ d. (v : ℕ) × (IsFirstOf P size v × B v d))
 resolved P B size u None f h = λ v d g b. (let Q : ℕ → Type 0 = λ w. B w d in h d (subst Q (first_once P size v u g f) b))
 resolved P B size u (Some d) f h = (u, (f, h))
+
+pub may_in_range : (xs : List Identifier) (d : ℕ) → MayDeclare (layout_of xs) d → d < length xs
+may_in_range [] d m = cc
+may_in_range (x ∷ xs) zero m = omega arith
+may_in_range (x ∷ xs) (suc d) m = let less : d < length xs = may_in_range xs d m in omega arith

@@ -1,15 +1,14 @@
 -- What a table keeps of its identifiers.
 use Rattle.std.specs.Prelude.{ℕ, ◌≡◌, ◌<◌, ◌↔◌, List, length, Option, Bool, IsTrue, MatchOption, slice_index_or}
-use Rattle.indexmap.specs.IndexMap.{IndexMap}
 use Rattle.gr_scope.specs.Bindings.{Layout, Names, Declares, IsBoundTo}
-use Rattle.gr_scope.specs.Chains.{AreLinks, AreAllLinks}
 use Rattle.gr_scope.specs.ByToken.{Numbers, AreIdentifiers}
 use Rattle.gr_scope.specs.Leading.{Leads}
 use Rattle.gr_scope.specs.Scoped.{ScopedPackage, layout_in, names_in}
 use Rattle.gr_scope.specs.Numbering.{told}
+use Rattle.gr_scope.specs.Open.{AreLinks}
 use Rattle.gr_scope.specs.Table.{layout_of}
 use Rattle.gr_scope.specs.declared.model.Identifier.{Identifier}
-use Rattle.gr_scope.specs.declared.links.LinkKey.{LinkKey}
+use Rattle.gr_scope.specs.declared.declaring.DeclaredIn.{DeclaredIn}
 
 -- of each of so many numbers whether it is such
 pub record AreMarks (P : ℕ → Type 0) (n : ℕ) (marks : List Bool) : Type 0 where
@@ -18,19 +17,14 @@ pub record AreMarks (P : ℕ → Type 0) (n : ℕ) (marks : List Bool) : Type 0 
 
 -- the links of so many identifiers, which of them declare, and which come first of their name in their blocks, where names are told
 -- by their numbers
-pub record AreFirst {S : Type 0} (xs : List Identifier) (numbers : List ℕ) (n : ℕ) (last : IndexMap LinkKey ℕ S) (previous : List (Option ℕ))
-    (declaring leading : List Bool) : Type 0 where
-  pub links : AreLinks (layout_of xs) (told numbers) last previous
-  pub sized : length previous ≡ n
-  pub marks : AreMarks (Declares (layout_of xs) (told numbers)) n declaring
-  pub firsts : AreMarks (Leads (layout_of xs) (told numbers)) n leading
+pub record AreFirst (xs : List Identifier) (numbers : List ℕ) (n : ℕ) (declared : DeclaredIn) : Type 0 where
+  pub links : AreLinks xs numbers n declared.links
+  pub marks : AreMarks (Declares (layout_of xs) (told numbers)) n declared.declaring.items
+  pub firsts : AreMarks (Leads (layout_of xs) (told numbers)) n declared.leading.items
 
 -- those of all identifiers
-pub record AreDeclared {S : Type 0} (xs : List Identifier) (numbers : List ℕ) (last : IndexMap LinkKey ℕ S) (previous : List (Option ℕ))
-    (declaring leading : List Bool) : Type 0 where
-  pub links : AreAllLinks xs (told numbers) last previous
-  pub marks : AreMarks (Declares (layout_of xs) (told numbers)) (length xs) declaring
-  pub firsts : AreMarks (Leads (layout_of xs) (told numbers)) (length xs) leading
+abbrev pub AreDeclared : List Identifier → List ℕ → DeclaredIn → Type 0
+AreDeclared xs numbers declared = AreFirst xs numbers (length xs) declared
 
 -- the declaration to which u is bound, or none
 abbrev pub IsBinding : Layout → Names → ℕ → Option ℕ → Type 0

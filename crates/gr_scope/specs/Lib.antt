@@ -13,8 +13,8 @@ pub mod Trees
 pub mod Found
 pub mod Parsed
 pub mod Scoped
-pub mod Regions
-pub mod Chains
+pub mod Outer
+pub mod Open
 pub mod ByToken
 pub mod Numbering
 pub mod Known

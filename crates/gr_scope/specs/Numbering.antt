@@ -3,12 +3,10 @@ use Rattle.std.specs.Prelude.{ℕ, ◌≡◌, ◌<◌, ◌↔◌, Bool, true, fa
 use Rattle.indexmap.specs.IndexMap.{IndexMap, get}
 use Rattle.gr_scope.specs.declared.model.Role.{Role}
 use Rattle.gr_scope.specs.declared.model.Role.TheVariants.{Use, Declaring, LeftName, Implied, NotLexical}
-use Rattle.gr_scope.specs.declared.model.Block.TheVariants.{Package}
 use Rattle.gr_scope.specs.declared.numbering.Spelled.{Spelled}
 use Rattle.gr_scope.specs.contracts.numbering.SpelledPartialEq.TheImpl as equal
-use Rattle.gr_scope.specs.Bindings.{Layout, Names, block_of}
+use Rattle.gr_scope.specs.Bindings.{Layout, Names}
 use Rattle.gr_scope.specs.ByToken.{IsFirstBelow}
-use Rattle.gr_scope.specs.Scopes.{Nests}
 
 -- whether a name is looked up: it is used, or it may declare
 abbrev pub is_lexical : Role → Bool
@@ -41,15 +39,6 @@ told numbers d = number_at numbers d ∷ []
 abbrev pub TellApart : Layout → Names → ℕ → List ℕ → Type 0
 TellApart l names n numbers = (d e : ℕ) → d < n → e < n → IsLexical l d → IsLexical l e → (number_at numbers d ≡ number_at numbers e) ↔ (names d ≡ names e)
 
--- a number is marked, or has no mark of its own
-abbrev pub MayBeMarked : List Bool → ℕ → Type 0
-MayBeMarked marks number = slice_index_or marks number true ≡ true
-
--- a number is marked, and all marks stay
-pub record Marks (old new : List Bool) (number : ℕ) : Type 0 where
-  pub marked : MayBeMarked new number
-  pub kept : (k : ℕ) → MayBeMarked old k → MayBeMarked new k
-
--- the names of those of so many identifiers are marked that an inner block may declare
-abbrev pub AreInner : Layout → ℕ → List ℕ → List Bool → Type 0
-AreInner l n numbers marks = (d : ℕ) → d < n → Nests (block_of (l.role d)) Package → MayBeMarked marks (number_at numbers d)
+-- the numbers of so many identifiers are below their number
+abbrev pub AreBelow : ℕ → List ℕ → Type 0
+AreBelow n numbers = (d : ℕ) → d < n → number_at numbers d < n

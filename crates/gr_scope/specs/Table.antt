@@ -4,10 +4,7 @@ use Rattle.gr_scope.specs.declared.model.Position.{Position}
 use Rattle.gr_scope.specs.declared.model.Role.{Role}
 use Rattle.gr_scope.specs.declared.model.Role.TheVariants.{NotLexical}
 use Rattle.gr_scope.specs.declared.model.Purpose.TheVariants.{Blank}
-use Rattle.gr_scope.specs.declared.model.Block.TheVariants.{Package}
 use Rattle.gr_scope.specs.declared.model.Identifier.{Identifier}
-use Rattle.gr_scope.specs.declared.region.Region.{Region}
-use Rattle.gr_scope.specs.Regions.{region_at}
 use Rattle.gr_scope.specs.Scopes.{Nests}
 use Rattle.gr_scope.specs.Bindings.{Layout, Names, SameBlock, InScope, IsIdentifier, block_of}
 use Rattle.gr_scope.specs.Leading.{Leads}
@@ -30,33 +27,18 @@ layout_of xs = record { role = λ i. role_at (slice_get xs i); place = λ i. pla
 abbrev pub names_of : List Identifier → Names
 names_of xs = λ i. name_at (slice_get xs i)
 
--- d is the first to declare the name in its block, its scope holds u, and it is kept in such a region
-abbrev pub IsCandidate : Layout → Names → List ℕ → (Region → Type 0) → ℕ → ℕ → Type 0
-IsCandidate l names name R u d = (names d ≡ name) × InScope l d u × Leads l names d × R (region_at l d)
-
--- the block of the declaration at hand does not lie in that of d
-abbrev pub TakesOver : Layout → Option ℕ → ℕ → Type 0
-TakesOver l None d = Unit {0}
-TakesOver l (Some b) d = Nests (block_of (l.role b)) (block_of (l.role d)) → ⊥
+-- d is the first to declare the name in its block, and its scope holds u
+abbrev pub IsCandidate : Layout → Names → List ℕ → ℕ → ℕ → Type 0
+IsCandidate l names name u d = (names d ≡ name) × InScope l d u × Leads l names d
 
 -- of two declarations of a name whose scopes hold a use, the first takes the use
 abbrev pub Precedes : Layout → ℕ → ℕ → Type 0
 Precedes l a b = (SameBlock l a b × (a < b)) ⊎ Nests (block_of (l.role a)) (block_of (l.role b))
 
--- there is a declaration, and its block lies in the package's
-abbrev pub IsInner : Layout → Option ℕ → Type 0
-IsInner l None = ⊥
-IsInner l (Some b) = Nests (block_of (l.role b)) Package
-
 -- the one of such declarations that precedes the others, or none
 abbrev pub IsNearest : Layout → (ℕ → Type 0) → Option ℕ → Type 0
 IsNearest l P None = (d : ℕ) → P d → ⊥
 IsNearest l P (Some b) = P b × ((d : ℕ) → P d → (d ≡ b) ⊎ Precedes l b d)
-
--- the second declaration where it takes over from the first, and else the first
-abbrev pub IsNearer : Layout → Option ℕ → Option ℕ → Option ℕ → Type 0
-IsNearer l first None result = result ≡ first
-IsNearer l first (Some d) result = (TakesOver l first d × (result ≡ Some d)) ⊎ ((TakesOver l first d → ⊥) × (result ≡ first))
 
 abbrev pub StandsAt : Layout → Position → ℕ → Type 0
 StandsAt l place u = IsIdentifier l u × ((l.place u).file ≡ place.file) × ((l.place u).index ≡ place.index)

@@ -1,19 +1,19 @@
 //! Which declarations count, and to which an identifier is bound.
 ghost use Rattle.std.specs.Prelude.{◌≡◌, ◌<◌, ◌↔◌, ◌⊎◌, ◌∷◌, [], true, length, IsTrue};
 ghost use Rattle.gr_scope.specs.Bindings.{Counts, IsUse, is_use, is_left_name, is_implied, scope_of};
-ghost use Rattle.gr_scope.specs.Chains.{AreAllLinks};
 ghost use Rattle.gr_scope.specs.Known.{AreDeclared, IsBinding};
 ghost use Rattle.gr_scope.specs.Leading.{Leads, GivesWay, IsInPackage};
 ghost use Rattle.gr_scope.specs.WellFormed.{IsLaidOut};
-ghost use Rattle.gr_scope.specs.Numbering.{told, AreInner};
+ghost use Rattle.gr_scope.specs.Numbering.{told};
+ghost use Rattle.gr_scope.specs.Open.{AreLinks};
 ghost use Rattle.gr_scope.specs.Table.{layout_of};
 
 use crate::declaring::DeclaredIn;
-use crate::links::{LinkKey, Links, first_in};
+use crate::links::Links;
 use crate::model::{Block, Identifier, Role, Scope};
 use crate::nearest::binding;
 use crate::numbering::number_at;
-use crate::region::Region;
+use crate::outer::{OuterBlock, first_outside};
 use crate::resolve::role_at;
 
 impl Role {
@@ -53,64 +53,67 @@ impl Role {
 }
 
 /// Whether a declaration comes first of its name in its block.
-fn leads(identifiers: &[Identifier], declared: &DeclaredIn, d: usize) -> bool
+fn leads(identifiers: &[Identifier], names: &[usize], declared: &DeclaredIn, d: usize) -> bool
     requires in_range { d < length identifiers.now }
-    requires declared { AreDeclared identifiers.now declared.now.links.names.items declared.now.links.last declared.now.links.previous.items declared.now.declaring.items declared.now.leading.items }
-    ensures { IsTrue result ↔ Leads (layout_of identifiers.now) (told declared.now.links.names.items) d }
+    requires declared { AreDeclared identifiers.now names.now declared.now }
+    ensures { IsTrue result ↔ Leads (layout_of identifiers.now) (told names.now) d }
 {
     declared.leading[d]
 }
 
 /// Whether d is an import, and its name is declared in the package's block.
-fn gives_way(identifiers: &[Identifier], links: &Links, d: usize) -> bool
+fn gives_way(identifiers: &[Identifier], names: &[usize], links: &Links, d: usize) -> bool
     requires in_range { d < length identifiers.now }
-    requires linked { AreAllLinks identifiers.now (told links.now.names.items) links.now.last links.now.previous.items }
-    ensures { IsTrue result ↔ GivesWay (layout_of identifiers.now) (told links.now.names.items) d }
+    requires linked { AreLinks identifiers.now names.now (length identifiers.now) links.now }
+    ensures { IsTrue result ↔ GivesWay (layout_of identifiers.now) (told names.now) d }
 {
     match role_at(identifiers, d).block() {
-        Block::File(_) => is_package_level(identifiers, links, number_at(&links.names, d)),
+        Block::File(_) => is_package_level(identifiers, names, links, number_at(names, d)),
         _ => false,
     }
 }
 
 /// Whether a name is declared in the package's block.
-fn is_package_level(identifiers: &[Identifier], links: &Links, name: usize) -> bool
-    requires { AreAllLinks identifiers.now (told links.now.names.items) links.now.last links.now.previous.items }
-    ensures { IsTrue result ↔ IsInPackage (layout_of identifiers.now) (told links.now.names.items) (name ∷ []) }
+fn is_package_level(identifiers: &[Identifier], names: &[usize], links: &Links, name: usize) -> bool
+    requires { AreLinks identifiers.now names.now (length identifiers.now) links.now }
+    ensures { IsTrue result ↔ IsInPackage (layout_of identifiers.now) (told names.now) (name ∷ []) }
 {
-    let region = Region::Package;
-    first_in(identifiers, links, LinkKey { name, region }, Block::Package).is_some()
+    first_outside(&links.outer, name, OuterBlock::Package).is_some()
 }
 
 /// Whether an identifier is a declaration that counts.
-fn counts(identifiers: &[Identifier], declared: &DeclaredIn, d: usize) -> bool
+fn counts(identifiers: &[Identifier], names: &[usize], declared: &DeclaredIn, d: usize) -> bool
     requires in_range { d < length identifiers.now }
-    requires declared { AreDeclared identifiers.now declared.now.links.names.items declared.now.links.last declared.now.links.previous.items declared.now.declaring.items declared.now.leading.items }
-    ensures { IsTrue result ↔ Counts (layout_of identifiers.now) (told declared.now.links.names.items) d }
+    requires declared { AreDeclared identifiers.now names.now declared.now }
+    ensures { IsTrue result ↔ Counts (layout_of identifiers.now) (told names.now) d }
 {
-    leads(identifiers, declared, d) && !gives_way(identifiers, &declared.links, d)
+    leads(identifiers, names, declared, d) && !gives_way(identifiers, names, &declared.links, d)
 }
 
 /// Whether an identifier is a lexical use.
-fn is_use(identifiers: &[Identifier], declared: &DeclaredIn, d: usize) -> bool
+fn is_use(identifiers: &[Identifier], names: &[usize], declared: &DeclaredIn, d: usize) -> bool
     requires in_range { d < length identifiers.now }
-    requires declared { AreDeclared identifiers.now declared.now.links.names.items declared.now.links.last declared.now.links.previous.items declared.now.declaring.items declared.now.leading.items }
-    ensures { IsTrue result ↔ IsUse (layout_of identifiers.now) (told declared.now.links.names.items) d }
+    requires declared { AreDeclared identifiers.now names.now declared.now }
+    ensures { IsTrue result ↔ IsUse (layout_of identifiers.now) (told names.now) d }
 {
     role_at(identifiers, d).is_use_unless(declared.declaring[d])
 }
 
 /// The declaration to which an identifier is bound.
-pub(crate) fn bound_to(identifiers: &[Identifier], declared: &DeclaredIn, d: usize) -> Option<usize>
+pub(crate) fn bound_to(
+    identifiers: &[Identifier],
+    names: &[usize],
+    declared: &DeclaredIn,
+    d: usize,
+) -> Option<usize>
     requires in_range { d < length identifiers.now }
-    requires laid_out { IsLaidOut (layout_of identifiers.now) }
-    requires inner { AreInner (layout_of identifiers.now) (length identifiers.now) declared.now.links.names.items declared.now.links.inner.items }
-    requires declared { AreDeclared identifiers.now declared.now.links.names.items declared.now.links.last declared.now.links.previous.items declared.now.declaring.items declared.now.leading.items }
-    ensures { IsBinding (layout_of identifiers.now) (told declared.now.links.names.items) d result }
+    requires laid_out { IsLaidOut (layout_of identifiers.now) (length identifiers.now) }
+    requires declared { AreDeclared identifiers.now names.now declared.now }
+    ensures { IsBinding (layout_of identifiers.now) (told names.now) d result }
 {
-    if is_use(identifiers, declared, d) {
-        binding(identifiers, &declared.links, d)
-    } else if declared.declaring[d] && counts(identifiers, declared, d) {
+    if is_use(identifiers, names, declared, d) {
+        binding(identifiers, names, &declared.links, d)
+    } else if declared.declaring[d] && counts(identifiers, names, declared, d) {
         Some(d)
     } else {
         None

@@ -2,20 +2,22 @@
 ghost use Rattle.std.specs.Prelude.{◌≡◌, ◌<◌, ◌+◌, ◌↔◌, length, IsTrue, IfOk, OnOk};
 ghost use Rattle.std.specs.Option.{ForSome};
 ghost use Rattle.gr_scope.specs.Bindings.{Declares, MayDeclare};
-ghost use Rattle.gr_scope.specs.Chains.{AreLinks};
 ghost use Rattle.gr_scope.specs.Known.{AreDeclared, AreFirst};
 ghost use Rattle.gr_scope.specs.Leading.{HoldsAt, IsLeader, Leads};
-ghost use Rattle.gr_scope.specs.Numbering.{told, AreInner};
+ghost use Rattle.gr_scope.specs.Numbering.{told, AreBelow};
+ghost use Rattle.gr_scope.specs.Open.{AreLinks};
 ghost use Rattle.gr_scope.specs.Table.{layout_of};
 ghost use Rattle.gr_scope.specs.WellFormed.{IsLaidOut, WellFormed};
 
-use crate::links::{Links, first_in, key_at};
+use crate::inner_blocks::first_inside;
+use crate::links::Links;
 use crate::model::Identifier;
-use crate::numbering::inner_names;
+use crate::numbering::number_at;
+use crate::outer::first_outside;
 use crate::resolve::{in_scope, role_at};
 use std::alloc::{AllocError, Global};
 
-/// Whether each identifier declares, whether it comes first of its name in its block, and the links of those that do.
+/// The links of identifiers, whether each declares, and whether it comes first of its name in its block.
 #[derive(Drop)]
 pub struct DeclaredIn {
     pub links: Links,
@@ -30,22 +32,19 @@ struct Standing {
     leads: bool,
 }
 
-/// The first declaration of an identifier's name in its block, of those that are linked.
-fn leader(identifiers: &[Identifier], links: &Links, d: usize) -> Option<usize>
+/// The first declaration of the next identifier's name in its block.
+fn leader(identifiers: &[Identifier], names: &[usize], links: &Links, d: usize) -> Option<usize>
     requires in_range { d < length identifiers.now }
-    requires laid_out { IsLaidOut (layout_of identifiers.now) }
+    requires laid_out { IsLaidOut (layout_of identifiers.now) (length identifiers.now) }
+    requires numbered { AreBelow (length identifiers.now) names.now }
     requires may_declare { MayDeclare (layout_of identifiers.now) d }
-    requires next { length links.now.previous.items ≡ d }
-    requires linked { AreLinks (layout_of identifiers.now) (told links.now.names.items) links.now.last links.now.previous.items }
-    ensures { IsLeader (layout_of identifiers.now) (told links.now.names.items) d result }
+    requires linked { AreLinks identifiers.now names.now d links.now }
+    ensures { IsLeader (layout_of identifiers.now) (told names.now) d result }
 {
-    let own = role_at(identifiers, d).block();
-    first_in(
-        identifiers,
-        links,
-        key_at(identifiers, &links.names, d),
-        own,
-    )
+    match role_at(identifiers, d).block().outer() {
+        None => first_inside(identifiers, names, links, d),
+        Some(block) => first_outside(&links.outer, number_at(names, d), block),
+    }
 }
 
 /// Whether the scope of a declaration, where there is one, holds the place of u.
@@ -61,12 +60,12 @@ fn holds(identifiers: &[Identifier], d: Option<usize>, u: usize) -> bool
 }
 
 /// Whether an identifier that may declare does so, behind the first declaration of its name in its block.
-fn declares(identifiers: &[Identifier], links: &Links, leader: Option<usize>, d: usize) -> bool
+fn declares(identifiers: &[Identifier], names: &[usize], leader: Option<usize>, d: usize) -> bool
     requires in_range { d < length identifiers.now }
     requires well_formed { WellFormed (layout_of identifiers.now) }
     requires may_declare { MayDeclare (layout_of identifiers.now) d }
-    requires leader { IsLeader (layout_of identifiers.now) (told links.now.names.items) d leader }
-    ensures { IsTrue result ↔ Declares (layout_of identifiers.now) (told links.now.names.items) d }
+    requires leader { IsLeader (layout_of identifiers.now) (told names.now) d leader }
+    ensures { IsTrue result ↔ Declares (layout_of identifiers.now) (told names.now) d }
 {
     !role_at(identifiers, d).is_left_name() || !holds(identifiers, leader, d)
 }
@@ -74,18 +73,18 @@ fn declares(identifiers: &[Identifier], links: &Links, leader: Option<usize>, d:
 /// What an identifier that may declare does, behind the first declaration of its name in its block.
 fn standing_behind(
     identifiers: &[Identifier],
-    links: &Links,
+    names: &[usize],
     leader: Option<usize>,
     d: usize,
 ) -> Standing
     requires in_range { d < length identifiers.now }
     requires well_formed { WellFormed (layout_of identifiers.now) }
     requires may_declare { MayDeclare (layout_of identifiers.now) d }
-    requires leader { IsLeader (layout_of identifiers.now) (told links.now.names.items) d leader }
-    ensures declares { IsTrue result.declares ↔ Declares (layout_of identifiers.now) (told links.now.names.items) d }
-    ensures leads { IsTrue result.leads ↔ Leads (layout_of identifiers.now) (told links.now.names.items) d }
+    requires leader { IsLeader (layout_of identifiers.now) (told names.now) d leader }
+    ensures declares { IsTrue result.declares ↔ Declares (layout_of identifiers.now) (told names.now) d }
+    ensures leads { IsTrue result.leads ↔ Leads (layout_of identifiers.now) (told names.now) d }
 {
-    let declares = declares(identifiers, links, leader, d);
+    let declares = declares(identifiers, names, leader, d);
     match leader {
         None => Standing {
             declares,
@@ -98,17 +97,18 @@ fn standing_behind(
     }
 }
 
-/// What the next identifier does: one look-up where it may declare, and else none.
-fn standing_of(identifiers: &[Identifier], links: &Links, d: usize) -> Standing
+/// What the next identifier does.
+fn standing_of(identifiers: &[Identifier], names: &[usize], links: &Links, d: usize) -> Standing
     requires in_range { d < length identifiers.now }
-    requires laid_out { IsLaidOut (layout_of identifiers.now) }
-    requires next { length links.now.previous.items ≡ d }
-    requires linked { AreLinks (layout_of identifiers.now) (told links.now.names.items) links.now.last links.now.previous.items }
-    ensures declares { IsTrue result.declares ↔ Declares (layout_of identifiers.now) (told links.now.names.items) d }
-    ensures leads { IsTrue result.leads ↔ Leads (layout_of identifiers.now) (told links.now.names.items) d }
+    requires laid_out { IsLaidOut (layout_of identifiers.now) (length identifiers.now) }
+    requires numbered { AreBelow (length identifiers.now) names.now }
+    requires linked { AreLinks identifiers.now names.now d links.now }
+    ensures declares { IsTrue result.declares ↔ Declares (layout_of identifiers.now) (told names.now) d }
+    ensures leads { IsTrue result.leads ↔ Leads (layout_of identifiers.now) (told names.now) d }
 {
     if role_at(identifiers, d).may_declare() {
-        standing_behind(identifiers, links, leader(identifiers, links, d), d)
+        let leader = leader(identifiers, names, links, d);
+        standing_behind(identifiers, names, leader, d)
     } else {
         Standing {
             declares: false,
@@ -118,17 +118,22 @@ fn standing_of(identifiers: &[Identifier], links: &Links, d: usize) -> Standing
 }
 
 impl DeclaredIn {
-    /// Adds the next identifier: two look-ups at most.
-    fn add(&mut self, identifiers: &[Identifier], d: usize) -> Result<(), AllocError>
+    /// Adds the next identifier.
+    fn add(
+        &mut self,
+        identifiers: &[Identifier],
+        names: &[usize],
+        d: usize,
+    ) -> Result<(), AllocError>
         requires in_range { d < length identifiers.now }
-        requires laid_out { IsLaidOut (layout_of identifiers.now) }
-        requires first { AreFirst identifiers.now self.old.links.names.items d self.old.links.last self.old.links.previous.items self.old.declaring.items self.old.leading.items }
-        ensures first { OnOk result (AreFirst identifiers.now self.old.links.names.items (d + 1) self.new.links.last self.new.links.previous.items self.new.declaring.items self.new.leading.items) }
-        ensures names { self.new.links.names.items ≡ self.old.links.names.items }
-        ensures inner { self.new.links.inner.items ≡ self.old.links.inner.items }
+        requires laid_out { IsLaidOut (layout_of identifiers.now) (length identifiers.now) }
+        requires numbered { AreBelow (length identifiers.now) names.now }
+        requires first { AreFirst identifiers.now names.now d self.old }
+        ensures { OnOk result (AreFirst identifiers.now names.now (d + 1) self.new) }
     {
-        let standing = standing_of(identifiers, &self.links, d);
-        self.links.link(identifiers, d, standing.leads)?;
+        self.links.close(identifiers, names, d);
+        let standing = standing_of(identifiers, names, &self.links, d);
+        self.links.link(identifiers, names, d, standing.leads)?;
         self.declaring.push(standing.declares)?;
         self.leading.push(standing.leads)?;
         Ok(())
@@ -139,21 +144,20 @@ impl DeclaredIn {
 pub(crate) fn declared_of(
     alloc: Global,
     identifiers: &[Identifier],
-    names: Vec<usize>,
+    names: &[usize],
 ) -> Result<DeclaredIn, AllocError>
-    requires { IsLaidOut (layout_of identifiers.now) }
-    ensures declared { IfOk result (λ r. AreDeclared identifiers.now r.links.names.items r.links.last r.links.previous.items r.declaring.items r.leading.items) }
-    ensures names { IfOk result (λ r. r.links.names.items ≡ names.items) }
-    ensures inner { IfOk result (λ r. AreInner (layout_of identifiers.now) (length identifiers.now) r.links.names.items r.links.inner.items) }
+    requires laid_out { IsLaidOut (layout_of identifiers.now) (length identifiers.now) }
+    requires numbered { AreBelow (length identifiers.now) names.now }
+    ensures { IfOk result (λ declared. AreDeclared identifiers.now names.now declared) }
 {
-    let inner = inner_names(alloc, identifiers, &names)?;
+    let links = Links::new(alloc, identifiers)?;
     let mut declared = DeclaredIn {
-        links: Links::new(alloc, names, inner),
+        links,
         declaring: Vec::new(alloc),
         leading: Vec::new(alloc),
     };
     for d in 0..identifiers.len() {
-        declared.add(identifiers, d)?;
+        declared.add(identifiers, names, d)?;
     }
     Ok(declared)
 }

@@ -21,7 +21,7 @@ pub struct Identifiers<'a> {
 }
 
 impl<'a> Model for Identifiers<'a> {
-    ghost use Rattle.std.specs.Prelude.{map};
+    ghost use Rattle.std.specs.Prelude.{length, map};
     ghost use Rattle.std.specs.Coded.{codes};
     ghost use Rattle.gr_tree.specs.contracts.tree.File as e;
     ghost use Rattle.gr_scope.specs.Found.{site_of};
@@ -35,7 +35,7 @@ impl<'a> Model for Identifiers<'a> {
 
     ghost view = { λ t. record { files = t.files.now; sites = map site_of t.list.items } };
 
-    ghost invariant = { λ t. IsLaidOut (layout_of t.list.items) };
+    ghost invariant = { λ t. IsLaidOut (layout_of t.list.items) (length t.list.items) };
 }
 
 /// Whether a token of a file begins at a place.
@@ -60,7 +60,7 @@ fn is_place(files: &[FileTree], at: Position, place: &Place) -> bool
 impl<'a> Identifiers<'a> {
     /// Identifiers that were taken from files.
     pub(crate) fn new(files: &'a [FileTree], list: Vec<Identifier<'a>>) -> Identifiers<'a>
-        requires { IsLaidOut (layout_of list.items) }
+        requires { IsLaidOut (layout_of list.items) (length list.items) }
         ensures files { result.files ≡ files.now }
         ensures sites { result.sites ≡ map site_of list.entry.items }
     {
@@ -81,10 +81,10 @@ impl<'a> Identifiers<'a> {
         let _list = &self.list;
     }
 
-    /// More of their layout: what is declared in a file's block is seen from the file's beginning, and blocks are opened and
-    /// closed in the order of declarations.
+    /// More of their layout: what is declared in a file's block is seen from the file's beginning, blocks are opened and closed in
+    /// the order of declarations, and identifiers are numbered in the order of their places.
     pub(crate) fn are_laid_out(&self)
-        ensures { IsLaidOut (layout_in self.now) }
+        ensures { IsLaidOut (layout_in self.now) (length self.now.sites) }
     {
         let _list = &self.list;
     }

@@ -3,7 +3,7 @@
 ghost use Rattle.std.specs.Prelude.{◌<◌, length, IfOk};
 ghost use Rattle.gr_scope.specs.ByToken.{number_at};
 ghost use Rattle.gr_scope.specs.Known.{AreBindings, AreBound, AreDeclared, AreKnown};
-ghost use Rattle.gr_scope.specs.Numbering.{told, AreInner};
+ghost use Rattle.gr_scope.specs.Numbering.{told, AreBelow};
 ghost use Rattle.gr_scope.specs.Table.{layout_of, names_of};
 ghost use Rattle.gr_scope.specs.WellFormed.{IsLaidOut};
 
@@ -35,16 +35,16 @@ struct BoundRow {
 fn bindings_of(
     alloc: Global,
     identifiers: &[Identifier],
+    names: &[usize],
     declared: &DeclaredIn,
 ) -> Result<Vec<Option<DeclId>>, AllocError>
-    requires laid_out { IsLaidOut (layout_of identifiers.now) }
-    requires inner { AreInner (layout_of identifiers.now) (length identifiers.now) declared.now.links.names.items declared.now.links.inner.items }
-    requires declared { AreDeclared identifiers.now declared.now.links.names.items declared.now.links.last declared.now.links.previous.items declared.now.declaring.items declared.now.leading.items }
-    ensures { IfOk result (λ found. AreBindings (layout_of identifiers.now) (told declared.now.links.names.items) (length identifiers.now) found.items) }
+    requires laid_out { IsLaidOut (layout_of identifiers.now) (length identifiers.now) }
+    requires declared { AreDeclared identifiers.now names.now declared.now }
+    ensures { IfOk result (λ found. AreBindings (layout_of identifiers.now) (told names.now) (length identifiers.now) found.items) }
 {
     let mut found = Vec::new(alloc);
     for u in 0..identifiers.len() {
-        found.push(bound_to(identifiers, declared, u))?;
+        found.push(bound_to(identifiers, names, declared, u))?;
     }
     Ok(found)
 }
@@ -53,13 +53,14 @@ fn bindings_of(
 fn told_bound(
     alloc: Global,
     identifiers: &[Identifier],
-    names: Vec<usize>,
+    names: &[usize],
 ) -> Result<BoundRow, AllocError>
-    requires { IsLaidOut (layout_of identifiers.now) }
-    ensures { IfOk result (λ bound. AreBound (layout_of identifiers.now) (told names.items) (length identifiers.now) bound.declaring.items bound.bindings.items) }
+    requires laid_out { IsLaidOut (layout_of identifiers.now) (length identifiers.now) }
+    requires numbered { AreBelow (length identifiers.now) names.now }
+    ensures { IfOk result (λ bound. AreBound (layout_of identifiers.now) (told names.now) (length identifiers.now) bound.declaring.items bound.bindings.items) }
 {
     let declared = declared_of(alloc, identifiers, names)?;
-    let bindings = bindings_of(alloc, identifiers, &declared)?;
+    let bindings = bindings_of(alloc, identifiers, names, &declared)?;
     Ok(BoundRow {
         declaring: declared.declaring,
         bindings,
@@ -68,11 +69,11 @@ fn told_bound(
 
 /// Which identifiers declare, and to what each is bound.
 fn bound_of(alloc: Global, identifiers: &[Identifier]) -> Result<BoundRow, AllocError>
-    requires { IsLaidOut (layout_of identifiers.now) }
+    requires { IsLaidOut (layout_of identifiers.now) (length identifiers.now) }
     ensures { IfOk result (λ bound. AreBound (layout_of identifiers.now) (names_of identifiers.now) (length identifiers.now) bound.declaring.items bound.bindings.items) }
 {
     let names = numbers_of(alloc, identifiers)?;
-    told_bound(alloc, identifiers, names)
+    told_bound(alloc, identifiers, &names)
 }
 
 /// What is kept of a package's identifiers.

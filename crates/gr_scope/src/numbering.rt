@@ -1,10 +1,10 @@
 //! Numbers that stand for the names of identifiers: found once for each, so that no look-up after that goes over the bytes of
 //! a name.
-ghost use Rattle.std.specs.Prelude.{true, ◌≡◌, ◌<◌, ◌+◌, length, slice_index_or, IfOk, OnOk};
-ghost use Rattle.gr_scope.specs.Numbering.{is_lexical, number_at, AreFirsts, AreInner, HasName, IsLexical, Marks, TellApart};
+ghost use Rattle.std.specs.Prelude.{◌≡◌, ◌<◌, ◌≤◌, ◌+◌, length, IfOk, OnOk};
+ghost use Rattle.gr_scope.specs.Numbering.{is_lexical, number_at, AreBelow, AreFirsts, HasName, IsLexical, TellApart};
 ghost use Rattle.gr_scope.specs.Table.{layout_of, names_of, IsFirstOf};
 
-use crate::model::{Block, Identifier, Role};
+use crate::model::{Identifier, Role};
 use crate::resolve::{name_at, role_at};
 use indexmap::IndexMap;
 use std::alloc::{AllocError, Global};
@@ -61,6 +61,7 @@ fn next_number<'a>(
     ensures firsts { OnOk result (AreFirsts (layout_of identifiers.now) (names_of identifiers.now) (u + 1) firsts.new) }
     ensures number { IfOk result (λ n. IsLexical (layout_of identifiers.now) u →
         IsFirstOf (HasName (layout_of identifiers.now) (names_of identifiers.now) (names_of identifiers.now u)) (u + 1) n) }
+    ensures below { IfOk result (λ n. n ≤ u) }
 {
     if role_at(identifiers, u).is_lexical() {
         first_of(firsts, identifiers, u)
@@ -74,7 +75,8 @@ pub(crate) fn numbers_of(
     alloc: Global,
     identifiers: &[Identifier],
 ) -> Result<Vec<usize>, AllocError>
-    ensures { IfOk result (λ numbers. TellApart (layout_of identifiers.now) (names_of identifiers.now) (length identifiers.now) numbers.items) }
+    ensures apart { IfOk result (λ numbers. TellApart (layout_of identifiers.now) (names_of identifiers.now) (length identifiers.now) numbers.items) }
+    ensures below { IfOk result (λ numbers. AreBelow (length identifiers.now) numbers.items) }
 {
     let mut firsts = IndexMap::new(alloc);
     let mut numbers = Vec::new(alloc);
@@ -92,40 +94,4 @@ pub(crate) fn number_at(numbers: &[usize], d: usize) -> usize
         None => 0,
         Some(number) => *number,
     }
-}
-
-/// Marks a number.
-fn mark(marks: &mut Vec<bool>, number: usize)
-    ensures { Marks marks.old.items marks.new.items number }
-{
-    if number < marks.len() {
-        marks[number] = true;
-    }
-}
-
-/// Whether a number may be marked.
-pub(crate) fn may_be_marked(marks: &[bool], number: usize) -> bool
-    ensures { result ≡ slice_index_or marks.now number true }
-{
-    match marks.get(number) {
-        None => true,
-        Some(marked) => *marked,
-    }
-}
-
-/// Marks the names that an inner block may declare, by their numbers.
-pub(crate) fn inner_names(
-    alloc: Global,
-    identifiers: &[Identifier],
-    numbers: &[usize],
-) -> Result<Vec<bool>, AllocError>
-    ensures { IfOk result (λ marks. AreInner (layout_of identifiers.now) (length identifiers.now) numbers.now marks.items) }
-{
-    let mut marks = vec![in alloc; false; identifiers.len()]?;
-    for d in 0..identifiers.len() {
-        if role_at(identifiers, d).block().nests(Block::Package) {
-            mark(&mut marks, number_at(numbers, d));
-        }
-    }
-    Ok(marks)
 }

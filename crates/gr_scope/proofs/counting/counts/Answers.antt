@@ -7,7 +7,7 @@ use Rattle.gr_scope.proofs.counting.counts.Goals as goal
 pub returns-then-leads : goal.returns-then-leads
 returns-then-leads c =
     let l = layout_of c.args.identifiers.now in
-    let names = told c.args.declared.now.links.names.items in (
+    let names = told c.args.names.now in (
       (λ t. counts_if l names c.args.d (c.leads.ensures.0 c.if-leads.true) (λ w. not_both c.gives_way.result t (c.gives_way.ensures.1 w))),
       (λ x. not_if c.gives_way.result (λ g. (counts_only l names c.args.d x).1 (c.gives_way.ensures.0 g))),
     )

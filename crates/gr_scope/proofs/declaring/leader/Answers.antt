@@ -1,16 +1,26 @@
 -- The answers to the goals of `declaring::leader`.
-use Rattle.std.proofs.Common.{ℕ, ◌≡◌, ◌∙◌, length, ap, sym, subst}
+use Rattle.std.proofs.Common.{ℕ, ◌≡◌, ◌∷◌, [], ◌∙◌, List, ap, sym, subst}
 use Rattle.gr_scope.specs.declared.model.Block.{Block}
 use Rattle.gr_scope.specs.Bindings.{block_of}
-use Rattle.gr_scope.specs.Chains.{StaysOpen}
+use Rattle.gr_scope.specs.Leading.{IsFirstIn}
+use Rattle.gr_scope.specs.Numbering.{told}
+use Rattle.gr_scope.specs.Outer.{block_in, outer_of}
 use Rattle.gr_scope.specs.Table.{layout_of}
-use Rattle.gr_scope.proofs.Following.{stays_open}
+use Rattle.gr_scope.proofs.Linking.{inner_if, block_back}
 use Rattle.gr_scope.proofs.declaring.leader.Goals as goal
 
-pub first_in-requires-clause-open : goal.first_in-requires-clause-open
-first_in-requires-clause-open c =
+pub first_inside-requires-clause-inner : goal.first_inside-requires-clause-inner
+first_inside-requires-clause-inner c =
     let l = layout_of c.args.identifiers.now in
-    let own : c.block-own.result ≡ block_of (l.role c.args.d) = c.block-own.ensures ∙ ap block_of c.role_at.ensures in
-    let N : ℕ → Type 0 = λ n. StaysOpen l n (block_of (l.role c.args.d)) in
-    let B : Block → Type 0 = λ b. StaysOpen l (length c.args.links.now.previous.items) b in
-    subst B (sym own) (subst N (sym c.requires.next) (stays_open l c.requires.laid_out c.args.d c.requires.may_declare))
+    inner_if (block_of (l.role c.args.d)) (ap outer_of (sym (c.block.ensures ∙ ap block_of c.role_at.ensures)) ∙ sym c.outer.ensures ∙ c.in-None.is)
+
+pub returns-in-Some : goal.returns-in-Some
+returns-in-Some c =
+    let l = layout_of c.args.identifiers.now in
+    let names = told c.args.names.now in
+    let own = block_of (l.role c.args.d) in
+    let outer : outer_of own ≡ _ = ap outer_of (sym (c.block.ensures ∙ ap block_of c.role_at.ensures)) ∙ sym c.outer.ensures ∙ c.in-Some.is in
+    let N : List ℕ → Type 0 = λ n. IsFirstIn l names n (block_in c.in-Some.block) c.args.d c.first_outside.result in
+    let B : Block → Type 0 = λ b. IsFirstIn l names (names c.args.d) b c.args.d c.first_outside.result in
+    subst B (block_back own c.in-Some.block outer)
+    (subst N (ap (λ n. n ∷ []) c.number_at.ensures) (c.first_outside.ensures l names c.args.d c.requires.linked.outer))

@@ -5,10 +5,9 @@ use Rattle.gr_scope.proofs.Kept.{bindings_none, bindings_next}
 use Rattle.gr_scope.proofs.known.bindings_of.Goals as goal
 
 pub loop-u-init : goal.loop-u-init
-loop-u-init c = bindings_none (layout_of c.args.identifiers.now) (told c.args.declared.now.links.names.items) c.new-found.result.items c.new-found.ensures.items
+loop-u-init c = bindings_none (layout_of c.args.identifiers.now) (told c.args.names.now) c.new-found.result.items c.new-found.ensures.items
 
 pub loop-u-preserved : goal.loop-u-preserved
 loop-u-preserved c =
-    bindings_next (layout_of c.args.identifiers.now) (told c.args.declared.now.links.names.items) c.loop-u.u c.loop-u.found.items c.push.new.self.items
-    c.bound_to.result c.loop-u.invariant c.in_ok-push.ensures.items
-    c.bound_to.ensures
+    bindings_next (layout_of c.args.identifiers.now) (told c.args.names.now) c.loop-u.u c.loop-u.found.items c.push.new.self.items c.bound_to.result
+    c.loop-u.invariant c.in_ok-push.ensures.items c.bound_to.ensures

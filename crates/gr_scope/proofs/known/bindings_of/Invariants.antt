@@ -5,4 +5,4 @@ use Rattle.gr_scope.specs.Table.{layout_of}
 use Rattle.gr_scope.proofs.known.bindings_of.Given as goal
 
 abbrev pub invariant-loop-u : goal.invariant-loop-u
-invariant-loop-u l = AreBindings (layout_of l.identifiers) (told l.declared.links.names.items) l.u l.found.items
+invariant-loop-u l = AreBindings (layout_of l.identifiers) (told l.names) l.u l.found.items

@@ -1,13 +1,13 @@
 -- The answers to the goals of `known::known_of`.
-use Rattle.std.proofs.Common.{List, length, ap, sym, subst, ◌∙◌}
+use Rattle.std.proofs.Common.{List, length, subst}
 use Rattle.gr_scope.specs.Known.{AreBound}
 use Rattle.gr_scope.specs.Site.{Site, sites_layout, sites_names}
-use Rattle.gr_scope.specs.WellFormed.{IsLaidOut}
-use Rattle.gr_scope.proofs.Declared.{layout-sites, in_sites}
+use Rattle.gr_scope.proofs.Declared.{in_sites}
+use Rattle.gr_scope.proofs.NamedSites.{list_laid_out}
 use Rattle.gr_scope.proofs.known.known_of.Goals as goal
 
 pub bound_of-requires : goal.bound_of-requires
-bound_of-requires c = subst IsLaidOut (sym (layout-sites c.as_slice.result.now ∙ ap sites_layout c.as_slice.ensures.sites)) c.are_laid_out.ensures
+bound_of-requires c = list_laid_out c.as_slice.result.now c.args.identifiers.now.sites c.as_slice.ensures.sites c.are_laid_out.ensures
 
 pub returns : goal.returns
 returns c =

@@ -1,36 +1,31 @@
 -- The answers to the goals of `nearest::binding`.
-use Rattle.std.proofs.Common.{◌≡◌, ◌∷◌, [], ◌/◌, ◌∙◌, List, ℕ, ap, subst}
-use Rattle.gr_scope.specs.declared.region.Region.TheVariants as regions
-use Rattle.gr_scope.specs.Numbering.{number_at, told}
-use Rattle.gr_scope.specs.Regions.{Surrounds}
-use Rattle.gr_scope.specs.Table.{IsCandidate, IsNearest, layout_of}
-use Rattle.gr_scope.proofs.Combining.{nearest_of_both, nearest_binds}
-use Rattle.gr_scope.proofs.Nearby.{inner_nearest}
-use Rattle.gr_scope.proofs.Nests.{nests}
+use Rattle.std.proofs.Common.{ℕ, subst, sym, Option, Some}
+use Rattle.gr_scope.specs.Numbering.{told}
+use Rattle.gr_scope.specs.Open.{IsSeenInside}
+use Rattle.gr_scope.specs.Table.{IsNearest, layout_of}
+use Rattle.gr_scope.proofs.Binding.{nearest_binds, inside_nearest}
 use Rattle.gr_scope.proofs.nearest.binding.Goals as goal
 
-pub returns : goal.returns
-returns c =
+pub outside-requires-clause-none_inside : goal.outside-requires-clause-none_inside
+outside-requires-clause-none_inside c =
     let l = layout_of c.args.identifiers.now in
-    let names = told c.args.links.now.names.items in
+    let names = told c.args.names.now in
     let u = c.args.u in
-    let is : c.number_at-name.result ∷ [] ≡ names u = ap (λ n. n ∷ []) (c.number_at-name.ensures ∙ ap (λ xs. number_at xs u) c.deref.ensures.value) in
-    let A : List ℕ → Type 0 = λ n. IsNearest l (IsCandidate l names n (Surrounds (l.place u).file 6 ((l.place u).index / 16)) u) c.around-around.result in
-    let B : List ℕ → Type 0 = λ n. IsNearest l (IsCandidate l names n (λ r. r ≡ regions.Package) u) c.nearest_in-outside.result in
-    nearest_binds l c.requires.laid_out.well_formed names (names u) u c.nearer.result
-    (nearest_of_both l (nests l c.requires.laid_out.well_formed) names (names u) u (Surrounds (l.place u).file 6 ((l.place u).index / 16))
-    (λ r. r ≡ regions.Package)
-    c.around-around.result c.nearest_in-outside.result c.nearer.result (subst A is c.around-around.ensures)
-    (subst B is c.nearest_in-outside.ensures) c.nearer.ensures)
+    let P : Option ℕ → Type 0 = λ o. IsNearest l (IsSeenInside l names (names u) u) o in
+    subst P c.in-None.is (subst P (sym c.index.ensures) (c.requires.linked.near u c.index.result.now c.requires.in_range c.requires.follows))
 
-pub returns-then-is_inner : goal.returns-then-is_inner
-returns-then-is_inner c =
+pub returns-in-Some : goal.returns-in-Some
+returns-in-Some c =
     let l = layout_of c.args.identifiers.now in
-    let names = told c.args.links.now.names.items in
+    let names = told c.args.names.now in
     let u = c.args.u in
-    let is : c.number_at-name.result ∷ [] ≡ names u = ap (λ n. n ∷ []) (c.number_at-name.ensures ∙ ap (λ xs. number_at xs u) c.deref.ensures.value) in
-    let A : List ℕ → Type 0 = λ n. IsNearest l (IsCandidate l names n (Surrounds (l.place u).file 6 ((l.place u).index / 16)) u) c.around-around.result in
-    nearest_binds l c.requires.laid_out.well_formed names (names u) u c.around-around.result
-    (inner_nearest l c.requires.laid_out.well_formed names (names u) u (Surrounds (l.place u).file 6 ((l.place u).index / 16)) c.around-around.result
-    (c.is_inner.ensures.0 c.if-is_inner.true)
-    (subst A is c.around-around.ensures))
+    let P : Option ℕ → Type 0 = λ o. IsNearest l (IsSeenInside l names (names u) u) o in
+    nearest_binds l c.requires.laid_out.well_formed names (names u) u (Some c.in-Some.d)
+    (inside_nearest l names (names u) u c.in-Some.d (subst P c.in-Some.is
+    (subst P (sym c.index.ensures) (c.requires.linked.near u c.index.result.now c.requires.in_range c.requires.follows))))
+
+pub returns-in-None : goal.returns-in-None
+returns-in-None c =
+    let l = layout_of c.args.identifiers.now in
+    let names = told c.args.names.now in
+    nearest_binds l c.requires.laid_out.well_formed names (names c.args.u) c.args.u c.outside.result c.outside.ensures

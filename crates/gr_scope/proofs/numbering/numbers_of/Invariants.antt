@@ -1,5 +1,5 @@
 -- The invariants of the loops of `numbering::numbers_of`.
-use Rattle.std.proofs.Common.{ℕ, ◌≡◌, ◌+◌, ◌<◌, length}
+use Rattle.std.proofs.Common.{ℕ, ◌≡◌, ◌+◌, ◌<◌, ◌≤◌, length}
 use Rattle.std.specs.Prelude.{slice_index_or}
 use Rattle.gr_scope.specs.Numbering.{AreFirsts, HasName, IsLexical}
 use Rattle.gr_scope.specs.Table.{layout_of, names_of, IsFirstOf}
@@ -11,4 +11,5 @@ invariant-loop-u l = record {
   sized : length l.numbers.items ≡ l.u;
   each : (d x : ℕ) → d < l.u → IsLexical (layout_of l.identifiers) d →
       IsFirstOf (HasName (layout_of l.identifiers) (names_of l.identifiers) (names_of l.identifiers d)) (d + 1) (slice_index_or l.numbers.items d x);
+  below : (d x : ℕ) → d < l.u → slice_index_or l.numbers.items d x ≤ d;
 }

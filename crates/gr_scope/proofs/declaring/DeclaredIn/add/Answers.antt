@@ -1,11 +1,20 @@
--- The answers to the goals of `declaring::Declared::add`.
-use Rattle.gr_scope.proofs.Kept.{first_next}
+-- The answers to the goals of `declaring::DeclaredIn::add`.
+use Rattle.gr_scope.specs.Bindings.{Declares}
+use Rattle.gr_scope.specs.Leading.{Leads}
+use Rattle.gr_scope.specs.Numbering.{told}
+use Rattle.gr_scope.specs.Table.{layout_of}
+use Rattle.gr_scope.proofs.Kept.{marks_next}
 use Rattle.gr_scope.proofs.declaring.DeclaredIn.add.Goals as goal
 
-pub returns-clause-first : goal.returns-clause-first
-returns-clause-first c =
-    first_next c.args.identifiers.now c.args.self.now.links.names.items c.args.d c.link.new.self.last c.link.new.self.previous.items
-    c.args.self.now.declaring.items c.push.new.self.items c.args.self.now.leading.items c.push-2.new.self.items
-    c.standing_of-standing.result.declares c.standing_of-standing.result.leads
-    c.in_ok-link.ensures.linked c.in_ok-link.ensures.next c.requires.first.marks c.in_ok-push.ensures.items c.standing_of-standing.ensures.declares
-    c.requires.first.firsts c.in_ok-push-2.ensures.items c.standing_of-standing.ensures.leads
+pub returns : goal.returns
+returns c =
+    let l = layout_of c.args.identifiers.now in
+    let names = told c.args.names.now in
+    let old = c.args.self.now in
+    record {
+      links = c.in_ok-link.ensures;
+      marks = marks_next (Declares l names) c.args.d old.declaring.items c.push.new.self.items c.standing_of-standing.result.declares c.requires.first.marks
+          c.in_ok-push.ensures.items c.standing_of-standing.ensures.declares;
+      firsts = marks_next (Leads l names) c.args.d old.leading.items c.push-2.new.self.items c.standing_of-standing.result.leads c.requires.first.firsts
+          c.in_ok-push-2.ensures.items c.standing_of-standing.ensures.leads;
+    }
