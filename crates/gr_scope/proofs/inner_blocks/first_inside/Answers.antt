@@ -96,7 +96,8 @@ loop-at-preserved c =
           let P : ℕ → Type 0 = λ v. SameBlock l v d in
           let t : c.same.result ≡ true = c.same.ensures.1 (found ∙ subst P is same ∙ sym own) in
           let f : c.same.result ≡ false = c.if-same.false in cc);
-      known = walk_known l (length xs) names (names d) d around c.loop-at.at _ _ k c.requires.linked.linked c.in-Some.is c.index.ensures c.loop-at.invariant.known;
+      known = walk_known l (length xs) names (names d) d around c.loop-at.at _ _ k c.requires.linked.linked c.in-Some.is c.index.ensures
+          c.loop-at.invariant.known;
     }
 
 pub loop-at-smaller : goal.loop-at-smaller

@@ -52,7 +52,8 @@ loop-at-preserved c =
     let known = c.loop-at.invariant.known d c.in-Some.is in
     let around = c.args.links.now.around.items in
     record {
-      left = λ e lt inside seen. walk_left l (length xs) names (names u) u around c.loop-at.at _ _ d c.requires.linked.linked c.in-Some.is c.index-at-in-Some.ensures
+      left = λ e lt inside seen. walk_left l (length xs) names (names u) u around c.loop-at.at _ _ d c.requires.linked.linked c.in-Some.is
+          c.index-at-in-Some.ensures
           c.loop-at.invariant.known e inside
           (over_unseen l (length xs) d e u (let less : d < u = known.0 in omega arith) c.requires.in_range seen)
           (c.loop-at.invariant.left e lt inside seen)
@@ -60,7 +61,8 @@ loop-at-preserved c =
           let P : ℕ → Type 0 = λ v. InScope l v u in
           let t : c.in_scope.result ≡ true = c.in_scope.ensures.1 (subst P is seen) in
           let f : c.in_scope.result ≡ false = c.if-in_scope.false in cc);
-      known = walk_known l (length xs) names (names u) u around c.loop-at.at _ _ d c.requires.linked.linked c.in-Some.is c.index-at-in-Some.ensures c.loop-at.invariant.known;
+      known = walk_known l (length xs) names (names u) u around c.loop-at.at _ _ d c.requires.linked.linked c.in-Some.is c.index-at-in-Some.ensures
+          c.loop-at.invariant.known;
     }
 
 pub loop-at-smaller : goal.loop-at-smaller
@@ -69,7 +71,8 @@ loop-at-smaller c =
     let l = layout_of xs in
     let names = told c.args.names.now in
     let u = c.args.u in
-    walk_ends l (length xs) names (names u) u c.args.links.now.around.items c.loop-at.at _ _ c.in-Some.d c.requires.linked.linked c.in-Some.is c.index-at-in-Some.ensures
+    walk_ends l (length xs) names (names u) u c.args.links.now.around.items c.loop-at.at _ _ c.in-Some.d c.requires.linked.linked c.in-Some.is
+    c.index-at-in-Some.ensures
     c.loop-at.invariant.known
 
 pub returns-then-in_scope : goal.returns-then-in_scope

@@ -60,7 +60,8 @@ loop-at-smaller c =
     let l = layout_of xs in
     let names = told c.args.names.now in
     let u = c.args.u in
-    walk_ends l (length xs) names (names u) u c.args.links.now.around.items c.loop-at.at _ _ c.in-Some.d c.requires.linked.linked c.in-Some.is c.index-at-in-Some.ensures
+    walk_ends l (length xs) names (names u) u c.args.links.now.around.items c.loop-at.at _ _ c.in-Some.d c.requires.linked.linked c.in-Some.is
+    c.index-at-in-Some.ensures
     (last_known l (length xs) names (names u) u c.loop-at.at c.loop-at.invariant)
 
 pub returns-then-lasts : goal.returns-then-lasts

@@ -34,8 +34,10 @@ returns-in-Some-first_outside c =
     let O : Option ℕ → Type 0 = λ o. IsFirstIn l names (names u) Package n o in
     let Q : Option ℕ → Type 0 = λ o. IsFirstIn l names (names u) (File (l.place u).file) n o in
     let first = subst O c.in-None.is (subst N name (c.first_outside.ensures l names n c.requires.linked.outer)) in
-    let h = subst Q c.in-Some-first_outside.is (subst F c.place_at-file.ensures (subst M name (c.first_outside-in-None.ensures l names n c.requires.linked.outer))) in
-    file_nearest l names (names u) u c.requires.none_inside (none_in l names (names u) u Package n (may_in_range xs) first) c.in-Some-first_outside.d h.1 h.2 h.3
+    let h = subst Q c.in-Some-first_outside.is (subst F c.place_at-file.ensures (subst M name (c.first_outside-in-None.ensures l names n
+    c.requires.linked.outer))) in
+    file_nearest l names (names u) u c.requires.none_inside (none_in l names (names u) u Package n (may_in_range xs) first) c.in-Some-first_outside.d h.1 h.2
+    h.3
 
 pub returns-in-None-first_outside : goal.returns-in-None-first_outside
 returns-in-None-first_outside c =
@@ -52,7 +54,8 @@ returns-in-None-first_outside c =
     let Q : Option ℕ → Type 0 = λ o. IsFirstIn l names (names u) (File (l.place u).file) n o in
     let U : List ℕ → Type 0 = λ k. IsFirstIn l names k Universe n c.first_outside-in-None-first_outside.result in
     let first = subst O c.in-None.is (subst N name (c.first_outside.ensures l names n c.requires.linked.outer)) in
-    let second = subst Q c.in-None-first_outside.is (subst F c.place_at-file.ensures (subst M name (c.first_outside-in-None.ensures l names n c.requires.linked.outer))) in
+    let second = subst Q c.in-None-first_outside.is (subst F c.place_at-file.ensures (subst M name (c.first_outside-in-None.ensures l names n
+    c.requires.linked.outer))) in
     universe_nearest l names (names u) u c.requires.none_inside (none_in l names (names u) u Package n (may_in_range xs) first)
     (none_in l names (names u) u (File (l.place u).file) n (may_in_range xs) second) n (may_in_range xs) c.first_outside-in-None-first_outside.result
     (subst U name (c.first_outside-in-None-first_outside.ensures l names n c.requires.linked.outer))
