@@ -134,7 +134,7 @@ pub(crate) fn unit_of(
     requires { IsPackageAt at path.now }
     ensures { IfOk result (IsMade at.entry.graph.now path.now) }
 {
-    let mut progress = Progress::before(alloc, at.graph, at.number, at.known)?;
+    let mut progress = Progress::before(alloc, at.graph, at.number, at.closure, at.known)?;
     let text = text_first(alloc, at, path, &mut progress)?;
     let FoundPackage {
         finding,

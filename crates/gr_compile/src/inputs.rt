@@ -11,8 +11,8 @@ ghost use Rattle.gr_compile.specs.Inputs.{AreGoFiles, AreInputs, HasClosuresOf, 
 use crate::compiling::{Made, unit_in, unit_of};
 use crate::package_at::PackageAt;
 use gr_expr::symbol::SharedPath;
-use gr_graph::{Graph, PackageList, ParsedPackage};
-use gr_verdict::{KnownVerdict, SharedKnown, is_among};
+use gr_graph::{Graph, PackageList, ParsedPackage, is_among};
+use gr_verdict::{KnownVerdict, SharedKnown};
 use std::alloc::{AllocError, Global};
 use std::marker::Model;
 use std::sync::Arc;

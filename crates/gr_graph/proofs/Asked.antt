@@ -16,7 +16,7 @@ use Rattle.gr_graph.specs.Packages.{PackageImports, AreLinksOf, IsInClosure}
 use Rattle.gr_graph.specs.Closures.{IsBuiltOn}
 use Rattle.gr_graph.specs.Graphs.{HoldsPackages}
 use Rattle.gr_graph.specs.Reaching.{AreBackMarks, BuildsOn, MarkReaching, AreMarkedAbove, MarksAbove}
-use Rattle.gr_graph.specs.Search.{IsMarked, AreReaching, MarksImporting, TellBack}
+use Rattle.gr_graph.specs.Search.{IsMarked, AreReaching, MarkBack, MarksImporting}
 use Rattle.gr_graph.proofs.Reached.{reached_within}
 use Rattle.gr_graph.proofs.PackagePaths.{all_there, AreThere, paths_sorted, one_number}
 
@@ -119,9 +119,16 @@ module _ (w : Workspace) (g : Links) (links : AreLinksOf w g) where
     λ s. (is i).1 (reached_at p s.0 n i s.2 at s.1),
   )
 
-  pub back_are : (n : ℕ) (p : List ℕ) (marks : List Bool) → At n p → TellBack g n marks → AreBackMarks w p marks
+  -- and back
+  pub closure_from : (n : ℕ) (p : List ℕ) (found : List ℕ) → At n p → HoldsPackages w (IsInClosure w p) found → IsClosure g n found
+  closure_from n p found at holds i = (
+    λ h. let s = (holds i).0 h in reached_at p s.0 n i s.2 at s.1,
+    λ r. let q = name i (reached_within r) in (holds i).1 (q.0, q.1, in_closure r p q.0 at q.1),
+  )
+
+  pub back_are : (n : ℕ) (p : List ℕ) (marks : List Bool) → At n p → MarkBack g n marks → AreBackMarks w p marks
   back_are n p marks at are i q there c =
-      let told = are.back i (reached_at p q n i c at there) in (
+      let told = are i (reached_at p q n i c at there) in (
         λ m. in_closure (told.0 m) q p there at,
         λ back. told.1 (reached_at q p i n back there at),
       )

@@ -26,6 +26,8 @@ pub mod UpdatedPackages
 pub mod HeldFiles
 pub mod Told
 pub mod Below
+pub mod Searched
+pub mod NoneBack
 pub mod Shifted
 pub mod GrownLinks
 pub mod CountedImports

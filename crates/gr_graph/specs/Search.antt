@@ -60,10 +60,14 @@ pub record MarksImporting (g : Links) (start : ℕ) (old new : List Bool) : Type
   pub size : length new ≡ length old
   pub each : (q : ℕ) → IsMarked new q ↔ (IsMarked old q ⊎ Reaches g q start)
 
+-- of what the package reaches just what reaches it is marked
+abbrev pub MarkBack : Links → ℕ → List Bool → Type 0
+MarkBack g p marks = (q : ℕ) → Reaches g p q → IsMarked marks q ↔ Reaches g q p
+
 -- what the package does not reach is marked; of what it reaches just what reaches it
 pub record TellBack (g : Links) (p : ℕ) (marks : List Bool) : Type 0 where
   pub size : length marks ≡ length g
-  pub back : (q : ℕ) → Reaches g p q → IsMarked marks q ↔ Reaches g q p
+  pub back : MarkBack g p marks
   pub others : (q : ℕ) → q < length g → (IsMarked marks q → ⊥) → Reaches g p q
 
 -- just what had no mark has one

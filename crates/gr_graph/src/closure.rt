@@ -1,11 +1,14 @@
 //! What packages reach along links.
-ghost use Rattle.std.specs.Prelude.{◌≡◌, ◌<◌, ℕ, count_by, length, IfOk};
-ghost use Rattle.gr_graph.specs.Imports.{AreLinked, HoldImporters, Links};
+ghost use Rattle.std.specs.Prelude.{◌≡◌, ◌<◌, ◌↔◌, ℕ, count_by, length, IfOk, IsTrue};
+ghost use Rattle.std.specs.List.{All, Contains};
+ghost use Rattle.std.specs.List.Sorted.{IsStrictlyIncreasing};
+ghost use Rattle.gr_graph.specs.Imports.{AreLinked, HoldImporters, Links, Reaches};
 ghost use Rattle.gr_graph.specs.Closures.{IsBuiltOn, IsClosed};
-ghost use Rattle.gr_graph.specs.Search.{AreReached, Flips, HoldsMarked, TellBack};
+ghost use Rattle.gr_graph.specs.Search.{AreReached, Flips, HoldsMarked, IsMarked, MarkBack, TellBack};
 
 use crate::link_rows::LinkRows;
 use crate::package_list::PackageList;
+use crate::packages_below::PackagesBelow;
 use crate::search::{reach, spread};
 use std::alloc::{AllocError, Global};
 
@@ -29,6 +32,18 @@ fn marked(alloc: Global, marks: &[bool]) -> Result<PackageList, AllocError>
     Ok(PackageList::from_numbers(list))
 }
 
+/// Marks of what a package imports directly or indirectly, and of itself.
+fn reached_marks(alloc: Global, imports: &LinkRows, number: usize) -> Result<Vec<bool>, AllocError>
+    requires linked { AreLinked imports.now }
+    requires number { number < length imports.now }
+    ensures size { IfOk result (λ marks. length marks.items ≡ length imports.now) }
+    ensures reached { IfOk result (λ marks. (q : ℕ) → IsMarked marks.items q ↔ Reaches imports.now number q) }
+{
+    let mut marks = vec![in alloc; false; imports.len()]?;
+    reach(alloc, imports, &mut marks, number)?;
+    Ok(marks)
+}
+
 /// What a package imports directly or indirectly, itself among it, by number.
 pub(crate) fn closure_of(
     alloc: Global,
@@ -39,8 +54,7 @@ pub(crate) fn closure_of(
     requires number { number < length imports.now }
     ensures { IfOk result (IsClosed imports.now number) }
 {
-    let mut marks = vec![in alloc; false; imports.len()]?;
-    reach(alloc, imports, &mut marks, number)?;
+    let marks = reached_marks(alloc, imports, number)?;
     marked(alloc, &marks)
 }
 
@@ -53,7 +67,26 @@ fn flip(marks: &mut Vec<bool>)
     }
 }
 
-/// Marks that tell of what a package reaches whether it reaches that package. The way back is sought among what it reaches alone.
+/// Marks that tell of what a package reaches whether it reaches that package, by the marks of what the package reaches. The way back is
+/// sought among that alone.
+fn back_from(
+    alloc: Global,
+    importers: &LinkRows,
+    marks: Vec<bool>,
+    number: usize,
+) -> Result<Vec<bool>, AllocError>
+    requires linked { AreLinked importers.now }
+    requires number { number < length importers.now }
+    requires size { length marks.items ≡ length importers.now }
+    ensures { IfOk result (λ back. (g : Links) → AreLinked g → HoldImporters g (length g) importers.now → ((q : ℕ) → IsMarked marks.items q ↔ Reaches g number q) → TellBack g number back.items) }
+{
+    let mut marks = marks;
+    flip(&mut marks);
+    spread(alloc, importers, &mut marks, number)?;
+    Ok(marks)
+}
+
+/// Marks that tell of what a package reaches whether it reaches that package.
 pub(crate) fn back_marks(
     alloc: Global,
     imports: &LinkRows,
@@ -65,15 +98,12 @@ pub(crate) fn back_marks(
     requires number { number < length imports.now }
     ensures { IfOk result (λ marks. TellBack imports.now number marks.items) }
 {
-    let mut marks = vec![in alloc; false; imports.len()]?;
-    reach(alloc, imports, &mut marks, number)?;
-    flip(&mut marks);
-    spread(alloc, importers, &mut marks, number)?;
-    Ok(marks)
+    let marks = reached_marks(alloc, imports, number)?;
+    back_from(alloc, importers, marks, number)
 }
 
 /// What a package reaches and what does not reach it, by number, told by such marks.
-pub(crate) fn built_on_by(alloc: Global, back: &[bool]) -> Result<PackageList, AllocError>
+fn built_on_by(alloc: Global, back: &[bool]) -> Result<PackageList, AllocError>
     ensures { IfOk result (λ below. (g : Links) (p : ℕ) → TellBack g p back.now → IsBuiltOn g p below) }
 {
     let mut marks = Vec::from_slice(alloc, back)?;
@@ -81,20 +111,106 @@ pub(crate) fn built_on_by(alloc: Global, back: &[bool]) -> Result<PackageList, A
     marked(alloc, &marks)
 }
 
-/// What a package reaches and what does not reach it, by number.
-pub(crate) fn built_on(
+/// Whether none of some packages is marked.
+fn none_marked(marks: &[bool], numbers: &[usize]) -> bool
+    requires { All (λ q. q < length marks.now) numbers.now }
+    ensures { IsTrue result → (q : ℕ) → Contains numbers.now q → IsMarked marks.now q → ⊥ }
+{
+    for number in numbers {
+        if marks[*number] {
+            return false;
+        }
+    }
+    true
+}
+
+/// The marked packages but one, by number.
+fn marked_but(alloc: Global, marks: Vec<bool>, one: usize) -> Result<PackageList, AllocError>
+    requires { one < length marks.items }
+    ensures each { IfOk result (λ rest. (q : ℕ) → Contains rest q ↔ (IsMarked marks.items q × (q ≡ one → ⊥))) }
+    ensures rising { IfOk result IsStrictlyIncreasing }
+{
+    let mut marks = marks;
+    marks[one] = false;
+    marked(alloc, &marks)
+}
+
+/// Marks of so many packages, of which just one is marked.
+fn one_marked(alloc: Global, count: usize, one: usize) -> Result<Vec<bool>, AllocError>
+    requires { one < count }
+    ensures { IfOk result (λ marks. (q : ℕ) → IsMarked marks.items q ↔ (q ≡ one)) }
+{
+    let mut marks = vec![in alloc; false; count]?;
+    marks[one] = true;
+    Ok(marks)
+}
+
+/// The marked packages but one, and as many marks, of which just that one's is set.
+fn rest_marked(alloc: Global, marks: Vec<bool>, one: usize) -> Result<PackagesBelow, AllocError>
+    requires { one < length marks.items }
+    ensures each { IfOk result (λ found. (q : ℕ) → Contains found.built_on q ↔ (IsMarked marks.items q × (q ≡ one → ⊥))) }
+    ensures rising { IfOk result (λ found. IsStrictlyIncreasing found.built_on) }
+    ensures back { IfOk result (λ found. (q : ℕ) → IsMarked found.back.items q ↔ (q ≡ one)) }
+{
+    let back = one_marked(alloc, marks.len(), one)?;
+    let built_on = marked_but(alloc, marks, one)?;
+    Ok(PackagesBelow { built_on, back })
+}
+
+/// What a package reaches and what does not reach it, by number; and marks that tell of what it reaches whether that reaches it. No way
+/// back is sought where it reaches none that imports it.
+pub(crate) fn below(
     alloc: Global,
     imports: &LinkRows,
     importers: &LinkRows,
     number: usize,
-) -> Result<PackageList, AllocError>
+) -> Result<PackagesBelow, AllocError>
     requires linked { AreLinked imports.now }
     requires back { HoldImporters imports.now (length imports.now) importers.now }
     requires number { number < length imports.now }
-    ensures { IfOk result (IsBuiltOn imports.now number) }
+    ensures built_on { IfOk result (λ found. IsBuiltOn imports.now number found.built_on) }
+    ensures back { IfOk result (λ found. MarkBack imports.now number found.back.items) }
 {
-    let back = back_marks(alloc, imports, importers, number)?;
-    built_on_by(alloc, &back)
+    let marks = reached_marks(alloc, imports, number)?;
+    if none_marked(&marks, importers.row(number)) {
+        return rest_marked(alloc, marks, number);
+    }
+    let back = back_from(alloc, importers, marks, number)?;
+    let built_on = built_on_by(alloc, &back)?;
+    Ok(PackagesBelow { built_on, back })
+}
+
+/// Numbers that rise, without one.
+fn without(alloc: Global, numbers: &[usize], one: usize) -> Result<PackageList, AllocError>
+    requires { IsStrictlyIncreasing numbers.now }
+    ensures each { IfOk result (λ rest. (q : ℕ) → Contains rest q ↔ (Contains numbers.now q × (q ≡ one → ⊥))) }
+    ensures rising { IfOk result IsStrictlyIncreasing }
+{
+    let mut rest = Vec::with_capacity(alloc, numbers.len())?;
+    for number in numbers {
+        if *number != one {
+            rest.push(*number)?;
+        }
+    }
+    Ok(PackageList::from_numbers(rest))
+}
+
+/// A closure without its package, and marks of so many packages, of which just that one is marked.
+pub(crate) fn rest_of(
+    alloc: Global,
+    count: usize,
+    number: usize,
+    closure: &[usize],
+) -> Result<PackagesBelow, AllocError>
+    requires number { number < count }
+    requires rising { IsStrictlyIncreasing closure.now }
+    ensures each { IfOk result (λ found. (q : ℕ) → Contains found.built_on q ↔ (Contains closure.now q × (q ≡ number → ⊥))) }
+    ensures rising { IfOk result (λ found. IsStrictlyIncreasing found.built_on) }
+    ensures back { IfOk result (λ found. (q : ℕ) → IsMarked found.back.items q ↔ (q ≡ number)) }
+{
+    let built_on = without(alloc, closure, number)?;
+    let back = one_marked(alloc, count, number)?;
+    Ok(PackagesBelow { built_on, back })
 }
 
 /// A mark for each package that a marked one reaches.

@@ -312,10 +312,24 @@ impl Graph {
         ensures rising { IfOk result (λ found. IsStrictlyIncreasing found.built_on) }
         ensures back { IfOk result (λ found. OfPackage self.now number (λ p. AreBackMarks self.now p found.back.items)) }
     {
-        let links = self.links();
-        let back = links.back_marks(alloc, number)?;
-        let built_on = links.built_on_by(alloc, &back)?;
-        Ok(PackagesBelow { built_on, back })
+        self.links().below(alloc, number)
+    }
+
+    /// The same, by the closure of the package, which is known. Nothing is searched for where no importer of the package is in that.
+    pub fn below_in(
+        &self,
+        alloc: Global,
+        number: usize,
+        closure: &[usize],
+    ) -> Result<PackagesBelow, AllocError>
+        requires number { number < length (package_paths self.now) }
+        requires closure { OfPackage self.now number (λ p. HoldsPackages self.now (IsInClosure self.now p) closure.now) }
+        requires rising { IsStrictlyIncreasing closure.now }
+        ensures built_on { IfOk result (λ found. OfPackage self.now number (λ p. HoldsPackages self.now (BuildsOn self.now p) found.built_on)) }
+        ensures rising { IfOk result (λ found. IsStrictlyIncreasing found.built_on) }
+        ensures back { IfOk result (λ found. OfPackage self.now number (λ p. AreBackMarks self.now p found.back.items)) }
+    {
+        self.links().below_in(alloc, number, closure)
     }
 
     /// A mark for each package that is marked, or imports a marked one, directly or indirectly. One search finds them all.

@@ -11,13 +11,15 @@ ghost use Rattle.gr_graph.specs.Imports.{
   IsClosure,
   imports_of,
 };
-ghost use Rattle.gr_graph.specs.Search.{AreReaching, IsMarked, MarksImporting, TellBack};
+ghost use Rattle.gr_graph.specs.Search.{AreReaching, IsMarked, MarkBack, MarksImporting, TellBack};
 
-use crate::closure::{back_marks, built_on, built_on_by, closure_of, reached_by};
+use crate::among::share_none;
+use crate::closure::{back_marks, below, closure_of, reached_by, rest_of};
 use crate::importers::importers;
 use crate::link_rows::LinkRows;
 use crate::order::order;
 use crate::package_list::PackageList;
+use crate::packages_below::PackagesBelow;
 use crate::search::reach;
 use std::alloc::{AllocError, Global};
 use std::marker::Model;
@@ -122,19 +124,44 @@ impl ImportLinks {
         back_marks(alloc, &self.imports, &self.importers, number)
     }
 
-    /// What a package imports, directly or indirectly, and what does not so import it, by number. It is searched for.
+    /// What a package imports, directly or indirectly, and what does not so import it, by number; and marks that tell of what it so
+    /// imports whether that so imports it. They are searched for.
+    pub fn below(&self, alloc: Global, number: usize) -> Result<PackagesBelow, AllocError>
+        requires { number < length self.now }
+        ensures built_on { IfOk result (λ found. IsBuiltOn self.now number found.built_on) }
+        ensures back { IfOk result (λ found. MarkBack self.now number found.back.items) }
+    {
+        below(alloc, &self.imports, &self.importers, number)
+    }
+
+    /// What a package imports, directly or indirectly, and what does not so import it, alone.
     pub fn built_on(&self, alloc: Global, number: usize) -> Result<PackageList, AllocError>
         requires { number < length self.now }
         ensures { IfOk result (IsBuiltOn self.now number) }
     {
-        built_on(alloc, &self.imports, &self.importers, number)
+        let PackagesBelow { built_on, back } = self.below(alloc, number)?;
+        drop(back);
+        Ok(built_on)
     }
 
-    /// The same, told by the marks that tell of what it so imports whether it so imports that package.
-    pub fn built_on_by(&self, alloc: Global, back: &[bool]) -> Result<PackageList, AllocError>
-        ensures { IfOk result (λ below. (p : ℕ) → TellBack self.now p back.now → IsBuiltOn self.now p below) }
+    /// What a package imports, directly or indirectly, and what does not so import it, with such marks, by its closure, which is known.
+    /// Nothing is searched for where no importer of the package is in that.
+    pub fn below_in(
+        &self,
+        alloc: Global,
+        number: usize,
+        closure: &[usize],
+    ) -> Result<PackagesBelow, AllocError>
+        requires number { number < length self.now }
+        requires closure { IsClosure self.now number closure.now }
+        requires rising { IsStrictlyIncreasing closure.now }
+        ensures built_on { IfOk result (λ found. IsBuiltOn self.now number found.built_on) }
+        ensures back { IfOk result (λ found. MarkBack self.now number found.back.items) }
     {
-        built_on_by(alloc, back)
+        if !share_none(self.importers(number), closure) {
+            return self.below(alloc, number);
+        }
+        rest_of(alloc, self.len(), number, closure)
     }
 
     /// A mark for each package that is marked, or imports a marked one, directly or indirectly. One search finds them all.

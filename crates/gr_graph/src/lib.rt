@@ -1,6 +1,7 @@
 //! The packages of a workspace, and which import which.
 #![tactic(auto)]
 
+mod among;
 mod changed;
 mod closure;
 mod depth_first;
@@ -27,6 +28,7 @@ mod shared_links;
 mod shared_package;
 mod updated;
 
+pub use among::is_among;
 pub use faulty_file::FaultyFile;
 pub use file_imports::{FileImport, read_imports};
 pub use graph::Graph;

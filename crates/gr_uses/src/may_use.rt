@@ -15,8 +15,8 @@ ghost use Rattle.gr_bound.specs.Workspaces.{IsSound, IsPackageAt, known_in, home
 
 use gr_bound::{Declaration, members_of};
 use gr_expr::found::MemberUse;
-use gr_graph::Graph;
-use gr_verdict::{Findings, is_among, is_marked};
+use gr_graph::{Graph, is_among};
+use gr_verdict::{Findings, is_marked};
 use std::alloc::{AllocError, Global};
 
 /// A declaration that is sought, with the name under which it is exported and the number of its package, if it has them, and marks for

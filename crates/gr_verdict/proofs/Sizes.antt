@@ -1,19 +1,17 @@
 -- What a package builds on reaches fewer than it, so an order by how many each reaches has each behind those; and so has an order by
 -- what packages reach.
-use Rattle.std.proofs.Common.{ℕ, ◌≡◌, ◌+◌, ◌<◌, ◌≤◌, ◌↔◌, inl, inr, Bool, false, List, [], ◌∷◌, ◌++◌, length, get_or, sym, ap, subst, ◌∙◌, arith, Result}
-use Rattle.std.proofs.Common.{Ok, Err, is_ok, IsTrue, MatchResult}
+use Rattle.std.proofs.Common.{ℕ, ◌≡◌, ◌+◌, ◌<◌, ◌≤◌, inl, inr, false, List, [], ◌∷◌, ◌++◌, length, get_or, sym, ap, subst, ◌∙◌, arith}
 use Rattle.std.specs.Prelude.{Contains, nat_eq, Some, slice_get}
 use Rattle.std.specs.Cmp.{nat_eq_equiv}
 use Rattle.std.specs.List.{IsDistinct}
-use Rattle.std.specs.List.Sorted.{IsStrictlyIncreasing, IsPermutation, IsNonDecreasingBy, IsBinarySearchResult}
-use Rattle.std.specs.Ordering.{nat_cmp}
-use Rattle.std.proofs.lemmas.Bool.{true≢false, false≢true, cases_lt, cases_order, ne_eqb, eq-eqb}
+use Rattle.std.specs.List.Sorted.{IsStrictlyIncreasing, IsPermutation, IsNonDecreasingBy}
+use Rattle.std.proofs.lemmas.Bool.{false≢true, cases_lt, cases_order, ne_eqb, eq-eqb}
 use Rattle.std.proofs.lemmas.Bool.Decides.{Decides-eqb}
 use Rattle.std.proofs.lemmas.List.{get_or_default, get_or_append_left, get_or_push, length_push}
 use Rattle.std.proofs.lemmas.List.Elements.{Contains-get_or, recursion_from_All}
-use Rattle.std.proofs.lemmas.List.Sorted.{Contains-permutation, IsPermutation-sym, searched}
+use Rattle.std.proofs.lemmas.List.Sorted.{Contains-permutation, IsPermutation-sym}
 use Rattle.std.proofs.lemmas.Map.Keys.{IsDistinct-IsPermutation, IsDistinct-cons, apart_from_distinct, sorted_from_strictly_increasing}
-use Rattle.std.proofs.lemmas.Map.Keys.{non_decreasing_from_sorted, IsDistinct-from_apart, below_from_sorted}
+use Rattle.std.proofs.lemmas.Map.Keys.{IsDistinct-from_apart, below_from_sorted}
 use Rattle.std.proofs.lemmas.Map.Made.{length-le_from_is_member, is_member-Decides}
 use Rattle.std.proofs.lemmas.Option.{same_Some, get_or_from_slice_get, slice_get-get_or, slice_get_within}
 use Rattle.gr_text.specs.Workspace.{Workspace}
@@ -32,29 +30,6 @@ distinct_rising : (xs : List ℕ) → IsStrictlyIncreasing xs → IsDistinct nat
 distinct_rising xs up =
     IsDistinct-from_apart nat_eq xs (λ i j d h l. ne_eqb (get_or xs i d) (get_or xs j d)
     (λ e. absurd (omega (arith, below_from_sorted xs i j d (sorted_from_strictly_increasing xs up) h l))))
-
--- what a search among numbers that rise finds
-
-among_by : (xs : List ℕ) (x : ℕ) (r : Result ℕ ℕ) (b : Bool) →
-    MatchResult r (λ i. (i < length xs) × (get_or xs i 0 ≡ x))
-    (λ i. (i ≤ length xs) × ((k : ℕ) → k < i → get_or xs k 0 < x) × ((k : ℕ) → i ≤ k → k < length xs → x < get_or xs k 0)) →
-    b ≡ is_ok r → IsTrue b ↔ Contains xs x
-among_by xs x (Ok i) b s e = (λ t. (i, s.0, get_or_default xs i x 0 s.0 ∙ s.1), λ h. e)
-among_by xs x (Err i) b s e = (
-  λ t. absurd (true≢false (sym t ∙ e)),
-  λ h.
-      let lt : h.0 < length xs = h.1 in
-      let at : get_or xs h.0 0 ≡ x = get_or_default xs h.0 0 x lt ∙ h.2 in
-      elim (cases_lt h.0 i) [
-        | inl below ↦ (let less : get_or xs h.0 0 < x = s.1 h.0 below in absurd (omega arith))
-        | inr above ↦ (let more : x < get_or xs h.0 0 = s.2 h.0 above lt in absurd (omega arith))
-      ],
-)
-
-pub among : (xs : List ℕ) (x : ℕ) (r : Result ℕ ℕ) (b : Bool) → IsStrictlyIncreasing xs → IsBinarySearchResult (λ y. nat_cmp y x) xs r → b ≡ is_ok r →
-    IsTrue b ↔ Contains xs x
-among xs x r b up is e =
-    among_by xs x r b (searched xs x r is (λ i j le lt. non_decreasing_from_sorted xs (sorted_from_strictly_increasing xs up) i j 0 le lt)) e
 
 -- fewer
 

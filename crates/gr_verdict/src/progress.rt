@@ -1,8 +1,10 @@
 //! What is found in the packages on which one builds, while they are judged one after the other, where a caller checks that one itself.
 ghost use Rattle.std.specs.Prelude.{ℕ, ◌≡◌, ◌<◌, ◌↔◌, length, IfOk, IsTrue, OnOk};
+ghost use Rattle.std.specs.List.Sorted.{IsStrictlyIncreasing};
 ghost use Rattle.gr_text.specs.Packages.{package_paths};
 ghost use Rattle.gr_text.specs.Workspace.{Workspace};
-ghost use Rattle.gr_graph.specs.Graphs.{OfPackage};
+ghost use Rattle.gr_graph.specs.Graphs.{HoldsPackages, OfPackage};
+ghost use Rattle.gr_graph.specs.Packages.{IsInClosure};
 ghost use Rattle.gr_imports.specs.States.{state_in};
 ghost use Rattle.gr_verdict.specs.Cycles.{TellCycles};
 ghost use Rattle.gr_verdict.specs.Found.{AreVerdictsOf, IsFoundBy, KnowsVerdicts};
@@ -30,11 +32,10 @@ use crate::gathered::{Gathered, gather_some};
 use crate::judging::place_checked;
 use crate::known::Known;
 use crate::order::order;
-use crate::reaching::is_among;
 use crate::seeing::import_states;
 use gr_declared::Interfaces;
 use gr_expr::symbol::SharedPath;
-use gr_graph::{Graph, PackagesBelow};
+use gr_graph::{Graph, PackagesBelow, is_among};
 use gr_types::Checked;
 use std::alloc::{AllocError, Global};
 
@@ -147,21 +148,24 @@ fn learn_checked(
 }
 
 impl Progress {
-    /// Where just those packages were judged on which one builds. What is known of them is not found again, and what is known of
-    /// others is not looked at.
+    /// Where just those packages were judged on which one builds, by its closure, which is known. What is known of them is not found
+    /// again, and what is known of others is not looked at.
     pub fn before(
         alloc: Global,
         graph: &Graph,
         number: usize,
+        closure: &[usize],
         known: &Known,
     ) -> Result<Progress, AllocError>
         requires in_range { number < length (package_paths graph.now) }
+        requires closure { OfPackage graph.now number (λ p. HoldsPackages graph.now (IsInClosure graph.now p) closure.now) }
+        requires rising { IsStrictlyIncreasing closure.now }
         requires known { KnowsVerdicts graph.now known.now }
         ensures right { IfOk result (IsUnderway graph.now number) }
         ensures seen { IfOk result (λ progress. OfPackage graph.now number (λ p. IsSeenIn graph.now p progress.all.interfaces)) }
         ensures unknown { IfOk result (λ progress. IsGathered progress.all.findings.items number → ⊥) }
     {
-        let below = graph.below(alloc, number)?;
+        let below = graph.below_in(alloc, number, closure)?;
         let all = judged(alloc, graph, below.built_on.as_slice(), known)?;
         Ok(Progress { all, below })
     }

@@ -1,15 +1,22 @@
 -- The answers to the goals of `compiling::unit_of`.
-use Rattle.std.proofs.Common.{sym, subst}
-use Rattle.std.proofs.lemmas.Option.{slice_get_within}
+use Rattle.std.proofs.Common.{ℕ, List, sym, subst, ◌∙◌}
+use Rattle.std.proofs.lemmas.Option.{same_Some, slice_get_within}
 use Rattle.gr_text.specs.Packages.{package_paths}
+use Rattle.gr_graph.specs.Graphs.{HoldsPackages}
+use Rattle.gr_graph.specs.Packages.{IsInClosure}
 use Rattle.gr_verdict.specs.Found.{IsFoundBy}
 use Rattle.gr_compile.proofs.compiling.unit_of.Goals as goal
 
 pub before-requires : goal.before-requires
-before-requires c = record {
-  in_range = slice_get_within (package_paths c.args.at.graph.now) c.args.at.number c.args.path.now c.requires.has_path;
-  known = c.requires.known;
-}
+before-requires c =
+    let w = c.args.at.graph.now in
+    record {
+      in_range = slice_get_within (package_paths w) c.args.at.number c.args.path.now c.requires.has_path;
+      closure = λ p at. subst (λ (q : List ℕ). HoldsPackages w (IsInClosure w q) c.args.at.closure.now)
+          (same_Some c.args.path.now p (sym c.requires.has_path ∙ at)) c.requires.closure;
+      rising = c.requires.rising;
+      known = c.requires.known;
+    }
 
 pub text_first-requires : goal.text_first-requires
 text_first-requires c = record {

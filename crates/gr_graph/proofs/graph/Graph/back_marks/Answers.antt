@@ -15,4 +15,4 @@ returns c =
     let g = c.links.result.now in
     let number = c.args.number in
     IfOk-weaker c.back_marks.result (λ marks. TellBack g number marks.items) (λ marks. OfPackage w number (λ p. AreBackMarks w p marks.items))
-    (λ marks are p at. back_are w g c.links.ensures.links number p marks.items at are) c.back_marks.ensures
+    (λ marks are p at. back_are w g c.links.ensures.links number p marks.items at are.back) c.back_marks.ensures

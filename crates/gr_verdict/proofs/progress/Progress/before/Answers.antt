@@ -7,6 +7,13 @@ use Rattle.gr_verdict.proofs.Just.{just_seen}
 use Rattle.gr_verdict.proofs.Underway.{all_below, known_below, not_own}
 use Rattle.gr_verdict.proofs.progress.Progress.before.Goals as goal
 
+pub below_in-requires : goal.below_in-requires
+below_in-requires c = record {
+  number = c.requires.in_range;
+  closure = c.requires.closure;
+  rising = c.requires.rising;
+}
+
 pub judged-requires : goal.judged-requires
 judged-requires c =
     let w = c.args.graph.now in
