@@ -11,7 +11,7 @@ ghost use Rattle.gr_check.specs.Among.{AreHeld, AreIdentifiersAmong, IsBoundMark
 ghost use Rattle.gr_placed.specs.Outside.{IsOutside, path_by};
 ghost use Rattle.gr_sound.specs.Sound.{packages_of};
 
-use crate::reading::read_marked;
+use crate::reading::{Held, read_marked};
 use gr_bindings::Bindings;
 use gr_bound::{BoundSpot, Declaration};
 use gr_expr::symbol::SharedPath;
@@ -47,13 +47,18 @@ impl<'a> MarkedPackages<'a> {
         ensures marks { IfOk result (λ marked. marked.marks.now ≡ marks.now) }
         ensures held { IfOk result (λ marked. AreHeld marked) }
     {
-        let held = read_marked(alloc, graph, found, marks, false)?;
+        let Held {
+            places,
+            bindings,
+            identifiers,
+        } = read_marked(alloc, graph, found, marks, false)?;
+        drop(identifiers);
         Ok(MarkedPackages {
             graph,
             found,
             marks,
-            places: held.places,
-            bindings: held.bindings,
+            places,
+            bindings,
         })
     }
 
@@ -137,17 +142,21 @@ impl<'a> KnownBefore<'a> {
         ensures marks { IfOk result (λ known. known.packages.marks.now ≡ marks.now) }
         ensures held { IfOk result (λ known. IsKnownBefore known) }
     {
-        let held = read_marked(alloc, graph, found, marks, true)?;
+        let Held {
+            places,
+            bindings,
+            identifiers,
+        } = read_marked(alloc, graph, found, marks, true)?;
         let packages = MarkedPackages {
             graph,
             found,
             marks,
-            places: held.places,
-            bindings: held.bindings,
+            places,
+            bindings,
         };
         Ok(KnownBefore {
             packages,
-            identifiers: held.identifiers,
+            identifiers,
         })
     }
 
