@@ -1,5 +1,5 @@
 //! Bound identifiers of packages, and of a workspace, by their places.
-ghost use Rattle.std.specs.Prelude.{◌≡◌, ◌<◌, ◌↔◌, [], length, Contains, IfOk, OnOk, MatchOption};
+ghost use Rattle.std.specs.Prelude.{◌≡◌, ◌<◌, ◌↔◌, Bool, List, [], length, Contains, IfOk, OnOk, MatchOption};
 ghost use Rattle.std.specs.List.Sorted.{IsSortedBy};
 ghost use Rattle.std.specs.Ordering.{is_lt};
 ghost use Rattle.gr_text.specs.Packages.{package_paths};
@@ -14,18 +14,16 @@ ghost use Rattle.gr_bindings.specs.KnownExports.{KnowsExports};
 ghost use Rattle.gr_bound.specs.Packages.{IsTableAs};
 ghost use Rattle.gr_bound.specs.Places.{place_cmp};
 ghost use Rattle.gr_bound.specs.Uses.{IsUseOf};
-ghost use Rattle.gr_bound.specs.Workspaces.{IsSound, known_in, IsPackageAt};
+ghost use Rattle.gr_bound.specs.Workspaces.{known_in, IsPackageAt};
 
 use crate::bound_unit::bind_unit;
-use crate::known_exports::{KnownExports, imported_exports};
+use crate::known_exports::KnownExports;
 use gr_bound::bindings::find;
 use gr_bound::indexed::{Numbered, known_of, unit_of};
-use gr_bound::{BoundSpot, Declaration, read_table};
+use gr_bound::{BoundSpot, Declaration};
 use gr_declared::{Index, Interfaces, Package};
-use gr_graph::Graph;
 use gr_scope::table::ScopeTable;
 use gr_text::Place;
-use gr_verdict::{Findings, is_marked, seen};
 use std::alloc::{AllocError, Global};
 use std::marker::Model;
 
@@ -113,7 +111,7 @@ pub fn bind_numbered(
 }
 
 /// Adds the bound identifiers of the package of a number, by what this sees and its table.
-fn bind_laid(
+pub fn bind_laid(
     alloc: Global,
     bound: &mut Vec<BoundSpot>,
     exports: &KnownExports<'_>,
@@ -136,86 +134,19 @@ fn bind_laid(
     bind_numbered(alloc, bound, exports, unit, &index, number)
 }
 
-/// Adds the bound identifiers of the package of a number, which is read for it.
-fn bind_read(
-    alloc: Global,
-    bound: &mut Vec<BoundSpot>,
-    exports: &KnownExports<'_>,
-    number: usize,
-) -> Result<(), AllocError>
-    requires in_range { number < length (package_paths exports.now.graph.now) }
-    requires exports { KnowsExports exports.now }
-    ensures { OnOk result (AddsAll bound.old.items bound.new.items (IsBoundAt exports.now.graph.now (known_in exports.now.found.now) number)) }
-{
-    let graph = exports.graph;
-    let found = exports.found;
-    let seen = seen(alloc, graph, number, &found.interfaces)?;
-    let table = read_table(alloc, graph, found, &seen, number)?;
-    bind_laid(alloc, bound, exports, &seen, &table, number)
-}
-
-/// Adds the bound identifiers of the package of a number, if it is marked.
-fn bind_if_marked(
-    alloc: Global,
-    bound: &mut Vec<BoundSpot>,
-    exports: &KnownExports<'_>,
-    marks: &[bool],
-    number: usize,
-) -> Result<(), AllocError>
-    requires in_range { number < length (package_paths exports.now.graph.now) }
-    requires exports { KnowsExports exports.now }
-    ensures { OnOk result (AddsAll bound.old.items bound.new.items (λ b. IsMarked marks.now number × IsBoundAt exports.now.graph.now (known_in exports.now.found.now) number b)) }
-{
-    if is_marked(marks, number) {
-        bind_read(alloc, bound, exports, number)
-    } else {
-        Ok(())
-    }
-}
-
-/// Adds the bound identifiers of the packages that are marked.
-fn bind_marked(
-    alloc: Global,
-    bound: &mut Vec<BoundSpot>,
-    exports: &KnownExports<'_>,
-    marks: &[bool],
-) -> Result<(), AllocError>
-    requires { KnowsExports exports.now }
-    ensures { OnOk result (AddsAll bound.old.items bound.new.items (IsBoundAmong exports.now.graph.now (known_in exports.now.found.now) (IsMarked marks.now))) }
-{
-    for number in 0..exports.graph.len() {
-        bind_if_marked(alloc, bound, exports, marks, number)?;
-    }
-    Ok(())
-}
-
-/// The bound identifiers of the packages that are marked, by the packages' numbers, in a workspace in which nothing is a fault.
-/// Only these packages are read, and of those that they import what these export.
-pub fn bindings_among(
-    alloc: Global,
-    graph: &Graph,
-    found: &Findings,
-    marks: &[bool],
-) -> Result<Bindings, AllocError>
-    requires { IsSound graph.now found.now }
-    ensures { IfOk result (AreBindingsAmong graph.now (known_in found.now) (IsMarked marks.now)) }
-{
-    let numbers = imported_exports(alloc, graph, found, marks)?;
-    let exports = KnownExports {
-        graph,
-        found,
-        numbers: &numbers,
-    };
-    let mut bound = Vec::new(alloc);
-    bind_marked(alloc, &mut bound, &exports, marks)?;
-    sort_runs(&mut bound)?;
-    Ok(Bindings { bound })
-}
-
 impl Bindings {
     /// Bound identifiers, which are put in the order of their places.
     pub fn of(bound: Vec<BoundSpot>) -> Result<Bindings, AllocError>
         ensures { IfOk result (λ all. (w : Workspace) → (known : Verdicts) → AddsAll [] bound.items (IsBound w known) → AreBindings w known all) }
+    {
+        let mut bound = bound;
+        sort_runs(&mut bound)?;
+        Ok(Bindings { bound })
+    }
+
+    /// Bound identifiers of marked packages, which are put in the same order.
+    pub fn among(bound: Vec<BoundSpot>) -> Result<Bindings, AllocError>
+        ensures { IfOk result (λ all. (w : Workspace) → (known : Verdicts) → (marks : List Bool) → AddsAll [] bound.items (IsBoundAmong w known (IsMarked marks)) → AreBindingsAmong w known (IsMarked marks) all) }
     {
         let mut bound = bound;
         sort_runs(&mut bound)?;

@@ -7,5 +7,5 @@ mod bound_unit;
 pub mod exports;
 mod known_exports;
 
-pub use bindings::{Bindings, bind_numbered, bindings_among};
-pub use known_exports::{KnownExports, all_exports};
+pub use bindings::{Bindings, bind_laid, bind_numbered};
+pub use known_exports::{KnownExports, all_exports, imported_exports};

@@ -1,5 +1,5 @@
 -- What is held of the marked packages of a workspace without faults, and what they tell.
-use Rattle.std.specs.Prelude.{ℕ, ◌≡◌, ◌⊎◌, ⊤, Bool, List, Option, Some, length, MatchOption, Contains}
+use Rattle.std.specs.Prelude.{ℕ, ◌≡◌, ◌⊎◌, ◌↔◌, ⊤, Bool, List, Option, Some, length, MatchOption, Contains}
 use Rattle.gr_text.specs.Packages.{package_paths}
 use Rattle.gr_text.specs.Workspace.{Workspace}
 use Rattle.gr_text.specs.declared.place.Place.{Place}
@@ -12,6 +12,7 @@ use Rattle.gr_bound.specs.Bindings.{IsBoundAmong, AreBindingsAmong, place_at}
 use Rattle.gr_bound.specs.Packages.{HoldsOfEach}
 use Rattle.gr_bound.specs.Uses.{IsUseOf}
 use Rattle.gr_bound.specs.Workspaces.{IsSound, known_in}
+use Rattle.gr_check.specs.declared.among.KnownBefore.{KnownBefore}
 use Rattle.gr_check.specs.declared.among.MarkedPackages.{MarkedPackages}
 use Rattle.gr_placed.specs.declared.declared_places.DeclaredPlaces.{DeclaredPlaces}
 use Rattle.gr_placed.specs.DeclaredPlaces.{AreDeclaredAt}
@@ -55,6 +56,15 @@ pub record IsIdentifierAmong (w : Workspace) (known : Verdicts) (marks : List Bo
   pub number : ℕ
   pub marked : IsMarked marks number
   pub begins : BeginsInNumber w known number place
+
+-- the places at which identifiers of the marked packages begin
+abbrev pub AreIdentifiersAmong : Workspace → Verdicts → List Bool → List Place → Type 0
+AreIdentifiersAmong w known marks places = (place : Place) → Contains places place ↔ IsIdentifierAmong w known marks place
+
+-- the marked packages before a change, with these places
+pub record IsKnownBefore (k : KnownBefore) : Type 0 where
+  pub packages : AreHeld k.packages
+  pub identifiers : AreIdentifiersAmong k.packages.graph.now (known_in k.packages.found.now) k.packages.marks.now k.identifiers.items
 
 -- both places are known, and the one goes to the other
 pub record BothGo (moved : Place → Place) (old new : Option Place) : Type 0 where

@@ -7,13 +7,13 @@ ghost use Rattle.gr_edit.specs.Moved.{moved};
 ghost use Rattle.gr_bound.specs.Workspaces.{IsSound, known_in};
 ghost use Rattle.gr_revision.specs.RevisionsOfEdits.{revision_of};
 ghost use Rattle.gr_affected.specs.Affected.{AreAffected};
-ghost use Rattle.gr_check.specs.Among.{AreHeld, BecomesAmong, IsKeptAmong, AllWereAmong, AddsNoneAmong, KeepsMarked, AddsMarked, BothGo, IsBoundMarked, TellsMarked};
+ghost use Rattle.gr_check.specs.Among.{AreHeld, IsKnownBefore, BecomesAmong, IsKeptAmong, AllWereAmong, AddsNoneAmong, KeepsMarked, AddsMarked, BothGo, IsBoundMarked, TellsMarked};
 ghost use Rattle.gr_check.specs.Answers.{Tells};
 ghost use Rattle.gr_check.specs.Marked.{HasMarks};
 ghost use Rattle.gr_check.specs.Preserved.{KeepsBindings};
 ghost use Rattle.gr_kept_each.specs.Steps.{HasBound};
 
-use crate::among::MarkedPackages;
+use crate::among::{KnownBefore, MarkedPackages};
 use crate::answer::{Answer, no_or_unknown, yes_or_unknown};
 use crate::edited_workspace::EditedWorkspace;
 use crate::lost::is_lost;
@@ -211,32 +211,29 @@ fn add_none(
 
 /// Whether this is so of all identifiers of the marked packages.
 fn adds_nowhere(
-    alloc: Global,
     moves: &Moves<'_>,
-    before: &MarkedPackages<'_>,
+    before: &KnownBefore<'_>,
     then: &MarkedPackages<'_>,
 ) -> Result<bool, AllocError>
-    requires before { AreHeld before.now }
+    requires before { IsKnownBefore before.now }
     requires then { AreHeld then.now }
-    ensures { IfOk result (λ yes. IsTrue yes → AddsMarked before.now then.now (moved moves.now)) }
+    ensures { IfOk result (λ yes. IsTrue yes → AddsMarked before.now.packages then.now (moved moves.now)) }
 {
-    let places = before.identifier_places(alloc)?;
-    add_none(moves, before, then, &places)
+    add_none(moves, &before.packages, then, before.identifier_places())
 }
 
 /// Whether no identifier of the marked packages is bound to more, where each stays bound.
 fn adds_marked(
-    alloc: Global,
     moves: &Moves<'_>,
-    before: &MarkedPackages<'_>,
+    before: &KnownBefore<'_>,
     then: &MarkedPackages<'_>,
 ) -> Result<Answer, AllocError>
-    requires before { AreHeld before.now }
+    requires before { IsKnownBefore before.now }
     requires then { AreHeld then.now }
-    requires keeps { KeepsMarked before.now then.now (moved moves.now) }
-    ensures { IfOk result (λ answer. TellsMarked before.now then.now (moved moves.now) answer) }
+    requires keeps { KeepsMarked before.now.packages then.now (moved moves.now) }
+    ensures { IfOk result (λ answer. TellsMarked before.now.packages then.now (moved moves.now) answer) }
 {
-    let adds_none = adds_nowhere(alloc, moves, before, then)?;
+    let adds_none = adds_nowhere(moves, before, then)?;
     Ok(yes_or_unknown(adds_none))
 }
 
@@ -258,36 +255,35 @@ fn loses_marked(
 
 /// Whether the marked packages tell that each identifier stays bound to what its declaration becomes, or that one does not.
 fn tell_marked(
-    alloc: Global,
     moves: &Moves<'_>,
-    before: &MarkedPackages<'_>,
+    before: &KnownBefore<'_>,
     then: &MarkedPackages<'_>,
 ) -> Result<Answer, AllocError>
-    requires before { AreHeld before.now }
+    requires before { IsKnownBefore before.now }
     requires then { AreHeld then.now }
-    ensures { IfOk result (λ answer. TellsMarked before.now then.now (moved moves.now) answer) }
+    ensures { IfOk result (λ answer. TellsMarked before.now.packages then.now (moved moves.now) answer) }
 {
-    match first_unkept(moves, before, then)? {
-        None => adds_marked(alloc, moves, before, then),
-        Some(bound) => loses_marked(moves, before, then, bound),
+    match first_unkept(moves, &before.packages, then)? {
+        None => adds_marked(moves, before, then),
+        Some(bound) => loses_marked(moves, &before.packages, then, bound),
     }
 }
 
 /// What the marked packages tell of all identifiers.
 fn keeps_marked(
     alloc: Global,
-    before: &MarkedPackages<'_>,
+    before: &KnownBefore<'_>,
     edits: &EditSet,
     then: &MarkedPackages<'_>,
 ) -> Result<Answer, AllocError>
-    requires before { AreHeld before.now }
+    requires before { IsKnownBefore before.now }
     requires then { AreHeld then.now }
-    requires edited { then.now.graph.now ≡ edited edits.now before.now.graph.now }
-    requires affected { AreAffected before.now.graph.now before.now.graph.now then.now.graph.now edits.now before.now.marks.now }
-    ensures { IfOk result (λ answer. Tells answer (KeepsBindings before.now.graph.now (known_in before.now.found.now) (revision_of before.now.graph.now edits.now) (known_in then.now.found.now))) }
+    requires edited { then.now.graph.now ≡ edited edits.now before.now.packages.graph.now }
+    requires affected { AreAffected before.now.packages.graph.now before.now.packages.graph.now then.now.graph.now edits.now before.now.packages.marks.now }
+    ensures { IfOk result (λ answer. Tells answer (KeepsBindings before.now.packages.graph.now (known_in before.now.packages.found.now) (revision_of before.now.packages.graph.now edits.now) (known_in then.now.found.now))) }
 {
     let moves = Moves::of(alloc, edits)?;
-    tell_marked(alloc, &moves, before, then)
+    tell_marked(&moves, before, then)
 }
 
 /// Whether the packages that an edit set affects tell that it keeps all bindings, or that it does not. Where they tell neither, or are
@@ -309,7 +305,7 @@ pub fn keeps_among(
     if affected.before.iter().all(|mark| *mark) {
         return Ok(Answer::Unknown);
     }
-    let before = MarkedPackages::of(alloc, graph, found, &affected.before)?;
+    let before = KnownBefore::of(alloc, graph, found, &affected.before)?;
     let then = MarkedPackages::of(alloc, change.after, found_after, &affected.then)?;
     keeps_marked(alloc, &before, change.edits, &then)
 }

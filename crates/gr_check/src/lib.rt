@@ -8,6 +8,7 @@ mod keeps_among;
 mod lost;
 mod planned;
 mod preserving;
+mod reading;
 
 pub use planned::{Planned, within_limits};
 pub use preserving::preserves;

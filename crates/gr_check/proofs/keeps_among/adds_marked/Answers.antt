@@ -6,5 +6,5 @@ use Rattle.gr_check.proofs.keeps_among.adds_marked.Goals as goal
 
 pub returns : goal.returns
 returns c =
-    yes_told (TellsMarked c.args.before.now c.args.then.now (moved c.args.moves.now)) c.in_ok-adds_none.adds_none c.yes_or_unknown.result
+    yes_told (TellsMarked c.args.before.now.packages c.args.then.now (moved c.args.moves.now)) c.in_ok-adds_none.adds_none c.yes_or_unknown.result
     c.yes_or_unknown.ensures (λ t. (c.requires.keeps, c.in_ok-adds_none.ensures t)) tt

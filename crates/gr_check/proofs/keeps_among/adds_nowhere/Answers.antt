@@ -1,22 +1,17 @@
 -- The answers to the goals of `keeps_among::adds_nowhere`.
-use Rattle.std.proofs.Common.{List, sym, subst}
-use Rattle.std.specs.Prelude.{IsTrue, ◌↔◌, Contains}
+use Rattle.std.specs.Prelude.{IsTrue, Contains}
 use Rattle.std.proofs.lemmas.Result.{IfOk-weaker}
 use Rattle.gr_text.specs.declared.place.Place.{Place}
-use Rattle.gr_bound.specs.Workspaces.{known_in}
 use Rattle.gr_edit.specs.Moved.{moved}
-use Rattle.gr_check.specs.Among.{AddsNoneAmong, AddsMarked, IsIdentifierAmong}
+use Rattle.gr_check.specs.Among.{AddsNoneAmong, AddsMarked}
 use Rattle.gr_check.proofs.keeps_among.adds_nowhere.Goals as goal
 
 pub returns : goal.returns
 returns c =
-    let before = c.args.before.now in
+    let before = c.args.before.now.packages in
     let then = c.args.then.now in
     let to = moved c.args.moves.now in
-    let places = c.deref.result.now in
-    let each = subst
-    (λ (l : List Place). (place : Place) → Contains l place ↔ IsIdentifierAmong before.graph.now (known_in before.found.now) before.marks.now place)
-    (sym c.deref.ensures.value) c.in_ok-places.ensures in
+    let places = c.identifier_places.result.now in
     IfOk-weaker c.add_none.result (λ yes. IsTrue yes → (place : Place) → Contains places place → AddsNoneAmong before then to place)
     (λ yes. IsTrue yes → AddsMarked before then to)
-    (λ yes is t place h. is t place ((each place).1 h)) c.add_none.ensures
+    (λ yes is t place h. is t place ((c.identifier_places.ensures place).1 h)) c.add_none.ensures

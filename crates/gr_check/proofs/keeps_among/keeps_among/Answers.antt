@@ -20,7 +20,7 @@ keeps_marked-requires-clause-edited c =
 
 pub keeps_marked-requires-clause-affected : goal.keeps_marked-requires-clause-affected
 keeps_marked-requires-clause-affected c =
-    let before = c.in_ok-before.before in
+    let before = c.in_ok-before.before.packages in
     let then = c.in_ok-then.then in
     let s = c.args.change.now.edits.now in
     let w = c.args.graph.now in
@@ -31,7 +31,7 @@ keeps_marked-requires-clause-affected c =
 
 pub returns : goal.returns
 returns c =
-    let before = c.in_ok-before.before in
+    let before = c.in_ok-before.before.packages in
     let kept = λ (w : Workspace) (f g : Findings). IfOk c.keeps_marked.result (λ answer. Tells answer
     (KeepsBindings w (known_in f) (revision_of w c.args.change.now.edits.now) (known_in g))) in
     subst (λ (w : Workspace). kept w c.args.found.now c.args.found_after.now) c.in_ok-before.ensures.graph

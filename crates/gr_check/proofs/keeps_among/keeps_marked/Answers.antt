@@ -13,11 +13,11 @@ use Rattle.gr_check.proofs.keeps_among.keeps_marked.Goals as goal
 
 pub returns : goal.returns
 returns c =
-    let before = c.args.before.now in
+    let before = c.args.before.now.packages in
     let then = c.args.then.now in
     let s = c.args.edits.now in
     let is = c.in_ok-moves.ensures in
     IfOk-weaker c.tell_marked.result (λ answer. TellsMarked before then (moved c.in_ok-moves.moves) answer)
     (λ answer. Tells answer (KeepsBindings before.graph.now (known_in before.found.now) (revision_of before.graph.now s) (known_in then.found.now)))
-    (λ answer h. told_by_marked before then s c.requires.before.sound.findings.right c.requires.then.sound.findings.right c.requires.affected
+    (λ answer h. told_by_marked before then s c.requires.before.packages.sound.findings.right c.requires.then.sound.findings.right c.requires.affected
     c.requires.edited answer (subst (λ (m : FileChanges). TellsMarked before then (moved m) answer) is h)) c.tell_marked.ensures

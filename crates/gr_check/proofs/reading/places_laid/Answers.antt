@@ -1,14 +1,13 @@
--- The answers to the goals of `among::add_laid`.
+-- The answers to the goals of `reading::places_laid`.
+use Rattle.std.proofs.lemmas.Result.{IfOk-weaker}
 use Rattle.std.specs.Prelude.{map}
 use Rattle.gr_tree.specs.SourceFile.{source_of}
 use Rattle.gr_meanings.specs.PackageOf.{package_in}
 use Rattle.gr_declared.specs.InterfacesView.{interface_in}
 use Rattle.gr_bound.specs.Workspaces.{known_in}
-use Rattle.gr_bound.proofs.AddingAll.{call_all}
-use Rattle.gr_placed.specs.Identified.{BeginsInNumber}
-use Rattle.gr_placed.proofs.Identifiers.{BeginsIn, of_number, in_number}
+use Rattle.gr_placed.specs.DeclaredPlaces.{AreDeclaredIn, AreDeclaredAt}
 use Rattle.gr_check.proofs.Laid.{laid_at}
-use Rattle.gr_check.proofs.among.add_laid.Goals as goal
+use Rattle.gr_check.proofs.reading.places_laid.Goals as goal
 
 pub returns : goal.returns
 returns c =
@@ -21,6 +20,5 @@ returns c =
     let seen = c.args.seen.now in
     let p = package_in path (map source_of files) table (interface_in seen) in
     let is = laid_at w known n path files table seen c.requires.in_range c.path_of-path.ensures c.files-files.ensures c.requires.table in
-    call_all c.args.places.now.items c.add_unit.new.found.items (BeginsIn p) (BeginsInNumber w known n) c.add_unit.result
-    (λ place h. of_number w known n p place is h)
-    (λ place h. in_number w known n p place is h) c.add_unit.ensures
+    IfOk-weaker c.unit_places.result (AreDeclaredIn p) (AreDeclaredAt w known n)
+    (λ places h. record { inside = p; is_package = is; declared = h }) c.unit_places.ensures
