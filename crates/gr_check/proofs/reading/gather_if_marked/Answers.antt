@@ -8,15 +8,15 @@ use Rattle.gr_bound.proofs.AddingAll.{all_none, all_as}
 use Rattle.gr_placed.specs.Identified.{BeginsInNumber}
 use Rattle.gr_check.proofs.reading.gather_if_marked.Goals as goal
 
-pub returns-then-is_marked-clause-bound : goal.returns-then-is_marked-clause-bound
-returns-then-is_marked-clause-bound c =
+pub returns-in_ok-gather_read-clause-bound : goal.returns-in_ok-gather_read-clause-bound
+returns-in_ok-gather_read-clause-bound c =
     let e = c.args.reading.now.exports.now in
     let B = IsBoundAt e.graph.now (known_in e.found.now) c.args.number in
     all_as c.args.gathered.now.bound.items c.gather_read.new.gathered.bound.items B (λ b. IsMarked c.args.reading.now.marks.now c.args.number × B b)
     (λ b h. (c.is_marked.ensures.0 c.if-is_marked.true, h)) (λ b h. h.1) c.in_ok-gather_read.ensures.bound
 
-pub returns-then-is_marked-clause-identifiers : goal.returns-then-is_marked-clause-identifiers
-returns-then-is_marked-clause-identifiers c = λ t.
+pub returns-in_ok-gather_read-clause-identifiers : goal.returns-in_ok-gather_read-clause-identifiers
+returns-in_ok-gather_read-clause-identifiers c = λ t.
     let e = c.args.reading.now.exports.now in
     let B = BeginsInNumber e.graph.now (known_in e.found.now) c.args.number in
     all_as c.args.gathered.now.identifiers.items c.gather_read.new.gathered.identifiers.items B

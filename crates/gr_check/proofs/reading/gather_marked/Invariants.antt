@@ -9,12 +9,12 @@ use Rattle.gr_placed.specs.Identified.{BeginsInNumber}
 use Rattle.gr_check.specs.Among.{IsHeldOf}
 use Rattle.gr_check.proofs.reading.gather_marked.Given as goal
 
-pub record Passed (l : goal.loop-number) : Type 0 where
-  pub places : HoldsOfEach (IsHeldOf l.reading.exports.now.graph.now (known_in l.reading.exports.now.found.now) l.reading.marks.now) l.number l.all.items
-  pub bound : AddsAll l.initial.gathered.bound.items l.gathered.bound.items
-      (BelowAll (λ n b. IsMarked l.reading.marks.now n × IsBoundAt l.reading.exports.now.graph.now (known_in l.reading.exports.now.found.now) n b) l.number)
-  pub identifiers : IsTrue l.reading.identifiers → AddsAll l.initial.gathered.identifiers.items l.gathered.identifiers.items
-      (BelowAll (λ n p. IsMarked l.reading.marks.now n × BeginsInNumber l.reading.exports.now.graph.now (known_in l.reading.exports.now.found.now) n p) l.number)
-
 abbrev pub invariant-loop-number : goal.invariant-loop-number
-invariant-loop-number l = Passed l
+invariant-loop-number l =
+    let w = l.reading.exports.now.graph.now in
+    let known = known_in l.reading.exports.now.found.now in
+    let marks = l.reading.marks.now in
+    HoldsOfEach (IsHeldOf w known marks) l.number l.all.items
+    × AddsAll l.initial.gathered.bound.items l.gathered.bound.items (BelowAll (λ n b. IsMarked marks n × IsBoundAt w known n b) l.number)
+    × (IsTrue l.reading.identifiers → AddsAll l.initial.gathered.identifiers.items l.gathered.identifiers.items
+    (BelowAll (λ n place. IsMarked marks n × BeginsInNumber w known n place) l.number))
