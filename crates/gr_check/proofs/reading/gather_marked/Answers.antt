@@ -31,9 +31,9 @@ loop-number-preserved c =
     let old = c.loop-number.invariant in
     let one = c.in_ok-gather_if_marked.ensures in (
       one_more (IsHeldOf e.graph.now known marks) c.loop-number.number c.loop-number.all.items c.push.new.self.items _ c.in_ok-push.ensures.items
-      one.places old.0,
+          one.places old.0,
       next_below (λ n b. IsMarked marks n × IsBoundAt e.graph.now known n b) c.args.gathered.now.bound.items c.loop-number.gathered.bound.items
-      c.gather_if_marked.new.gathered.bound.items c.loop-number.number old.1 one.bound,
+          c.gather_if_marked.new.gathered.bound.items c.loop-number.number old.1 one.bound,
       (λ t. next_below (λ n place. IsMarked marks n × BeginsInNumber e.graph.now known n place) c.args.gathered.now.identifiers.items
           c.loop-number.gathered.identifiers.items c.gather_if_marked.new.gathered.identifiers.items c.loop-number.number (old.2 t) (one.identifiers t)),
     )
