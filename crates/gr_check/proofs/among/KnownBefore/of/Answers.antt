@@ -3,4 +3,4 @@ use Rattle.std.proofs.Common.{refl}
 use Rattle.gr_check.proofs.among.KnownBefore.of.Goals as goal
 
 pub returns-clause-held : goal.returns-clause-held
-returns-clause-held c = record { packages = c.in_ok-read_marked.ensures.held; identifiers = c.in_ok-read_marked.ensures.identifiers refl }
+returns-clause-held c = record { packages = c.in_ok-places.ensures.held; identifiers = c.in_ok-places.ensures.identifiers refl }
