@@ -1,5 +1,5 @@
 //! What packages reach along links.
-ghost use Rattle.std.specs.Prelude.{◌≡◌, ◌<◌, ◌↔◌, ℕ, count_by, length, IfOk, IsTrue};
+ghost use Rattle.std.specs.Prelude.{◌≡◌, ◌<◌, ◌↔◌, ℕ, length, IfOk, IsTrue};
 ghost use Rattle.std.specs.List.{All, Contains};
 ghost use Rattle.std.specs.List.Sorted.{IsStrictlyIncreasing};
 ghost use Rattle.gr_graph.specs.Imports.{AreLinked, HoldImporters, Links, Reaches};
@@ -12,18 +12,11 @@ use crate::packages_below::PackagesBelow;
 use crate::search::{reach, spread};
 use std::alloc::{AllocError, Global};
 
-/// How many are marked.
-fn count_marked(marks: &[bool]) -> usize
-    ensures { result ≡ count_by (λ mark. mark) marks.now }
-{
-    marks.iter().filter(|mark| **mark).count()
-}
-
-/// The marked packages, by number.
-fn marked(alloc: Global, marks: &[bool]) -> Result<PackageList, AllocError>
+/// The marked packages, by number, with room for so many.
+fn marked(alloc: Global, marks: &[bool], room: usize) -> Result<PackageList, AllocError>
     ensures { IfOk result (HoldsMarked marks.now (length marks.now)) }
 {
-    let mut list = Vec::with_capacity(alloc, count_marked(marks))?;
+    let mut list = Vec::with_capacity(alloc, room)?;
     for (number, mark) in marks.iter().enumerate() {
         if *mark {
             list.push(number)?;
@@ -32,16 +25,24 @@ fn marked(alloc: Global, marks: &[bool]) -> Result<PackageList, AllocError>
     Ok(PackageList::from_numbers(list))
 }
 
-/// Marks of what a package imports directly or indirectly, and of itself.
-fn reached_marks(alloc: Global, imports: &LinkRows, number: usize) -> Result<Vec<bool>, AllocError>
+/// Marks of what a package reaches, and how many are marked, by which room is made.
+#[derive(Drop)]
+struct Reached {
+    marks: Vec<bool>,
+    count: usize,
+}
+
+/// What a package imports directly or indirectly, and itself.
+fn reached_from(alloc: Global, imports: &LinkRows, number: usize) -> Result<Reached, AllocError>
     requires linked { AreLinked imports.now }
     requires number { number < length imports.now }
-    ensures size { IfOk result (λ marks. length marks.items ≡ length imports.now) }
-    ensures reached { IfOk result (λ marks. (q : ℕ) → IsMarked marks.items q ↔ Reaches imports.now number q) }
+    ensures size { IfOk result (λ reached. length reached.marks.items ≡ length imports.now) }
+    ensures reached { IfOk result (λ reached. (q : ℕ) → IsMarked reached.marks.items q ↔ Reaches imports.now number q) }
 {
     let mut marks = vec![in alloc; false; imports.len()]?;
-    reach(alloc, imports, &mut marks, number)?;
-    Ok(marks)
+    let found = spread(alloc, imports, &mut marks, number)?;
+    let count = found.len();
+    Ok(Reached { marks, count })
 }
 
 /// What a package imports directly or indirectly, itself among it, by number.
@@ -54,8 +55,8 @@ pub(crate) fn closure_of(
     requires number { number < length imports.now }
     ensures { IfOk result (IsClosed imports.now number) }
 {
-    let marks = reached_marks(alloc, imports, number)?;
-    marked(alloc, &marks)
+    let reached = reached_from(alloc, imports, number)?;
+    marked(alloc, &reached.marks, reached.count)
 }
 
 /// Marks what has no mark, and takes the other marks off.
@@ -98,8 +99,8 @@ pub(crate) fn back_marks(
     requires number { number < length imports.now }
     ensures { IfOk result (λ marks. TellBack imports.now number marks.items) }
 {
-    let marks = reached_marks(alloc, imports, number)?;
-    back_from(alloc, importers, marks, number)
+    let reached = reached_from(alloc, imports, number)?;
+    back_from(alloc, importers, reached.marks, number)
 }
 
 /// What a package reaches and what does not reach it, by number, told by such marks.
@@ -108,7 +109,7 @@ fn built_on_by(alloc: Global, back: &[bool]) -> Result<PackageList, AllocError>
 {
     let mut marks = Vec::from_slice(alloc, back)?;
     flip(&mut marks);
-    marked(alloc, &marks)
+    marked(alloc, &marks, back.len())
 }
 
 /// Whether none of some packages is marked.
@@ -124,15 +125,20 @@ fn none_marked(marks: &[bool], numbers: &[usize]) -> bool
     true
 }
 
-/// The marked packages but one, by number.
-fn marked_but(alloc: Global, marks: Vec<bool>, one: usize) -> Result<PackageList, AllocError>
+/// The marked packages but one, by number, with room for so many.
+fn marked_but(
+    alloc: Global,
+    marks: Vec<bool>,
+    room: usize,
+    one: usize,
+) -> Result<PackageList, AllocError>
     requires { one < length marks.items }
     ensures each { IfOk result (λ rest. (q : ℕ) → Contains rest q ↔ (IsMarked marks.items q × (q ≡ one → ⊥))) }
     ensures rising { IfOk result IsStrictlyIncreasing }
 {
     let mut marks = marks;
     marks[one] = false;
-    marked(alloc, &marks)
+    marked(alloc, &marks, room)
 }
 
 /// Marks of so many packages, of which just one is marked.
@@ -146,14 +152,14 @@ fn one_marked(alloc: Global, count: usize, one: usize) -> Result<Vec<bool>, Allo
 }
 
 /// The marked packages but one, and as many marks, of which just that one's is set.
-fn rest_marked(alloc: Global, marks: Vec<bool>, one: usize) -> Result<PackagesBelow, AllocError>
-    requires { one < length marks.items }
-    ensures each { IfOk result (λ found. (q : ℕ) → Contains found.built_on q ↔ (IsMarked marks.items q × (q ≡ one → ⊥))) }
+fn rest_marked(alloc: Global, reached: Reached, one: usize) -> Result<PackagesBelow, AllocError>
+    requires { one < length reached.marks.items }
+    ensures each { IfOk result (λ found. (q : ℕ) → Contains found.built_on q ↔ (IsMarked reached.marks.items q × (q ≡ one → ⊥))) }
     ensures rising { IfOk result (λ found. IsStrictlyIncreasing found.built_on) }
     ensures back { IfOk result (λ found. (q : ℕ) → IsMarked found.back.items q ↔ (q ≡ one)) }
 {
-    let back = one_marked(alloc, marks.len(), one)?;
-    let built_on = marked_but(alloc, marks, one)?;
+    let back = one_marked(alloc, reached.marks.len(), one)?;
+    let built_on = marked_but(alloc, reached.marks, reached.count, one)?;
     Ok(PackagesBelow { built_on, back })
 }
 
@@ -171,11 +177,11 @@ pub(crate) fn below(
     ensures built_on { IfOk result (λ found. IsBuiltOn imports.now number found.built_on) }
     ensures back { IfOk result (λ found. MarkBack imports.now number found.back.items) }
 {
-    let marks = reached_marks(alloc, imports, number)?;
-    if none_marked(&marks, importers.row(number)) {
-        return rest_marked(alloc, marks, number);
+    let reached = reached_from(alloc, imports, number)?;
+    if none_marked(&reached.marks, importers.row(number)) {
+        return rest_marked(alloc, reached, number);
     }
-    let back = back_from(alloc, importers, marks, number)?;
+    let back = back_from(alloc, importers, reached.marks, number)?;
     let built_on = built_on_by(alloc, &back)?;
     Ok(PackagesBelow { built_on, back })
 }

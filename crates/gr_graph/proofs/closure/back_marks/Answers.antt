@@ -11,11 +11,11 @@ back_from-requires c =
     record {
       linked = noted_linked c.args.imports.now c.args.importers.now c.requires.linked c.requires.back;
       number = subst (λ (n : ℕ). c.args.number < n) (sym size) c.requires.number;
-      size = c.in_ok-marks.ensures.size ∙ sym size;
+      size = c.in_ok-reached.ensures.size ∙ sym size;
     }
 
 pub returns : goal.returns
 returns c =
     let g = c.args.imports.now in
     IfOk-weaker c.back_from.result _ (λ back. TellBack g c.args.number back.items)
-    (λ back tells. tells g c.requires.linked c.requires.back c.in_ok-marks.ensures.reached) c.back_from.ensures
+    (λ back tells. tells g c.requires.linked c.requires.back c.in_ok-reached.ensures.reached) c.back_from.ensures
