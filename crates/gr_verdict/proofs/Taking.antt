@@ -1,5 +1,5 @@
 -- What is known of packages is taken, one package further.
-use Rattle.std.proofs.Common.{ℕ, zero, suc, ◌≡◌, ◌<◌, ◌⊎◌, inl, inr, List, [], ◌∷◌, ◌++◌, length, refl, sym, ap, subst, ◌∙◌, arith}
+use Rattle.std.proofs.Common.{ℕ, zero, suc, ◌≡◌, ◌<◌, ◌⊎◌, inl, inr, List, [], ◌∷◌, ◌++◌, length, replicate, refl, sym, ap, subst, ◌∙◌, arith}
 use Rattle.std.specs.Prelude.{Option, Some, None, slice_get}
 use Rattle.std.proofs.Math.ListN.{set}
 use Rattle.std.proofs.lemmas.Bool.{cases_eq}
@@ -44,14 +44,13 @@ whole_shared p others old new s nothing whole q gone = elim (cases_bytes q p) [
 
 -- nothing yet
 
-pub no_finding : (fs : List (Option Finding)) → fs ≡ [] → (n : ℕ) → IsGathered fs n → ⊥
-no_finding fs e n g = none-some (Some g.0) (subst (λ l. slice_get l n ≡ Some (Some g.0)) e g.1)
+none_there : (count n : ℕ) (f : Finding) → slice_get (replicate count None) n ≡ Some (Some f) → ⊥
+none_there zero n f e = none-some (Some f) e
+none_there (suc count) zero f e = none-some f (same_Some None (Some f) e)
+none_there (suc count) (suc n) f e = none_there count n f e
 
-pub no_finding_next : (fs gs : List (Option Finding)) → ((n : ℕ) → IsGathered fs n → ⊥) → gs ≡ fs ++ None ∷ [] → (n : ℕ) → IsGathered gs n → ⊥
-no_finding_next fs gs none e n g = elim (before_or_last fs None n (Some g.0) (subst (λ l. slice_get l n ≡ Some (Some g.0)) e g.1)) [
-  | inl before ↦ none n (g.0, before)
-  | inr last ↦ none-some g.0 last.1
-]
+pub no_finding : (count : ℕ) (fs : List (Option Finding)) → fs ≡ replicate count None → (n : ℕ) → IsGathered fs n → ⊥
+no_finding count fs e n g = none_there count n g.0 (subst (λ l. slice_get l n ≡ Some (Some g.0)) e g.1)
 
 pub none_gathered : (w : Workspace) (count : ℕ) (all : Gathered) → length all.findings.items ≡ count →
     ((n : ℕ) → IsGathered all.findings.items n → ⊥) → ((q : List ℕ) → name_in all.interfaces q ≡ None) →
@@ -107,6 +106,15 @@ module _ (w : Workspace) (n : ℕ) (p : List ℕ) (at : slice_get (package_paths
             (whole_shared p told.interfaces old.interfaces new.interfaces s tells.whole h.verdicts.whole) own);
         each = each_taken;
       }
+
+-- it is known then, and what was known before
+
+pub taken_here : (old new : List (Option Finding)) (n : ℕ) (f : Finding) → n < length old → new ≡ set old n (Some f) → IsGathered new n
+taken_here old new n f within is_set = subst (λ l. IsGathered l n) (sym is_set) (f, get_set_same old n (Some f) within)
+
+pub taken_still : (old new : List (Option Finding)) (n : ℕ) (f : Finding) → n < length old → new ≡ set old n (Some f) →
+    (m : ℕ) → IsGathered old m → IsGathered new m
+taken_still old new n f within is_set m g = subst (λ l. IsGathered l m) (sym is_set) (gathered_stays old n m f within g)
 
 -- nothing else was taken
 pub taken_before : (old new : List (Option Finding)) (n : ℕ) (f : Finding) → new ≡ set old n (Some f) →

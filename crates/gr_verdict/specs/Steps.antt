@@ -1,7 +1,7 @@
 -- What is found on the way: an order of the packages, what one of them sees, its faults with their places, and what is found
 -- with one package more.
 use Rattle.std.specs.Prelude.{ℕ, ◌≡◌, ◌<◌, ◌↔◌, ◌⊎◌, true, List, [], ◌∷◌, ◌++◌, length, map, Option, Some, None}
-use Rattle.std.specs.Prelude.{slice_get, slice_index_or, MatchOption, Contains}
+use Rattle.std.specs.Prelude.{slice_get, slice_index_or, MatchOption, Contains, IsTrue}
 use Rattle.std.specs.List.Sorted.{IsStrictlyIncreasing}
 use Rattle.std.proofs.Math.ListN.{set}
 use Rattle.gr_text.specs.Workspace.{Workspace}
@@ -31,6 +31,7 @@ use Rattle.gr_verdict.specs.declared.finding.Finding.{Finding}
 use Rattle.gr_verdict.specs.declared.found_package.FoundPackage.{FoundPackage}
 use Rattle.gr_verdict.specs.declared.judging.Judged.{Judged}
 use Rattle.gr_verdict.specs.declared.gathered.Gathered.{Gathered}
+use Rattle.gr_verdict.specs.declared.gathered.Taken.{Taken}
 use Rattle.gr_verdict.specs.declared.known.KnownVerdict.{KnownVerdict}
 use Rattle.gr_verdict.specs.declared.progress.Progress.{Progress}
 
@@ -198,7 +199,18 @@ pub record AreGatheredOf (w : Workspace) (numbers : List ℕ) (all : Gathered) :
   pub right : AreGathered w (length (package_paths w)) all
   pub just : (n : ℕ) → IsGathered all.findings.items n → Contains numbers n
 
--- and it is known of each of them
+-- and where it is told that it was known of each of them, it is
+pub record AreTakenOf (w : Workspace) (numbers : List ℕ) (taken : Taken) : Type 0 where
+  pub gathered : AreGatheredOf w numbers taken.all
+  pub each : IsTrue taken.knew_each → (n : ℕ) → Contains numbers n → IsGathered taken.all.findings.items n
+
+-- what was known still is; and where it is told that it was known of each package, it was told so before, and it is known of that number
+pub record KnewOneMore (number : ℕ) (old new : Taken) : Type 0 where
+  pub kept : (n : ℕ) → IsGathered old.all.findings.items n → IsGathered new.all.findings.items n
+  pub before : IsTrue new.knew_each → IsTrue old.knew_each
+  pub here : IsTrue new.knew_each → IsGathered new.all.findings.items number
+
+-- what is known is right, of no other package, and it is known of each of them
 pub record KnowsJust (w : Workspace) (numbers : List ℕ) (all : Gathered) : Type 0 where
   pub gathered : AreGatheredOf w numbers all
   pub each : (n : ℕ) → Contains numbers n → IsGathered all.findings.items n

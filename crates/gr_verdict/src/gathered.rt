@@ -1,5 +1,5 @@
 //! What is found in some packages, in one, by which others are judged.
-ghost use Rattle.std.specs.Prelude.{◌≡◌, ◌<◌, ◌↔◌, ℕ, List, length, Contains, IfOk, IsTrue, MatchOption, None, OnOk, Some, slice_get};
+ghost use Rattle.std.specs.Prelude.{◌≡◌, ◌<◌, ◌↔◌, ℕ, List, length, IfOk, IsTrue, MatchOption, None, OnOk, Some, slice_get};
 ghost use Rattle.std.proofs.Math.ListN.{set};
 ghost use Rattle.gr_text.specs.Packages.{package_paths};
 ghost use Rattle.gr_graph.specs.Graphs.{OfPackage};
@@ -7,7 +7,7 @@ ghost use Rattle.gr_declared.specs.InterfacesView.{EndsAt, IsBehindAll, Shares, 
 ghost use Rattle.gr_verdict.specs.declared.finding.Finding.{Finding as Found};
 ghost use Rattle.gr_verdict.specs.Found.{KnowsVerdicts};
 ghost use Rattle.gr_verdict.specs.Told.{MayTell};
-ghost use Rattle.gr_verdict.specs.Steps.{AreGathered, AreGatheredOf, HoldAllBelow, IsGathered};
+ghost use Rattle.gr_verdict.specs.Steps.{AreGathered, AreTakenOf, HoldAllBelow, IsGathered, KnewOneMore};
 
 use crate::finding::SharedFinding;
 use crate::known::{Known, KnownVerdict};
@@ -23,15 +23,19 @@ pub(crate) struct Gathered {
     pub(crate) interfaces: Interfaces,
 }
 
+/// What was known of some packages, which are taken one after the other, and whether anything was known of each of them.
+#[derive(Drop)]
+pub(crate) struct Taken {
+    pub(crate) all: Gathered,
+    pub(crate) knew_each: bool,
+}
+
 /// No finding, for so many packages.
 fn no_findings(alloc: Global, count: usize) -> Result<Vec<Option<SharedFinding>>, AllocError>
     ensures size { IfOk result (λ findings. length findings.items ≡ count) }
     ensures none { IfOk result (λ findings. (n : ℕ) → IsGathered findings.items n → ⊥) }
 {
-    let mut findings = Vec::with_capacity(alloc, count)?;
-    for _number in 0..count {
-        findings.push(None)?;
-    }
+    let findings = vec![in alloc; None; count]?;
     Ok(findings)
 }
 
@@ -81,18 +85,6 @@ impl Gathered {
             Some(finding) => finding,
             None => unreachable!(),
         }
-    }
-
-    /// Whether it is known of each of these packages what is found in it.
-    pub(crate) fn knows_each(&self, numbers: &[usize]) -> bool
-        ensures { IsTrue result → (n : ℕ) → Contains numbers.now n → IsGathered self.now.findings.items n }
-    {
-        for number in numbers {
-            if !self.knows(*number) {
-                return false;
-            }
-        }
-        true
     }
 
     /// Whether it is known of each package what is found in it.
@@ -168,26 +160,30 @@ pub(crate) fn take_known(
     Ok(())
 }
 
-/// The same, of a package whose path stands behind those of all whose interfaces were taken.
+/// The same, of a package whose path stands behind those of all whose interfaces were taken. It is noted if nothing is known of it.
 fn take_next(
     graph: &Graph,
     number: usize,
     known: &Known,
-    all: &mut Gathered,
+    taken: &mut Taken,
 ) -> Result<(), AllocError>
     requires number { number < length (package_paths graph.now) }
     requires known { KnowsVerdicts graph.now known.now }
-    requires all { AreGathered graph.now (length (package_paths graph.now)) all.old }
-    requires unknown { IsGathered all.old.findings.items number → ⊥ }
-    requires behind { OfPackage graph.now number (IsBehindAll all.old.interfaces) }
-    ensures right { OnOk result (AreGathered graph.now (length (package_paths graph.now)) all.new) }
-    ensures others { OnOk result ((n : ℕ) → (n ≡ number → ⊥) → IsGathered all.new.findings.items n → IsGathered all.old.findings.items n) }
-    ensures end { OnOk result (OfPackage graph.now number (EndsAt all.new.interfaces)) }
+    requires all { AreGathered graph.now (length (package_paths graph.now)) taken.old.all }
+    requires unknown { IsGathered taken.old.all.findings.items number → ⊥ }
+    requires behind { OfPackage graph.now number (IsBehindAll taken.old.all.interfaces) }
+    ensures right { OnOk result (AreGathered graph.now (length (package_paths graph.now)) taken.new.all) }
+    ensures others { OnOk result ((n : ℕ) → (n ≡ number → ⊥) → IsGathered taken.new.all.findings.items n → IsGathered taken.old.all.findings.items n) }
+    ensures each { OnOk result (KnewOneMore number taken.old taken.new) }
+    ensures end { OnOk result (OfPackage graph.now number (EndsAt taken.new.all.interfaces)) }
 {
     let Some(verdict) = known.get(number) else {
+        taken.knew_each = false;
         return Ok(());
     };
-    all.keep_next(number, &graph.package(number).path, verdict)?;
+    taken
+        .all
+        .keep_next(number, &graph.package(number).path, verdict)?;
     Ok(())
 }
 
@@ -196,11 +192,15 @@ pub(crate) fn gather(alloc: Global, graph: &Graph, known: &Known) -> Result<Gath
     requires { KnowsVerdicts graph.now known.now }
     ensures { IfOk result (λ all. AreGathered graph.now (length (package_paths graph.now)) all) }
 {
-    let mut all = Gathered::new(alloc, graph.len(), graph.len())?;
+    let all = Gathered::new(alloc, graph.len(), graph.len())?;
+    let mut taken = Taken {
+        all,
+        knew_each: true,
+    };
     for number in 0..graph.len() {
-        take_next(graph, number, known, &mut all)?;
+        take_next(graph, number, known, &mut taken)?;
     }
-    Ok(all)
+    Ok(taken.all)
 }
 
 /// What is known of some packages, and of no other. They are taken in the order of their paths too.
@@ -209,16 +209,20 @@ pub(crate) fn gather_some(
     graph: &Graph,
     numbers: &[usize],
     known: &Known,
-) -> Result<Gathered, AllocError>
+) -> Result<Taken, AllocError>
     requires numbers { HoldAllBelow graph.now numbers.now }
     requires known { KnowsVerdicts graph.now known.now }
-    ensures { IfOk result (AreGatheredOf graph.now numbers.now) }
+    ensures { IfOk result (AreTakenOf graph.now numbers.now) }
 {
-    let mut all = Gathered::new(alloc, graph.len(), numbers.len())?;
+    let all = Gathered::new(alloc, graph.len(), numbers.len())?;
+    let mut taken = Taken {
+        all,
+        knew_each: true,
+    };
     for number in numbers {
-        take_next(graph, *number, known, &mut all)?;
+        take_next(graph, *number, known, &mut taken)?;
     }
-    Ok(all)
+    Ok(taken)
 }
 
 /// The verdict on a package, if it is found now.

@@ -1,5 +1,5 @@
 //! What is found in the packages on which one builds, while they are judged one after the other, where a caller checks that one itself.
-ghost use Rattle.std.specs.Prelude.{ℕ, ◌≡◌, ◌<◌, ◌↔◌, length, IfOk, IsTrue, OnOk};
+ghost use Rattle.std.specs.Prelude.{ℕ, ◌≡◌, ◌<◌, ◌↔◌, ◌++◌, [], ◌∷◌, length, Contains, IfOk, IsTrue, OnOk};
 ghost use Rattle.std.specs.List.Sorted.{IsStrictlyIncreasing};
 ghost use Rattle.gr_text.specs.Packages.{package_paths};
 ghost use Rattle.gr_text.specs.Workspace.{Workspace};
@@ -28,7 +28,7 @@ use crate::cycles::cycles;
 use crate::finding::SharedFinding;
 use crate::findings::{enter_judged, judge_next};
 use crate::found_package::{FoundPackage, found_now, found_package, take_or_judge};
-use crate::gathered::{Gathered, gather_some};
+use crate::gathered::{Gathered, Taken, gather_some};
 use crate::judging::place_checked;
 use crate::known::Known;
 use crate::order::order;
@@ -39,11 +39,13 @@ use gr_graph::{Graph, PackagesBelow, is_among};
 use gr_types::Checked;
 use std::alloc::{AllocError, Global};
 
-/// What is found in the packages on which one builds, and in that one once it was learnt; and which these are.
+/// What is found in the packages on which one builds, and in that one once it was learnt; which these are; and whether it was known of
+/// each of them, so that nothing was found there now.
 #[derive(Drop)]
 pub struct Progress {
     pub(crate) all: Gathered,
     pub(crate) below: PackagesBelow,
+    pub(crate) knew_each: bool,
 }
 
 /// Judges a package, if it is among some and nothing is known of it.
@@ -89,7 +91,7 @@ fn judge_ordered(
     Ok(())
 }
 
-/// Judges those of some packages of which nothing is known. No order is looked for where all of them are known.
+/// Judges those of some packages of which nothing is known.
 fn judge_below(
     alloc: Global,
     graph: &Graph,
@@ -100,28 +102,48 @@ fn judge_below(
     requires all { AreGatheredOf graph.now below.now all.old }
     ensures { OnOk result (KnowsJust graph.now below.now all.new) }
 {
-    if all.knows_each(below) {
-        return Ok(());
-    }
     let order = order(alloc, graph)?;
     let cycles = cycles(alloc, graph, &order)?;
     judge_ordered(alloc, graph, &order, &cycles, below, all)
 }
 
-/// What is found in some packages, where it is known of some of them.
-fn judged(
-    alloc: Global,
-    graph: &Graph,
-    below: &[usize],
-    known: &Known,
-) -> Result<Gathered, AllocError>
+/// What is found in some packages, where it is known of some of them. No order is looked for where it is known of each.
+fn judged(alloc: Global, graph: &Graph, below: &[usize], known: &Known) -> Result<Taken, AllocError>
     requires below { HoldAllBelow graph.now below.now }
     requires known { KnowsVerdicts graph.now known.now }
-    ensures { IfOk result (KnowsJust graph.now below.now) }
+    ensures { IfOk result (λ taken. KnowsJust graph.now below.now taken.all) }
 {
-    let mut all = gather_some(alloc, graph, below, known)?;
-    judge_below(alloc, graph, below, &mut all)?;
+    let mut taken = gather_some(alloc, graph, below, known)?;
+    if taken.knew_each {
+        return Ok(taken);
+    }
+    judge_below(alloc, graph, below, &mut taken.all)?;
+    Ok(taken)
+}
+
+/// The numbers of some packages, and of one more.
+fn with_one(alloc: Global, numbers: &[usize], one: usize) -> Result<Vec<usize>, AllocError>
+    ensures { IfOk result (λ all. all.items ≡ numbers.now ++ one ∷ []) }
+{
+    let mut all = Vec::from_slice(alloc, numbers)?;
+    all.push(one)?;
     Ok(all)
+}
+
+/// The packages of which something may have been found now: one, and those on which it builds, unless it was known of each of these.
+fn maybe_found(
+    alloc: Global,
+    below: &[usize],
+    knew_each: bool,
+    number: usize,
+) -> Result<Vec<usize>, AllocError>
+    ensures { IfOk result (λ numbers. (n : ℕ) → Contains numbers.items n → Contains (below.now ++ number ∷ []) n) }
+{
+    if knew_each {
+        with_one(alloc, &[], number)
+    } else {
+        with_one(alloc, below, number)
+    }
 }
 
 /// Takes in what checking found in a package, of which nothing is known yet.
@@ -166,8 +188,13 @@ impl Progress {
         ensures unknown { IfOk result (λ progress. IsGathered progress.all.findings.items number → ⊥) }
     {
         let below = graph.below_in(alloc, number, closure)?;
-        let all = judged(alloc, graph, below.built_on.as_slice(), known)?;
-        Ok(Progress { all, below })
+        let taken = judged(alloc, graph, below.built_on.as_slice(), known)?;
+        let Taken { all, knew_each } = taken;
+        Ok(Progress {
+            all,
+            below,
+            knew_each,
+        })
     }
 
     /// Whether it is known what is found in the package of a number.
@@ -233,11 +260,14 @@ impl Progress {
         ensures finding { IfOk result (λ made. OfPackage graph.now number (λ p. IsFoundBy graph.now p made.interfaces made.finding)) }
         ensures verdicts { IfOk result (λ made. AreVerdictsOf graph.now made.found.items) }
     {
-        let Progress { all, below } = self;
+        let Progress {
+            all,
+            below,
+            knew_each,
+        } = self;
         let mut all = all;
         take_or_judge(alloc, graph, number, known, &mut all)?;
-        let mut numbers = Vec::from_slice(alloc, below.built_on.as_slice())?;
-        numbers.push(number)?;
+        let numbers = maybe_found(alloc, below.built_on.as_slice(), knew_each, number)?;
         let found = found_now(alloc, graph, &numbers, known, &all)?;
         found_package(number, all, found)
     }

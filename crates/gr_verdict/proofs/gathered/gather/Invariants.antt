@@ -7,7 +7,7 @@ use Rattle.gr_verdict.proofs.gathered.gather.Given as goal
 
 abbrev pub invariant-loop-number : goal.invariant-loop-number
 invariant-loop-number l = record {
-  right : AreGathered l.graph (length (package_paths l.graph)) l.all;
-  unknown : (n : ℕ) → l.number ≤ n → IsGathered l.all.findings.items n → ⊥;
-  before : StandBefore l.graph (λ n. n < l.number) l.all.interfaces;
+  right : AreGathered l.graph (length (package_paths l.graph)) l.taken.all;
+  unknown : (n : ℕ) → l.number ≤ n → IsGathered l.taken.all.findings.items n → ⊥;
+  before : StandBefore l.graph (λ n. n < l.number) l.taken.all.interfaces;
 }

@@ -6,8 +6,8 @@ use Rattle.std.proofs.lemmas.List.{take_all}
 use Rattle.std.proofs.lemmas.List.Elements.{Contains-get_or}
 use Rattle.gr_text.specs.Packages.{package_paths}
 use Rattle.gr_meanings.proofs.BoundLists.{slice_get_some}
-use Rattle.gr_verdict.specs.Steps.{AreGatheredOf}
-use Rattle.gr_verdict.proofs.Members.{next_taken, still_taken}
+use Rattle.gr_verdict.specs.Steps.{AreTakenOf, IsGathered}
+use Rattle.gr_verdict.proofs.Members.{next_taken, nothing_in, still_taken, taken_or_next}
 use Rattle.gr_verdict.proofs.Rising.{later_path}
 use Rattle.gr_verdict.proofs.Taking.{none_gathered}
 use Rattle.gr_verdict.proofs.Underway.{above_taken}
@@ -18,9 +18,12 @@ loop-number-init c =
     let none = c.in_ok-all.ensures.none in
     let size : length c.in_ok-all.all.findings.items ≡ length (package_paths c.args.graph.now) = omega (arith, c.in_ok-all.ensures.size) in
     record {
-      gathered = record {
-        right = none_gathered c.args.graph.now _ c.in_ok-all.all size none c.in_ok-all.ensures.names c.in_ok-all.ensures.interfaces;
-        just = λ n g. absurd (none n g);
+      right = record {
+        gathered = record {
+          right = none_gathered c.args.graph.now _ c.in_ok-all.all size none c.in_ok-all.ensures.names c.in_ok-all.ensures.interfaces;
+          just = λ n g. absurd (none n g);
+        };
+        each = λ knew n has. absurd (nothing_in n has);
       };
       before = λ m q at above. c.in_ok-all.ensures.behind q;
     }
@@ -31,12 +34,13 @@ take_next-requires c =
     let k = c.loop-number.number-index in
     let lt : k < length numbers = omega arith in
     let n = get_or numbers k 0 in
+    let taken = c.loop-number.invariant.right.gathered in
     record {
       number = c.requires.numbers.in_range n (Contains-get_or numbers k 0 lt);
       known = c.requires.known;
-      all = c.loop-number.invariant.gathered.right;
+      all = taken.right;
       unknown = λ g. (
-          let less : n < n = above_taken numbers c.requires.numbers.rising k n lt (c.loop-number.invariant.gathered.just n g) in
+          let less : n < n = above_taken numbers c.requires.numbers.rising k n lt (taken.just n g) in
           omega (arith, less));
       behind = λ p at. c.loop-number.invariant.before n p at (λ m has. above_taken numbers c.requires.numbers.rising k m lt has);
     }
@@ -49,18 +53,26 @@ loop-number-preserved c =
     let n = get_or numbers k 0 in
     let w = c.args.graph.now in
     let p = slice_get_some (package_paths w) n (c.requires.numbers.in_range n (Contains-get_or numbers k 0 lt)) in
+    let was = c.loop-number.invariant.right in
+    let now = c.in_ok-take_next.ensures in
     record {
-      gathered = record {
-        right = c.in_ok-take_next.ensures.right;
-        just = λ m g. elim (cases_eq m n) [
-          | inl e ↦ subst (Contains (take (k + 1) numbers)) (sym e) (next_taken numbers k 0 lt)
-          | inr ne ↦ still_taken numbers k 0 m lt (c.loop-number.invariant.gathered.just m (c.in_ok-take_next.ensures.others m ne g))
+      right = record {
+        gathered = record {
+          right = now.right;
+          just = λ m g. elim (cases_eq m n) [
+            | inl e ↦ subst (Contains (take (k + 1) numbers)) (sym e) (next_taken numbers k 0 lt)
+            | inr ne ↦ still_taken numbers k 0 m lt (was.gathered.just m (now.others m ne g))
+          ];
+        };
+        each = λ knew m has. elim (taken_or_next numbers k 0 m lt has) [
+          | inl before ↦ now.each.kept m (was.each (now.each.before knew) m before)
+          | inr e ↦ subst (IsGathered c.take_next.new.taken.all.findings.items) e (now.each.here knew)
         ];
       };
-      before = λ m q at above. c.in_ok-take_next.ensures.end p.0 p.1 q (later_path w n m p.0 q p.1 at (above n (next_taken numbers k 0 lt)));
+      before = λ m q at above. now.end p.0 p.1 q (later_path w n m p.0 q p.1 at (above n (next_taken numbers k 0 lt)));
     }
 
 pub returns : goal.returns
 returns c =
     let numbers = c.args.numbers.now in
-    subst (λ l. AreGatheredOf c.args.graph.now l c.loop-number.all) (take_all c.loop-number.number-index numbers (omega arith)) c.loop-number.invariant.gathered
+    subst (λ l. AreTakenOf c.args.graph.now l c.loop-number.taken) (take_all c.loop-number.number-index numbers (omega arith)) c.loop-number.invariant.right

@@ -1,17 +1,13 @@
 -- The answers to the goals of `gathered::no_findings`.
-use Rattle.std.proofs.Common.{◌+◌, [], ◌∷◌, length, ap, ◌∙◌, length-append}
+use Rattle.std.proofs.Common.{rules, ◌≡◌, replicate, length, ap, ◌∙◌}
 use Rattle.std.specs.Prelude.{None}
-use Rattle.gr_verdict.proofs.Taking.{no_finding, no_finding_next}
+use Rattle.std.proofs.lemmas.List.{length-replicate}
+use Rattle.gr_verdict.proofs.Taking.{no_finding}
 use Rattle.gr_verdict.proofs.gathered.no_findings.Goals as goal
 
-pub loop-number-init : goal.loop-number-init
-loop-number-init c = record {
-  size = ap length c.in_ok-findings.ensures.items;
-  none = no_finding c.in_ok-findings.findings.items c.in_ok-findings.ensures.items;
-}
-
-pub loop-number-preserved : goal.loop-number-preserved
-loop-number-preserved c = record {
-  size = ap length c.in_ok-push.ensures.items ∙ length-append c.loop-number.findings.items (None ∷ []) ∙ ap (λ k. k + 1) c.loop-number.invariant.size;
-  none = no_finding_next c.loop-number.findings.items c.push.new.self.items c.loop-number.invariant.none c.in_ok-push.ensures.items;
-}
+pub returns : goal.returns
+returns c =
+    let findings = c.in_ok-findings.findings.items in
+    let n = c.args.count in
+    let is : findings ≡ replicate n None = c.in_ok-findings.ensures.items_if_clones_equal (search rules) in
+    record { size = ap length is ∙ length-replicate n None; none = no_finding n findings is }

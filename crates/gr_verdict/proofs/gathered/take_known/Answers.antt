@@ -4,9 +4,7 @@ use Rattle.std.proofs.lemmas.Option.{same_Some}
 use Rattle.gr_text.specs.Packages.{package_paths}
 use Rattle.gr_declared.specs.InterfacesView.{Shares}
 use Rattle.gr_meanings.proofs.BoundLists.{slice_get_some}
-use Rattle.gr_verdict.specs.Steps.{IsGathered}
-use Rattle.gr_verdict.proofs.Gathering.{gathered_stays}
-use Rattle.gr_verdict.proofs.Taking.{taken_before, taken_next}
+use Rattle.gr_verdict.proofs.Taking.{taken_before, taken_next, taken_still}
 use Rattle.gr_verdict.proofs.gathered.take_known.Goals as goal
 
 pub returns-in_default : goal.returns-in_default
@@ -27,5 +25,5 @@ returns c =
           c.in_ok-keep.ensures.findings
           (subst (λ (q : List ℕ). Shares told.interfaces old.interfaces new.interfaces q) path c.in_ok-keep.ensures.interfaces);
       others = λ m other g. taken_before old.findings.items new.findings.items n told.finding c.in_ok-keep.ensures.findings m other g;
-      kept = λ m g. subst (λ l. IsGathered l m) (sym c.in_ok-keep.ensures.findings) (gathered_stays old.findings.items n m told.finding within g);
+      kept = λ m g. taken_still old.findings.items new.findings.items n told.finding within c.in_ok-keep.ensures.findings m g;
     }

@@ -11,6 +11,3 @@ judge_ordered-requires c = record {
   below = c.requires.below;
   all = c.requires.all;
 }
-
-pub returns-then-knows_each : goal.returns-then-knows_each
-returns-then-knows_each c = record { gathered = c.requires.all; each = c.knows_each.ensures c.if-knows_each.true }

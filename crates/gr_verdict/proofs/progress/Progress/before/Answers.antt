@@ -31,8 +31,8 @@ returns c =
     let n = c.args.number in
     let found = c.in_ok-below.ensures in
     let numbers = c.in_ok-below.below.built_on in
-    let all = c.in_ok-all.all in
-    let known = subst (λ l. KnowsJust w l all) c.as_slice.ensures c.in_ok-all.ensures in
+    let all = c.in_ok-taken.taken.all in
+    let known = subst (λ l. KnowsJust w l all) c.as_slice.ensures c.in_ok-taken.ensures in
     let own = slice_get_some (package_paths w) n c.requires.in_range in
     record {
       right = record {

@@ -1,5 +1,5 @@
 -- The answers to the goals of `progress::Progress::finish`.
-use Rattle.std.proofs.Common.{ℕ, List, [], ◌∷◌, ◌++◌, sym, ap, subst, ◌∙◌}
+use Rattle.std.proofs.Common.{ℕ, List, [], ◌∷◌, ◌++◌, sym, subst}
 use Rattle.std.specs.Prelude.{Contains}
 use Rattle.std.proofs.lemmas.Result.{IfOk-weaker}
 use Rattle.gr_text.specs.Packages.{package_paths}
@@ -23,9 +23,11 @@ found_now-requires c =
     let n = c.args.number in
     let p = slice_get_some (package_paths w) n c.requires.in_range in
     let numbers = c.args.self.below.built_on in
-    let listed = c.deref.ensures.value ∙ c.in_ok-push.ensures.items ∙ ap (λ (l : List ℕ). l ++ n ∷ []) (c.in_ok-numbers.ensures.items ∙ c.as_slice.ensures) in
+    let among : (m : ℕ) → Contains c.in_ok-numbers.numbers.items m → Contains (numbers ++ n ∷ []) m =
+    λ m has. subst (λ (l : List ℕ). Contains (l ++ n ∷ []) m) c.as_slice.ensures (c.in_ok-numbers.ensures m has) in
     record {
-      numbers = λ m has. own_in_range w n p.0 p.1 numbers (c.requires.right.built_on p.0 p.1) m (subst (λ (l : List ℕ). Contains l m) listed has);
+      numbers = λ m has. own_in_range w n p.0 p.1 numbers (c.requires.right.built_on p.0 p.1) m
+          (among m (subst (λ (l : List ℕ). Contains l m) c.deref.ensures.value has));
       now = (c.in_ok-take_or_judge.ensures p.0 p.1).right;
     }
 
