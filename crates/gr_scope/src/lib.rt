@@ -18,7 +18,6 @@ mod nearest;
 mod numbering;
 mod outer;
 mod resolve;
-mod room;
 mod simple;
 mod source;
 mod statements;
