@@ -12,7 +12,7 @@ use Rattle.gr_graph.specs.Packages.{IsInClosure}
 use Rattle.gr_verdict.specs.Verdicts.{Verdicts, AreVerdicts}
 use Rattle.gr_bound.specs.declared.declaration.Declaration.{Declaration}
 use Rattle.gr_bound.specs.Uses.{IsPackage}
-use Rattle.gr_standing.specs.Standing.{IsDeclaredAt}
+use Rattle.gr_bound.specs.Standing.{IsDeclaredAt}
 use Rattle.gr_steady.specs.Within.{StandsWithin}
 use Rattle.gr_steady.proofs.Standing.{within_stays}
 use Rattle.gr_affected.specs.Affected.{IsUnaffected}

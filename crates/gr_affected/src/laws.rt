@@ -9,7 +9,7 @@ ghost use Rattle.gr_graph.specs.Packages.{IsInClosure};
 ghost use Rattle.gr_verdict.specs.Verdicts.{Verdicts, AreVerdicts};
 ghost use Rattle.gr_bound.specs.declared.declaration.Declaration.{Declaration};
 ghost use Rattle.gr_bound.specs.Uses.{IsPackage};
-ghost use Rattle.gr_standing.specs.Standing.{IsDeclaredAt};
+ghost use Rattle.gr_bound.specs.Standing.{IsDeclaredAt};
 ghost use Rattle.gr_steady.specs.Within.{StandsWithin};
 ghost use Rattle.gr_affected.specs.Affected.{IsUnaffected};
 

@@ -18,3 +18,6 @@ pub mod ExportNumbers
 pub mod PlaceOrder
 pub mod BindingOrder
 pub mod Excluding
+pub mod Packages
+pub mod Folders
+pub mod Alike

@@ -15,6 +15,7 @@ mod packages;
 mod reading;
 mod scope_uses;
 mod spot;
+pub mod standing;
 
 pub use bound_spot::BoundSpot;
 pub use declaration::Declaration;

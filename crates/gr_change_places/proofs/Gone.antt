@@ -20,7 +20,7 @@ use Rattle.gr_bound.specs.Workspaces.{IsPackageAt}
 use Rattle.gr_bound.proofs.AddingAll.{all_as, all_none, call_all, all_numbers, BelowAll}
 use Rattle.gr_bound.proofs.NamedPlaces.{one_field_place, one_method_place}
 use Rattle.gr_bound.proofs.Units.{numbered, number_within, one_at}
-use Rattle.gr_standing.specs.Standing.{InOwn, TokenAt, IsScopeAt, StandsIn, IsDeclaredAt}
+use Rattle.gr_bound.specs.Standing.{InOwn, TokenAt, IsScopeAt, StandsIn, IsDeclaredAt}
 use Rattle.gr_placed.specs.DeclaredPlaces.{AreDeclaredIn, AreDeclaredAt, StandsBy, IsFound}
 use Rattle.gr_placed.specs.declared.declared_places.DeclaredPlaces.{DeclaredPlaces}
 use Rattle.gr_placed.proofs.Declared.{one_scope_place}

@@ -9,7 +9,7 @@ use Rattle.gr_bound.specs.declared.declaration.Declaration.{Declaration}
 use Rattle.gr_bound.specs.declared.declaration.Declaration.TheVariants.{Declared, Field, Method}
 use Rattle.gr_bound.specs.Bindings.{place_at}
 use Rattle.gr_bound.specs.Places.{place_cmp}
-use Rattle.gr_standing.specs.Standing.{IsDeclaredAt}
+use Rattle.gr_bound.specs.Standing.{IsDeclaredAt}
 use Rattle.gr_placed.specs.declared.declared_places.DeclaredPlaces.{DeclaredPlaces}
 
 -- a declaration by the place to which that goes where it stands

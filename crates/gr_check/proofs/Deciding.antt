@@ -22,7 +22,7 @@ use Rattle.gr_bound.specs.Workspaces.{IsSound, RefusesFaults, known_in}
 use Rattle.gr_bound.proofs.Units.{list_of_sound}
 use Rattle.gr_edit.specs.EditSet.{FileChanges, edited}
 use Rattle.gr_edit.specs.Moved.{moved}
-use Rattle.gr_standing.specs.Standing.{InPackage, StandsIn, IsDeclaredAt}
+use Rattle.gr_bound.specs.Standing.{InPackage, StandsIn, IsDeclaredAt}
 use Rattle.gr_revision.specs.Revisions.{Revision}
 use Rattle.gr_revision.specs.RevisionsOfEdits.{revision_of}
 use Rattle.gr_sound.specs.Corresponding.{Corresponds, predeclared, stands}

@@ -21,7 +21,7 @@ use Rattle.gr_check.specs.declared.answer.Answer.TheVariants.{Yes, No, Unknown}
 use Rattle.gr_check.specs.Among.{view_among, IsBoundMarked, IsBoundThere, TellsMarked}
 use Rattle.gr_check.specs.Answers.{Tells}
 use Rattle.gr_check.specs.Preserved.{KeepsBindings}
-use Rattle.gr_standing.specs.Standing.{IsDeclaredAt}
+use Rattle.gr_bound.specs.Standing.{IsDeclaredAt}
 use Rattle.gr_sound.specs.Sound.{SoundView, packages_of}
 use Rattle.gr_sound.specs.Becoming.{IsSamePredeclared, Becomes}
 use Rattle.gr_kept_each.specs.Steps.{HasBound, IsKept}

@@ -14,9 +14,9 @@ use Rattle.gr_verdict.proofs.Local.{same_back}
 use Rattle.gr_bound.specs.declared.declaration.Declaration.{Declaration}
 use Rattle.gr_bound.specs.declared.declaration.Declaration.TheVariants.{Predeclared, Declared, Field, Method}
 use Rattle.gr_bound.specs.Uses.{IsPackage, IsUseOf}
-use Rattle.gr_standing.specs.Standing.{InPackage, StandsIn, IsDeclaredAt}
+use Rattle.gr_bound.specs.Standing.{InPackage, StandsIn, IsDeclaredAt}
 use Rattle.gr_steady.specs.Within.{StandsWithin, IsDeclaredWithin, predeclared as predeclared_within, stands as stands_within}
-use Rattle.gr_standing.proofs.Folders.{begins_in_folder, file_in_folder}
+use Rattle.gr_bound.proofs.Folders.{begins_in_folder, file_in_folder}
 use Rattle.gr_steady.proofs.Bindings.{use_stays}
 use Rattle.gr_steady.proofs.Standing.{token_file, bound_within}
 use Rattle.gr_affected.specs.Affected.{IsUnaffected}

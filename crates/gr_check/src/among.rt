@@ -6,7 +6,7 @@ ghost use Rattle.gr_text.specs.Path.{folder};
 ghost use Rattle.gr_graph.specs.Search.{IsMarked};
 ghost use Rattle.gr_bound.specs.declared.bound_spot.BoundSpot.{BoundSpot as Bound};
 ghost use Rattle.gr_bound.specs.Workspaces.{IsSound, known_in};
-ghost use Rattle.gr_standing.specs.Standing.{IsDeclaredAt};
+ghost use Rattle.gr_bound.specs.Standing.{IsDeclaredAt};
 ghost use Rattle.gr_check.specs.Among.{AreHeld, AreIdentifiersAmong, IsBoundMarked, IsBoundThere, IsKnownBefore, view_among};
 ghost use Rattle.gr_placed.specs.Outside.{IsOutside, path_by};
 ghost use Rattle.gr_sound.specs.Sound.{packages_of};

@@ -20,7 +20,7 @@ use Rattle.gr_revision.specs.Revisions.{Revision}
 use Rattle.gr_scoped.specs.ScopedPackages.{IsScopedIn}
 use Rattle.gr_scoped.specs.Scopes.{package_scoped, IsNotScoped}
 use Rattle.gr_scoped.specs.declared.scopes.PackageScopes.{PackageScopes}
-use Rattle.gr_standing.specs.Standing.{TokenAt, StandsIn, IsDeclaredAt}
+use Rattle.gr_bound.specs.Standing.{TokenAt, StandsIn, IsDeclaredAt}
 use Rattle.gr_sound.specs.Corresponding.{stands}
 use Rattle.gr_placed.specs.DeclaredPlaces.{IsFound}
 use Rattle.gr_sound.specs.Becoming.{IsSamePredeclared}

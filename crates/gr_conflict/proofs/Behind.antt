@@ -14,7 +14,7 @@ use Rattle.gr_verdict.specs.Verdicts.{Verdicts}
 use Rattle.gr_verdict.proofs.PackageFiles.{mapped}
 use Rattle.gr_bound.specs.Identifiers.{BeginsAt, file_of}
 use Rattle.gr_bound.specs.Places.{place_cmp}
-use Rattle.gr_standing.proofs.Folders.{some_file}
+use Rattle.gr_bound.proofs.Folders.{some_file}
 use Rattle.gr_revision.specs.Revisions.{Revision}
 use Rattle.gr_change_places.specs.Behind.{LiesBehind}
 use Rattle.gr_conflict.specs.Conflicts.{AreBehind, IsAhead, HoldsAhead}

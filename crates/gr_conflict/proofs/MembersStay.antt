@@ -32,7 +32,7 @@ use Rattle.gr_bound.specs.Steps.{ArePlaces, AtToken, UsesIn}
 use Rattle.gr_bound.specs.Uses.{IsPackage}
 use Rattle.gr_bound.proofs.MemberParts.{one_list, file_uses, has_uses}
 use Rattle.gr_bound.proofs.NamedPlaces.{name_to_found, stands_once}
-use Rattle.gr_standing.specs.Standing.{TokenBegins, TokenAt}
+use Rattle.gr_bound.specs.Standing.{TokenBegins, TokenAt}
 use Rattle.gr_placed.proofs.Starts.{token_once}
 use Rattle.gr_change_places.specs.OldPlaces.{field_at, method_at}
 use Rattle.gr_fields_after.specs.MembersAfter.{CountsAfter, IsMemberAfter}

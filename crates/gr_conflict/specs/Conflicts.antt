@@ -19,7 +19,7 @@ use Rattle.gr_bound.specs.Members.{IsMemberUseOf, IsMemberUseAmong}
 use Rattle.gr_bound.specs.Steps.{AtToken, AtFound}
 use Rattle.gr_bound.specs.Uses.{IsPackage}
 use Rattle.gr_revision.specs.Revisions.{Revision}
-use Rattle.gr_standing.specs.Standing.{IsDeclaredAt}
+use Rattle.gr_bound.specs.Standing.{IsDeclaredAt}
 use Rattle.gr_placed.specs.Identified.{IsIdentifierAt}
 use Rattle.gr_fields_after.specs.MembersAfter.{CountsAfter}
 use Rattle.gr_change_places.specs.Behind.{LiesBehind}

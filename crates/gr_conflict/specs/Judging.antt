@@ -13,7 +13,7 @@ use Rattle.gr_bound.specs.declared.packages.Packages.{Packages}
 use Rattle.gr_bound.specs.Exports.{AreExports}
 use Rattle.gr_bound.specs.Packages.{ArePackages}
 use Rattle.gr_bound.specs.Uses.{IsPackage}
-use Rattle.gr_standing.specs.Standing.{IsDeclaredAt}
+use Rattle.gr_bound.specs.Standing.{IsDeclaredAt}
 use Rattle.gr_placed.specs.DeclaredPlaces.{AreDeclared}
 use Rattle.gr_new_members.specs.NewMembers.{AreAllNewMembers}
 use Rattle.gr_scoped.specs.Scopes.{AreAllScopes}

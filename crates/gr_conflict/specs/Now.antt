@@ -12,7 +12,7 @@ use Rattle.gr_bound.specs.declared.declaration.Declaration.{Declaration}
 use Rattle.gr_bound.specs.declared.declaration.Declaration.TheVariants.{Predeclared, Declared, Field, Method}
 use Rattle.gr_scoped.specs.ScopedPackages.{IsScopedIn}
 use Rattle.gr_scoped.specs.declared.scopes.PackageScopes.{PackageScopes}
-use Rattle.gr_standing.specs.Standing.{TokenBegins}
+use Rattle.gr_bound.specs.Standing.{TokenBegins}
 
 -- a declaration that counts, as scopes see it: one that is predeclared or a package's own
 abbrev pub IsCounted : Workspace → Declaration → Type 0

@@ -4,7 +4,7 @@ ghost use Rattle.gr_edit.specs.Moved.{moved};
 ghost use Rattle.gr_bound.specs.declared.declaration.Declaration.TheVariants.{Declared};
 ghost use Rattle.gr_bound.specs.Steps.{IsDeclarationFound};
 ghost use Rattle.gr_scoped.specs.ScopedPackages.{IsScopedIn};
-ghost use Rattle.gr_standing.specs.Standing.{IsDeclaredAt};
+ghost use Rattle.gr_bound.specs.Standing.{IsDeclaredAt};
 ghost use Rattle.gr_placed.specs.DeclaredPlaces.{IsFound};
 ghost use Rattle.gr_conflict.specs.Judging.{KnowsChange, GoesWhere, known_packages, becomes_in};
 ghost use Rattle.gr_conflict.specs.Now.{IsCounted, IsOwnToken};

@@ -4,7 +4,7 @@ use Rattle.gr_text.specs.Workspace.{Workspace}
 use Rattle.gr_machine.proofs.RunLaws.{undo_restores, redo_restores}
 use Rattle.gr_machine.specs.State.{State}
 use Rattle.gr_machine.specs.declared.event.Reply.TheVariants.{Done}
-use Rattle.gr_standing.proofs.Alike.{use_for}
+use Rattle.gr_bound.proofs.Alike.{use_for}
 use Rattle.gr_exact.specs.Restored.{AreBoundAlike, UndoRestoresBindings, RedoRestoresBindings}
 
 bound_alike : (w x : Workspace) → w ≡ x → AreBoundAlike w x

@@ -24,8 +24,8 @@ use Rattle.gr_bound.specs.Uses.{IsPackage}
 use Rattle.gr_bound.specs.Workspaces.{known_in}
 use Rattle.gr_bound.proofs.Units.{one_package}
 use Rattle.gr_revision.specs.Revisions.{Revision}
-use Rattle.gr_standing.specs.Standing.{InPackage}
-use Rattle.gr_standing.proofs.Packages.{in_package}
+use Rattle.gr_bound.specs.Standing.{InPackage}
+use Rattle.gr_bound.proofs.Packages.{in_package}
 use Rattle.gr_new_members.specs.declared.members.NewMembers.{NewMembers}
 use Rattle.gr_new_members.specs.declared.new_names.NewName.{NewName}
 use Rattle.gr_fields_after.specs.declared.types_after.TypesAfter.{TypesAfter}

@@ -11,7 +11,7 @@ use Rattle.gr_declared.specs.Definitions.{HasUnderlying}
 use Rattle.gr_bound.specs.declared.declaration.Declaration.{Declaration}
 use Rattle.gr_bound.specs.declared.declaration.Declaration.TheVariants.{Predeclared, Declared, Field, Method}
 use Rattle.gr_revision.specs.Revisions.{Revision}
-use Rattle.gr_standing.specs.Standing.{InPackage}
+use Rattle.gr_bound.specs.Standing.{InPackage}
 use Rattle.gr_new_members.specs.NamesAfter.{IsFieldAfter, IsMethodAfter}
 
 -- the first rank of which K holds

@@ -12,7 +12,7 @@ use Rattle.gr_bound.specs.declared.declaration.Declaration.TheVariants.{Predecla
 use Rattle.gr_bound.specs.Uses.{IsPackage}
 use Rattle.gr_bound.specs.Workspaces.{known_in}
 use Rattle.gr_revision.specs.Revisions.{Revision}
-use Rattle.gr_standing.specs.Standing.{InPackage}
+use Rattle.gr_bound.specs.Standing.{InPackage}
 use Rattle.gr_new_members.specs.declared.members.NewMembers.{NewMembers}
 use Rattle.gr_fields_after.specs.declared.types_after.TypesAfter.{TypesAfter}
 use Rattle.gr_fields_after.specs.MembersAfter.{IsFieldOfStruct, IsMethodOfOwner}

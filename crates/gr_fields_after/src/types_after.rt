@@ -6,7 +6,7 @@ ghost use Rattle.gr_expr.specs.WorldView.{definition_or_none, underlying_of};
 ghost use Rattle.gr_imports.specs.Laid.{is_exported};
 ghost use Rattle.gr_declared.specs.Package.{Package as Checked};
 ghost use Rattle.gr_revision.specs.Revisions.{Revision};
-ghost use Rattle.gr_standing.specs.Standing.{InPackage};
+ghost use Rattle.gr_bound.specs.Standing.{InPackage};
 ghost use Rattle.gr_bound.specs.Workspaces.{IsSound};
 ghost use Rattle.gr_fields_after.specs.MembersAfter.{HasFieldAfter, IsFieldIn, IsFirstField};
 ghost use Rattle.gr_fields_after.specs.MembersFound.{AreMembersFound, IsRankFound, IsStructFound, KnowsMembers, known_types};

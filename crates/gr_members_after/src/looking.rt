@@ -5,7 +5,7 @@ ghost use Rattle.gr_expr.specs.View.{type_of};
 ghost use Rattle.gr_expr.specs.World.{owner, struct_behind};
 ghost use Rattle.gr_expr.specs.WorldView.{underlying_in};
 ghost use Rattle.gr_revision.specs.Revisions.{Revision};
-ghost use Rattle.gr_standing.specs.Standing.{InPackage};
+ghost use Rattle.gr_bound.specs.Standing.{InPackage};
 ghost use Rattle.gr_bound.specs.declared.declaration.Declaration.TheVariants.{Field, Method};
 ghost use Rattle.gr_bound.specs.Steps.{IsDeclarationFound};
 ghost use Rattle.gr_bound.specs.Workspaces.{IsSound};

@@ -2,7 +2,7 @@
 use Rattle.std.specs.Prelude.{ℕ, ◌≡◌, ◌≢◌, List, Option, MatchOption, codes}
 use Rattle.gr_imports.specs.Files.{package_name}
 use Rattle.gr_declared.specs.Package.{Package}
-use Rattle.gr_standing.specs.Standing.{InPackage}
+use Rattle.gr_bound.specs.Standing.{InPackage}
 use Rattle.gr_naming.specs.NewName.{IsNewName, IsReserved}
 use Rattle.gr_moved_paths.specs.Paths.{last_of}
 

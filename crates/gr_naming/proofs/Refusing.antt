@@ -5,7 +5,7 @@ use Rattle.gr_text.specs.declared.refusal.Refusal.{Refusal}
 use Rattle.gr_text.specs.declared.refusal.Refusal.TheVariants as refusal
 use Rattle.gr_scope.specs.declared.model.Position.{Position}
 use Rattle.gr_declared.specs.Package.{Package, spelled}
-use Rattle.gr_standing.specs.Called.{IsMemberCalled}
+use Rattle.gr_bound.specs.Called.{IsMemberCalled}
 use Rattle.gr_naming.specs.NewName.{IsReserved}
 use Rattle.gr_naming.specs.Naming.{RefusesFor}
 

@@ -6,8 +6,8 @@ use Rattle.gr_scope.specs.Bindings.{IsPackageLevel, IsImport}
 use Rattle.gr_declared.specs.Package.{Package}
 use Rattle.gr_bound.specs.declared.declaration.Declaration.{Declaration}
 use Rattle.gr_bound.specs.declared.declaration.Declaration.TheVariants.{Predeclared, Declared, Field, Method}
-use Rattle.gr_standing.specs.Standing.{InPackage, InOwn}
-use Rattle.gr_standing.specs.Called.{IsCalledIn, IsCalled}
+use Rattle.gr_bound.specs.Standing.{InPackage, InOwn}
+use Rattle.gr_bound.specs.Called.{IsCalledIn, IsCalled}
 use Rattle.gr_naming.specs.NewName.{IsReserved}
 
 -- `main` of a package's block

@@ -14,7 +14,7 @@ use Rattle.gr_members.specs.MethodsView.{IsOwner}
 use Rattle.gr_members.proofs.MethodNames.{one_owner}
 use Rattle.gr_members.proofs.Owning.{HasOwner}
 use Rattle.gr_revision.specs.Revisions.{Revision}
-use Rattle.gr_standing.specs.Standing.{TokenBegins}
+use Rattle.gr_bound.specs.Standing.{TokenBegins}
 use Rattle.gr_bound.specs.Binding.{field_place}
 use Rattle.gr_new_members.specs.declared.new_names.NewName.{NewName}
 use Rattle.gr_new_members.specs.NamesAfter.{IsCalledAfter, IsFieldAfter, IsMethodAfter}

@@ -8,7 +8,7 @@ use Rattle.gr_declared.specs.Definitions.{PlacedField, package_fields}
 use Rattle.gr_members.specs.MethodsView.{IsOwner}
 use Rattle.gr_bound.specs.Binding.{field_place}
 use Rattle.gr_revision.specs.Revisions.{Revision}
-use Rattle.gr_standing.specs.Standing.{TokenAt}
+use Rattle.gr_bound.specs.Standing.{TokenAt}
 
 -- what the name at a position of a package is called afterwards
 pub record IsCalledAfter (r : Revision) (p : Package) (at : Position) (name : List ℕ) : Type 0 where

@@ -12,7 +12,7 @@ use Rattle.gr_declared.specs.Package.{Package}
 use Rattle.gr_bound.specs.Identifiers.{IsName, NameBegins, BeginsAt, file_of}
 use Rattle.gr_bound.proofs.Files.{no_file}
 use Rattle.gr_bound.proofs.PlaceOrder.{place_is}
-use Rattle.gr_standing.specs.Standing.{TokenBegins}
+use Rattle.gr_bound.specs.Standing.{TokenBegins}
 use Rattle.gr_placed.specs.DeclaredPlaces.{IsFound}
 use Rattle.gr_placed.proofs.Found.{found_as}
 

@@ -11,7 +11,7 @@ use Rattle.gr_verdict.specs.Verdicts.{Verdicts}
 use Rattle.gr_bound.specs.declared.declaration.Declaration.{Declaration}
 use Rattle.gr_bound.specs.Binding.{IsFieldAt, IsMethodAt}
 use Rattle.gr_bound.specs.Workspaces.{IsPackageAt}
-use Rattle.gr_standing.specs.Standing.{TokenBegins, TokenAt, IsScopeAt, StandsIn}
+use Rattle.gr_bound.specs.Standing.{TokenBegins, TokenAt, IsScopeAt, StandsIn}
 use Rattle.gr_placed.specs.declared.declared_places.DeclaredPlaces.{DeclaredPlaces}
 
 -- what P holds of, or nothing where it holds of nothing

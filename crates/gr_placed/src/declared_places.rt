@@ -13,7 +13,7 @@ ghost use Rattle.gr_bound.specs.Steps.{ArePlaces};
 ghost use Rattle.gr_bound.specs.Uses.{IsPackage};
 ghost use Rattle.gr_bound.specs.Packages.{ArePackages};
 ghost use Rattle.gr_bound.specs.Workspaces.{known_in};
-ghost use Rattle.gr_standing.specs.Standing.{InPackage, IsScopeAt, StandsIn, IsDeclaredAt};
+ghost use Rattle.gr_bound.specs.Standing.{InPackage, IsScopeAt, StandsIn, IsDeclaredAt};
 ghost use Rattle.gr_placed.specs.Outside.{path_by};
 ghost use Rattle.gr_placed.specs.DeclaredPlaces.{IsFound, IsFoundIn, BeginsIn, ArePlacesOf, AreDeclaredIn, AreDeclaredAt, AreDeclared, IsPlaceIn};
 

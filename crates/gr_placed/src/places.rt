@@ -4,7 +4,7 @@ ghost use Rattle.gr_text.specs.declared.place.Place.{Place as At};
 ghost use Rattle.gr_tree.specs.SourceFile.{source_of};
 ghost use Rattle.gr_declared.specs.PackageView.{package_of};
 ghost use Rattle.gr_bound.specs.Identifiers.{BeginsAt, NameBegins};
-ghost use Rattle.gr_standing.specs.Standing.{TokenBegins};
+ghost use Rattle.gr_bound.specs.Standing.{TokenBegins};
 ghost use Rattle.gr_placed.specs.Beginnings.{place_of};
 ghost use Rattle.gr_placed.specs.DeclaredPlaces.{IsFound};
 

@@ -10,7 +10,7 @@ use Rattle.gr_verdict.specs.Verdicts.{Verdicts, AreVerdicts}
 use Rattle.gr_verdict.specs.FaultLists.{ListsFaults}
 use Rattle.gr_bound.specs.declared.declaration.Declaration.{Declaration}
 use Rattle.gr_bound.specs.Uses.{IsPackage, IsFile, HasDeclaration, HasNoIdentifier, HasNoDeclaration, HasFirstFault}
-use Rattle.gr_standing.specs.Called.{IsCalled}
+use Rattle.gr_bound.specs.Called.{IsCalled}
 use Rattle.gr_revision.specs.RevisionsOfEdits.{revision_of}
 use Rattle.gr_check.specs.Preserved.{Preserves}
 use Rattle.gr_conflict.specs.Refusals.{TellsConflict}

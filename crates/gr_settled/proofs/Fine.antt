@@ -22,7 +22,7 @@ use Rattle.gr_verdict.specs.Verdicts.{Verdicts, AreVerdicts, IsSeenAs, seen, uns
 use Rattle.gr_verdict.proofs.Closed.{to_package}
 use Rattle.gr_verdict.proofs.OneList.{checked_package}
 use Rattle.gr_bound.specs.Uses.{IsPackage}
-use Rattle.gr_standing.proofs.Alike.{package_for}
+use Rattle.gr_bound.proofs.Alike.{package_for}
 use Rattle.gr_settled.specs.Worlds.{HaveAllWorlds}
 use Rattle.gr_settled.specs.Unbroken.{IsUnbroken}
 use Rattle.gr_settled.proofs.Named.{IsTyped, typed_kind, constant, no_value}

@@ -40,7 +40,7 @@ use Rattle.gr_settled.specs.Answered.{IsKnown, IsCalled, method_arity, MemberIsK
 use Rattle.gr_settled.specs.Stack.{Arity}
 use Rattle.gr_bound.specs.Uses.{IsPackage}
 use Rattle.gr_asked.proofs.OnePlace.{same_files}
-use Rattle.gr_standing.proofs.Alike.{package_for}
+use Rattle.gr_bound.proofs.Alike.{package_for}
 use Rattle.gr_settled.proofs.Fine.{seen_interface}
 use Rattle.gr_compile.specs.Units.{IsReadBy, within, beyond, AreFilesBelow}
 use Rattle.gr_settled.proofs.PackageWorlds.{have_all_worlds}

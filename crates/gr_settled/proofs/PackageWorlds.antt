@@ -16,7 +16,7 @@ use Rattle.gr_verdict.specs.FaultLists.{ListsFaults}
 use Rattle.gr_verdict.specs.Verdicts.{Verdicts, AreVerdicts}
 use Rattle.gr_verdict.proofs.OneList.{checked_package}
 use Rattle.gr_verdict.proofs.OnePackage.{layout_formed, one_checked}
-use Rattle.gr_standing.proofs.Alike.{package_for}
+use Rattle.gr_bound.proofs.Alike.{package_for}
 use Rattle.gr_bound.specs.Uses.{IsPackage}
 use Rattle.gr_settled.specs.Strings.{AreStringsKnown}
 use Rattle.gr_settled.proofs.Deciding.{Decided, all_decided}

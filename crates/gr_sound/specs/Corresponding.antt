@@ -4,7 +4,7 @@ use Rattle.gr_text.specs.declared.place.Place.{Place}
 use Rattle.gr_declared.specs.Package.{Package}
 use Rattle.gr_bound.specs.declared.declaration.Declaration.{Declaration}
 use Rattle.gr_bound.specs.declared.declaration.Declaration.TheVariants.{Predeclared}
-use Rattle.gr_standing.specs.Standing.{IsDeclaredAt}
+use Rattle.gr_bound.specs.Standing.{IsDeclaredAt}
 
 -- d of the packages before is e of those after: both the same predeclared name, or e stands where d has gone
 pub data Corresponds (Before After : Package → Type 0) (moved : Place → Place) : Declaration → Declaration → Type 0 where

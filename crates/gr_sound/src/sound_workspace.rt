@@ -3,7 +3,7 @@ ghost use Rattle.std.specs.Prelude.{◌≡◌, ◌↔◌, Contains, IfOk};
 ghost use Rattle.gr_text.specs.declared.place.Place.{Place as At};
 ghost use Rattle.gr_bound.specs.declared.bound_spot.BoundSpot.{BoundSpot as Bound};
 ghost use Rattle.gr_bound.specs.Packages.{ArePackages};
-ghost use Rattle.gr_standing.specs.Standing.{IsDeclaredAt};
+ghost use Rattle.gr_bound.specs.Standing.{IsDeclaredAt};
 ghost use Rattle.gr_placed.specs.DeclaredPlaces.{IsFoundIn};
 ghost use Rattle.gr_sound.specs.Held.{IsHeld};
 ghost use Rattle.gr_placed.specs.Identified.{IsIdentifierAt};

@@ -17,7 +17,7 @@ use Rattle.gr_qualified.specs.Qualified.{IsBehindPackage}
 use Rattle.gr_bound.specs.Binding.{by_scope, by_package, by_member, by_name, BindsByPackage, IsExportedUse}
 use Rattle.gr_bound.specs.Identifiers.{named_by}
 use Rattle.gr_bound.specs.Uses.{IsPackage, IsBoundTo, IsUseOf, HasDeclaration}
-use Rattle.gr_standing.proofs.Folders.{begins_in_folder}
+use Rattle.gr_bound.proofs.Folders.{begins_in_folder}
 use Rattle.gr_asked.proofs.NamedImports.{named_is_imported}
 use Rattle.gr_steady.proofs.Packages.{package_stays}
 

@@ -26,8 +26,8 @@ use Rattle.gr_bound.specs.Binding.{IsPredeclared, BindsByScope, BindsByPackage, 
 use Rattle.gr_bound.specs.Binding.{IsExportedUse, field_place}
 use Rattle.gr_bound.specs.Uses.{IsPackage, IsBoundTo}
 use Rattle.gr_asked.proofs.OnePlace.{names_of}
-use Rattle.gr_standing.proofs.Folders.{file_in_folder}
-use Rattle.gr_standing.specs.Standing.{InPackage, TokenBegins, TokenAt, IsPositionOf, StandsIn, IsDeclaredAt}
+use Rattle.gr_bound.proofs.Folders.{file_in_folder}
+use Rattle.gr_bound.specs.Standing.{InPackage, TokenBegins, TokenAt, IsPositionOf, StandsIn, IsDeclaredAt}
 use Rattle.gr_steady.specs.Within.{StandsWithin, IsDeclaredWithin, predeclared, stands}
 use Rattle.gr_steady.proofs.Bindings.{behind_closed}
 use Rattle.gr_asked.proofs.ImportSites.{predeclared_block}

@@ -9,7 +9,7 @@ use Rattle.gr_bound.specs.declared.declaration.Declaration.{Declaration}
 use Rattle.gr_bound.specs.declared.declaration.Declaration.TheVariants.{Predeclared}
 use Rattle.gr_bound.specs.Binding.{IsPredeclared}
 use Rattle.gr_bound.specs.Uses.{IsPackage}
-use Rattle.gr_standing.specs.Standing.{IsDeclaredAt}
+use Rattle.gr_bound.specs.Standing.{IsDeclaredAt}
 
 -- a declaration stands at a place in a file of a package in the closure of p
 pub record StandsWithin (w : Workspace) (known : Verdicts) (p : List ℕ) (d : Declaration) (place : Place) : Type 0 where

@@ -24,7 +24,7 @@ use Rattle.gr_verdict.proofs.OneList.{no_fault}
 use Rattle.gr_verdict.proofs.PackageFiles.{package_file, some_tree}
 use Rattle.gr_bound.specs.Uses.{IsPackage}
 use Rattle.gr_asked.proofs.OnePlace.{same_files}
-use Rattle.gr_standing.proofs.Alike.{package_for}
+use Rattle.gr_bound.proofs.Alike.{package_for}
 
 -- what follows whether or not a claim is true of each path follows
 

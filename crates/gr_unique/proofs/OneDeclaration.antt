@@ -14,7 +14,7 @@ use Rattle.gr_asked.proofs.NamedMembers.{name_not_scope, name_not_package}
 use Rattle.gr_asked.proofs.OnePlace.{one_begins, one_asked}
 use Rattle.gr_bound.proofs.Units.{one_package}
 use Rattle.gr_asked.proofs.UsedMembers.{one_member, member_not_scope, member_not_name}
-use Rattle.gr_standing.proofs.Folders.{begins_in_folder}
+use Rattle.gr_bound.proofs.Folders.{begins_in_folder}
 use Rattle.gr_unique.proofs.LiteralNames.{name_stands}
 use Rattle.gr_unique.proofs.NamedMembers.{one_by_name}
 use Rattle.gr_unique.proofs.UsedMembers.{member_not_package}

@@ -18,7 +18,7 @@ use Rattle.gr_bound.specs.Identifiers.{HoldsByte}
 use Rattle.gr_bound.specs.Uses.{IsNamedTo, IsUseOf, IsAskedIn, ListsUses, HasNoIdentifier, HasNoDeclaration, IsFile, HasFirstFault, TellsUses}
 use Rattle.gr_asked.proofs.OnePlace.{one_asked}
 use Rattle.gr_bound.proofs.PlaceOrder.{place_cmp_total}
-use Rattle.gr_standing.proofs.Alike.{use_for, asked_for, held_for}
+use Rattle.gr_bound.proofs.Alike.{use_for, asked_for, held_for}
 use Rattle.gr_unique.proofs.OneDeclaration.{one_held}
 
 module _ (w : Workspace) (path : List ℕ) (offset : ℕ) where

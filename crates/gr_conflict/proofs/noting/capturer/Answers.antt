@@ -1,7 +1,7 @@
 -- The answers to the goals of `noting::capturer`.
 use Rattle.std.proofs.Common.{sym, subst}
 use Rattle.gr_bound.specs.Workspaces.{known_in}
-use Rattle.gr_standing.specs.Standing.{IsDeclaredAt}
+use Rattle.gr_bound.specs.Standing.{IsDeclaredAt}
 use Rattle.gr_conflict.specs.Judging.{known_packages}
 use Rattle.gr_conflict.proofs.noting.capturer.Goals as goal
 

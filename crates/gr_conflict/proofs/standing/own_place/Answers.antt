@@ -5,7 +5,7 @@ use Rattle.gr_tree.specs.SourceFile.{source_of}
 use Rattle.gr_scope.specs.declared.model.Position.{Position}
 use Rattle.gr_scope.specs.Scoped.{layout_in}
 use Rattle.gr_imports.specs.Laid.{literal_of}
-use Rattle.gr_standing.specs.Standing.{TokenBegins}
+use Rattle.gr_bound.specs.Standing.{TokenBegins}
 use Rattle.gr_placed.specs.DeclaredPlaces.{IsFound}
 use Rattle.gr_conflict.proofs.standing.own_place.Goals as goal
 

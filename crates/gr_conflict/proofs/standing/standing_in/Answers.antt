@@ -4,7 +4,7 @@ use Rattle.std.proofs.lemmas.Result.{IfOk-weaker}
 use Rattle.gr_bound.specs.declared.declaration.Declaration.TheVariants.{Declared}
 use Rattle.gr_bound.specs.Binding.{IsPredeclared}
 use Rattle.gr_scoped.specs.ScopedPackages.{IsScopedIn}
-use Rattle.gr_standing.specs.Standing.{IsDeclaredAt}
+use Rattle.gr_bound.specs.Standing.{IsDeclaredAt}
 use Rattle.gr_placed.specs.DeclaredPlaces.{IsFound}
 use Rattle.gr_conflict.specs.Now.{IsOwnToken}
 use Rattle.gr_conflict.proofs.Become.{predeclared_nowhere, stands_nowhere, within_here, own_standing}

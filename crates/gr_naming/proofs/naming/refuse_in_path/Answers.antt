@@ -6,9 +6,9 @@ use Rattle.gr_text.specs.Packages.{package_paths}
 use Rattle.gr_declared.specs.Package.{Package}
 use Rattle.gr_bound.specs.Uses.{IsPackage}
 use Rattle.gr_bound.specs.Workspaces.{known_in}
-use Rattle.gr_standing.specs.Standing.{InPackage}
-use Rattle.gr_standing.specs.Called.{IsCalledIn}
-use Rattle.gr_standing.proofs.Packages.{package_there, in_package, of_package}
+use Rattle.gr_bound.specs.Standing.{InPackage}
+use Rattle.gr_bound.specs.Called.{IsCalledIn}
+use Rattle.gr_bound.proofs.Packages.{package_there, in_package, of_package}
 use Rattle.gr_naming.specs.NewName.{IsReserved}
 use Rattle.gr_naming.specs.Naming.{IsMainIn, IsTopLevelIn}
 use Rattle.gr_naming.proofs.Refusing.{Agree, refuses_as}

@@ -5,7 +5,7 @@ use Rattle.gr_tree.specs.SourceFile.{source_of}
 use Rattle.gr_declared.specs.PackageView.{package_of}
 use Rattle.gr_bound.specs.Binding.{IsFieldAt, IsMethodAt}
 use Rattle.gr_bound.proofs.NamedPlaces.{one_field_place, one_method_place}
-use Rattle.gr_standing.specs.Standing.{IsScopeAt}
+use Rattle.gr_bound.specs.Standing.{IsScopeAt}
 use Rattle.gr_placed.proofs.Declared.{ranked, one_scope_place}
 use Rattle.gr_placed.proofs.declared_places.indexed_places.Goals as goal
 

@@ -3,7 +3,7 @@ use Rattle.std.proofs.Common.{◌≡◌, ◌<◌, subst, sym, arith}
 use Rattle.gr_declared.specs.PackageView.{package_of}
 use Rattle.gr_bound.proofs.Bound.{seen_within}
 use Rattle.gr_bound.proofs.NamedPlaces.{no_places, next_place, all_places}
-use Rattle.gr_standing.specs.Standing.{IsScopeAt}
+use Rattle.gr_bound.specs.Standing.{IsScopeAt}
 use Rattle.gr_placed.proofs.declared_places.name_places.Goals as goal
 
 pub loop-d-init : goal.loop-d-init

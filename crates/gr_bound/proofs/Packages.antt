@@ -14,7 +14,7 @@ use Rattle.gr_verdict.proofs.OneVerdict.{right_below, verdict_by, without_faults
 use Rattle.gr_bound.specs.Uses.{IsPackage}
 use Rattle.gr_bound.specs.Workspaces.{IsSound, IsPackageAt, known_in}
 use Rattle.gr_bound.proofs.Units.{no_fault_in, one_package}
-use Rattle.gr_standing.specs.Standing.{InPackage}
+use Rattle.gr_bound.specs.Standing.{InPackage}
 
 -- each number is that of a checked package
 pub package_there : (w : Workspace) (found : Findings) → IsSound w found → (n : ℕ) → n < length (package_paths w) → (p : Package) ×

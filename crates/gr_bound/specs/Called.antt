@@ -5,7 +5,7 @@ use Rattle.gr_declared.specs.Package.{Package, spelled}
 use Rattle.gr_bound.specs.declared.declaration.Declaration.{Declaration}
 use Rattle.gr_bound.specs.declared.declaration.Declaration.TheVariants.{Predeclared, Declared, Field, Method}
 use Rattle.gr_bound.specs.Binding.{IsFieldAt, IsMethodAt}
-use Rattle.gr_standing.specs.Standing.{InOwn}
+use Rattle.gr_bound.specs.Standing.{InOwn}
 
 -- a member that counts has its name at a position, and is so called
 pub record IsMemberCalled (IsAt : (rank : ℕ) → Position → Type 0) (p : Package) (rank : ℕ) (name : List ℕ) : Type 0 where
