@@ -7,3 +7,7 @@ pub mod HeaderStrings
 pub mod ImportSites
 pub mod NamedImports
 pub mod OwnedMembers
+pub mod Picked
+pub mod Expressions
+pub mod Statements
+pub mod LinkPlaces

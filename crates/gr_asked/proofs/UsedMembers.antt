@@ -15,8 +15,8 @@ use Rattle.gr_order.proofs.Roles.{named_role_told}
 use Rattle.gr_expr.specs.Judge.{MemberUse}
 use Rattle.gr_expr.specs.World.{World}
 use Rattle.gr_stmt.specs.Declarations.{check_file}
-use Rattle.gr_walk.specs.Places.{StandsAtLink, as_key, as_selected}
-use Rattle.gr_walk.proofs.Standing.{one_at_token, stands_at_link}
+use Rattle.gr_asked.specs.Places.{StandsAtLink, as_key, as_selected}
+use Rattle.gr_asked.proofs.LinkPlaces.{one_at_token, stands_at_link}
 use Rattle.gr_declared.specs.Package.{Package}
 use Rattle.gr_meanings.specs.Uniqueness.{IsOneWorld}
 use Rattle.gr_meanings.specs.Worlds.{IsWorldOf, is_init}

@@ -7,6 +7,7 @@ mod holding;
 pub mod laws;
 mod own_name;
 mod used_member;
+pub mod walk;
 
 pub use asked::{declaration_at, declaration_in_unit};
 pub use exported::has_name;

@@ -22,7 +22,7 @@ use Rattle.gr_statement_rules.proofs.Reaching.{IsAt, held}
 use Rattle.gr_statement_rules.proofs.Statements.{AreTargets}
 use Rattle.gr_statement_rules.proofs.Headers.{function_true}
 use Rattle.gr_statement_rules.proofs.Declarations.{decl_true}
-use Rattle.gr_walk.proofs.Standing.{one_at_token}
+use Rattle.gr_asked.proofs.LinkPlaces.{one_at_token}
 use Rattle.gr_object.specs.Sources.{type_before}
 use Rattle.gr_settled.specs.Asked.{Question, OfMember}
 use Rattle.gr_settled.specs.StatementsAsked.{FunctionAsks, in_body}

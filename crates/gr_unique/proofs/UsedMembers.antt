@@ -23,8 +23,8 @@ use Rattle.gr_order.proofs.Roles.{named_role_told}
 use Rattle.gr_expr.specs.Types.{Package as PackageName}
 use Rattle.gr_expr.specs.World.{World, Means}
 use Rattle.gr_stmt.specs.Declarations.{check_file}
-use Rattle.gr_walk.specs.Places.{IsPackageName, StandsAtLink, as_key, as_selected}
-use Rattle.gr_walk.proofs.Standing.{stands_at_link}
+use Rattle.gr_asked.specs.Places.{IsPackageName, StandsAtLink, as_key, as_selected}
+use Rattle.gr_asked.proofs.LinkPlaces.{stands_at_link}
 use Rattle.gr_declared.specs.Bound.{import_name}
 use Rattle.gr_declared.specs.Package.{Package}
 use Rattle.gr_meanings.specs.Worlds.{IsWorldOf, is_bound, by_scope, is_init}

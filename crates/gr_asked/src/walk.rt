@@ -4,7 +4,7 @@ ghost use Rattle.gr_tree.specs.SourceFile.{SourceFile, IsSourceFile};
 ghost use Rattle.gr_expr.specs.Judge.{MemberUse};
 ghost use Rattle.gr_expr.specs.World.{World};
 ghost use Rattle.gr_stmt.specs.Declarations.{check_file};
-ghost use Rattle.gr_walk.specs.Places.{StandsAtLink};
+ghost use Rattle.gr_asked.specs.Places.{StandsAtLink};
 
 /// One use of a member, at most, stands at a token of a file.
 pub fn one_use_stands_at_a_token()

@@ -16,9 +16,9 @@ use Rattle.gr_order.proofs.Roles.{consecutive, of_kind, by_kind}
 use Rattle.gr_expr.specs.Judge.{MemberUse}
 use Rattle.gr_expr.specs.World.{World}
 use Rattle.gr_stmt.specs.Declarations.{check_file}
-use Rattle.gr_walk.specs.Places.{IsPackageName, StandsAtLink, as_key, as_selected}
-use Rattle.gr_walk.proofs.Picked.{IsPackage, MayUse, Picked, stops, passes, closes, leaves, selects, keys, Passes}
-use Rattle.gr_walk.proofs.Statements.{file_pass}
+use Rattle.gr_asked.specs.Places.{IsPackageName, StandsAtLink, as_key, as_selected}
+use Rattle.gr_asked.proofs.Picked.{IsPackage, MayUse, Picked, stops, passes, closes, leaves, selects, keys, Passes}
+use Rattle.gr_asked.proofs.Statements.{file_pass}
 
 abbrev IsIn : MemberUse → List MemberUse → Type 0
 IsIn x [] = ⊥

@@ -24,8 +24,8 @@ use Rattle.gr_stmt.specs.Simple.{check_optional_condition, check_written, check_
 use Rattle.gr_stmt.specs.Statements.{check_return, check_init, check_header, check_statement, check_block, check_statements, check_if, check_else}
 use Rattle.gr_stmt.specs.Headers.{judge_results, check_optional_receiver, check_receiver, check_param, check_signature, check_function}
 use Rattle.gr_stmt.specs.Declarations.{check_global, check_type, check_decl, check_decls, check_file}
-use Rattle.gr_walk.proofs.Picked.{Passes, pass_append, pass_none, pass_behind, pass_before, walk_passes}
-use Rattle.gr_walk.proofs.Expressions.{UsesNone, expr_walks, value_uses}
+use Rattle.gr_asked.proofs.Picked.{Passes, pass_append, pass_none, pass_behind, pass_before, walk_passes}
+use Rattle.gr_asked.proofs.Expressions.{UsesNone, expr_walks, value_uses}
 
 -- lists of expressions
 

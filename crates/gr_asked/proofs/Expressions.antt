@@ -24,8 +24,8 @@ use Rattle.gr_expr.specs.Judge.{wrong_if_whole, call_function, convert_one, conv
 use Rattle.gr_expr.specs.Judge.{call_builtin, call_of, bad_index, element_meaning, indexed, index_of, operation_on, operation, prefix_of, address_of}
 use Rattle.gr_expr.specs.Judge.{judge_type, element_key, seen_after, literal_ends, literal_meaning, value_at, index_rule, call_rule, judge, judge_operands}
 use Rattle.gr_expr.specs.Judge.{judge_links, judge_arguments, judge_literal, judge_elements}
-use Rattle.gr_walk.proofs.Picked.{IsPackage, MayUse, Picked, stops, passes, closes, leaves, selects, keys, Passes, pass_append, pass_none, pass_before}
-use Rattle.gr_walk.proofs.Picked.{IsNoValue, Fits, Ends, Walks, walk_passes, walk_append, walk_before, walk_closed, walk_same}
+use Rattle.gr_asked.proofs.Picked.{IsPackage, MayUse, Picked, stops, passes, closes, leaves, selects, keys, Passes, pass_append, pass_none, pass_before}
+use Rattle.gr_asked.proofs.Picked.{IsNoValue, Fits, Ends, Walks, walk_passes, walk_append, walk_before, walk_closed, walk_same}
 
 -- what uses nothing
 
