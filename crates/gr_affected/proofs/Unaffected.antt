@@ -13,8 +13,8 @@ use Rattle.gr_verdict.specs.Verdicts.{Verdicts, AreVerdicts}
 use Rattle.gr_bound.specs.declared.declaration.Declaration.{Declaration}
 use Rattle.gr_bound.specs.Uses.{IsPackage}
 use Rattle.gr_bound.specs.Standing.{IsDeclaredAt}
-use Rattle.gr_steady.specs.Within.{StandsWithin}
-use Rattle.gr_steady.proofs.Standing.{within_stays}
+use Rattle.gr_asked.specs.Within.{StandsWithin}
+use Rattle.gr_asked.proofs.Standing.{within_stays}
 use Rattle.gr_affected.specs.Affected.{IsUnaffected}
 
 abbrev moved_by : Place → Option FileChange → Place

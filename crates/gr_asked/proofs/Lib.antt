@@ -11,3 +11,7 @@ pub mod Picked
 pub mod Expressions
 pub mod Statements
 pub mod LinkPlaces
+pub mod Packages
+pub mod Bindings
+pub mod Standing
+pub mod Reached

@@ -1,2 +1,4 @@
 -- The definitions of this crate.
 pub mod Places
+pub mod Within
+pub mod Reached

@@ -6,6 +6,7 @@ mod exported;
 mod holding;
 pub mod laws;
 mod own_name;
+pub mod steady;
 mod used_member;
 pub mod walk;
 

@@ -15,10 +15,10 @@ use Rattle.gr_bound.specs.declared.declaration.Declaration.{Declaration}
 use Rattle.gr_bound.specs.declared.declaration.Declaration.TheVariants.{Predeclared, Declared, Field, Method}
 use Rattle.gr_bound.specs.Uses.{IsPackage, IsUseOf}
 use Rattle.gr_bound.specs.Standing.{InPackage, StandsIn, IsDeclaredAt}
-use Rattle.gr_steady.specs.Within.{StandsWithin, IsDeclaredWithin, predeclared as predeclared_within, stands as stands_within}
+use Rattle.gr_asked.specs.Within.{StandsWithin, IsDeclaredWithin, predeclared as predeclared_within, stands as stands_within}
 use Rattle.gr_bound.proofs.Folders.{begins_in_folder, file_in_folder}
-use Rattle.gr_steady.proofs.Bindings.{use_stays}
-use Rattle.gr_steady.proofs.Standing.{token_file, bound_within}
+use Rattle.gr_asked.proofs.Bindings.{use_stays}
+use Rattle.gr_asked.proofs.Standing.{token_file, bound_within}
 use Rattle.gr_affected.specs.Affected.{IsUnaffected}
 use Rattle.gr_affected.proofs.Unaffected.{stays_put, declared_then}
 use Rattle.gr_sound.specs.Corresponding.{Corresponds, predeclared, stands}

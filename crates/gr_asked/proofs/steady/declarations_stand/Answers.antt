@@ -1,7 +1,7 @@
 -- The answers to the goals of `laws::declarations_stand`.
 use Rattle.gr_verdict.proofs.Local.{same_back}
-use Rattle.gr_steady.proofs.Standing.{bound_within, within_stays}
-use Rattle.gr_steady.proofs.laws.declarations_stand.Goals as goal
+use Rattle.gr_asked.proofs.Standing.{bound_within, within_stays}
+use Rattle.gr_asked.proofs.steady.declarations_stand.Goals as goal
 
 pub returns-clause-within : goal.returns-clause-within
 returns-clause-within c = λ w known right p is u d h. bound_within w known right p is u d h

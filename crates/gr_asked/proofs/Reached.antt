@@ -8,7 +8,7 @@ use Rattle.gr_graph.proofs.Asked.{has_file}
 use Rattle.gr_verdict.specs.Closures.{HasSameClosure}
 use Rattle.gr_verdict.proofs.Closed.{in_closure_then}
 use Rattle.gr_verdict.proofs.PackageFiles.{package_file}
-use Rattle.gr_steady.specs.Reached.{IsReached, start, imported, KeepsReached}
+use Rattle.gr_asked.specs.Reached.{IsReached, start, imported, KeepsReached}
 
 -- what lies in the closure is reached, and what is reached and is a package lies in it
 

@@ -28,12 +28,12 @@ use Rattle.gr_bound.specs.Uses.{IsPackage, IsBoundTo}
 use Rattle.gr_asked.proofs.OnePlace.{names_of}
 use Rattle.gr_bound.proofs.Folders.{file_in_folder}
 use Rattle.gr_bound.specs.Standing.{InPackage, TokenBegins, TokenAt, IsPositionOf, StandsIn, IsDeclaredAt}
-use Rattle.gr_steady.specs.Within.{StandsWithin, IsDeclaredWithin, predeclared, stands}
-use Rattle.gr_steady.proofs.Bindings.{behind_closed}
+use Rattle.gr_asked.specs.Within.{StandsWithin, IsDeclaredWithin, predeclared, stands}
+use Rattle.gr_asked.proofs.Bindings.{behind_closed}
 use Rattle.gr_asked.proofs.ImportSites.{predeclared_block}
 use Rattle.gr_asked.proofs.NamedImports.{role_at, counted}
 use Rattle.gr_asked.proofs.OwnedMembers.{IsOwned, member_owned}
-use Rattle.gr_steady.proofs.Packages.{package_stays}
+use Rattle.gr_asked.proofs.Packages.{package_stays}
 
 -- a token of a package's files begins somewhere in its folder
 

@@ -1,7 +1,7 @@
 -- The answers to the goals of `laws::packages_stay`.
 use Rattle.gr_verdict.proofs.Local.{same_back}
-use Rattle.gr_steady.proofs.Packages.{package_stays, known_stays}
-use Rattle.gr_steady.proofs.laws.packages_stay.Goals as goal
+use Rattle.gr_asked.proofs.Packages.{package_stays, known_stays}
+use Rattle.gr_asked.proofs.steady.packages_stay.Goals as goal
 
 pub returns-clause-checked : goal.returns-clause-checked
 returns-clause-checked c = λ w x before after right also p same. (

@@ -1,8 +1,8 @@
 -- The answers to the goals of `laws::bindings_stay`.
 use Rattle.gr_verdict.proofs.Local.{same_back}
-use Rattle.gr_steady.proofs.Packages.{package_stays}
-use Rattle.gr_steady.proofs.Bindings.{bound_stays}
-use Rattle.gr_steady.proofs.laws.bindings_stay.Goals as goal
+use Rattle.gr_asked.proofs.Packages.{package_stays}
+use Rattle.gr_asked.proofs.Bindings.{bound_stays}
+use Rattle.gr_asked.proofs.steady.bindings_stay.Goals as goal
 
 pub returns : goal.returns
 returns c = λ w x before after right also p same is u d. (

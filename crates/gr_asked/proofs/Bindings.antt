@@ -19,7 +19,7 @@ use Rattle.gr_bound.specs.Identifiers.{named_by}
 use Rattle.gr_bound.specs.Uses.{IsPackage, IsBoundTo, IsUseOf, HasDeclaration}
 use Rattle.gr_bound.proofs.Folders.{begins_in_folder}
 use Rattle.gr_asked.proofs.NamedImports.{named_is_imported}
-use Rattle.gr_steady.proofs.Packages.{package_stays}
+use Rattle.gr_asked.proofs.Packages.{package_stays}
 
 -- the package of a name before a dot lies in the closure
 pub behind_closed : (w : Workspace) (known : Verdicts) (p : Package) → IsPackage w known p → (u : ℕ) (q : List ℕ) → IsBehindPackage p u q →

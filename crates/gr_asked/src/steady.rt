@@ -13,8 +13,8 @@ ghost use Rattle.gr_verdict.specs.Laws.{IsSameVerdict};
 ghost use Rattle.gr_verdict.specs.Verdicts.{Verdicts, AreVerdicts};
 ghost use Rattle.gr_bound.specs.declared.declaration.Declaration.{Declaration};
 ghost use Rattle.gr_bound.specs.Uses.{IsPackage, IsBoundTo, IsUseOf, HasDeclaration};
-ghost use Rattle.gr_steady.specs.Reached.{KeepsReached};
-ghost use Rattle.gr_steady.specs.Within.{StandsWithin, IsDeclaredWithin};
+ghost use Rattle.gr_asked.specs.Reached.{KeepsReached};
+ghost use Rattle.gr_asked.specs.Within.{StandsWithin, IsDeclaredWithin};
 
 /// Where a package, and each path that its closure imports, has the same files in two workspaces, its closure has the same
 /// texts in both: so only what is reached in the one of them is to be looked at.

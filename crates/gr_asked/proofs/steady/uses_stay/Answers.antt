@@ -1,8 +1,8 @@
 -- The answers to the goals of `laws::uses_stay`.
 use Rattle.gr_text.specs.Path.{folder}
 use Rattle.gr_verdict.proofs.Local.{same_back}
-use Rattle.gr_steady.proofs.Bindings.{use_stays, held_stays}
-use Rattle.gr_steady.proofs.laws.uses_stay.Goals as goal
+use Rattle.gr_asked.proofs.Bindings.{use_stays, held_stays}
+use Rattle.gr_asked.proofs.steady.uses_stay.Goals as goal
 
 pub returns-clause-begins : goal.returns-clause-begins
 returns-clause-begins c = λ w x before after right also place same d. (
