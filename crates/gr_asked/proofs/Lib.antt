@@ -15,3 +15,15 @@ pub mod Packages
 pub mod Bindings
 pub mod Standing
 pub mod Reached
+pub mod Headers
+pub mod Apart
+pub mod MembersApart
+pub mod BoundUsedMembers
+pub mod BoundNamedMembers
+pub mod LiteralNames
+pub mod OneDeclaration
+pub mod OneList
+pub mod Faultless
+pub mod LexicalNames
+pub mod DeclaredMembers
+pub mod ExportedNames

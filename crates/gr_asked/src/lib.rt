@@ -7,6 +7,7 @@ mod holding;
 pub mod laws;
 mod own_name;
 pub mod steady;
+pub mod unique;
 mod used_member;
 pub mod walk;
 

@@ -11,7 +11,7 @@ use Rattle.gr_verdict.specs.Verdicts.{Verdicts, AreVerdicts}
 use Rattle.gr_bound.specs.declared.declaration.Declaration.{Declaration}
 use Rattle.gr_bound.specs.Identifiers.{Stands, named_by}
 use Rattle.gr_bound.specs.Uses.{IsPackage, IsBoundTo, HasNoDeclaration}
-use Rattle.gr_unique.proofs.LiteralNames.{name_stands}
+use Rattle.gr_asked.proofs.LiteralNames.{name_stands}
 use Rattle.gr_settled.specs.Roles.{is_to_be_bound, is_of_something}
 use Rattle.gr_settled.proofs.Bound.{identifier_bound}
 use Rattle.gr_settled.proofs.MembersBound.{no_member_unbound}

@@ -32,8 +32,8 @@ use Rattle.gr_bound.specs.Binding.{by_scope, by_member}
 use Rattle.gr_bound.specs.Identifiers.{Stands}
 use Rattle.gr_bound.specs.Uses.{IsPackage, IsBoundTo}
 use Rattle.gr_asked.proofs.OnePlace.{same_files}
-use Rattle.gr_unique.proofs.ExportedNames.{bound_behind}
-use Rattle.gr_unique.proofs.UsedMembers.{file_at}
+use Rattle.gr_asked.proofs.ExportedNames.{bound_behind}
+use Rattle.gr_asked.proofs.BoundUsedMembers.{file_at}
 use Rattle.gr_settled.proofs.Deciding.{is_true}
 use Rattle.gr_settled.proofs.Lexical.{declares, binding}
 use Rattle.gr_settled.proofs.TypesDecided.{token_bound, path}

@@ -37,7 +37,7 @@ use Rattle.gr_bound.specs.Identifiers.{Stands}
 use Rattle.gr_asked.proofs.OnePlace.{names_of, laid_of, same_layout, same_files}
 use Rattle.gr_settled.specs.Linked.{IsUsedMember, IsLinked}
 use Rattle.gr_settled.proofs.FilesUsed.{all_linked}
-use Rattle.gr_unique.proofs.UsedMembers.{file_at, told_at}
+use Rattle.gr_asked.proofs.BoundUsedMembers.{file_at, told_at}
 use Rattle.gr_settled.specs.MemberNames.{IsMemberName, a_selected, a_key}
 use Rattle.gr_settled.proofs.Sites.{files_among, each_numbered}
 

@@ -16,7 +16,7 @@ use Rattle.gr_verdict.specs.Verdicts.{Verdicts, AreVerdicts}
 use Rattle.gr_bound.specs.declared.declaration.Declaration.{Declaration}
 use Rattle.gr_bound.specs.Identifiers.{Stands}
 use Rattle.gr_bound.specs.Uses.{IsPackage, IsBoundTo}
-use Rattle.gr_unique.proofs.DeclaredMembers.{field_bound, method_bound}
+use Rattle.gr_asked.proofs.DeclaredMembers.{field_bound, method_bound}
 use Rattle.gr_settled.proofs.GlobalsDecided.{held_ranked, held_number}
 use Rattle.gr_settled.proofs.LinksBound.{at_number}
 use Rattle.gr_settled.proofs.WholeBound.{method_of}

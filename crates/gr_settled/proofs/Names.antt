@@ -35,8 +35,8 @@ use Rattle.gr_verdict.specs.FaultLists.{ListsFaults}
 use Rattle.gr_verdict.specs.Verdicts.{Verdicts, AreVerdicts}
 use Rattle.gr_verdict.proofs.OnePackage.{files_in_order}
 use Rattle.gr_bound.specs.Uses.{IsPackage}
-use Rattle.gr_unique.proofs.Faultless.{no_fault_later}
-use Rattle.gr_unique.proofs.MembersApart.{one_function}
+use Rattle.gr_asked.proofs.Faultless.{no_fault_later}
+use Rattle.gr_asked.proofs.MembersApart.{one_function}
 use Rattle.gr_settled.proofs.Lists.{all_flat}
 use Rattle.gr_settled.proofs.Scoped.{in_order}
 use Rattle.gr_settled.proofs.TypesBound.{Kept, all_kept}

@@ -40,8 +40,8 @@ use Rattle.gr_verdict.proofs.OneList.{checked_package}
 use Rattle.gr_verdict.proofs.OnePackage.{layout_formed, files_in_order}
 use Rattle.gr_qualified.specs.Qualified.{IsBehindPackage}
 use Rattle.gr_bound.specs.Uses.{IsPackage}
-use Rattle.gr_unique.proofs.ExportedNames.{is_found}
-use Rattle.gr_unique.proofs.Faultless.{no_fault_later}
+use Rattle.gr_asked.proofs.ExportedNames.{is_found}
+use Rattle.gr_asked.proofs.Faultless.{no_fault_later}
 use Rattle.gr_settled.proofs.Lexical.{declares}
 use Rattle.gr_settled.proofs.Spellings.{blank_spelled}
 use Rattle.gr_settled.specs.Names.{StandsForSomething, NamesMean}

@@ -16,7 +16,7 @@ use Rattle.gr_types.specs.Faults.{IsTypeFault}
 use Rattle.gr_verdict.specs.FaultLists.{ListsFaults}
 use Rattle.gr_verdict.specs.Verdicts.{Verdicts, AreVerdicts}
 use Rattle.gr_bound.specs.Uses.{IsPackage}
-use Rattle.gr_unique.proofs.Faultless.{no_fault_later}
+use Rattle.gr_asked.proofs.Faultless.{no_fault_later}
 
 module _ (w : Workspace) (sound : ListsFaults w []) (known : Verdicts) (right : AreVerdicts w known) (p : Package) (is : IsPackage w known p) where
   no_type_fault : (f : Fault) → IsTypeFault p f → ⊥

@@ -27,7 +27,7 @@ use Rattle.gr_order.proofs.Covers.{Covers, ends, skips, takes, selects, keys}
 use Rattle.gr_order.proofs.CoveredFiles.{decls_named}
 use Rattle.gr_order.proofs.Elements.{all_append, all_left}
 use Rattle.gr_meanings.proofs.DeclKinds.{Holds}
-use Rattle.gr_unique.proofs.Apart.{all_as}
+use Rattle.gr_asked.proofs.Apart.{all_as}
 use Rattle.gr_settled.specs.Scopes.{may_be_local}
 use Rattle.gr_settled.proofs.KnownLocals.{local_may}
 use Rattle.gr_settled.proofs.Typed.{type_abroad, result_abroad, func_abroad, group_abroad, global_abroad, spec_abroad, imports_abroad}

@@ -46,8 +46,8 @@ use Rattle.gr_verdict.proofs.Members.{first_in, later_in}
 use Rattle.gr_verdict.proofs.OnePackage.{layout_formed, files_in_order}
 use Rattle.gr_asked.proofs.OnePlace.{names_of, laid_of, same_layout, same_size, same_files}
 use Rattle.gr_order.proofs.Elements.{all_append}
-use Rattle.gr_unique.proofs.Apart.{all_as}
-use Rattle.gr_unique.proofs.UsedMembers.{file_at}
+use Rattle.gr_asked.proofs.Apart.{all_as}
+use Rattle.gr_asked.proofs.BoundUsedMembers.{file_at}
 use Rattle.gr_settled.specs.Names.{StandsForSomething, NamesMean}
 use Rattle.gr_settled.specs.Scopes.{may_be_local, IsEarlier, IsResolved, AreResolved, IsBlankAt}
 use Rattle.gr_settled.specs.Unbroken.{IsUnbroken}

@@ -32,7 +32,7 @@ use Rattle.gr_statement_rules.proofs.Simple.{simple_settled}
 use Rattle.gr_statement_rules.proofs.Locals.{local_settled}
 use Rattle.gr_meanings.proofs.DeclKinds.{Holds}
 use Rattle.gr_order.proofs.Elements.{all_append, all_left, all_right}
-use Rattle.gr_unique.proofs.Apart.{all_as}
+use Rattle.gr_asked.proofs.Apart.{all_as}
 use Rattle.gr_settled.proofs.Strung.{Strung, strung_split, strung_le, stand_below}
 use Rattle.gr_settled.specs.Unbroken.{IsUnbroken}
 use Rattle.gr_settled.proofs.Named.{IsNamed, AreNamed, no_broken_type, no_use, assignable_typed}

@@ -16,7 +16,7 @@ use Rattle.gr_scope.specs.Site.{Site, Source, found_site}
 use Rattle.gr_order.specs.Tokens.{identifiers_among}
 use Rattle.gr_order.proofs.Covering.{Pairs, file_pairs}
 use Rattle.gr_order.proofs.Elements.{all_append}
-use Rattle.gr_unique.proofs.Apart.{all_as}
+use Rattle.gr_asked.proofs.Apart.{all_as}
 
 -- each stands in the file
 

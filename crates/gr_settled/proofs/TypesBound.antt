@@ -38,8 +38,8 @@ use Rattle.gr_meanings.specs.Worlds.{IsSelected, IsName, is_bound, is_unbound, b
 use Rattle.gr_verdict.specs.Verdicts.{Verdicts, IsPackageIn}
 use Rattle.gr_order.proofs.OwnPaths.{part_at}
 use Rattle.gr_asked.proofs.OnePlace.{names_of, laid_of, same_layout, same_size, same_files}
-use Rattle.gr_unique.proofs.Apart.{all_as}
-use Rattle.gr_unique.proofs.UsedMembers.{file_at, told_at}
+use Rattle.gr_asked.proofs.Apart.{all_as}
+use Rattle.gr_asked.proofs.BoundUsedMembers.{file_at, told_at}
 use Rattle.gr_settled.proofs.Sites.{IsNumbered, all_numbered, role_stays}
 use Rattle.gr_settled.proofs.Sound.{IsSound}
 use Rattle.gr_settled.proofs.Tight.{IsTight}

@@ -1,6 +1,6 @@
 -- The answers to the goals of `all_bound::functions_with_receivers_are_methods`.
 use Rattle.gr_declared.specs.Package.{spelled}
-use Rattle.gr_unique.proofs.DeclaredMembers.{method_bound}
+use Rattle.gr_asked.proofs.DeclaredMembers.{method_bound}
 use Rattle.gr_settled.proofs.WholeBound.{method_of}
 use Rattle.gr_settled.proofs.all_bound.functions_with_receivers_are_methods.Goals as goal
 

@@ -1,6 +1,6 @@
 -- The answers to the goals of `worlds::nothing_is_broken`.
 use Rattle.gr_declared.specs.Package.{spelled}
-use Rattle.gr_unique.proofs.DeclaredMembers.{method_bound}
+use Rattle.gr_asked.proofs.DeclaredMembers.{method_bound}
 use Rattle.gr_settled.proofs.Fine.{world_unbroken}
 use Rattle.gr_settled.proofs.WholeBound.{variable_whole, function_whole, method_of}
 use Rattle.gr_settled.proofs.PackageWorlds.{not_broken, have_worlds, have_all_worlds}

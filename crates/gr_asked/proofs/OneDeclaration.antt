@@ -15,9 +15,9 @@ use Rattle.gr_asked.proofs.OnePlace.{one_begins, one_asked}
 use Rattle.gr_bound.proofs.Units.{one_package}
 use Rattle.gr_asked.proofs.UsedMembers.{one_member, member_not_scope, member_not_name}
 use Rattle.gr_bound.proofs.Folders.{begins_in_folder}
-use Rattle.gr_unique.proofs.LiteralNames.{name_stands}
-use Rattle.gr_unique.proofs.NamedMembers.{one_by_name}
-use Rattle.gr_unique.proofs.UsedMembers.{member_not_package}
+use Rattle.gr_asked.proofs.LiteralNames.{name_stands}
+use Rattle.gr_asked.proofs.BoundNamedMembers.{one_by_name}
+use Rattle.gr_asked.proofs.BoundUsedMembers.{member_not_package}
 
 module _ (w : Workspace) (known : Verdicts) (p : Package) (is : IsPackage w known p) (u : ℕ) (stands : Stands p u) where
   pub one_declaration : (d e : Declaration) → IsBoundTo w known p u d → IsBoundTo w known p u e → d ≡ e

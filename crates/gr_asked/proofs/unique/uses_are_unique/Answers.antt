@@ -1,6 +1,6 @@
 -- The answers to the goals of `laws::uses_are_unique`.
-use Rattle.gr_unique.proofs.OneList.{one_list, one_answer}
-use Rattle.gr_unique.proofs.laws.uses_are_unique.Goals as goal
+use Rattle.gr_asked.proofs.OneList.{one_list, one_answer}
+use Rattle.gr_asked.proofs.unique.uses_are_unique.Goals as goal
 
 pub returns : goal.returns
 returns c = record {

@@ -1,6 +1,6 @@
 -- The answers to the goals of `laws::declared_members_are_bound`.
-use Rattle.gr_unique.proofs.DeclaredMembers.{field_bound, method_bound}
-use Rattle.gr_unique.proofs.laws.declared_members_are_bound.Goals as goal
+use Rattle.gr_asked.proofs.DeclaredMembers.{field_bound, method_bound}
+use Rattle.gr_asked.proofs.unique.declared_members_are_bound.Goals as goal
 
 pub returns : goal.returns
 returns c = record {

@@ -1,6 +1,6 @@
 -- The answers to the goals of `laws::one_declaration_at_a_place`.
-use Rattle.gr_unique.proofs.OneDeclaration.{one_used, one_held}
-use Rattle.gr_unique.proofs.laws.one_declaration_at_a_place.Goals as goal
+use Rattle.gr_asked.proofs.OneDeclaration.{one_used, one_held}
+use Rattle.gr_asked.proofs.unique.one_declaration_at_a_place.Goals as goal
 
 pub returns : goal.returns
 returns c = record {

@@ -15,7 +15,7 @@ use Rattle.gr_bound.specs.declared.declaration.Declaration.{Declaration}
 use Rattle.gr_bound.specs.declared.declaration.Declaration.TheVariants.{Predeclared, Declared}
 use Rattle.gr_bound.specs.Binding.{by_scope}
 use Rattle.gr_bound.specs.Uses.{IsPackage, IsBoundTo}
-use Rattle.gr_unique.proofs.Faultless.{no_fault_later}
+use Rattle.gr_asked.proofs.Faultless.{no_fault_later}
 
 module _ (w : Workspace) (sound : ListsFaults w []) (known : Verdicts) (right : AreVerdicts w known) (p : Package) (is : IsPackage w known p)
     (u : ℕ) (lt : u < p.size)

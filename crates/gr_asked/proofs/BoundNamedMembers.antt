@@ -9,7 +9,7 @@ use Rattle.gr_bound.specs.declared.declaration.Declaration.{Declaration}
 use Rattle.gr_bound.specs.declared.declaration.Declaration.TheVariants.{Predeclared, Declared, Field, Method}
 use Rattle.gr_bound.specs.Binding.{BindsByName, IsNameOf, IsFieldAt, IsMethodAt, field_place}
 use Rattle.gr_bound.proofs.NamedPlaces.{stands_once}
-use Rattle.gr_unique.proofs.MembersApart.{one_field, one_function, no_field_and_function}
+use Rattle.gr_asked.proofs.MembersApart.{one_field, one_function, no_field_and_function}
 
 field_at : (p : Package) (u rank : ℕ) → IsNameOf (IsFieldAt p) p u rank →
     (f : PlacedField) × ((slice_get (package_fields p) rank ≡ Some f) × (field_place f ≡ p.layout.place u))

@@ -38,11 +38,11 @@ use Rattle.gr_bound.specs.Binding.{by_package, IsExportedUse}
 use Rattle.gr_bound.specs.Identifiers.{Stands}
 use Rattle.gr_bound.specs.Uses.{IsPackage, IsBoundTo}
 use Rattle.gr_asked.proofs.OnePlace.{names_of, laid_of as table_of, same_layout, same_size}
-use Rattle.gr_unique.proofs.Faultless.{no_fault_later}
-use Rattle.gr_unique.proofs.Headers.{marked_kind}
-use Rattle.gr_unique.proofs.LiteralNames.{next_identifier}
+use Rattle.gr_asked.proofs.Faultless.{no_fault_later}
+use Rattle.gr_asked.proofs.Headers.{marked_kind}
+use Rattle.gr_asked.proofs.LiteralNames.{next_identifier}
 use Rattle.gr_bound.proofs.Alike.{package_for, bound_for}
-use Rattle.gr_unique.proofs.UsedMembers.{file_at, marks_at, told_at}
+use Rattle.gr_asked.proofs.BoundUsedMembers.{file_at, marks_at, told_at}
 
 module _ (w : Workspace) (known : Verdicts) (path : List ℕ) (p : Package) (h : IsPackageIn w known path p) where
   in_order : StandInOrder p.layout p.size

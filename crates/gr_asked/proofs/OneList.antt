@@ -19,7 +19,7 @@ use Rattle.gr_bound.specs.Uses.{IsNamedTo, IsUseOf, IsAskedIn, ListsUses, HasNoI
 use Rattle.gr_asked.proofs.OnePlace.{one_asked}
 use Rattle.gr_bound.proofs.PlaceOrder.{place_cmp_total}
 use Rattle.gr_bound.proofs.Alike.{use_for, asked_for, held_for}
-use Rattle.gr_unique.proofs.OneDeclaration.{one_held}
+use Rattle.gr_asked.proofs.OneDeclaration.{one_held}
 
 module _ (w : Workspace) (path : List ℕ) (offset : ℕ) where
   pub one_list : (xs ys : List Place) → ListsUses w path offset xs → ListsUses w path offset ys → xs ≡ ys

@@ -37,7 +37,7 @@ use Rattle.gr_bound.specs.Binding.{BindsByPackage, BindsByMember}
 use Rattle.gr_bound.specs.Identifiers.{Stands}
 use Rattle.gr_bound.proofs.Excluding.{exported_as}
 use Rattle.gr_asked.proofs.OnePlace.{names_of, laid_of, same_layout, same_size, same_files}
-use Rattle.gr_unique.proofs.Headers.{name_before_dot}
+use Rattle.gr_asked.proofs.Headers.{name_before_dot}
 
 module _ (w : Workspace) (known : Verdicts) (path : List ℕ) (p : Package) (h : IsPackageIn w known path p) where
   is_source : (file : ℕ) (t : FileParts) → slice_get h.files file ≡ Some t → IsSourceFile (source_of t)

@@ -17,9 +17,9 @@ use Rattle.gr_declared.specs.Package.{declared_functions, function_place}
 use Rattle.gr_meanings.specs.Uniqueness.{AreInOrder}
 use Rattle.gr_meanings.proofs.DeclKinds.{decls_rise}
 use Rattle.gr_bound.specs.Binding.{field_place}
-use Rattle.gr_unique.proofs.Apart.{Disjoint, disjoint_none, disjoint_append, disjoint_got, Apart, apart_append, one_rank, RiseIn, rise_down, rise_up}
-use Rattle.gr_unique.proofs.Apart.{rise_append, rise_lies, lies_before, lies_behind, rise_apart, FromFile, rise_in_file, file_before, file_behind}
-use Rattle.gr_unique.proofs.Apart.{file_first}
+use Rattle.gr_asked.proofs.Apart.{Disjoint, disjoint_none, disjoint_append, disjoint_got, Apart, apart_append, one_rank, RiseIn, rise_down, rise_up}
+use Rattle.gr_asked.proofs.Apart.{rise_append, rise_lies, lies_before, lies_behind, rise_apart, FromFile, rise_in_file, file_before, file_behind}
+use Rattle.gr_asked.proofs.Apart.{file_first}
 
 -- the fields of a file stand at its tokens, in their order
 
