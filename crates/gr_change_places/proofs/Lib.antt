@@ -3,3 +3,5 @@ pub mod Gone
 pub mod OneScoped
 pub mod OneUse
 pub mod ScopeBound
+pub mod ClauseNames
+pub mod Scoping

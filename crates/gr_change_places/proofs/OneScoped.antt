@@ -12,7 +12,7 @@ use Rattle.gr_declared.specs.InterfacesView.{no_interface}
 use Rattle.gr_meanings.specs.PackageOf.{IsPackageOf}
 use Rattle.gr_types.proofs.OneLaid.{one_package}
 use Rattle.gr_verdict.proofs.OnePackage.{one_sources, package_from}
-use Rattle.gr_scoped.specs.ScopedPackages.{IsScopedIn, IsClauseName, named, unnamed}
+use Rattle.gr_change_places.specs.ScopedPackages.{IsScopedIn, IsClauseName, named, unnamed}
 
 -- the name of a package is one
 one_clause : (w : Workspace) (path : List ℕ) (a b : Option (List ℕ)) → IsClauseName w path a → IsClauseName w path b → a ≡ b

@@ -27,7 +27,7 @@ use Rattle.gr_bound.specs.Binding.{BindsByScope}
 use Rattle.gr_bound.specs.Identifiers.{NameBegins, BeginsAt, file_of}
 use Rattle.gr_bound.proofs.Excluding.{one_by_scope}
 use Rattle.gr_bound.proofs.Files.{place_of_name}
-use Rattle.gr_scoped.specs.ScopedPackages.{IsScopedIn}
+use Rattle.gr_change_places.specs.ScopedPackages.{IsScopedIn}
 use Rattle.gr_change_places.specs.ScopeBindings.{IsScopeUse}
 use Rattle.gr_change_places.proofs.OneScoped.{one_scoped}
 

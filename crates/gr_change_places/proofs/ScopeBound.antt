@@ -10,7 +10,7 @@ use Rattle.gr_declared.specs.Package.{Package}
 use Rattle.gr_bound.specs.declared.bound_spot.BoundSpot.{BoundSpot}
 use Rattle.gr_bound.specs.declared.declaration.Declaration.{Declaration}
 use Rattle.gr_bound.specs.Bindings.{place_at}
-use Rattle.gr_scoped.specs.ScopedPackages.{IsScopedIn}
+use Rattle.gr_change_places.specs.ScopedPackages.{IsScopedIn}
 use Rattle.gr_change_places.specs.ScopeBindings.{IsBoundIn, IsBoundInNumber, IsScopeBound}
 use Rattle.gr_change_places.proofs.OneScoped.{one_scoped}
 

@@ -3,3 +3,5 @@ pub mod Read
 pub mod OldPlaces
 pub mod ScopeBindings
 pub mod Behind
+pub mod ScopedPackages
+pub mod Scopes

@@ -12,7 +12,7 @@ use Rattle.gr_bound.specs.Binding.{BindsByScope}
 use Rattle.gr_bound.specs.Bindings.{BoundIn, place_at}
 use Rattle.gr_bound.specs.Identifiers.{BeginsAt}
 use Rattle.gr_bound.specs.Places.{place_cmp}
-use Rattle.gr_scoped.specs.ScopedPackages.{IsScopedIn}
+use Rattle.gr_change_places.specs.ScopedPackages.{IsScopedIn}
 
 -- the scopes of a workspace bind to e what begins at the place
 pub record IsScopeUse (w : Workspace) (e : Declaration) (place : Place) : Type 0 where

@@ -5,7 +5,7 @@ ghost use Rattle.gr_declared.specs.PackageView.{package_of};
 ghost use Rattle.gr_bound.specs.Binding.{BindsByScope};
 ghost use Rattle.gr_bound.specs.Bindings.{AddsAll, place_at};
 ghost use Rattle.gr_bound.specs.Identifiers.{BeginsAt};
-ghost use Rattle.gr_scoped.specs.Scopes.{AreAllScopes, package_scoped};
+ghost use Rattle.gr_change_places.specs.Scopes.{AreAllScopes, package_scoped};
 ghost use Rattle.gr_change_places.specs.ScopeBindings.{IsBoundIn, IsBoundInNumber, IsScopeBound, AreScopeBindings};
 
 use gr_bound::bindings::sort;
@@ -14,7 +14,7 @@ use gr_declared::{Interfaces, Package};
 use gr_expr::symbol::SharedPath;
 use gr_graph::Graph;
 use gr_placed::beginning;
-use gr_scoped::PackageScopes;
+use crate::scopes::PackageScopes;
 use gr_text::Place;
 use std::alloc::{AllocError, Global};
 

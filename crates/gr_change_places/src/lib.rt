@@ -4,8 +4,12 @@
 
 mod bindings_after;
 mod files_behind;
+mod names;
 mod places_before;
+mod scopes;
 
 pub use bindings_after::scope_bindings;
 pub use files_behind::lie_behind;
 pub use places_before::{before_of, old_places, symbol};
+pub use names::clause_names;
+pub use scopes::{PackageScopes, scoped_packages, scopes_at};

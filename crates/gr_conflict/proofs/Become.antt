@@ -17,9 +17,9 @@ use Rattle.gr_bound.specs.Binding.{IsPredeclared}
 use Rattle.gr_bound.specs.Steps.{IsDeclarationFound}
 use Rattle.gr_bound.specs.Uses.{IsPackage}
 use Rattle.gr_revision.specs.Revisions.{Revision}
-use Rattle.gr_scoped.specs.ScopedPackages.{IsScopedIn}
-use Rattle.gr_scoped.specs.Scopes.{package_scoped, IsNotScoped}
-use Rattle.gr_scoped.specs.declared.scopes.PackageScopes.{PackageScopes}
+use Rattle.gr_change_places.specs.ScopedPackages.{IsScopedIn}
+use Rattle.gr_change_places.specs.Scopes.{package_scoped, IsNotScoped}
+use Rattle.gr_change_places.specs.declared.scopes.PackageScopes.{PackageScopes}
 use Rattle.gr_bound.specs.Standing.{TokenAt, StandsIn, IsDeclaredAt}
 use Rattle.gr_sound.specs.Corresponding.{stands}
 use Rattle.gr_placed.specs.DeclaredPlaces.{IsFound}

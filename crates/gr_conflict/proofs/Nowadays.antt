@@ -18,9 +18,9 @@ use Rattle.gr_bound.specs.Bindings.{place_at}
 use Rattle.gr_bound.specs.Exports.{AreNumbers}
 use Rattle.gr_bound.specs.Steps.{IsDeclarationFound}
 use Rattle.gr_revision.specs.Revisions.{Revision, GoesTo}
-use Rattle.gr_scoped.specs.ScopedPackages.{IsScopedIn}
-use Rattle.gr_scoped.specs.Scopes.{package_scoped}
-use Rattle.gr_scoped.specs.declared.scopes.PackageScopes.{PackageScopes}
+use Rattle.gr_change_places.specs.ScopedPackages.{IsScopedIn}
+use Rattle.gr_change_places.specs.Scopes.{package_scoped}
+use Rattle.gr_change_places.specs.declared.scopes.PackageScopes.{PackageScopes}
 use Rattle.gr_placed.proofs.Found.{found_as}
 use Rattle.gr_change_places.specs.ScopeBindings.{IsScopeUse, AreScopeBindings}
 use Rattle.gr_change_places.proofs.OneScoped.{one_scoped}

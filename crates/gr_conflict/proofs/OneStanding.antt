@@ -6,7 +6,7 @@ use Rattle.gr_text.specs.declared.place.Place.{Place}
 use Rattle.gr_declared.specs.Package.{Package}
 use Rattle.gr_bound.specs.declared.declaration.Declaration.{Declaration}
 use Rattle.gr_bound.specs.declared.declaration.Declaration.TheVariants.{Predeclared, Declared, Field, Method}
-use Rattle.gr_scoped.specs.ScopedPackages.{IsScopedIn}
+use Rattle.gr_change_places.specs.ScopedPackages.{IsScopedIn}
 use Rattle.gr_bound.specs.Standing.{InPackage, TokenAt, StandsIn, IsDeclaredAt}
 use Rattle.gr_placed.proofs.Declared.{one_scope_place}
 use Rattle.gr_placed.proofs.Starts.{token_once}

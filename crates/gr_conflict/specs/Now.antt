@@ -10,8 +10,8 @@ use Rattle.gr_declared.specs.Package.{Package}
 use Rattle.gr_types.specs.Interfaces.{IsSeen}
 use Rattle.gr_bound.specs.declared.declaration.Declaration.{Declaration}
 use Rattle.gr_bound.specs.declared.declaration.Declaration.TheVariants.{Predeclared, Declared, Field, Method}
-use Rattle.gr_scoped.specs.ScopedPackages.{IsScopedIn}
-use Rattle.gr_scoped.specs.declared.scopes.PackageScopes.{PackageScopes}
+use Rattle.gr_change_places.specs.ScopedPackages.{IsScopedIn}
+use Rattle.gr_change_places.specs.declared.scopes.PackageScopes.{PackageScopes}
 use Rattle.gr_bound.specs.Standing.{TokenBegins}
 
 -- a declaration that counts, as scopes see it: one that is predeclared or a package's own

@@ -7,7 +7,7 @@ use gr_graph::Graph;
 use gr_new_members::NewMembers;
 use gr_placed::declared_places::DeclaredPlaces;
 use gr_revision::Moves;
-use gr_scoped::PackageScopes;
+use gr_change_places::PackageScopes;
 use std::collections::BTreeMap;
 
 /// What is known of a change: the packages before, the members of their types under new names, what they export, and their

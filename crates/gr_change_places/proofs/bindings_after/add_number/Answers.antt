@@ -4,7 +4,7 @@ use Rattle.std.specs.Prelude.{Some, slice_get}
 use Rattle.std.proofs.lemmas.Option.{slice_get_read}
 use Rattle.gr_text.specs.Packages.{package_paths}
 use Rattle.gr_bound.proofs.AddingAll.{all_none, call_all}
-use Rattle.gr_scoped.specs.Scopes.{package_scoped, MayBeScopes}
+use Rattle.gr_change_places.specs.Scopes.{package_scoped, MayBeScopes}
 use Rattle.gr_change_places.specs.ScopeBindings.{IsBoundIn, IsBoundInNumber}
 use Rattle.gr_change_places.proofs.ScopeBound.{scoped_here, scoped_there}
 use Rattle.gr_change_places.proofs.bindings_after.add_number.Goals as goal

@@ -1,7 +1,7 @@
 -- The answers to the goals of `now::exported_in`.
 use Rattle.std.proofs.Common.{sym, ◌∙◌}
 use Rattle.gr_bound.specs.Exports.{number_named}
-use Rattle.gr_scoped.specs.Scopes.{package_scoped}
+use Rattle.gr_change_places.specs.Scopes.{package_scoped}
 use Rattle.gr_conflict.proofs.Nowadays.{export_none, export_some}
 use Rattle.gr_conflict.proofs.now.exported_in.Goals as goal
 

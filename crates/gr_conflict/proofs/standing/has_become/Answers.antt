@@ -1,7 +1,7 @@
 -- The answers to the goals of `standing::has_become`.
 use Rattle.std.specs.Prelude.{IsTrue, ◌↔◌}
 use Rattle.std.proofs.lemmas.Result.{IfOk-weaker}
-use Rattle.gr_scoped.specs.ScopedPackages.{IsScopedIn}
+use Rattle.gr_change_places.specs.ScopedPackages.{IsScopedIn}
 use Rattle.gr_bound.specs.Standing.{IsDeclaredAt}
 use Rattle.gr_conflict.specs.Judging.{workspace_in, known_verdicts, change_in, becomes_in}
 use Rattle.gr_conflict.proofs.Become.{become_same, become_nowhere, become_if}

@@ -3,7 +3,7 @@ use Rattle.std.proofs.Common.{◌<◌, arith}
 use Rattle.std.proofs.lemmas.Result.{IfOk-weaker}
 use Rattle.gr_bound.specs.declared.declaration.Declaration.TheVariants.{Declared}
 use Rattle.gr_bound.specs.Binding.{IsPredeclared}
-use Rattle.gr_scoped.specs.ScopedPackages.{IsScopedIn}
+use Rattle.gr_change_places.specs.ScopedPackages.{IsScopedIn}
 use Rattle.gr_bound.specs.Standing.{IsDeclaredAt}
 use Rattle.gr_placed.specs.DeclaredPlaces.{IsFound}
 use Rattle.gr_conflict.specs.Now.{IsOwnToken}

@@ -17,7 +17,7 @@ use Rattle.gr_declared.specs.InterfacesView.{name_in, AddsInterface}
 use Rattle.gr_expr.specs.declared.interfaces.Interface.{Interface}
 use Rattle.gr_declared.specs.declared.interfaces.Interfaces.{Interfaces}
 use Rattle.gr_verdict.proofs.Members.{cases_contains}
-use Rattle.gr_scoped.specs.ScopedPackages.{IsClauseName, named, unnamed, AreClauseNames, AddsClauseName, added, nothing}
+use Rattle.gr_change_places.specs.ScopedPackages.{IsClauseName, named, unnamed, AreClauseNames, AddsClauseName, added, nothing}
 
 -- names that are those of packages, at least of those whose number is below n
 pub record AreClauseNamesBelow (w : Workspace) (n : ℕ) (name_of : List ℕ → Option (List ℕ)) : Type 0 where

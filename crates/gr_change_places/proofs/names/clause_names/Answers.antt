@@ -3,8 +3,8 @@ use Rattle.std.proofs.Common.{◌≡◌, ◌<◌, length, arith}
 use Rattle.gr_text.specs.Packages.{package_paths}
 use Rattle.gr_declared.specs.InterfacesView.{name_in}
 use Rattle.gr_meanings.proofs.BoundLists.{slice_get_some}
-use Rattle.gr_scoped.proofs.ClauseNames.{no_names, one_more, all_names}
-use Rattle.gr_scoped.proofs.names.clause_names.Goals as goal
+use Rattle.gr_change_places.proofs.ClauseNames.{no_names, one_more, all_names}
+use Rattle.gr_change_places.proofs.names.clause_names.Goals as goal
 
 pub loop-number-init : goal.loop-number-init
 loop-number-init c = no_names c.args.graph.now (name_in c.new-names.result) c.new-names.ensures.names

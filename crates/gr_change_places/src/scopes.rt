@@ -6,8 +6,8 @@ ghost use Rattle.gr_tree.specs.SourceFile.{source_of};
 ghost use Rattle.gr_declared.specs.InterfacesView.{name_in, no_interface};
 ghost use Rattle.gr_meanings.specs.PackageOf.{package_in};
 ghost use Rattle.gr_bound.specs.Exports.{number_named, AreNumbers};
-ghost use Rattle.gr_scoped.specs.ScopedPackages.{AreClauseNames};
-ghost use Rattle.gr_scoped.specs.Scopes.{AreScopes, AreScopesOf, AreScopesNamed, MayBeScopes, AreAllScopes, IsNotScoped};
+ghost use Rattle.gr_change_places.specs.ScopedPackages.{AreClauseNames};
+ghost use Rattle.gr_change_places.specs.Scopes.{AreScopes, AreScopesOf, AreScopesNamed, MayBeScopes, AreAllScopes, IsNotScoped};
 
 use gr_bound::exports::numbers_by;
 use gr_bound::laid_table;

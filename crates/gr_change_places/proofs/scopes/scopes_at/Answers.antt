@@ -2,8 +2,8 @@
 use Rattle.std.proofs.Common.{◌<◌, length, sym, subst, refl}
 use Rattle.std.proofs.lemmas.Option.{slice_get_within, slice_get_read}
 use Rattle.gr_text.specs.Packages.{package_paths}
-use Rattle.gr_scoped.proofs.Scoping.{no_package, found_at}
-use Rattle.gr_scoped.proofs.scopes.scopes_at.Goals as goal
+use Rattle.gr_change_places.proofs.Scoping.{no_package, found_at}
+use Rattle.gr_change_places.proofs.scopes.scopes_at.Goals as goal
 
 pub returns-in-None : goal.returns-in-None
 returns-in-None c = no_package c.args.graph.now c.args.path.now c.in-None.ensures

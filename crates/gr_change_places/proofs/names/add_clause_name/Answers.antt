@@ -11,9 +11,9 @@ use Rattle.gr_imports.specs.Files.{package_name}
 use Rattle.gr_text.specs.Packages.{package_paths, package_files}
 use Rattle.gr_declared.specs.InterfacesView.{name_in}
 use Rattle.gr_verdict.proofs.Members.{vec_empty}
-use Rattle.gr_scoped.specs.ScopedPackages.{AddsClauseName}
-use Rattle.gr_scoped.proofs.ClauseNames.{with_clause, without_clause}
-use Rattle.gr_scoped.proofs.names.add_clause_name.Goals as goal
+use Rattle.gr_change_places.specs.ScopedPackages.{AddsClauseName}
+use Rattle.gr_change_places.proofs.ClauseNames.{with_clause, without_clause}
+use Rattle.gr_change_places.proofs.names.add_clause_name.Goals as goal
 
 pub returns-then-not-is_empty : goal.returns-then-not-is_empty
 returns-then-not-is_empty c = λ p at.

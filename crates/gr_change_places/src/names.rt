@@ -5,7 +5,7 @@ ghost use Rattle.gr_graph.specs.Graphs.{OfPackage};
 ghost use Rattle.gr_tree.specs.SourceFile.{source_of};
 ghost use Rattle.gr_imports.specs.Files.{package_name};
 ghost use Rattle.gr_declared.specs.InterfacesView.{name_in};
-ghost use Rattle.gr_scoped.specs.ScopedPackages.{AddsClauseName, AreClauseNames};
+ghost use Rattle.gr_change_places.specs.ScopedPackages.{AddsClauseName, AreClauseNames};
 
 use gr_declared::{Interface, Interfaces, PackageScope};
 use gr_graph::Graph;

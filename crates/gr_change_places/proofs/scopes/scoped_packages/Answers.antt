@@ -1,9 +1,9 @@
 -- The answers to the goals of `scopes::scoped_packages`.
 use Rattle.std.proofs.Common.{◌≡◌, length, subst, arith}
 use Rattle.gr_text.specs.Packages.{package_paths}
-use Rattle.gr_scoped.specs.Scopes.{AreScopesBelow}
-use Rattle.gr_scoped.proofs.Scoping.{no_scopes, more_scopes}
-use Rattle.gr_scoped.proofs.scopes.scoped_packages.Goals as goal
+use Rattle.gr_change_places.specs.Scopes.{AreScopesBelow}
+use Rattle.gr_change_places.proofs.Scoping.{no_scopes, more_scopes}
+use Rattle.gr_change_places.proofs.scopes.scoped_packages.Goals as goal
 
 pub loop-number-init : goal.loop-number-init
 loop-number-init c = no_scopes c.args.graph.now c.new-packages.result.items c.new-packages.ensures.items

@@ -8,9 +8,9 @@ use Rattle.gr_graph.specs.Parsed.{AreParsed}
 use Rattle.gr_graph.proofs.Asked.{at_contains}
 use Rattle.gr_declared.specs.InterfacesView.{name_in}
 use Rattle.gr_verdict.proofs.Members.{vec_empty}
-use Rattle.gr_scoped.specs.Scopes.{AreScopes}
-use Rattle.gr_scoped.proofs.Scoping.{not_scoped, is_scoped}
-use Rattle.gr_scoped.proofs.scopes.package_scopes.Goals as goal
+use Rattle.gr_change_places.specs.Scopes.{AreScopes}
+use Rattle.gr_change_places.proofs.Scoping.{not_scoped, is_scoped}
+use Rattle.gr_change_places.proofs.scopes.package_scopes.Goals as goal
 
 pub returns-then-not-is_empty : goal.returns-then-not-is_empty
 returns-then-not-is_empty c = λ path at.

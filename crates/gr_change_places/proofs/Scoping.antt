@@ -15,10 +15,10 @@ use Rattle.gr_scope.specs.Scoped.{scoped}
 use Rattle.gr_imports.specs.PackageNames.{IsLaidOver}
 use Rattle.gr_meanings.proofs.BoundLists.{pushed_at}
 use Rattle.gr_declared.proofs.Paths.{get_before}
-use Rattle.gr_scoped.specs.declared.scopes.PackageScopes.{PackageScopes}
-use Rattle.gr_scoped.specs.ScopedPackages.{AreClauseNames}
-use Rattle.gr_scoped.specs.Scopes.{AreScopesNamed, AreScopes, IsNotScoped, MayBeScopes, AreScopesBelow}
-use Rattle.gr_scoped.proofs.ClauseNames.{none_faulty}
+use Rattle.gr_change_places.specs.declared.scopes.PackageScopes.{PackageScopes}
+use Rattle.gr_change_places.specs.ScopedPackages.{AreClauseNames}
+use Rattle.gr_change_places.specs.Scopes.{AreScopesNamed, AreScopes, IsNotScoped, MayBeScopes, AreScopesBelow}
+use Rattle.gr_change_places.proofs.ClauseNames.{none_faulty}
 
 -- a file has no tree
 pub not_scoped : (w : Workspace) (path : List ℕ) (files : List FileParts) (faulty : List FaultyParts) → AreParsed (package_files w path) files faulty →

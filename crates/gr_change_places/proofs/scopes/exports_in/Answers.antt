@@ -6,7 +6,7 @@ use Rattle.gr_tree.specs.SourceFile.{source_of}
 use Rattle.gr_declared.specs.InterfacesView.{interface_in, no_interface}
 use Rattle.gr_meanings.specs.PackageOf.{package_in}
 use Rattle.gr_bound.specs.Exports.{number_named, AreNumbers}
-use Rattle.gr_scoped.proofs.scopes.exports_in.Goals as goal
+use Rattle.gr_change_places.proofs.scopes.exports_in.Goals as goal
 
 pub returns : goal.returns
 returns c =

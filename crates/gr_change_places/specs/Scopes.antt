@@ -10,8 +10,8 @@ use Rattle.gr_declared.specs.Package.{Package}
 use Rattle.gr_declared.specs.InterfacesView.{no_interface}
 use Rattle.gr_meanings.specs.PackageOf.{package_in}
 use Rattle.gr_bound.specs.Exports.{number_named, AreNumbers}
-use Rattle.gr_scoped.specs.ScopedPackages.{IsScopedIn}
-use Rattle.gr_scoped.specs.declared.scopes.PackageScopes.{PackageScopes}
+use Rattle.gr_change_places.specs.ScopedPackages.{IsScopedIn}
+use Rattle.gr_change_places.specs.declared.scopes.PackageScopes.{PackageScopes}
 
 -- the package of a path whose scopes these are; of what others export nothing is known
 abbrev pub package_by : (path : List ℕ) → List FileParts → ScopedPackage → Package

@@ -1,3 +1,0 @@
--- The definitions of this crate.
-pub mod ScopedPackages
-pub mod Scopes
