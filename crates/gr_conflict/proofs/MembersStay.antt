@@ -35,7 +35,7 @@ use Rattle.gr_bound.proofs.NamedPlaces.{name_to_found, stands_once}
 use Rattle.gr_bound.specs.Standing.{TokenBegins, TokenAt}
 use Rattle.gr_placed.proofs.Starts.{token_once}
 use Rattle.gr_change_places.specs.OldPlaces.{field_at, method_at}
-use Rattle.gr_fields_after.specs.MembersAfter.{CountsAfter, IsMemberAfter}
+use Rattle.gr_members_after.specs.MembersAfter.{CountsAfter, IsMemberAfter}
 use Rattle.gr_conflict.specs.Conflicts.{IsAhead, HoldsAhead, HoldsAtToken, HoldsAtFound, IsUsedNow, UseStays, UsesStay}
 use Rattle.gr_conflict.specs.Staying.{StaysByMember, MembersStayIn, FieldsStayIn, MethodsStayIn, DeclaringNamesStayIn}
 use Rattle.gr_conflict.specs.declared.conflict.Conflict.{Conflict}

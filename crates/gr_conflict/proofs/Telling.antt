@@ -30,7 +30,7 @@ use Rattle.gr_bound.proofs.MemberParts.{file_uses}
 use Rattle.gr_bound.proofs.NamedPlaces.{found_to_name}
 use Rattle.gr_conflict.specs.declared.conflict.Capturer.{Capturer}
 use Rattle.gr_conflict.specs.declared.conflict.Conflict.{Conflict}
-use Rattle.gr_fields_after.specs.MembersAfter.{CountsAfter, IsMemberAfter}
+use Rattle.gr_members_after.specs.MembersAfter.{CountsAfter, IsMemberAfter}
 use Rattle.gr_conflict.specs.Afterwards.{HasBecome, IsBoundByScopes, IsExportAfter, IsBoundByPackage, IsMemberNow}
 use Rattle.gr_conflict.specs.Conflicts.{IsCapturer, TellsOf, is_lost, is_captured, TellsMember, IsConflictIn, IsConflict, IsNoted, IsOtherNoted, IsOtherAt}
 use Rattle.gr_conflict.specs.Conflicts.{IsLostAt, IsLostAtFound, IsLostThere, IsUsedNow, IsMemberConflict, IsMemberConflictAmong, IsToldFirst, TellsFirst}

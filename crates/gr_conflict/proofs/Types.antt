@@ -18,11 +18,11 @@ use Rattle.gr_bound.specs.Members.{definitions_seen}
 use Rattle.gr_bound.specs.Steps.{IsDeclarationFound}
 use Rattle.gr_bound.specs.Uses.{IsPackage}
 use Rattle.gr_bound.specs.Workspaces.{known_in}
-use Rattle.gr_new_members.specs.declared.members.NewMembers.{NewMembers}
-use Rattle.gr_fields_after.specs.declared.types_after.TypesAfter.{TypesAfter}
-use Rattle.gr_fields_after.specs.MembersAfter.{CountsAfter, IsMemberAfter}
-use Rattle.gr_fields_after.specs.MembersFound.{KnowsMembers, known_types}
-use Rattle.gr_new_members.specs.NewMembers.{AreAllNewMembers}
+use Rattle.gr_members_after.specs.declared.members.NewMembers.{NewMembers}
+use Rattle.gr_members_after.specs.declared.types_after.TypesAfter.{TypesAfter}
+use Rattle.gr_members_after.specs.MembersAfter.{CountsAfter, IsMemberAfter}
+use Rattle.gr_members_after.specs.MembersFound.{KnowsMembers, known_types}
+use Rattle.gr_members_after.specs.NewMembers.{AreAllNewMembers}
 use Rattle.gr_conflict.specs.Judging.{KnowsChange, workspace_in, known_verdicts, known_packages, change_in}
 use Rattle.gr_conflict.specs.declared.judge.Judge.{Judge}
 

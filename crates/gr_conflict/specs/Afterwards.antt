@@ -15,7 +15,7 @@ use Rattle.gr_qualified.specs.Qualified.{IsBehindPackage}
 use Rattle.gr_bound.specs.Binding.{BindsByMember}
 use Rattle.gr_bound.specs.Uses.{IsPackage}
 use Rattle.gr_revision.specs.Revisions.{Revision, GoesTo}
-use Rattle.gr_fields_after.specs.MembersAfter.{IsMemberAfter}
+use Rattle.gr_members_after.specs.MembersAfter.{IsMemberAfter}
 use Rattle.gr_change_places.specs.ScopedPackages.{IsScopedIn}
 use Rattle.gr_sound.specs.Corresponding.{Corresponds}
 use Rattle.gr_change_places.specs.ScopeBindings.{IsScopeUse}

@@ -21,7 +21,7 @@ use Rattle.gr_bound.specs.Uses.{IsPackage}
 use Rattle.gr_revision.specs.Revisions.{Revision}
 use Rattle.gr_bound.specs.Standing.{IsDeclaredAt}
 use Rattle.gr_placed.specs.Identified.{IsIdentifierAt}
-use Rattle.gr_fields_after.specs.MembersAfter.{CountsAfter}
+use Rattle.gr_members_after.specs.MembersAfter.{CountsAfter}
 use Rattle.gr_change_places.specs.Behind.{LiesBehind}
 use Rattle.gr_conflict.specs.Afterwards.{HasBecome, IsBoundByScopes, IsBoundByPackage, IsBoundByMember, IsMemberNow}
 use Rattle.gr_conflict.specs.Firsts.{IsNotBefore}

@@ -15,7 +15,7 @@ use Rattle.gr_bound.specs.Packages.{ArePackages}
 use Rattle.gr_bound.specs.Uses.{IsPackage}
 use Rattle.gr_bound.specs.Standing.{IsDeclaredAt}
 use Rattle.gr_placed.specs.DeclaredPlaces.{AreDeclared}
-use Rattle.gr_new_members.specs.NewMembers.{AreAllNewMembers}
+use Rattle.gr_members_after.specs.NewMembers.{AreAllNewMembers}
 use Rattle.gr_change_places.specs.Scopes.{AreAllScopes}
 use Rattle.gr_change_places.specs.Read.{workspace_of, verdicts_of}
 use Rattle.gr_change_places.specs.OldPlaces.{AreOldPlaces, HasGoneTo}

@@ -14,7 +14,7 @@ use Rattle.gr_bound.specs.Steps.{UsesIn}
 use Rattle.gr_bound.specs.Uses.{IsPackage}
 use Rattle.gr_bound.specs.Workspaces.{IsPackageAt}
 use Rattle.gr_revision.specs.Revisions.{Revision}
-use Rattle.gr_fields_after.specs.MembersAfter.{CountsAfter}
+use Rattle.gr_members_after.specs.MembersAfter.{CountsAfter}
 use Rattle.gr_change_places.specs.OldPlaces.{field_at, method_at}
 use Rattle.gr_conflict.specs.Afterwards.{HasBecome, IsBoundByScopes, IsBoundByPackage, IsBoundByMember}
 

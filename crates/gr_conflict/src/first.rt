@@ -20,7 +20,7 @@ use gr_bound::{BoundSpot, Packages, all_seen};
 use gr_change_places::{lie_behind, old_places, scope_bindings};
 use gr_edit::EditSet;
 use gr_graph::Graph;
-use gr_new_members::{NewMembers, new_members};
+use gr_members_after::{NewMembers, new_members};
 use gr_placed::declared_places::{DeclaredPlaces, declared_places};
 use gr_revision::Moves;
 use gr_change_places::{PackageScopes, clause_names, scoped_packages};

@@ -2,9 +2,9 @@
 ghost use Rattle.std.specs.Prelude.{◌≡◌};
 
 use gr_bound::{BoundSpot, Packages};
-use gr_fields_after::TypesAfter;
+use gr_members_after::TypesAfter;
 use gr_graph::Graph;
-use gr_new_members::NewMembers;
+use gr_members_after::NewMembers;
 use gr_placed::declared_places::DeclaredPlaces;
 use gr_revision::Moves;
 use gr_change_places::PackageScopes;

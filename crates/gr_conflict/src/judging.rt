@@ -8,7 +8,7 @@ ghost use Rattle.gr_revision.specs.RevisionsOfEdits.{called_by};
 ghost use Rattle.gr_bound.specs.Binding.{BindsByScope, BindsByPackage};
 ghost use Rattle.gr_bound.specs.Members.{definitions_seen};
 ghost use Rattle.gr_bound.specs.Workspaces.{IsPackageAt};
-ghost use Rattle.gr_fields_after.specs.MembersAfter.{CountsAfter};
+ghost use Rattle.gr_members_after.specs.MembersAfter.{CountsAfter};
 ghost use Rattle.gr_conflict.specs.Afterwards.{IsBoundByScopes, IsBoundByPackage, IsExportAfter, IsMemberNow};
 ghost use Rattle.gr_conflict.specs.Conflicts.{IsConflictIn, IsNoted, IsOtherNoted, IsOtherAt, IsLostAt, IsLostAtFound, IsLostThere, IsMemberConflict, IsMemberConflictAmong, IsOnlyBehind, IsAhead, HoldsAhead, HoldsAtToken, HoldsAtFound, UseStays, UsesStay, Takes};
 ghost use Rattle.gr_conflict.specs.Judging.{KnowsChange, workspace_in, known_verdicts, known_packages, change_in, becomes_in};

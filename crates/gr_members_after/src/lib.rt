@@ -2,5 +2,11 @@
 #![tactic(auto)]
 
 mod looking;
+mod members;
+mod new_names;
+mod types_after;
 
 pub use looking::{counts, member};
+pub use types_after::{TypesAfter, Written};
+pub use members::{NewMembers, new_members};
+pub use new_names::{NewName, NewNames, is_rank};

@@ -9,16 +9,16 @@ ghost use Rattle.gr_bound.specs.Standing.{InPackage};
 ghost use Rattle.gr_bound.specs.declared.declaration.Declaration.TheVariants.{Field, Method};
 ghost use Rattle.gr_bound.specs.Steps.{IsDeclarationFound};
 ghost use Rattle.gr_bound.specs.Workspaces.{IsSound};
-ghost use Rattle.gr_new_members.specs.NamesAfter.{IsMethodAfter};
-ghost use Rattle.gr_fields_after.specs.MembersAfter.{CountsAfter, FieldCounts, IsFirst, IsFirstMethod, IsMemberAfter, IsMethodIn, MethodCounts};
-ghost use Rattle.gr_fields_after.specs.MembersFound.{IsFieldBehind, IsMethodBehind, IsRankFound, KnowsMembers, known_types};
+ghost use Rattle.gr_members_after.specs.NamesAfter.{IsMethodAfter};
+ghost use Rattle.gr_members_after.specs.MembersAfter.{CountsAfter, FieldCounts, IsFirst, IsFirstMethod, IsMemberAfter, IsMethodIn, MethodCounts};
+ghost use Rattle.gr_members_after.specs.MembersFound.{IsFieldBehind, IsMethodBehind, IsRankFound, KnowsMembers, known_types};
 
 use gr_bound::Declaration;
 use gr_expr::symbol::{SharedPath, Symbol};
 use gr_expr::types::GoType;
 use gr_expr::world::{Shape, World};
-use gr_fields_after::{TypesAfter, Written};
-use gr_new_members::{NewName, is_rank};
+use crate::types_after::{TypesAfter, Written};
+use crate::new_names::{NewName, is_rank};
 use std::alloc::AllocError;
 
 /// The struct of a type, or the one that a pointer points to.

@@ -6,7 +6,7 @@ use Rattle.gr_edit.specs.Moved.{moved}
 use Rattle.gr_bound.specs.Exports.{AreExports}
 use Rattle.gr_bound.specs.Uses.{IsPackage}
 use Rattle.gr_placed.specs.DeclaredPlaces.{AreDeclared}
-use Rattle.gr_new_members.specs.NewMembers.{AreAllNewMembers}
+use Rattle.gr_members_after.specs.NewMembers.{AreAllNewMembers}
 use Rattle.gr_conflict.specs.Conflicts.{IsConflict, Takes, HoldsAhead}
 use Rattle.gr_change_places.specs.Read.{workspace_of, verdicts_of}
 use Rattle.gr_conflict.specs.Judging.{change_by}

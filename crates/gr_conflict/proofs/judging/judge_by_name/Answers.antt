@@ -3,7 +3,7 @@ use Rattle.std.proofs.Common.{subst}
 use Rattle.gr_declared.specs.PackageView.{package_of}
 use Rattle.gr_bound.specs.Steps.{AtToken}
 use Rattle.gr_placed.specs.DeclaredPlaces.{IsFound}
-use Rattle.gr_fields_after.specs.MembersAfter.{CountsAfter}
+use Rattle.gr_members_after.specs.MembersAfter.{CountsAfter}
 use Rattle.gr_conflict.specs.Conflicts.{IsLostThere, IsLostAt}
 use Rattle.gr_conflict.specs.Judging.{known_packages, change_in}
 use Rattle.gr_conflict.proofs.Taking.{call_takes}

@@ -5,7 +5,7 @@ use Rattle.gr_scope.specs.declared.model.Position.{Position}
 use Rattle.gr_declared.specs.PackageView.{package_of}
 use Rattle.gr_bound.specs.Steps.{AtFound}
 use Rattle.gr_change_places.specs.OldPlaces.{field_at}
-use Rattle.gr_fields_after.specs.MembersAfter.{CountsAfter}
+use Rattle.gr_members_after.specs.MembersAfter.{CountsAfter}
 use Rattle.gr_conflict.specs.Conflicts.{HoldsAtFound}
 use Rattle.gr_conflict.specs.Judging.{known_packages, change_in}
 use Rattle.gr_conflict.proofs.judging.judge_counting_field.Goals as goal

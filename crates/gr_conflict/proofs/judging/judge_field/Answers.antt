@@ -4,7 +4,7 @@ use Rattle.std.specs.Prelude.{OnOk}
 use Rattle.gr_declared.specs.PackageView.{package_of}
 use Rattle.gr_bound.specs.declared.declaration.Declaration.{Declaration}
 use Rattle.gr_bound.specs.declared.declaration.Declaration.TheVariants.{Field}
-use Rattle.gr_fields_after.specs.MembersAfter.{CountsAfter}
+use Rattle.gr_members_after.specs.MembersAfter.{CountsAfter}
 use Rattle.gr_conflict.specs.Conflicts.{IsLostAt, HoldsAtToken, Takes}
 use Rattle.gr_conflict.specs.Judging.{known_packages, change_in}
 use Rattle.gr_change_places.specs.OldPlaces.{field_at}

@@ -7,7 +7,7 @@ use Rattle.gr_declared.specs.PackageView.{package_of}
 use Rattle.gr_bound.specs.Binding.{IsMethodAt}
 use Rattle.gr_bound.specs.Uses.{IsPackage}
 use Rattle.gr_bound.proofs.NamedPlaces.{one_method_place}
-use Rattle.gr_fields_after.specs.MembersAfter.{CountsAfter}
+use Rattle.gr_members_after.specs.MembersAfter.{CountsAfter}
 use Rattle.gr_conflict.specs.Conflicts.{IsConflictIn, IsLostAtFound}
 use Rattle.gr_conflict.specs.Judging.{known_verdicts, known_packages, change_in}
 use Rattle.gr_change_places.specs.OldPlaces.{method_at}

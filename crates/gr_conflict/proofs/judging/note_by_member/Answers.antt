@@ -8,7 +8,7 @@ use Rattle.gr_declared.specs.PackageView.{package_of}
 use Rattle.gr_revision.specs.RevisionsOfEdits.{called_by}
 use Rattle.gr_bound.specs.Members.{definitions_seen}
 use Rattle.gr_bound.specs.Steps.{IsDeclarationFound}
-use Rattle.gr_fields_after.specs.MembersAfter.{IsMemberAfter}
+use Rattle.gr_members_after.specs.MembersAfter.{IsMemberAfter}
 use Rattle.gr_conflict.specs.Afterwards.{IsMemberNow}
 use Rattle.gr_conflict.specs.Conflicts.{IsOtherNoted}
 use Rattle.gr_conflict.specs.Judging.{workspace_in, known_verdicts, known_packages, change_in}

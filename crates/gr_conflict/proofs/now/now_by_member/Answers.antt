@@ -4,7 +4,7 @@ use Rattle.std.specs.Prelude.{IfOk}
 use Rattle.gr_expr.specs.View.{type_of}
 use Rattle.gr_bound.specs.Members.{definitions_seen}
 use Rattle.gr_bound.specs.Steps.{IsDeclarationFound}
-use Rattle.gr_fields_after.specs.MembersAfter.{IsMemberAfter}
+use Rattle.gr_members_after.specs.MembersAfter.{IsMemberAfter}
 use Rattle.gr_conflict.specs.Judging.{known_packages, change_in}
 use Rattle.gr_conflict.proofs.now.now_by_member.Goals as goal
 

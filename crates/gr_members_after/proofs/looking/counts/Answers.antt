@@ -3,8 +3,8 @@ use Rattle.std.proofs.Common.{sym, subst}
 use Rattle.std.specs.Prelude.{◌↔◌, IsTrue}
 use Rattle.std.proofs.lemmas.Result.{IfOk-weaker}
 use Rattle.gr_bound.specs.declared.declaration.Declaration.{Declaration}
-use Rattle.gr_fields_after.specs.MembersAfter.{CountsAfter}
-use Rattle.gr_fields_after.specs.MembersFound.{known_types}
+use Rattle.gr_members_after.specs.MembersAfter.{CountsAfter}
+use Rattle.gr_members_after.specs.MembersFound.{known_types}
 use Rattle.gr_members_after.proofs.looking.counts.Goals as goal
 
 pub returns-in-Field : goal.returns-in-Field

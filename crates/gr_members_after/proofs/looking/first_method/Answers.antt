@@ -1,6 +1,6 @@
 -- The answers to the goals of `looking::first_method`.
-use Rattle.gr_fields_after.proofs.Looking.{method_first}
-use Rattle.gr_fields_after.specs.MembersFound.{known_types}
+use Rattle.gr_members_after.proofs.Looking.{method_first}
+use Rattle.gr_members_after.specs.MembersFound.{known_types}
 use Rattle.std.proofs.Common.{sym, ◌∙◌}
 use Rattle.std.proofs.lemmas.Bool.{false≢true}
 use Rattle.gr_members_after.proofs.looking.first_method.Goals as goal

@@ -2,8 +2,8 @@
 use Rattle.gr_bound.specs.Steps.{IsDeclarationFound}
 use Rattle.gr_expr.specs.View.{type_of}
 use Rattle.gr_expr.specs.WorldView.{underlying_in}
-use Rattle.gr_fields_after.proofs.Looking.{method_is_member, field_is_member}
-use Rattle.gr_fields_after.specs.MembersFound.{known_types, IsFieldBehind}
+use Rattle.gr_members_after.proofs.Looking.{method_is_member, field_is_member}
+use Rattle.gr_members_after.specs.MembersFound.{known_types, IsFieldBehind}
 use Rattle.std.proofs.Common.{subst}
 use Rattle.std.proofs.lemmas.Result.{IfOk-weaker}
 use Rattle.gr_members_after.proofs.looking.member.Goals as goal

@@ -1,6 +1,6 @@
 -- The answers to the goals of `looking::method`.
-use Rattle.gr_fields_after.proofs.Looking.{method_seen, method_unseen}
-use Rattle.gr_fields_after.specs.MembersFound.{known_types}
+use Rattle.gr_members_after.proofs.Looking.{method_seen, method_unseen}
+use Rattle.gr_members_after.specs.MembersFound.{known_types}
 use Rattle.std.proofs.Common.{sym, ◌∙◌}
 use Rattle.gr_members_after.proofs.looking.method.Goals as goal
 

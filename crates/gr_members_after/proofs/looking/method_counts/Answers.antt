@@ -1,9 +1,9 @@
 -- The answers to the goals of `looking::method_counts`.
 use Rattle.gr_bound.specs.Workspaces.{known_in}
-use Rattle.gr_fields_after.proofs.Looking.{method_counts, no_method, of_one}
-use Rattle.gr_fields_after.specs.MembersAfter.{MethodCounts}
-use Rattle.gr_fields_after.specs.MembersFound.{known_types}
-use Rattle.gr_new_members.specs.NewMembers.{AreNewMembers}
+use Rattle.gr_members_after.proofs.Looking.{method_counts, no_method, of_one}
+use Rattle.gr_members_after.specs.MembersAfter.{MethodCounts}
+use Rattle.gr_members_after.specs.MembersFound.{known_types}
+use Rattle.gr_members_after.specs.NewMembers.{AreNewMembers}
 use Rattle.gr_bound.proofs.Packages.{no_package}
 use Rattle.std.proofs.lemmas.Bool.{false≢true}
 use Rattle.std.proofs.lemmas.Result.{IfOk-weaker}

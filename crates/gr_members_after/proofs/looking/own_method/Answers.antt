@@ -1,8 +1,8 @@
 -- The answers to the goals of `looking::own_method`.
 use Rattle.gr_bound.specs.Workspaces.{known_in}
-use Rattle.gr_fields_after.proofs.Looking.{first_is, found_in}
-use Rattle.gr_new_members.specs.NamesAfter.{IsMethodAfter}
-use Rattle.gr_fields_after.specs.MembersAfter.{IsFirst}
+use Rattle.gr_members_after.proofs.Looking.{first_is, found_in}
+use Rattle.gr_members_after.specs.NamesAfter.{IsMethodAfter}
+use Rattle.gr_members_after.specs.MembersAfter.{IsFirst}
 use Rattle.gr_bound.proofs.Packages.{no_package}
 use Rattle.gr_members_after.proofs.looking.own_method.Goals as goal
 

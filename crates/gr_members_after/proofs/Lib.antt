@@ -1,0 +1,8 @@
+-- The lemmas of this crate.
+pub mod Structs
+pub mod Looking
+pub mod Firsts
+pub mod Noting
+pub mod Naming
+pub mod AllMembers
+pub mod FirstNames
