@@ -26,11 +26,11 @@ use Rattle.gr_bound.specs.Standing.{InPackage, StandsIn, IsDeclaredAt}
 use Rattle.gr_revision.specs.Revisions.{Revision}
 use Rattle.gr_revision.specs.RevisionsOfEdits.{revision_of}
 use Rattle.gr_sound.specs.Corresponding.{Corresponds, predeclared, stands}
-use Rattle.gr_kept_each.specs.BoundToOne.{IsBoundToOne}
+use Rattle.gr_kept.specs.BoundToOne.{IsBoundToOne}
 use Rattle.gr_check.specs.Preserved.{KeepsBindings, Preserves, TellsPreserved}
 use Rattle.gr_placed.specs.Identified.{IsIdentifierAt}
 use Rattle.gr_sound.specs.Sound.{SoundView}
-use Rattle.gr_kept_each.specs.Steps.{KeepsAll, AddsNowhere}
+use Rattle.gr_kept.specs.Steps.{KeepsAll, AddsNowhere}
 use Rattle.gr_check.proofs.Resolving.{same_package, same_use}
 
 -- what stands where does not depend on what is thought of paths that are no packages

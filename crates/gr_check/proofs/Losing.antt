@@ -24,9 +24,9 @@ use Rattle.gr_check.specs.Preserved.{KeepsBindings}
 use Rattle.gr_bound.specs.Standing.{IsDeclaredAt}
 use Rattle.gr_sound.specs.Sound.{SoundView, packages_of}
 use Rattle.gr_sound.specs.Becoming.{IsSamePredeclared, Becomes}
-use Rattle.gr_kept_each.specs.Steps.{HasBound, IsKept}
+use Rattle.gr_kept.specs.Steps.{HasBound, IsKept}
 use Rattle.gr_sound.proofs.Becoming.{old_nowhere, new_nowhere}
-use Rattle.gr_kept_each.proofs.Every.{spot_at}
+use Rattle.gr_kept.proofs.Every.{spot_at}
 use Rattle.gr_check.proofs.Marked.{IsMarkedFolder, among_use, use_among, kept_by_marked}
 
 -- a predeclared name stands nowhere, so it becomes no other, and none becomes it

@@ -35,12 +35,12 @@ use Rattle.gr_check.specs.Among.{AreHeldOf, BothGo, view_among, IsBoundMarked, I
 use Rattle.gr_check.specs.Among.{AddsNoneAmong, KeepsMarked, AddsMarked}
 use Rattle.gr_placed.specs.DeclaredPlaces.{IsFoundIn, AreDeclaredIn, AreDeclaredAt, IsPlaceIn}
 use Rattle.gr_placed.specs.Outside.{path_by}
-use Rattle.gr_kept_each.specs.BoundToOne.{IsBoundToOne}
+use Rattle.gr_kept.specs.BoundToOne.{IsBoundToOne}
 use Rattle.gr_check.specs.Preserved.{KeepsBindings}
 use Rattle.gr_placed.specs.Identified.{IsIdentifierAt}
-use Rattle.gr_kept_each.specs.Steps.{HasBound, IsBoundBy}
+use Rattle.gr_kept.specs.Steps.{HasBound, IsBoundBy}
 use Rattle.gr_sound.specs.Becoming.{Becomes as Becoming_to}
-use Rattle.gr_kept_each.proofs.Every.{spot_at}
+use Rattle.gr_kept.proofs.Every.{spot_at}
 use Rattle.gr_check.proofs.Unaffected.{Becoming, unaffected_becomes, unaffected_keeps, unaffected_adds}
 
 -- a bound identifier of a marked package is one of the workspace, and begins in the folder of the package

@@ -19,7 +19,7 @@ use Rattle.gr_placed.specs.DeclaredPlaces.{AreDeclaredAt}
 use Rattle.gr_placed.specs.Outside.{IsOutside}
 use Rattle.gr_sound.specs.Sound.{SoundView}
 use Rattle.gr_placed.specs.Identified.{BeginsInNumber}
-use Rattle.gr_kept_each.specs.Steps.{IsBoundBy, IsKept, HasBound}
+use Rattle.gr_kept.specs.Steps.{IsBoundBy, IsKept, HasBound}
 use Rattle.gr_sound.specs.Becoming.{Becomes}
 use Rattle.gr_check.specs.declared.answer.Answer.{Answer}
 use Rattle.gr_check.specs.declared.answer.Answer.TheVariants.{Yes, No, Unknown}

@@ -10,7 +10,7 @@ use Rattle.gr_bound.specs.declared.declaration.Declaration.{Declaration}
 use Rattle.gr_bound.specs.Uses.{IsPackage, IsUseOf}
 use Rattle.gr_placed.specs.Identified.{IsIdentifierAt}
 use Rattle.gr_revision.specs.Revisions.{Revision}
-use Rattle.gr_kept_each.specs.BoundToOne.{IsBoundToOne}
+use Rattle.gr_kept.specs.BoundToOne.{IsBoundToOne}
 use Rattle.gr_sound.specs.Corresponding.{Corresponds}
 
 -- Each identifier is bound to a declaration exactly where it is afterwards bound to the one that this has become.

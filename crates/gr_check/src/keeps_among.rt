@@ -11,7 +11,7 @@ ghost use Rattle.gr_check.specs.Among.{AreHeld, IsKnownBefore, BecomesAmong, IsK
 ghost use Rattle.gr_check.specs.Answers.{Tells};
 ghost use Rattle.gr_check.specs.Marked.{HasMarks};
 ghost use Rattle.gr_check.specs.Preserved.{KeepsBindings};
-ghost use Rattle.gr_kept_each.specs.Steps.{HasBound};
+ghost use Rattle.gr_kept.specs.Steps.{HasBound};
 
 use crate::among::{KnownBefore, MarkedPackages};
 use crate::answer::{Answer, no_or_unknown, yes_or_unknown};

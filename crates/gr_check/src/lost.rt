@@ -3,7 +3,7 @@ ghost use Rattle.std.specs.Prelude.{◌↔◌, IfOk, IsTrue};
 ghost use Rattle.gr_edit.specs.Moved.{moved};
 ghost use Rattle.gr_check.specs.Among.{AreHeld, view_among};
 ghost use Rattle.gr_sound.specs.Becoming.{IsSamePredeclared, Becomes};
-ghost use Rattle.gr_kept_each.specs.Steps.{HasBound, IsKept};
+ghost use Rattle.gr_kept.specs.Steps.{HasBound, IsKept};
 
 use crate::among::MarkedPackages;
 use gr_bound::{BoundSpot, Declaration};

@@ -26,9 +26,9 @@ use Rattle.gr_kept.specs.declared.aligned.Compared.{Compared}
 use Rattle.gr_kept.specs.Aligned.{AreCompared, moved_in, old_of, new_of, IsAligned, AreApart, AreApartBelow, AreAlignedBelow, GoInOrder, IsSafeAt, IsSafeIn}
 use Rattle.gr_kept.specs.Aligned.{IsSafeNumber, AreSafe}
 use Rattle.gr_sound.specs.Sound.{view_in}
-use Rattle.gr_kept_each.specs.Steps.{IsBoundBy, KeepsAll, AddsNowhere}
+use Rattle.gr_kept.specs.Steps.{IsBoundBy, KeepsAll, AddsNowhere}
 use Rattle.gr_sound.specs.Becoming.{Becomes}
-use Rattle.gr_kept_each.proofs.Every.{spot_at}
+use Rattle.gr_kept.proofs.Every.{spot_at}
 
 abbrev InOrder : List BoundSpot → Type 0
 InOrder bs = IsSortedBy (λ a b. is_lt (place_cmp (place_at a) (place_at b))) bs

@@ -4,7 +4,7 @@ ghost use Rattle.gr_text.specs.declared.place.Place.{Place as At};
 ghost use Rattle.gr_edit.specs.Moved.{moved};
 ghost use Rattle.gr_sound.specs.Held.{IsHeld};
 ghost use Rattle.gr_sound.specs.Sound.{view_in};
-ghost use Rattle.gr_kept_each.specs.Steps.{HasBound, AllWere, AddsNone, AddsNowhere};
+ghost use Rattle.gr_kept.specs.Steps.{HasBound, AllWere, AddsNone, AddsNowhere};
 ghost use Rattle.gr_sound.specs.Becoming.{Becomes};
 
 use crate::near::Near;

@@ -7,7 +7,7 @@ ghost use Rattle.gr_revision.specs.FilesMoved.{AreMovesOf};
 ghost use Rattle.gr_bound.specs.Bindings.{place_at};
 ghost use Rattle.gr_kept.specs.Aligned.{AreCompared, moved_in, new_of, IsPartner, IsAligned, AreApart, AreApartBelow, AreAlignedBelow, GoInOrder, IsSafe, IsSafeAt, IsSafeIn, IsSafeNumber, AreSafe};
 ghost use Rattle.gr_sound.specs.Sound.{view_in};
-ghost use Rattle.gr_kept_each.specs.Steps.{KeepsAll, AddsNowhere};
+ghost use Rattle.gr_kept.specs.Steps.{KeepsAll, AddsNowhere};
 ghost use Rattle.gr_sound.specs.Becoming.{Becomes};
 
 use crate::near::Near;

@@ -3,11 +3,11 @@ ghost use Rattle.std.specs.Prelude.{◌↔◌, IsTrue, IfOk};
 ghost use Rattle.gr_edit.specs.Moved.{moved};
 ghost use Rattle.gr_sound.specs.Held.{IsHeld};
 ghost use Rattle.gr_sound.specs.Sound.{view_in};
-ghost use Rattle.gr_kept_each.specs.Steps.{KeepsAll, AddsNowhere};
+ghost use Rattle.gr_kept.specs.Steps.{KeepsAll, AddsNowhere};
 
 use crate::adding::adds_nowhere;
 use crate::aligned::{Compared, keep_order};
-use gr_kept_each::are_kept;
+use crate::keeping::are_kept;
 use gr_revision::Moves;
 use gr_sound::SoundWorkspace;
 use std::alloc::{AllocError, Global};

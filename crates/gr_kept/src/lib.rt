@@ -3,8 +3,10 @@
 
 mod adding;
 mod aligned;
+mod keeping;
 mod kept;
 mod near;
 
 pub use kept::keeps;
 pub use near::Near;
+pub use keeping::are_kept;

@@ -2,7 +2,7 @@
 use Rattle.std.proofs.Common.{arith}
 use Rattle.gr_edit.specs.Moved.{moved}
 use Rattle.gr_check.specs.Among.{AddsNoneAmong}
-use Rattle.gr_kept_each.proofs.Every.{none_yet, one_more, of_each}
+use Rattle.gr_kept.proofs.Every.{none_yet, one_more, of_each}
 use Rattle.gr_check.proofs.keeps_among.add_none.Goals as goal
 
 pub loop-place-init : goal.loop-place-init

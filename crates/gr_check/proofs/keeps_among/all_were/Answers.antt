@@ -3,8 +3,8 @@ use Rattle.std.proofs.Common.{arith}
 use Rattle.gr_edit.specs.Moved.{moved}
 use Rattle.gr_bound.specs.declared.bound_spot.BoundSpot.{BoundSpot}
 use Rattle.gr_check.specs.Among.{BecomesAmong}
-use Rattle.gr_kept_each.specs.Steps.{HasBound}
-use Rattle.gr_kept_each.proofs.Every.{none_yet, one_more, of_each}
+use Rattle.gr_kept.specs.Steps.{HasBound}
+use Rattle.gr_kept.proofs.Every.{none_yet, one_more, of_each}
 use Rattle.gr_check.proofs.keeps_among.all_were.Goals as goal
 
 pub loop-b-init : goal.loop-b-init

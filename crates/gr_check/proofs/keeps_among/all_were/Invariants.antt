@@ -2,8 +2,8 @@
 use Rattle.gr_edit.specs.Moved.{moved}
 use Rattle.gr_bound.specs.declared.bound_spot.BoundSpot.{BoundSpot}
 use Rattle.gr_check.specs.Among.{BecomesAmong}
-use Rattle.gr_kept_each.specs.Steps.{HasBound}
-use Rattle.gr_kept_each.proofs.Every.{HoldsBelow}
+use Rattle.gr_kept.specs.Steps.{HasBound}
+use Rattle.gr_kept.proofs.Every.{HoldsBelow}
 use Rattle.gr_check.proofs.keeps_among.all_were.Given as goal
 
 abbrev pub invariant-loop-b : goal.invariant-loop-b

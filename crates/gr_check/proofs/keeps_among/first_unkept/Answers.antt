@@ -2,7 +2,7 @@
 use Rattle.std.proofs.Common.{arith}
 use Rattle.gr_edit.specs.Moved.{moved}
 use Rattle.gr_check.specs.Among.{IsKeptAmong}
-use Rattle.gr_kept_each.proofs.Every.{contained, none_yet, one_more, of_each}
+use Rattle.gr_kept.proofs.Every.{contained, none_yet, one_more, of_each}
 use Rattle.gr_check.proofs.keeps_among.first_unkept.Goals as goal
 
 pub loop-bound-init : goal.loop-bound-init

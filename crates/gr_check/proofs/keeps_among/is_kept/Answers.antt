@@ -7,7 +7,7 @@ use Rattle.gr_bound.specs.declared.declaration.Declaration.{Declaration}
 use Rattle.gr_bound.specs.Bindings.{place_at}
 use Rattle.gr_edit.specs.Moved.{moved}
 use Rattle.gr_check.specs.Among.{BecomesAmong, IsKeptAmong, view_among}
-use Rattle.gr_kept_each.specs.Steps.{HasBound, IsBoundBy}
+use Rattle.gr_kept.specs.Steps.{HasBound, IsBoundBy}
 use Rattle.gr_check.proofs.Marked.{bound_among}
 use Rattle.gr_check.proofs.keeps_among.is_kept.Goals as goal
 

@@ -1,5 +1,5 @@
 -- The answers to the goals of `keeps_among::some_became`.
-use Rattle.gr_kept_each.proofs.Every.{contained}
+use Rattle.gr_kept.proofs.Every.{contained}
 use Rattle.gr_check.proofs.keeps_among.some_became.Goals as goal
 
 pub returns-then-branch : goal.returns-then-branch

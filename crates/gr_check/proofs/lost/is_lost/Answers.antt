@@ -4,7 +4,7 @@ use Rattle.std.proofs.lemmas.Result.{IfOk-weaker}
 use Rattle.gr_edit.specs.Moved.{moved}
 use Rattle.gr_check.specs.Among.{view_among}
 use Rattle.gr_sound.specs.Becoming.{Becomes}
-use Rattle.gr_kept_each.specs.Steps.{HasBound, IsKept}
+use Rattle.gr_kept.specs.Steps.{HasBound, IsKept}
 use Rattle.gr_check.proofs.Losing.{lost_here}
 use Rattle.gr_check.proofs.lost.is_lost.Goals as goal
 

@@ -4,7 +4,7 @@ use Rattle.gr_edit.specs.Moved.{moved}
 use Rattle.gr_bound.specs.declared.declaration.Declaration.{Declaration}
 use Rattle.gr_check.specs.Among.{view_among}
 use Rattle.gr_sound.specs.Becoming.{Becomes}
-use Rattle.gr_kept_each.proofs.Every.{Not, none_yet, one_more, of_each}
+use Rattle.gr_kept.proofs.Every.{Not, none_yet, one_more, of_each}
 use Rattle.gr_check.proofs.lost.none_became.Goals as goal
 
 pub loop-b-init : goal.loop-b-init

@@ -2,7 +2,7 @@
 use Rattle.gr_edit.specs.Moved.{moved}
 use Rattle.gr_check.specs.Among.{view_among}
 use Rattle.gr_sound.specs.Becoming.{Becomes}
-use Rattle.gr_kept_each.proofs.Every.{HoldsBelow, Not}
+use Rattle.gr_kept.proofs.Every.{HoldsBelow, Not}
 use Rattle.gr_check.proofs.lost.none_became.Given as goal
 
 abbrev pub invariant-loop-b : goal.invariant-loop-b

@@ -6,7 +6,7 @@ use Rattle.gr_bound.specs.Workspaces.{known_in}
 use Rattle.gr_revision.specs.RevisionsOfEdits.{revision_of}
 use Rattle.gr_check.specs.Preserved.{KeepsBindings}
 use Rattle.gr_sound.specs.Sound.{view_in}
-use Rattle.gr_kept_each.specs.Steps.{KeepsAll, AddsNowhere}
+use Rattle.gr_kept.specs.Steps.{KeepsAll, AddsNowhere}
 use Rattle.gr_check.proofs.Deciding.{bindings_kept}
 use Rattle.gr_check.proofs.preserving.keeps_read.Goals as goal
 

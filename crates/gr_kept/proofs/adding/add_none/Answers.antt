@@ -4,8 +4,8 @@ use Rattle.std.specs.Prelude.{Contains}
 use Rattle.gr_text.specs.declared.place.Place.{Place}
 use Rattle.gr_edit.specs.Moved.{moved}
 use Rattle.gr_sound.specs.Sound.{view_in}
-use Rattle.gr_kept_each.specs.Steps.{AddsNone}
-use Rattle.gr_kept_each.proofs.Every.{none_yet, one_more, of_each, contained, fails_at}
+use Rattle.gr_kept.specs.Steps.{AddsNone}
+use Rattle.gr_kept.proofs.Every.{none_yet, one_more, of_each, contained, fails_at}
 use Rattle.gr_kept.proofs.adding.add_none.Goals as goal
 
 pub loop-place-init : goal.loop-place-init

@@ -6,8 +6,8 @@ use Rattle.gr_text.specs.declared.place.Place.{Place}
 use Rattle.gr_edit.specs.Moved.{moved}
 use Rattle.gr_bound.specs.declared.bound_spot.BoundSpot.{BoundSpot}
 use Rattle.gr_sound.specs.Sound.{view_in, IsBoundHere}
-use Rattle.gr_kept_each.specs.Steps.{AllWere, AddsNone}
-use Rattle.gr_kept_each.proofs.Every.{were_as}
+use Rattle.gr_kept.specs.Steps.{AllWere, AddsNone}
+use Rattle.gr_kept.proofs.Every.{were_as}
 use Rattle.gr_kept.proofs.adding.adds_none.Goals as goal
 
 pub returns : goal.returns

@@ -6,8 +6,8 @@ use Rattle.gr_text.specs.declared.place.Place.{Place}
 use Rattle.gr_edit.specs.Moved.{moved}
 use Rattle.gr_placed.specs.Identified.{IsIdentifierAt}
 use Rattle.gr_sound.specs.Sound.{view_in}
-use Rattle.gr_kept_each.specs.Steps.{AddsNone, AddsNowhere}
-use Rattle.gr_kept_each.proofs.Every.{nowhere_as}
+use Rattle.gr_kept.specs.Steps.{AddsNone, AddsNowhere}
+use Rattle.gr_kept.proofs.Every.{nowhere_as}
 use Rattle.gr_kept.proofs.adding.adds_nowhere.Goals as goal
 
 pub returns : goal.returns

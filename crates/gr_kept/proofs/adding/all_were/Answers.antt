@@ -3,9 +3,9 @@ use Rattle.std.proofs.Common.{refl, arith}
 use Rattle.gr_edit.specs.Moved.{moved}
 use Rattle.gr_bound.specs.declared.bound_spot.BoundSpot.{BoundSpot}
 use Rattle.gr_sound.specs.Sound.{view_in}
-use Rattle.gr_kept_each.specs.Steps.{HasBound, AllWere}
+use Rattle.gr_kept.specs.Steps.{HasBound, AllWere}
 use Rattle.gr_sound.specs.Becoming.{Becomes}
-use Rattle.gr_kept_each.proofs.Every.{none_yet, one_more, of_each, contained, fails_at}
+use Rattle.gr_kept.proofs.Every.{none_yet, one_more, of_each, contained, fails_at}
 use Rattle.gr_kept.proofs.adding.all_were.Goals as goal
 
 pub loop-b-init : goal.loop-b-init

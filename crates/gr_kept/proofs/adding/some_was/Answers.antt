@@ -5,7 +5,7 @@ use Rattle.gr_bound.specs.declared.bound_spot.BoundSpot.{BoundSpot}
 use Rattle.gr_bound.specs.declared.declaration.Declaration.{Declaration}
 use Rattle.gr_sound.specs.Sound.{view_in}
 use Rattle.gr_sound.specs.Becoming.{Becomes}
-use Rattle.gr_kept_each.proofs.Every.{Not, none_yet, one_more, fails_not, one_has, none_has}
+use Rattle.gr_kept.proofs.Every.{Not, none_yet, one_more, fails_not, one_has, none_has}
 use Rattle.gr_kept.proofs.adding.some_was.Goals as goal
 
 pub loop-b-init : goal.loop-b-init

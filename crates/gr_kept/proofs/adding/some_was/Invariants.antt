@@ -2,7 +2,7 @@
 use Rattle.gr_edit.specs.Moved.{moved}
 use Rattle.gr_sound.specs.Sound.{view_in}
 use Rattle.gr_sound.specs.Becoming.{Becomes}
-use Rattle.gr_kept_each.proofs.Every.{HoldsBelow, Not}
+use Rattle.gr_kept.proofs.Every.{HoldsBelow, Not}
 use Rattle.gr_kept.proofs.adding.some_was.Given as goal
 
 abbrev pub invariant-loop-b : goal.invariant-loop-b

@@ -3,7 +3,7 @@ use Rattle.std.specs.Prelude.{IsTrue}
 use Rattle.std.proofs.lemmas.Result.{IfOk-weaker}
 use Rattle.gr_kept.specs.Aligned.{moved_in, AreSafe}
 use Rattle.gr_sound.specs.Sound.{view_in}
-use Rattle.gr_kept_each.specs.Steps.{KeepsAll, AddsNowhere}
+use Rattle.gr_kept.specs.Steps.{KeepsAll, AddsNowhere}
 use Rattle.gr_kept.proofs.Alignment.{keeps_ordered, adds_ordered}
 use Rattle.gr_kept.proofs.aligned.keep_order.Goals as goal
 

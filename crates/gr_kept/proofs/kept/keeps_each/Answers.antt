@@ -3,8 +3,8 @@ use Rattle.std.specs.Prelude.{IsTrue, ◌↔◌}
 use Rattle.std.proofs.lemmas.Result.{IfOk-weaker}
 use Rattle.gr_edit.specs.Moved.{moved}
 use Rattle.gr_sound.specs.Sound.{view_in}
-use Rattle.gr_kept_each.specs.Steps.{KeepsAll, AddsNowhere}
-use Rattle.gr_kept_each.proofs.Every.{both_hold, first_fails}
+use Rattle.gr_kept.specs.Steps.{KeepsAll, AddsNowhere}
+use Rattle.gr_kept.proofs.Every.{both_hold, first_fails}
 use Rattle.gr_kept.proofs.kept.keeps_each.Goals as goal
 
 pub returns-then-branch : goal.returns-then-branch

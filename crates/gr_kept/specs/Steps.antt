@@ -5,7 +5,7 @@ use Rattle.gr_bound.specs.declared.bound_spot.BoundSpot.{BoundSpot}
 use Rattle.gr_bound.specs.declared.declaration.Declaration.{Declaration}
 use Rattle.gr_bound.specs.Bindings.{place_at}
 use Rattle.gr_bound.specs.Uses.{IsUseOf}
-use Rattle.gr_kept_each.specs.BoundToOne.{IsBoundToOne}
+use Rattle.gr_kept.specs.BoundToOne.{IsBoundToOne}
 use Rattle.gr_placed.specs.Identified.{IsIdentifierAt}
 use Rattle.gr_sound.specs.Becoming.{Becomes}
 use Rattle.gr_sound.specs.Sound.{SoundView}

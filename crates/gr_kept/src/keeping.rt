@@ -3,7 +3,7 @@ ghost use Rattle.std.specs.Prelude.{◌↔◌, IsTrue, IfOk};
 ghost use Rattle.gr_edit.specs.Moved.{moved};
 ghost use Rattle.gr_sound.specs.Held.{IsHeld};
 ghost use Rattle.gr_sound.specs.Sound.{view_in};
-ghost use Rattle.gr_kept_each.specs.Steps.{HasBound, IsKept, KeepsAll};
+ghost use Rattle.gr_kept.specs.Steps.{HasBound, IsKept, KeepsAll};
 ghost use Rattle.gr_sound.specs.Becoming.{Becomes};
 
 use gr_bound::{BoundSpot, Declaration};

@@ -7,10 +7,10 @@ use Rattle.gr_bound.specs.declared.declaration.Declaration.{Declaration}
 use Rattle.gr_bound.specs.Bindings.{place_at}
 use Rattle.gr_edit.specs.Moved.{moved}
 use Rattle.gr_sound.specs.Sound.{view_in}
-use Rattle.gr_kept_each.specs.Steps.{HasBound, IsBoundBy, IsKept}
+use Rattle.gr_kept.specs.Steps.{HasBound, IsBoundBy, IsKept}
 use Rattle.gr_sound.specs.Becoming.{Becomes}
-use Rattle.gr_kept_each.proofs.Every.{has_as}
-use Rattle.gr_kept_each.proofs.keeping.is_kept.Goals as goal
+use Rattle.gr_kept.proofs.Every.{has_as}
+use Rattle.gr_kept.proofs.keeping.is_kept.Goals as goal
 
 pub returns : goal.returns
 returns c =

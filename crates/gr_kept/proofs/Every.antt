@@ -10,7 +10,7 @@ use Rattle.gr_bound.specs.Bindings.{place_at}
 use Rattle.gr_bound.specs.Uses.{IsUseOf}
 use Rattle.gr_placed.specs.Identified.{IsIdentifierAt}
 use Rattle.gr_sound.specs.Sound.{SoundView, IsBoundIn, IsBoundHere}
-use Rattle.gr_kept_each.specs.Steps.{HasBound, IsBoundBy, IsKept, AllWere, AddsNone, KeepsAll, AddsNowhere}
+use Rattle.gr_kept.specs.Steps.{HasBound, IsBoundBy, IsKept, AllWere, AddsNone, KeepsAll, AddsNowhere}
 use Rattle.gr_sound.specs.Becoming.{Becomes}
 
 -- it holds of each of the first elements

@@ -5,8 +5,8 @@ use Rattle.gr_bound.specs.declared.bound_spot.BoundSpot.{BoundSpot}
 use Rattle.gr_bound.specs.declared.declaration.Declaration.{Declaration}
 use Rattle.gr_sound.specs.Sound.{view_in}
 use Rattle.gr_sound.specs.Becoming.{Becomes}
-use Rattle.gr_kept_each.proofs.Every.{Not, none_yet, one_more, fails_not, one_has, none_has}
-use Rattle.gr_kept_each.proofs.keeping.some_became.Goals as goal
+use Rattle.gr_kept.proofs.Every.{Not, none_yet, one_more, fails_not, one_has, none_has}
+use Rattle.gr_kept.proofs.keeping.some_became.Goals as goal
 
 pub loop-b-init : goal.loop-b-init
 loop-b-init c = none_yet (Not (λ e. Becomes (view_in c.args.before.now) (view_in c.args.then.now) (moved c.args.moves.now) c.args.d.now e)) c.args.bound.now

@@ -2,9 +2,9 @@
 use Rattle.std.proofs.Common.{refl, arith}
 use Rattle.gr_edit.specs.Moved.{moved}
 use Rattle.gr_sound.specs.Sound.{view_in}
-use Rattle.gr_kept_each.specs.Steps.{IsKept, KeepsAll}
-use Rattle.gr_kept_each.proofs.Every.{none_yet, one_more, of_each, contained, fails_at, keeps_all, kept_one}
-use Rattle.gr_kept_each.proofs.keeping.are_kept.Goals as goal
+use Rattle.gr_kept.specs.Steps.{IsKept, KeepsAll}
+use Rattle.gr_kept.proofs.Every.{none_yet, one_more, of_each, contained, fails_at, keeps_all, kept_one}
+use Rattle.gr_kept.proofs.keeping.are_kept.Goals as goal
 
 pub loop-bound-init : goal.loop-bound-init
 loop-bound-init c = none_yet (IsKept (view_in c.args.before.now) (view_in c.args.then.now) (moved c.args.moves.now)) c.bound-all.result.now
