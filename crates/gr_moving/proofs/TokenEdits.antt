@@ -19,8 +19,8 @@ use Rattle.gr_edit.specs.declared.edit.Edit.{Edit}
 use Rattle.gr_declared.specs.Package.{Package}
 use Rattle.gr_bound.specs.Bindings.{AddsAll}
 use Rattle.gr_bound.proofs.AddingAll.{BelowAll, next_below, all_none, all_as}
-use Rattle.gr_file_renaming.specs.FileEdits.{EndBy}
-use Rattle.gr_file_renaming.proofs.Editing.{all_one, end_more, end_push, follow_at, at_end}
+use Rattle.gr_renaming.specs.FileEdits.{EndBy}
+use Rattle.gr_renaming.proofs.Editing.{all_one, end_more, end_push, follow_at, at_end}
 use Rattle.gr_moved_paths.specs.declared.moved.Moved.{Moved}
 use Rattle.gr_moved_paths.specs.Paths.{quoted, HasMovedPackage}
 use Rattle.gr_moving.specs.FileEdits.{ReplacesPath, ReplacesName, IsEditAt, AreFileEdits}

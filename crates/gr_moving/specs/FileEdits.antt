@@ -10,7 +10,7 @@ use Rattle.gr_imports.specs.Files.{HasLiteral}
 use Rattle.gr_imports.specs.Laid.{literal_of}
 use Rattle.gr_declared.specs.Package.{Package}
 use Rattle.gr_declared.specs.Written.{BindsToken, ImportsPath}
-use Rattle.gr_file_renaming.specs.FileEdits.{EndBy}
+use Rattle.gr_renaming.specs.FileEdits.{EndBy}
 use Rattle.gr_moved_paths.specs.declared.moved.Moved.{Moved}
 use Rattle.gr_moved_paths.specs.Paths.{HasMovedPackage, quoted}
 

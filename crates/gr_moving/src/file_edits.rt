@@ -6,7 +6,7 @@ ghost use Rattle.gr_tree.specs.SourceFile.{source_of};
 ghost use Rattle.gr_graph.specs.FileImports.{import_literals};
 ghost use Rattle.gr_declared.specs.PackageView.{package_of, IsIndexOf};
 ghost use Rattle.gr_bound.specs.Bindings.{AddsAll};
-ghost use Rattle.gr_file_renaming.specs.FileEdits.{EndBy};
+ghost use Rattle.gr_renaming.specs.FileEdits.{EndBy};
 ghost use Rattle.gr_moving.specs.FileEdits.{ReplacesPath, ReplacesName, IsEditAt, AreFileEdits};
 ghost use Rattle.gr_moving.specs.Steps.{edits_with};
 

@@ -17,8 +17,8 @@ use Rattle.gr_edit.proofs.Changes.{change_found}
 use Rattle.gr_edit.proofs.FilesAfter.{has_file}
 use Rattle.gr_edit.proofs.MovedPlaces.{keeps_bytes}
 use Rattle.gr_space.specs.declared.change.Change.{Change}
-use Rattle.gr_file_renaming.specs.declared.renamed.Renamed.{Renamed}
-use Rattle.gr_file_renaming.specs.FileEdits.{AreFileEdits}
+use Rattle.gr_renaming.specs.declared.renamed.Renamed.{Renamed}
+use Rattle.gr_renaming.specs.FileEdits.{AreFileEdits}
 use Rattle.gr_renaming.specs.RenameEdits.{AreEditsOf}
 use Rattle.gr_rename.specs.Laws.{RenamesKeepOtherBytes}
 

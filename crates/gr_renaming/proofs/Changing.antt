@@ -23,9 +23,9 @@ use Rattle.gr_edit.specs.declared.change.Fate.TheVariants.{Stays}
 use Rattle.gr_edit.proofs.Changes.{change_found, none_changed}
 use Rattle.gr_edit.proofs.Held.{nothing_in, first_in, later_in, first_or_later}
 use Rattle.gr_edit.proofs.Turned.{is_there}
-use Rattle.gr_file_renaming.specs.declared.renamed.Literal.{Literal}
-use Rattle.gr_file_renaming.specs.declared.renamed.Renamed.{Renamed}
-use Rattle.gr_file_renaming.specs.FileEdits.{IsLiteralAt, AreFileEdits}
+use Rattle.gr_renaming.specs.declared.renamed.Literal.{Literal}
+use Rattle.gr_renaming.specs.declared.renamed.Renamed.{Renamed}
+use Rattle.gr_renaming.specs.FileEdits.{IsLiteralAt, AreFileEdits}
 use Rattle.gr_renaming.specs.RenameEdits.{IsSourceIn, AreEditsOf}
 use Rattle.gr_renaming.specs.Changes.{IsPathOfLiteral, IsPathOf, change_to, AddsChange, none, one, ChangesSource, IsChanged, AreSourceChanges}
 use Rattle.gr_renaming.proofs.Sources.{source_text, one_source}

@@ -4,3 +4,5 @@ pub mod TreeSearch
 pub mod Sources
 pub mod RenamedPaths
 pub mod Changing
+pub mod Searching
+pub mod Editing

@@ -9,7 +9,7 @@ use Rattle.gr_bound.specs.declared.declaration.Declaration.TheVariants.{Declared
 use Rattle.gr_bound.specs.Uses.{IsPackage}
 use Rattle.gr_bound.specs.Workspaces.{IsPackageAt}
 use Rattle.gr_bound.proofs.Packages.{in_package, of_package}
-use Rattle.gr_file_renaming.specs.declared.renamed.Literal.{Literal}
+use Rattle.gr_renaming.specs.declared.renamed.Literal.{Literal}
 use Rattle.gr_renaming.specs.Literals.{IsLiteralIn, IsLiteralOf, IsLiteralFound}
 
 pub found_in : (w : Workspace) (known : Verdicts) (n : ℕ) (p : Package) (path : List ℕ) (d : ℕ) → IsPackageAt w known n p →

@@ -5,7 +5,7 @@ use Rattle.gr_text.specs.declared.place.Place.{Place}
 use Rattle.gr_verdict.proofs.Members.{nothing_in, taken_or_next, still_taken, next_taken}
 use Rattle.gr_bound.specs.Bindings.{AddsAll}
 use Rattle.gr_bound.proofs.AddingAll.{all_as, all_then}
-use Rattle.gr_file_renaming.specs.declared.renamed.Renamed.{Renamed}
+use Rattle.gr_renaming.specs.declared.renamed.Renamed.{Renamed}
 use Rattle.gr_renaming.specs.Changes.{IsPathOfPlace, IsPathOfLiteral, IsPathOf}
 
 -- one place further

@@ -9,9 +9,9 @@ use Rattle.gr_edit.specs.EditSet.{paths_of}
 use Rattle.gr_edit.specs.declared.edit.Edit.{Edit}
 use Rattle.gr_edit.specs.declared.change.FileChange.{FileChange}
 use Rattle.gr_edit.specs.declared.change.Fate.TheVariants.{Stays}
-use Rattle.gr_file_renaming.specs.declared.renamed.Literal.{Literal}
-use Rattle.gr_file_renaming.specs.declared.renamed.Renamed.{Renamed}
-use Rattle.gr_file_renaming.specs.FileEdits.{AreFileEdits}
+use Rattle.gr_renaming.specs.declared.renamed.Literal.{Literal}
+use Rattle.gr_renaming.specs.declared.renamed.Renamed.{Renamed}
+use Rattle.gr_renaming.specs.FileEdits.{AreFileEdits}
 use Rattle.gr_renaming.specs.RenameEdits.{IsSourceIn}
 
 -- the path of one of the places

@@ -2,3 +2,5 @@
 pub mod Literals
 pub mod RenameEdits
 pub mod Changes
+pub mod Replacements
+pub mod FileEdits

@@ -7,7 +7,7 @@ use Rattle.gr_declared.specs.Package.{Package}
 use Rattle.gr_bound.specs.declared.declaration.Declaration.{Declaration}
 use Rattle.gr_bound.specs.declared.declaration.Declaration.TheVariants.{Predeclared, Declared, Field, Method}
 use Rattle.gr_bound.specs.Standing.{InPackage}
-use Rattle.gr_file_renaming.specs.declared.renamed.Literal.{Literal}
+use Rattle.gr_renaming.specs.declared.renamed.Literal.{Literal}
 
 -- a token of a file, if there is one
 abbrev pub IsTokenOf : Option SourceFile → ℕ → Literal → Type 0

@@ -11,8 +11,8 @@ use Rattle.gr_edit.specs.declared.change.Fate.TheVariants.{Stays}
 use Rattle.gr_bound.specs.declared.declaration.Declaration.{Declaration}
 use Rattle.gr_bound.specs.Uses.{IsPackage}
 use Rattle.gr_bound.specs.Workspaces.{ListsFound}
-use Rattle.gr_file_renaming.specs.declared.renamed.Renamed.{Renamed}
-use Rattle.gr_file_renaming.specs.FileEdits.{AreFileEdits}
+use Rattle.gr_renaming.specs.declared.renamed.Renamed.{Renamed}
+use Rattle.gr_renaming.specs.FileEdits.{AreFileEdits}
 use Rattle.gr_renaming.specs.Literals.{IsLiteralOf, IsLiteralFound}
 
 -- what gets the name: each identifier that is bound to d, and where d is an import without a name its literal

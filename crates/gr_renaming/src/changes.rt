@@ -11,7 +11,8 @@ ghost use Rattle.gr_renaming.specs.Changes.{IsPathOf, AddsChange, AreSourceChang
 use crate::paths::paths_of;
 use gr_bound::trees;
 use gr_edit::{Edits, Fate, FileChange};
-use gr_file_renaming::{Renamed, edits_of};
+use crate::file_edits::edits_of;
+use crate::renamed::Renamed;
 use gr_graph::Graph;
 use gr_text::Path;
 use gr_tree::FileTree;

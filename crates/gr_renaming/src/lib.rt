@@ -2,9 +2,13 @@
 #![tactic(auto)]
 
 mod changes;
+mod file_edits;
 mod literal;
 mod paths;
+mod renamed;
 mod renaming;
 
 pub use literal::literal_of;
 pub use renaming::rename_edits;
+pub use file_edits::edits_of;
+pub use renamed::{Literal, Renamed};

@@ -14,7 +14,7 @@ ghost use Rattle.gr_renaming.specs.Literals.{IsTokenOf, IsUnnamed, IsLiteralIn, 
 use gr_bound::{Declaration, laid_table, path_of, trees};
 use gr_declared::{Interfaces, Package};
 use gr_expr::symbol::SharedPath;
-use gr_file_renaming::Literal;
+use crate::renamed::Literal;
 use gr_graph::Graph;
 use gr_imports::is_import;
 use gr_scope::table::ScopeTable;

@@ -5,7 +5,7 @@ ghost use Rattle.gr_text.specs.Workspace.{path_cmp};
 ghost use Rattle.gr_bound.specs.Bindings.{AddsAll};
 ghost use Rattle.gr_renaming.specs.Changes.{IsPathOfPlace, IsPathOfLiteral, IsPathOf};
 
-use gr_file_renaming::{Literal, Renamed};
+use crate::renamed::{Literal, Renamed};
 use gr_text::{Path, Place};
 use std::alloc::{AllocError, Global};
 

@@ -10,7 +10,7 @@ use crate::changes::changes_of;
 use crate::literal::literal_of;
 use gr_bound::Declaration;
 use gr_edit::EditSet;
-use gr_file_renaming::Renamed;
+use crate::renamed::Renamed;
 use gr_graph::Graph;
 use gr_text::FileText;
 use gr_uses::list_uses;

@@ -1,7 +1,7 @@
 -- The answers to the goals of `file_edits::add_name`.
 use Rattle.std.proofs.Common.{arith}
 use Rattle.gr_edit.specs.declared.edit.Edit.{Edit}
-use Rattle.gr_file_renaming.proofs.Editing.{end_push}
+use Rattle.gr_renaming.proofs.Editing.{end_push}
 use Rattle.gr_moving.proofs.file_edits.add_name.Goals as goal
 
 pub returns-in_ok-push-clause-order : goal.returns-in_ok-push-clause-order

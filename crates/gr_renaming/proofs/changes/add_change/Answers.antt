@@ -4,7 +4,7 @@ use Rattle.gr_tree.specs.SourceFile.{source_of}
 use Rattle.gr_edit.specs.declared.change.FileChange.{FileChange}
 use Rattle.gr_edit.specs.declared.change.Fate.TheVariants.{Stays}
 use Rattle.gr_verdict.proofs.Members.{vec_empty}
-use Rattle.gr_file_renaming.specs.FileEdits.{AreFileEdits}
+use Rattle.gr_renaming.specs.FileEdits.{AreFileEdits}
 use Rattle.gr_renaming.proofs.Changing.{one_added, none_added}
 use Rattle.gr_renaming.proofs.changes.add_change.Goals as goal
 

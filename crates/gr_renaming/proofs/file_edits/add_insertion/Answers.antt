@@ -2,10 +2,10 @@
 use Rattle.std.proofs.Common.{refl, subst, arith}
 use Rattle.gr_tree.specs.SourceFile.{source_of}
 use Rattle.gr_edit.specs.declared.edit.Edit.{Edit}
-use Rattle.gr_file_renaming.specs.FileEdits.{InsertsName, IsLiteralAt}
-use Rattle.gr_file_renaming.specs.Replacements.{IsNameBefore}
-use Rattle.gr_file_renaming.proofs.Editing.{all_one, end_push, one_insertion}
-use Rattle.gr_file_renaming.proofs.file_edits.add_insertion.Goals as goal
+use Rattle.gr_renaming.specs.FileEdits.{InsertsName, IsLiteralAt}
+use Rattle.gr_renaming.specs.Replacements.{IsNameBefore}
+use Rattle.gr_renaming.proofs.Editing.{all_one, end_push, one_insertion}
+use Rattle.gr_renaming.proofs.file_edits.add_insertion.Goals as goal
 
 pub returns-in_ok-push-clause-order : goal.returns-in_ok-push-clause-order
 returns-in_ok-push-clause-order c =

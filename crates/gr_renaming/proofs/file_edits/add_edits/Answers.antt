@@ -3,8 +3,8 @@ use Rattle.std.proofs.lemmas.Result.{on_ok_weaker}
 use Rattle.gr_tree.specs.SourceFile.{source_of}
 use Rattle.gr_bound.specs.Bindings.{AddsAll}
 use Rattle.gr_bound.proofs.AddingAll.{all_then}
-use Rattle.gr_file_renaming.specs.FileEdits.{InsertsName, ReplacesName}
-use Rattle.gr_file_renaming.proofs.file_edits.add_edits.Goals as goal
+use Rattle.gr_renaming.specs.FileEdits.{InsertsName, ReplacesName}
+use Rattle.gr_renaming.proofs.file_edits.add_edits.Goals as goal
 
 pub returns-clause-adds : goal.returns-clause-adds
 returns-clause-adds c =

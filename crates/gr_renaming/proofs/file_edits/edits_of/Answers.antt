@@ -5,8 +5,8 @@ use Rattle.gr_scan.specs.declared.piece.Piece.{Piece}
 use Rattle.gr_scan.specs.CutText.{CutText, tokens_in}
 use Rattle.gr_scan.specs.Spans.{FollowFrom}
 use Rattle.gr_tree.specs.SourceFile.{source_of}
-use Rattle.gr_file_renaming.proofs.Editing.{going_first, going_next, follow_at, end_more, all_edits}
-use Rattle.gr_file_renaming.proofs.file_edits.edits_of.Goals as goal
+use Rattle.gr_renaming.proofs.Editing.{going_first, going_next, follow_at, end_more, all_edits}
+use Rattle.gr_renaming.proofs.file_edits.edits_of.Goals as goal
 
 no_piece : Piece
 no_piece = record { class = ByteOrderMark; span = record { start = 0; end = 0 } }

@@ -5,8 +5,8 @@ ghost use Rattle.gr_scan.specs.CutText.{tokens_in};
 ghost use Rattle.gr_tree.specs.SourceFile.{source_of};
 ghost use Rattle.gr_bound.specs.Bindings.{AddsAll};
 ghost use Rattle.gr_bound.specs.Places.{place_cmp};
-ghost use Rattle.gr_file_renaming.specs.Replacements.{EndsImport, IsRightBehindImport, IsNameBefore};
-ghost use Rattle.gr_file_renaming.specs.FileEdits.{IsLiteralAt, ReplacesName, InsertsName, IsEditAt, EndBy, AreFileEdits};
+ghost use Rattle.gr_renaming.specs.Replacements.{EndsImport, IsRightBehindImport, IsNameBefore};
+ghost use Rattle.gr_renaming.specs.FileEdits.{IsLiteralAt, ReplacesName, InsertsName, IsEditAt, EndBy, AreFileEdits};
 
 use crate::renamed::{Literal, Renamed};
 use gr_edit::Edit;

@@ -1,8 +1,8 @@
 -- The answers to the goals of `file_edits::add_replacement`.
 use Rattle.std.proofs.Common.{arith}
 use Rattle.gr_edit.specs.declared.edit.Edit.{Edit}
-use Rattle.gr_file_renaming.proofs.Editing.{end_push}
-use Rattle.gr_file_renaming.proofs.file_edits.add_replacement.Goals as goal
+use Rattle.gr_renaming.proofs.Editing.{end_push}
+use Rattle.gr_renaming.proofs.file_edits.add_replacement.Goals as goal
 
 pub returns-in_ok-push-clause-order : goal.returns-in_ok-push-clause-order
 returns-in_ok-push-clause-order c =

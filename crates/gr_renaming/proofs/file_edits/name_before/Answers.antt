@@ -3,8 +3,8 @@ use Rattle.std.proofs.Common.{◌≡◌, [], ◌∷◌, ◌++◌, sym, subst, �
 use Rattle.std.proofs.lemmas.Bool.{false≢true}
 use Rattle.std.proofs.lemmas.Result.{IfOk-weaker}
 use Rattle.gr_tree.specs.SourceFile.{source_of}
-use Rattle.gr_file_renaming.specs.Replacements.{IsNameBefore, apart, joined}
-use Rattle.gr_file_renaming.proofs.file_edits.name_before.Goals as goal
+use Rattle.gr_renaming.specs.Replacements.{IsNameBefore, apart, joined}
+use Rattle.gr_renaming.proofs.file_edits.name_before.Goals as goal
 
 pub returns-then-is_behind_import : goal.returns-then-is_behind_import
 returns-then-is_behind_import c =

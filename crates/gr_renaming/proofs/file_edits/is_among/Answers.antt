@@ -2,8 +2,8 @@
 use Rattle.std.proofs.Common.{rules, refl}
 use Rattle.std.proofs.lemmas.Bool.{false≢true}
 use Rattle.std.proofs.lemmas.Fn.{always_returns_same}
-use Rattle.gr_file_renaming.proofs.Searching.{compared, found_is, none_is}
-use Rattle.gr_file_renaming.proofs.file_edits.is_among.Goals as goal
+use Rattle.gr_renaming.proofs.Searching.{compared, found_is, none_is}
+use Rattle.gr_renaming.proofs.file_edits.is_among.Goals as goal
 
 pub returns-in-Ok : goal.returns-in-Ok
 returns-in-Ok c = (

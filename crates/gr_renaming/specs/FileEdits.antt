@@ -6,9 +6,9 @@ use Rattle.gr_scan.specs.CutText.{tokens_in}
 use Rattle.gr_tree.specs.SourceFile.{SourceFile}
 use Rattle.gr_edit.specs.Edits.{AreInOrder, LieWithin}
 use Rattle.gr_edit.specs.declared.edit.Edit.{Edit}
-use Rattle.gr_file_renaming.specs.declared.renamed.Literal.{Literal}
-use Rattle.gr_file_renaming.specs.declared.renamed.Renamed.{Renamed}
-use Rattle.gr_file_renaming.specs.Replacements.{IsNameBefore}
+use Rattle.gr_renaming.specs.declared.renamed.Literal.{Literal}
+use Rattle.gr_renaming.specs.declared.renamed.Renamed.{Renamed}
+use Rattle.gr_renaming.specs.Replacements.{IsNameBefore}
 
 -- a token of the file of a path is the literal
 abbrev pub IsLiteralAt : Option Literal → (path : List ℕ) → (token : ℕ) → Type 0

@@ -12,9 +12,9 @@ use Rattle.gr_edit.specs.Edits.{AreInOrder, LieWithin}
 use Rattle.gr_edit.specs.declared.edit.Edit.{Edit}
 use Rattle.gr_bound.specs.Bindings.{AddsAll}
 use Rattle.gr_bound.proofs.AddingAll.{BelowAll, none_below, next_below}
-use Rattle.gr_file_renaming.specs.declared.renamed.Renamed.{Renamed}
-use Rattle.gr_file_renaming.specs.Replacements.{IsNameBefore, apart, joined}
-use Rattle.gr_file_renaming.specs.FileEdits.{InsertsName, IsEditAt, EndBy, AreFileEdits}
+use Rattle.gr_renaming.specs.declared.renamed.Renamed.{Renamed}
+use Rattle.gr_renaming.specs.Replacements.{IsNameBefore, apart, joined}
+use Rattle.gr_renaming.specs.FileEdits.{InsertsName, IsEditAt, EndBy, AreFileEdits}
 
 -- one more edit
 
