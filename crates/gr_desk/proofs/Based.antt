@@ -2,7 +2,7 @@
 use Rattle.std.proofs.Common.{ℕ, List, Option, None, Some, Result, Ok, Err, IfOk, sym, subst}
 use Rattle.gr_text.specs.Workspace.{Workspace}
 use Rattle.gr_text.specs.declared.refusal.Refusal.{Refusal}
-use Rattle.gr_move.specs.Plan.{PlansMove}
+use Rattle.gr_rename.specs.MovePlan.{PlansMove}
 use Rattle.gr_rename.specs.Plan.{PlansRename}
 use Rattle.gr_space.specs.Plan.{PlansPut, PlansDel}
 use Rattle.gr_space.specs.declared.change.Change.{Change}

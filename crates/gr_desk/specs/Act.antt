@@ -4,7 +4,7 @@ use Rattle.gr_text.specs.Path.{IsPath}
 use Rattle.gr_text.specs.declared.place.Place.{Place}
 use Rattle.gr_text.specs.declared.refusal.Refusal.{Refusal}
 use Rattle.gr_text.specs.declared.refusal.Refusal.TheVariants.{Memory, BadPath, TooLarge, Moved}
-use Rattle.gr_move.specs.Plan.{PlansMove}
+use Rattle.gr_rename.specs.MovePlan.{PlansMove}
 use Rattle.gr_rename.specs.Plan.{PlansRename}
 use Rattle.gr_space.specs.Plan.{PlansPut, PlansDel}
 use Rattle.gr_machine.specs.declared.view.View.{View}

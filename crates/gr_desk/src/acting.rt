@@ -2,7 +2,7 @@
 ghost use Rattle.std.specs.Prelude.{◌≡◌, ◌↔◌, ℕ, IfOk, IsTrue, List, Result};
 ghost use Rattle.gr_text.specs.declared.place.Place.{Place};
 ghost use Rattle.gr_text.specs.declared.refusal.Refusal.{Refusal as WhyRefused};
-ghost use Rattle.gr_move.specs.Plan.{PlansMove};
+ghost use Rattle.gr_rename.specs.MovePlan.{PlansMove};
 ghost use Rattle.gr_rename.specs.Plan.{PlansRename};
 ghost use Rattle.gr_check.specs.Planned.{change_in};
 ghost use Rattle.gr_verdict.specs.FaultLists.{ListsFaults};
@@ -38,7 +38,7 @@ use gr_check::Planned;
 use gr_graph::Graph;
 use gr_line::{Command, StateCommand, Word};
 use gr_machine::View;
-use gr_move::plan_move;
+use gr_rename::plan_move;
 use gr_rename::plan_rename;
 use gr_space::{MadeChange, plan_del, plan_put};
 use gr_text::{FileText, Path, Refusal};

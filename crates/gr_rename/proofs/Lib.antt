@@ -1,3 +1,9 @@
 -- The lemmas of this crate.
 pub mod Planned
 pub mod Keeping
+pub mod MovePlanned
+pub mod Taken
+pub mod Own
+pub mod Alike
+pub mod Renaming
+pub mod Moving

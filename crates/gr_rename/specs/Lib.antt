@@ -3,3 +3,9 @@ pub mod Plan
 pub mod Steps
 pub mod Laws
 pub mod Asked
+pub mod MovePlan
+pub mod MoveSteps
+pub mod Own
+pub mod Restored
+pub mod Renames
+pub mod Moves

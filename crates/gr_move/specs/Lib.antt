@@ -1,3 +1,0 @@
--- The definitions of this crate.
-pub mod Plan
-pub mod Steps
