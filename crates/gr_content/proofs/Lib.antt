@@ -2,3 +2,4 @@
 pub mod Settled
 pub mod Entered
 pub mod Comes
+pub mod Numbers

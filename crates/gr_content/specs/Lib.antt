@@ -5,3 +5,5 @@ pub mod Handed
 pub mod Following
 pub mod Entered
 pub mod Current
+pub mod Histories
+pub mod Fresh

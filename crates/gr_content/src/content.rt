@@ -15,7 +15,7 @@ use crate::handed::{Handed, take_in};
 use gr_compile::{Built, Job, Out, PackageInputs, SharedPath};
 use gr_finished::Finished;
 use gr_graph::Graph;
-use gr_history::History;
+use crate::history::History;
 use gr_machine::{MadeEdits, State, View, first_waiting};
 use gr_space::MadeChange;
 use gr_text::{Limits, Refusal};
@@ -33,7 +33,7 @@ pub struct Content {
 
 impl Model for Content {
     ghost use Rattle.std.specs.Prelude.{◌+◌, ◌≤◌, length};
-    ghost use Rattle.gr_history.specs.Histories.{content_of};
+    ghost use Rattle.gr_content.specs.Histories.{content_of};
     ghost use Rattle.gr_machine.specs.Machine.{Content};
     ghost use Rattle.std.specs.Coded.{codes};
     ghost use Rattle.gr_compile.specs.Codes.{unit_code, workspace_code};

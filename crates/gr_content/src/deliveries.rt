@@ -7,7 +7,7 @@ ghost use Rattle.gr_content.specs.Outcomes.{ComesTo, FinishesIn};
 
 use gr_compile::{Built, Job};
 use gr_finished::Finished;
-use gr_history::{fresh_number, number_of};
+use crate::fresh::{fresh_number, number_of};
 use gr_inputs::learned;
 use gr_machine::State;
 use gr_verdict::SharedKnown;

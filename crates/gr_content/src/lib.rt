@@ -4,11 +4,17 @@
 mod answering;
 mod content;
 mod deliveries;
+mod entering;
 mod following;
+mod fresh;
 mod handed;
+mod history;
 mod question;
 
 pub use answering::{answer, enter};
 pub use content::Content;
 pub use handed::Handed;
 pub use question::{Answered, Asked, Question};
+pub use entering::add_entry;
+pub use fresh::{fresh_number, number_of};
+pub use history::History;

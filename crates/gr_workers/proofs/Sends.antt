@@ -26,7 +26,7 @@ use Rattle.gr_compile.specs.contracts.unit.Compiled.{the_row as compiled}
 use Rattle.gr_compile.specs.contracts.unit.Unit.{the_row as unit}
 use Rattle.gr_finished.specs.contracts.finished.Finished.{the_row as finished}
 use Rattle.gr_machine.specs.contracts.state.State.{the_row as state}
-use Rattle.gr_history.specs.contracts.history.History.{the_field as history_field}
+use Rattle.gr_content.specs.contracts.history.History.{the_field as history_field}
 use Rattle.gr_content.specs.contracts.content.Content.{the_row as content}
 use Rattle.gr_book.specs.contracts.book.Book.{the_row as book}
 use Rattle.gr_seats.specs.contracts.seat.Seat.{the_row as seat}

@@ -1,7 +1,7 @@
 -- What is fresh comes to what its number tells.
 use Rattle.std.proofs.Common.{List, ℕ, Some, sym, ap, subst, ◌∙◌}
 use Rattle.gr_compile.specs.Inputs.{AreInputs}
-use Rattle.gr_history.specs.Fresh.{FindsFresh}
+use Rattle.gr_content.specs.Fresh.{FindsFresh}
 use Rattle.gr_content.proofs.Comes.{if_comes}
 use Rattle.gr_content.proofs.deliveries.outcome_of.Goals as goal
 

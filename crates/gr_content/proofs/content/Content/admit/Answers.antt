@@ -4,7 +4,7 @@ use Rattle.std.specs.Result.{IsErrAnd}
 use Rattle.gr_text.specs.declared.refusal.Refusal.{Refusal}
 use Rattle.gr_text.specs.declared.refusal.Refusal.TheVariants.{Memory}
 use Rattle.gr_text.specs.Workspace.{Workspace}
-use Rattle.gr_history.specs.Histories.{content_of}
+use Rattle.gr_content.specs.Histories.{content_of}
 use Rattle.gr_edit.specs.EditSet.{FileChanges}
 use Rattle.gr_machine.specs.declared.event.Event.{Event}
 use Rattle.gr_machine.specs.declared.event.Event.TheVariants.{Commit}

@@ -2,7 +2,7 @@
 use Rattle.std.proofs.Common.{sym, subst}
 use Rattle.std.proofs.lemmas.Result.{IfOk-at_ok}
 use Rattle.gr_machine.specs.Machine.{Content}
-use Rattle.gr_history.specs.Histories.{content_of}
+use Rattle.gr_content.specs.Histories.{content_of}
 use Rattle.gr_content.specs.Handed.{handed}
 use Rattle.gr_content.specs.Outcomes.{ComesTo}
 use Rattle.gr_machine.specs.Step.{AnswersOrLacks}

@@ -1,6 +1,6 @@
 -- The states move so, whatever the limits and whichever Jobs are out; and there are as many as before.
 use Rattle.std.proofs.Common.{◌<◌, ◌+◌, ◌^◌, arith, sym, subst}
-use Rattle.gr_history.specs.Histories.{content_of}
+use Rattle.gr_content.specs.Histories.{content_of}
 use Rattle.gr_machine.specs.Machine.{Content}
 use Rattle.gr_machine.specs.Step.{AnswersOrLacks, done}
 use Rattle.gr_machine.specs.declared.event.Event.TheVariants.{Redo}

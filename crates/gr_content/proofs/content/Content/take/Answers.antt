@@ -6,7 +6,7 @@ use Rattle.gr_compile.specs.Inputs.{AreInputs}
 use Rattle.gr_compile.specs.Jobs.{JobsOut, label_of, with_job}
 use Rattle.gr_compile.specs.declared.job.JobRecord.{JobRecord}
 use Rattle.gr_machine.specs.State.{State}
-use Rattle.gr_history.specs.Histories.{content_of}
+use Rattle.gr_content.specs.Histories.{content_of}
 use Rattle.gr_machine.specs.Machine.{Content}
 use Rattle.gr_machine.specs.Waiting.{WaitsIn, IsFirstWaiting, IsNextJob}
 use Rattle.gr_content.proofs.content.Content.take.Goals as goal

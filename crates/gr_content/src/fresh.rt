@@ -7,7 +7,7 @@ ghost use Rattle.gr_graph.specs.Graphs.{HoldsPackages};
 ghost use Rattle.gr_graph.specs.Packages.{IsInClosure};
 ghost use Rattle.gr_compile.specs.Inputs.{AreInputs};
 ghost use Rattle.gr_machine.specs.Deliveries.{IsFresh};
-ghost use Rattle.gr_history.specs.Fresh.{AreOfState, FindsFresh};
+ghost use Rattle.gr_content.specs.Fresh.{AreOfState, FindsFresh};
 
 use gr_compile::{Built, Job};
 use gr_graph::Graph;

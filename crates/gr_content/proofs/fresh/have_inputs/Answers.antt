@@ -2,7 +2,7 @@
 use Rattle.std.proofs.Common.{sym, subst}
 use Rattle.gr_text.specs.Workspace.{Workspace}
 use Rattle.gr_compile.specs.Inputs.{AreInputs}
-use Rattle.gr_history.proofs.fresh.have_inputs.Goals as goal
+use Rattle.gr_content.proofs.fresh.have_inputs.Goals as goal
 
 pub returns : goal.returns
 returns c = λ p has holds.

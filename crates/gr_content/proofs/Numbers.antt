@@ -6,7 +6,7 @@ use Rattle.gr_compile.specs.declared.built.Built.{Built}
 use Rattle.gr_compile.specs.declared.job.JobRecord.{JobRecord}
 use Rattle.gr_machine.specs.State.{State}
 use Rattle.gr_machine.specs.Deliveries.{IsFresh}
-use Rattle.gr_history.specs.Fresh.{AreOfState}
+use Rattle.gr_content.specs.Fresh.{AreOfState}
 
 module _ (state : State) (job : JobRecord) (built : Built) where
   -- a path that is none of a package has no inputs

@@ -7,7 +7,7 @@ use Rattle.gr_machine.specs.declared.event.Reply.{Reply}
 use Rattle.gr_machine.specs.Machine.{Content, changed}
 use Rattle.gr_machine.specs.State.{State}
 use Rattle.gr_machine.specs.Step.{AnswersOrLacks}
-use Rattle.gr_history.specs.declared.history.History.{History}
+use Rattle.gr_content.specs.declared.history.History.{History}
 
 -- with these limits and Jobs out
 abbrev pub content_of : History → Limits → JobsOut → Content

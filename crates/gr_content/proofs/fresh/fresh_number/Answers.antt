@@ -12,7 +12,7 @@ use Rattle.gr_graph.proofs.Asked.{at_contains}
 use Rattle.gr_machine.specs.State.{State}
 use Rattle.gr_machine.specs.Deliveries.{IsFresh}
 use Rattle.gr_machine.proofs.Fresh.{is_fresh}
-use Rattle.gr_history.proofs.fresh.fresh_number.Goals as goal
+use Rattle.gr_content.proofs.fresh.fresh_number.Goals as goal
 
 pub closure-requires : goal.closure-requires
 closure-requires c =

@@ -3,7 +3,7 @@ ghost use Rattle.std.specs.Prelude.{◌≡◌, ◌+◌, ◌^◌, ◌<◌, ◌≤
 ghost use Rattle.gr_machine.specs.Machine.{newest};
 ghost use Rattle.gr_machine.specs.Step.{done};
 ghost use Rattle.gr_machine.specs.declared.event.Event.TheVariants.{Redo, Undo};
-ghost use Rattle.gr_history.specs.Histories.{IsChanged, IsSame, Moves};
+ghost use Rattle.gr_content.specs.Histories.{IsChanged, IsSame, Moves};
 
 use gr_machine::State;
 use gr_text::{Limits, Refusal};

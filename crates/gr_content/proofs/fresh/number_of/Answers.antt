@@ -4,9 +4,9 @@ use Rattle.std.specs.List.{Contains}
 use Rattle.gr_text.specs.Packages.{package_paths}
 use Rattle.gr_machine.specs.State.{State}
 use Rattle.gr_machine.specs.Deliveries.{IsFresh}
-use Rattle.gr_history.specs.Fresh.{AreOfState}
-use Rattle.gr_history.proofs.Numbers.{number_found}
-use Rattle.gr_history.proofs.fresh.number_of.Goals as goal
+use Rattle.gr_content.specs.Fresh.{AreOfState}
+use Rattle.gr_content.proofs.Numbers.{number_found}
+use Rattle.gr_content.proofs.fresh.number_of.Goals as goal
 
 pub returns : goal.returns
 returns c =
