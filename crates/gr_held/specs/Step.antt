@@ -2,7 +2,7 @@
 use Rattle.std.specs.Prelude.{ℕ, List, Option}
 use Rattle.gr_machine.specs.declared.event.Event.{Event}
 use Rattle.gr_machine.specs.declared.event.Reply.{Reply}
-use Rattle.gr_seats.specs.declared.receipt.Receipt.{Receipt}
+use Rattle.gr_pool.specs.declared.receipt.Receipt.{Receipt}
 use Rattle.gr_pool.specs.Call.{Calls}
 
 -- The event was one call at the seat, whichever index it was answered with, if with one.

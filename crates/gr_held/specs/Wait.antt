@@ -2,7 +2,7 @@
 use Rattle.std.specs.Prelude.{◌≡◌, ℕ, List, Result, Ok, Err}
 use Rattle.gr_text.specs.declared.refusal.Refusal.{Refusal}
 use Rattle.gr_machine.specs.declared.view.View.{View}
-use Rattle.gr_seats.specs.declared.receipt.Receipt.{Receipt}
+use Rattle.gr_pool.specs.declared.receipt.Receipt.{Receipt}
 use Rattle.gr_pool.specs.Call.{LooksUntilBuilt}
 
 -- the number of the state that a look showed

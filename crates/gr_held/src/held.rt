@@ -6,7 +6,7 @@ use gr_desk::Desk;
 use gr_graph::Graph;
 use gr_machine::View;
 use gr_pool::Shared;
-use gr_seats::{Opening, Seat};
+use gr_pool::{Opening, Seat};
 use gr_space::MadeChange;
 use gr_text::Refusal;
 use gr_verdict::Known;

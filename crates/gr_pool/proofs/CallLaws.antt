@@ -16,8 +16,8 @@ use Rattle.gr_machine.specs.declared.view.View.{View}
 use Rattle.gr_machine.specs.Journal.{kind_of, told_of}
 use Rattle.gr_machine.specs.Machine.{Machine}
 use Rattle.gr_machine.specs.Step.{Step, looked}
-use Rattle.gr_seats.specs.declared.receipt.Receipt.{Receipt}
-use Rattle.gr_locked.specs.Steps.{IsReceiptOf}
+use Rattle.gr_pool.specs.declared.receipt.Receipt.{Receipt}
+use Rattle.gr_pool.specs.Steps.{IsReceiptOf}
 use Rattle.gr_pool.specs.Call.{Calls, Gains, IsLook, Looks}
 use Rattle.gr_pool.specs.Call.{Replies}
 use Rattle.gr_pool.proofs.GainsLaws.{gains_more}

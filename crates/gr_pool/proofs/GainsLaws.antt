@@ -1,7 +1,7 @@
 -- Receipts gained one after another.
 use Rattle.std.proofs.Common.{List, ◌++◌, ap, ◌∙◌, append_assoc}
 use Rattle.std.proofs.lemmas.List.Elements.{All-append}
-use Rattle.gr_seats.specs.declared.receipt.Receipt.{Receipt}
+use Rattle.gr_pool.specs.declared.receipt.Receipt.{Receipt}
 use Rattle.gr_pool.specs.Call.{Gains}
 
 pub gains_more : (P : Receipt → Type 0) (a b c : List Receipt) → Gains P a b → Gains P b c → Gains P a c

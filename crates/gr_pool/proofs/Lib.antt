@@ -2,3 +2,10 @@
 pub mod GainsLaws
 pub mod CallLaws
 pub mod UnitLaws
+pub mod PairLaws
+pub mod ReceiptLaws
+pub mod StepLaws
+pub mod WorkLaws
+pub mod SendsFound
+pub mod SendsTrees
+pub mod Sends

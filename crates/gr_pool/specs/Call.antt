@@ -12,8 +12,8 @@ use Rattle.gr_machine.specs.declared.event.Reply.{Reply}
 use Rattle.gr_machine.specs.declared.event.Reply.TheVariants.{Looked}
 use Rattle.gr_machine.specs.declared.view.View.{View}
 use Rattle.gr_machine.specs.Kept.{IsTurnedAway}
-use Rattle.gr_seats.specs.declared.receipt.Receipt.{Receipt}
-use Rattle.gr_locked.specs.Steps.{IsReceiptOf}
+use Rattle.gr_pool.specs.declared.receipt.Receipt.{Receipt}
+use Rattle.gr_pool.specs.Steps.{IsReceiptOf}
 
 -- The event was one step of a book, at the index that was answered, and the seat has gained its receipt; or the event was turned away, and
 -- the seat has gained none.

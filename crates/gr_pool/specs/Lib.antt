@@ -1,2 +1,7 @@
 -- The definitions of this crate.
 pub mod Call
+pub mod Settled
+pub mod Reserved
+pub mod Steps
+pub mod Outcome
+pub mod Working

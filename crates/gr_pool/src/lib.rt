@@ -2,6 +2,23 @@
 #![tactic(auto)]
 
 mod built;
+mod gate;
+mod in_hand;
+mod locked;
+mod opening;
+mod receipt;
+mod seat;
+mod settle;
+mod settling;
 mod shared;
+mod working;
 
 pub use shared::Shared;
+pub use opening::Opening;
+pub use receipt::Receipt;
+pub use seat::{Seat, jobs_after, reserve};
+pub use settle::{are_counted, merged, seats_apart, seats_rise, seats_stand};
+pub use locked::{Locked, is_done, turn_away};
+pub use settling::Unsettled;
+pub use gate::{Gate, OpenGate};
+pub use working::worker;

@@ -2,18 +2,21 @@
 ghost use Rattle.std.specs.Prelude.{◌≡◌, ◌+◌, ◌<◌, ◌≤◌, ◌↔◌, [], if◌then◌else◌, length, vec_len, is_some, IfSome, IsOk};
 ghost use Rattle.gr_verdict.specs.Found.{KnowsVerdicts};
 ghost use Rattle.gr_machine.specs.MayReply.{MayReply};
-ghost use Rattle.gr_locked.specs.Outcome.{book_in};
-ghost use Rattle.gr_locked.specs.Steps.{IsReplayed, IsStepOf};
+ghost use Rattle.gr_pool.specs.Outcome.{book_in};
+ghost use Rattle.gr_pool.specs.Steps.{IsReplayed, IsStepOf};
 ghost use Rattle.gr_pool.specs.Call.{Calls, Looks, LooksUntilBuilt, Replies};
-ghost use Rattle.gr_seats.specs.Settled.{IsSettled, receipt_count};
+ghost use Rattle.gr_pool.specs.Settled.{IsSettled, receipt_count};
 
 use crate::built::is_built;
 use gr_book::{Book, Looking};
 use gr_content::Question;
 use gr_graph::Graph;
-use gr_locked::{Locked, Unsettled, is_done, turn_away};
+use crate::locked::{Locked, is_done, turn_away};
+use crate::settling::Unsettled;
 use gr_machine::{Line, View};
-use gr_seats::{Opening, Receipt, Seat, jobs_after, reserve};
+use crate::opening::Opening;
+use crate::receipt::Receipt;
+use crate::seat::{Seat, jobs_after, reserve};
 use gr_text::Refusal;
 use gr_verdict::Known;
 use std::alloc::Global;

@@ -1,11 +1,11 @@
 -- What a server tells, by what settling tells.
 use Rattle.std.proofs.Common.{◌≡◌, ◌↔◌, ◌+◌, ◌≤◌, ℕ, List, length, Result, Ok, Err, IfOk, IfErr, IsOk, IsErr, subst, sym, zero-add}
 use Rattle.gr_machine.specs.Machine.{Machine}
-use Rattle.gr_seats.specs.declared.receipt.Receipt.{Receipt}
-use Rattle.gr_locked.specs.declared.settle.Unsettled.{Unsettled as Leftover}
-use Rattle.gr_locked.specs.Steps.{IsReplayed}
-use Rattle.gr_locked.specs.Outcome.{book_in}
-use Rattle.gr_seats.specs.Settled.{IsSettled, receipt_count}
+use Rattle.gr_pool.specs.declared.receipt.Receipt.{Receipt}
+use Rattle.gr_pool.specs.declared.settling.Unsettled.{Unsettled as Leftover}
+use Rattle.gr_pool.specs.Steps.{IsReplayed}
+use Rattle.gr_pool.specs.Outcome.{book_in}
+use Rattle.gr_pool.specs.Settled.{IsSettled, receipt_count}
 use Rattle.gr_serve.specs.declared.fault.ServeFault.{ServeFault}
 use Rattle.gr_serve.specs.declared.fault.ServeFault.TheVariants.{Memory, Socket, Unsettled}
 use Rattle.gr_serve.specs.Served.{IsHandedBack, Serves, Settles}

@@ -1,9 +1,9 @@
 -- What a server tells at its end.
 use Rattle.std.specs.Prelude.{◌≡◌, ◌≤◌, ℕ, List, length, Result, Ok, Err, ⊤}
 use Rattle.gr_machine.specs.Machine.{Machine}
-use Rattle.gr_seats.specs.declared.receipt.Receipt.{Receipt}
-use Rattle.gr_locked.specs.Steps.{IsReplayed}
-use Rattle.gr_seats.specs.Settled.{IsSettled, receipt_count}
+use Rattle.gr_pool.specs.declared.receipt.Receipt.{Receipt}
+use Rattle.gr_pool.specs.Steps.{IsReplayed}
+use Rattle.gr_pool.specs.Settled.{IsSettled, receipt_count}
 use Rattle.gr_serve.specs.declared.fault.ServeFault.{ServeFault}
 use Rattle.gr_serve.specs.declared.fault.ServeFault.TheVariants.{Memory, Socket, Unsettled}
 

@@ -1,7 +1,7 @@
 -- What a session at a seat does.
 use Rattle.std.specs.Prelude.{ℕ, List, Option, Result}
 use Rattle.gr_text.specs.declared.limits.Limits.{Limits}
-use Rattle.gr_seats.specs.declared.receipt.Receipt.{Receipt}
+use Rattle.gr_pool.specs.declared.receipt.Receipt.{Receipt}
 use Rattle.gr_held.specs.Step.{CallsAtSeat}
 use Rattle.gr_held.specs.Wait.{WaitsUntilBuilt}
 use Rattle.gr_wire.specs.declared.exchange.SessionFault.{SessionFault}

@@ -1,6 +1,6 @@
 //! The server, from its socket to its end.
 ghost use Rattle.std.specs.Prelude.{◌≡◌, ◌≢◌, ◌+◌, IfErr, IfOk, IsErr, IsOk, OnOk, length};
-ghost use Rattle.gr_locked.specs.Outcome.{book_in};
+ghost use Rattle.gr_pool.specs.Outcome.{book_in};
 ghost use Rattle.gr_serve.specs.Served.{Serves, Settles};
 
 use crate::fault::ServeFault;
@@ -8,12 +8,12 @@ use crate::socket::listen;
 use crate::threads::{Running, run};
 use crate::turns::Turns;
 use gr_book::Book;
-use gr_locked::Unsettled;
+use gr_pool::Unsettled;
 use gr_pool::Shared;
-use gr_seats::{Opening, Seat};
+use gr_pool::{Opening, Seat};
 use gr_text::Limits;
 use gr_words::ServeWords;
-use gr_workers::Gate;
+use gr_pool::Gate;
 use std::alloc::{AllocError, Global};
 use std::marker::Brand;
 use std::net::Net;

@@ -3,7 +3,7 @@ ghost use Rattle.gr_serve.specs.Session.{ConversesAtSeat};
 
 use gr_held::Held;
 use gr_pool::Shared;
-use gr_seats::{Opening, Seat};
+use gr_pool::{Opening, Seat};
 use gr_text::Limits;
 use gr_wire::{SessionFault, converse};
 use std::alloc::Global;

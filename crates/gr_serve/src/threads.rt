@@ -2,10 +2,10 @@
 use crate::session::{Connection, session_at_seat};
 use crate::turns::Turns;
 use gr_pool::Shared;
-use gr_seats::{Opening, Seat};
+use gr_pool::{Opening, Seat};
 use gr_text::Limits;
 use gr_wire::SessionFault;
-use gr_workers::{Gate, worker};
+use gr_pool::{Gate, worker};
 use std::alloc::Global;
 use std::io::{BufReader, BufWriter};
 use std::os::unix::net::UnixStream;

@@ -1,6 +1,6 @@
 -- The book that is handed back is the one that was locked.
 use Rattle.std.proofs.Common.{sym, subst}
-use Rattle.gr_locked.specs.Steps.{IsReplayed}
+use Rattle.gr_pool.specs.Steps.{IsReplayed}
 use Rattle.gr_pool.proofs.shared.Shared.settle.Goals as goal
 
 pub returns-clause-legal : goal.returns-clause-legal

@@ -5,7 +5,7 @@ use denote.Param.{param}
 use denote.Param.Send.{sendable, param_send, arg_send, shr_send, mut_send}
 use Rattle.std.proofs.Crossing.{send as Global-send}
 use Rattle.gr_serve.proofs.Captures.{captured, five_sent}
-use Rattle.gr_workers.proofs.Sends.{seat_sent, shared_shared}
+use Rattle.gr_pool.proofs.Sends.{seat_sent, shared_shared}
 use Rattle.gr_serve.proofs.turns.Turns.TheSendSync.{the_sync as turns-sync}
 use Rattle.gr_serve.proofs.threads.fn.serve_sessions.scope.Lts.{arg-2-1}
 use Rattle.gr_serve.proofs.threads.fn.serve_sessions.scope.Goals as goal

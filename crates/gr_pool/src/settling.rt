@@ -1,0 +1,29 @@
+//! Whether the seats' receipts are the entries that a journal gained.
+ghost use Rattle.std.specs.Prelude.{◌↔◌, ◌≤◌, IsTrue, length};
+ghost use Rattle.gr_pool.specs.Settled.{IsSettled};
+
+use gr_book::Book;
+use gr_machine::Entry;
+use gr_pool::{Opening, Seat, are_counted, seats_apart, seats_rise, seats_stand};
+
+/// What was handed in is not what the journal gained. The book is handed back.
+pub struct Unsettled {
+    pub book: Book,
+}
+
+/// Whether the seats' receipts are the entries that the journal gained. It takes no memory, and compares texts last.
+pub(crate) fn is_settled<L: Opening>(from: u64, journal: &[Entry], seats: &[Seat<L>]) -> bool
+    requires { from ≤ length journal.now }
+    ensures { IsTrue result ↔ IsSettled from journal.now seats.now }
+{
+    if !are_counted(from, journal, seats) {
+        return false;
+    }
+    if !seats_rise(seats) {
+        return false;
+    }
+    if !seats_apart(seats) {
+        return false;
+    }
+    seats_stand(seats, journal)
+}

@@ -1,5 +1,0 @@
--- The lemmas of this crate.
-pub mod WorkLaws
-pub mod SendsFound
-pub mod SendsTrees
-pub mod Sends
