@@ -2,8 +2,8 @@
 use Rattle.std.specs.Prelude.{ℕ, List, Option, Result}
 use Rattle.gr_text.specs.declared.limits.Limits.{Limits}
 use Rattle.gr_pool.specs.declared.receipt.Receipt.{Receipt}
-use Rattle.gr_held.specs.Step.{CallsAtSeat}
-use Rattle.gr_held.specs.Wait.{WaitsUntilBuilt}
+use Rattle.gr_serve.specs.Step.{CallsAtSeat}
+use Rattle.gr_serve.specs.Wait.{WaitsUntilBuilt}
 use Rattle.gr_wire.specs.declared.exchange.SessionFault.{SessionFault}
 use Rattle.gr_wire.specs.Alone.{Converses}
 

@@ -2,6 +2,7 @@
 #![tactic(auto)]
 
 mod fault;
+mod held;
 mod serving;
 mod session;
 mod socket;
@@ -11,3 +12,4 @@ mod turns;
 pub use fault::ServeFault;
 pub use serving::serve;
 pub use session::{Connection, session_at_seat};
+pub use held::Held;

@@ -1,7 +1,7 @@
 //! A session at a seat.
 ghost use Rattle.gr_serve.specs.Session.{ConversesAtSeat};
 
-use gr_held::Held;
+use crate::held::Held;
 use gr_pool::Shared;
 use gr_pool::{Opening, Seat};
 use gr_text::Limits;

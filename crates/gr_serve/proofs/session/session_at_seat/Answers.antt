@@ -1,7 +1,7 @@
 -- The session at the desk, as it is seen at the seat that the desk holds.
 use Rattle.std.proofs.Common.{rules, refl}
-use Rattle.gr_held.specs.Step.{CallsAtSeat}
-use Rattle.gr_held.specs.Wait.{WaitsUntilBuilt}
+use Rattle.gr_serve.specs.Step.{CallsAtSeat}
+use Rattle.gr_serve.specs.Wait.{WaitsUntilBuilt}
 use Rattle.gr_serve.proofs.Lifts.{conversed}
 use Rattle.gr_serve.proofs.session.session_at_seat.Goals as goal
 

@@ -22,8 +22,8 @@ pub struct Held<'a, L: Opening, R: Wait> {
 
 impl<'a, L: Opening, R: Wait> Desk for Held<'a, L, R> {
     ghost use Rattle.std.specs.Prelude.{◌≡◌, ⊤};
-    ghost use Rattle.gr_held.specs.Step.{CallsAtSeat};
-    ghost use Rattle.gr_held.specs.Wait.{WaitsUntilBuilt};
+    ghost use Rattle.gr_serve.specs.Step.{CallsAtSeat};
+    ghost use Rattle.gr_serve.specs.Wait.{WaitsUntilBuilt};
 
     // It goes on lending the same seat.
     ghost steps = { λ old event reply new. (new.seat.ghost_name ≡ old.seat.ghost_name) × CallsAtSeat old.seat.now event reply new.seat.now };
