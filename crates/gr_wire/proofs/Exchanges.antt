@@ -10,7 +10,7 @@ use Rattle.gr_desk.specs.declared.response.Response.{Response}
 use Rattle.gr_line.specs.declared.message.Message.{Message}
 use Rattle.gr_line.specs.Wire.{Says, Reads}
 use Rattle.gr_wire.specs.Answers.{Answered, AnswersAll}
-use Rattle.gr_replies.specs.Replies.{reply_text}
+use Rattle.gr_wire.specs.Replies.{reply_text}
 use Rattle.gr_wire.specs.Transcript.{Exchange, BreaksOff, CutsOff}
 
 pub Reads-append : (limits : Limits) (input mid rest : List ℕ) (ms ns : List Message)

@@ -5,3 +5,4 @@ pub mod Sent
 pub mod Served
 pub mod Ended
 pub mod Runs
+pub mod Parts

@@ -14,7 +14,7 @@ use Rattle.gr_next_message.specs.declared.next.Next.TheVariants as next
 use Rattle.gr_wire.specs.declared.exchange.SessionFault.{SessionFault}
 use Rattle.gr_wire.specs.declared.exchange.SessionFault.TheVariants.{Memory, Read, Write, Turns}
 use Rattle.gr_wire.specs.Answers.{Answered}
-use Rattle.gr_replies.specs.Replies.{reply_text}
+use Rattle.gr_wire.specs.Replies.{reply_text}
 use Rattle.gr_line.specs.Last.{is_last}
 use Rattle.gr_wire.specs.Awaits.{AwaitsNext}
 use Rattle.gr_wire.specs.Transcript.{StepEnds}

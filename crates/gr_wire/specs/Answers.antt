@@ -7,7 +7,7 @@ use Rattle.gr_desk.specs.Wait.{WaitLaw}
 use Rattle.gr_desk.specs.declared.response.Response.{Response}
 use Rattle.gr_desk.specs.declared.response.Response.TheVariants.{Refused}
 use Rattle.gr_desk.specs.Act.{Acts}
-use Rattle.gr_replies.specs.Replies.{IsWrittenFor}
+use Rattle.gr_wire.specs.Replies.{IsWrittenFor}
 use Rattle.gr_line.specs.declared.message.Message.{Message}
 use Rattle.gr_line.specs.declared.message.Message.TheVariants.{Ask, Unknown, CutShort}
 

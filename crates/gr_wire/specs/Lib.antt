@@ -4,3 +4,6 @@ pub mod Answers
 pub mod Transcript
 pub mod Alone
 pub mod Laws
+pub mod Refusals
+pub mod Listings
+pub mod Replies

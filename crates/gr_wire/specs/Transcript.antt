@@ -11,7 +11,7 @@ use Rattle.gr_line.specs.declared.message.Message.{Message}
 use Rattle.gr_wire.specs.declared.exchange.SessionFault.{SessionFault}
 use Rattle.gr_wire.specs.declared.exchange.SessionFault.TheVariants.{Memory, Read, Write, Turns}
 use Rattle.gr_line.specs.Wire.{Reads, Ends, StaysWithin}
-use Rattle.gr_replies.specs.Replies.{reply_text}
+use Rattle.gr_wire.specs.Replies.{reply_text}
 use Rattle.gr_wire.specs.Answers.{AnswersAll}
 
 -- The input up to `rest` was read as messages, answered in one run of the desk from old to new,

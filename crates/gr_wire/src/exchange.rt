@@ -1,7 +1,7 @@
 //! A session: it reads messages, has them answered, and writes the replies.
 ghost use Rattle.std.specs.Prelude.{◌≡◌, ◌+◌, ◌^◌, ◌≤◌, ◌<◌, IfOk, OnOk, IsTrue};
 ghost use Rattle.gr_line.specs.Failures.{CountsFailure, WritesText};
-ghost use Rattle.gr_replies.specs.Replies.{reply_text};
+ghost use Rattle.gr_wire.specs.Replies.{reply_text};
 ghost use Rattle.gr_wire.specs.Answers.{Answered};
 ghost use Rattle.gr_wire.specs.Awaits.{AwaitsNext, LeavesSent, StepLeavesSent};
 ghost use Rattle.gr_wire.specs.Transcript.{SessionEnds, CountsFaults, StepEnds};
@@ -9,7 +9,7 @@ ghost use Rattle.gr_wire.specs.Transcript.{SessionEnds, CountsFaults, StepEnds};
 use gr_desk::{Desk, act};
 use gr_line::{ByteSource, InputFault, Message, Sink, WriteFailed};
 use gr_next_message::{LineBuffer, Next, read_command};
-use gr_replies::{WrittenReply, print_reply};
+use crate::written::{WrittenReply, print_reply};
 use gr_text::{Limits, Refusal};
 use std::alloc::Global;
 

@@ -1,5 +1,5 @@
 -- The answers to the goals of `exchange::send_reply`.
-use Rattle.gr_replies.specs.Replies.{reply_text}
+use Rattle.gr_wire.specs.Replies.{reply_text}
 use Rattle.gr_wire.proofs.Sent.{written_then_sent}
 use Rattle.gr_wire.proofs.exchange.send_reply.Goals as goal
 

@@ -2,10 +2,10 @@
 use Rattle.std.proofs.Common.{◌≡◌, ℕ, ◌+◌, List, ◌++◌, [], ◌∷◌, true, length, ◌∙◌, sym, ap, subst, length-append}
 use Rattle.std.proofs.lemmas.Result.{err_from_is_err_and}
 use Rattle.gr_line.specs.Failures.{WritesText, WritesPart}
-use Rattle.gr_replies.specs.Listings.{package_line}
-use Rattle.gr_replies.specs.Replies.{head_of}
-use Rattle.gr_replies.proofs.Parts.{then_text, part_of}
-use Rattle.gr_replies.proofs.output.print_line.Goals as goal
+use Rattle.gr_wire.specs.Listings.{package_line}
+use Rattle.gr_wire.specs.Replies.{head_of}
+use Rattle.gr_wire.proofs.Parts.{then_text, part_of}
+use Rattle.gr_wire.proofs.output.print_line.Goals as goal
 
 -- the first line counts the newline behind the path
 head_is : (head path : List ℕ) (number : ℕ) → head ≡ head_of true number (length path + 1) → head ≡ head_of true number (length (package_line path))

@@ -1,6 +1,6 @@
 //! The line of an entry of the journal.
 ghost use Rattle.std.specs.Prelude.{◌≡◌};
-ghost use Rattle.gr_replies.specs.Listings.{entry_line, entry_text, told_number, told_word};
+ghost use Rattle.gr_wire.specs.Listings.{entry_line, entry_text, told_number, told_word};
 
 use crate::refusal::{LONGEST_BODY, refusal_code};
 use arrayvec::ArrayString;

@@ -1,7 +1,7 @@
 //! How a refusal is told: its number, and the body of its reply.
 ghost use Rattle.std.specs.Prelude.{◌≡◌, ◌+◌, ◌++◌, ◌∷◌, [], decimal};
 ghost use Rattle.gr_text.specs.PlaceText.{place_text};
-ghost use Rattle.gr_replies.specs.Refusals.{code_of, refusal_body};
+ghost use Rattle.gr_wire.specs.Refusals.{code_of, refusal_body};
 
 use arrayvec::ArrayString;
 use gr_text::{Place, Refusal};

@@ -1,8 +1,8 @@
 //! Writing replies. A later form of answer is a case of `body_of` and `number_of` in specs/Replies.antt,
 //! and an arm of `print_response`, and where its body takes memory also one of `made_body` in written.rt.
 ghost use Rattle.std.specs.Prelude.{◌≡◌, ◌++◌, ◌≤◌, true, length};
-ghost use Rattle.gr_replies.specs.Listings.{package_line};
-ghost use Rattle.gr_replies.specs.Replies.{head_of, made_body, reply_text, steps_line};
+ghost use Rattle.gr_wire.specs.Listings.{package_line};
+ghost use Rattle.gr_wire.specs.Replies.{head_of, made_body, reply_text, steps_line};
 ghost use Rattle.gr_line.specs.Failures.{CountsFailure, WritesText};
 
 use crate::entries::entry_text;

@@ -1,7 +1,7 @@
 -- The invariants of the loops of `output::write_whole`.
 use Rattle.std.proofs.Common.{◌≡◌, ◌++◌, ℕ, List, length}
 use Rattle.std.specs.Io.KnownBytes.{Appends}
-use Rattle.gr_replies.proofs.output.write_whole.Given as goal
+use Rattle.gr_wire.proofs.output.write_whole.Given as goal
 
 abbrev pub invariant-loop-rest : goal.invariant-loop-rest
 invariant-loop-rest g l = (written : List ℕ) × (l.fn.bytes ≡ written ++ l.rest)

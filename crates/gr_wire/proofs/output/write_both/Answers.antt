@@ -1,7 +1,7 @@
 -- The answers to the goals of `output::write_both`.
 use Rattle.std.proofs.lemmas.Result.{err_from_is_err_and}
-use Rattle.gr_replies.proofs.Parts.{then_text, part_of}
-use Rattle.gr_replies.proofs.output.write_both.Goals as goal
+use Rattle.gr_wire.proofs.Parts.{then_text, part_of}
+use Rattle.gr_wire.proofs.output.write_both.Goals as goal
 
 pub returns-in_err-write_whole-clause-written : goal.returns-in_err-write_whole-clause-written
 returns-in_err-write_whole-clause-written g c =

@@ -4,8 +4,8 @@ use Rattle.std.specs.Prelude.{◌≡◌, ◌⊎◌, ⊤, ℕ, List, [], ◌∷�
 use Rattle.gr_text.specs.declared.refusal.Refusal.TheVariants.{Memory}
 use Rattle.gr_desk.specs.declared.response.Response.{Response}
 use Rattle.gr_desk.specs.declared.response.Response.TheVariants.{Done, Steps, File, Listing, Places, Faults, Entry, Built, Refused}
-use Rattle.gr_replies.specs.Listings.{listing, place_lines, fault_lines, entry_text, package_line}
-use Rattle.gr_replies.specs.Refusals.{code_of, refusal_body}
+use Rattle.gr_wire.specs.Listings.{listing, place_lines, fault_lines, entry_text, package_line}
+use Rattle.gr_wire.specs.Refusals.{code_of, refusal_body}
 
 -- how many steps undo and redo can make
 abbrev pub steps_line : ℕ → ℕ → List ℕ

@@ -1,7 +1,7 @@
 //! A reply as it is written. What takes memory is made before anything of it is written.
 ghost use Rattle.std.specs.Prelude.{◌≡◌, IfOk, OnErr};
 ghost use Rattle.gr_line.specs.Failures.{CountsFailure, WritesText};
-ghost use Rattle.gr_replies.specs.Replies.{IsWrittenFor, TakesMemory, made_body, reply_text};
+ghost use Rattle.gr_wire.specs.Replies.{IsWrittenFor, TakesMemory, made_body, reply_text};
 
 use crate::lines::{fault_lines, listing, place_lines};
 use crate::output::print_response;
@@ -22,7 +22,7 @@ impl Model for WrittenReply {
     ghost use Rattle.std.specs.Prelude.{◌≡◌};
     ghost use Rattle.gr_desk.specs.contracts.response.Response.{the_row};
     ghost use Rattle.gr_desk.specs.declared.response.Response.{Response};
-    ghost use Rattle.gr_replies.specs.Replies.{made_body};
+    ghost use Rattle.gr_wire.specs.Replies.{made_body};
 
     ghost Value = { Response };
 

@@ -1,8 +1,8 @@
 -- The invariants of the loops of `lines::listing`.
 use Rattle.std.proofs.Common.{◌≡◌, ◌++◌}
 use Rattle.std.specs.List.{flat_map}
-use Rattle.gr_replies.specs.Listings.{file_line, listing}
-use Rattle.gr_replies.proofs.lines.listing.Given as goal
+use Rattle.gr_wire.specs.Listings.{file_line, listing}
+use Rattle.gr_wire.proofs.lines.listing.Given as goal
 
 -- the lines so far, and those of the files that are left
 abbrev pub invariant-loop-path : goal.invariant-loop-path

@@ -10,7 +10,7 @@ use Rattle.gr_machine.specs.Kinds.{kind_name, refusal_of}
 use Rattle.gr_machine.specs.declared.entry.Line.{Line}
 use Rattle.gr_machine.specs.declared.entry.Told.{Told}
 use Rattle.gr_machine.specs.declared.entry.Told.TheVariants.{Done, Refused}
-use Rattle.gr_replies.specs.Refusals.{code_of}
+use Rattle.gr_wire.specs.Refusals.{code_of}
 
 -- a path, a space, the size of its text in bytes, and a newline
 abbrev pub file_line : List ℕ → List ℕ → List ℕ

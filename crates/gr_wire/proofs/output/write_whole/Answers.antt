@@ -2,7 +2,7 @@
 use Rattle.std.proofs.Common.{◌≡◌, ◌++◌, ℕ, List, take, drop, ◌∙◌, sym, ap, arith, append_assoc, take-append-drop}
 use Rattle.std.proofs.lemmas.Grind.{common_steps}
 use Rattle.std.proofs.KnownBytes.{Appends-trans}
-use Rattle.gr_replies.proofs.output.write_whole.Goals as goal
+use Rattle.gr_wire.proofs.output.write_whole.Goals as goal
 
 -- the part that a write took goes over to what is written
 whole_after : (bytes written rest part : List ℕ) (n : ℕ) → bytes ≡ written ++ rest → part ≡ drop n rest → bytes ≡ (written ++ take n rest) ++ part

@@ -1,7 +1,7 @@
 //! The lines of files, places and faults.
 ghost use Rattle.std.specs.Prelude.{◌≡◌, ◌++◌, IfOk, OnOk};
 ghost use Rattle.gr_text.specs.PlaceText.{place_text, fault_line};
-ghost use Rattle.gr_replies.specs.Listings.{file_line, place_lines, fault_lines, listing};
+ghost use Rattle.gr_wire.specs.Listings.{file_line, place_lines, fault_lines, listing};
 
 use gr_text::{FileText, Files, Path, Place};
 use gr_verdict::FileFault;
