@@ -20,9 +20,9 @@ use Rattle.gr_verdict.specs.Closures.{HasSameClosure}
 use Rattle.gr_verdict.proofs.Local.{same_back}
 use Rattle.gr_verdict.proofs.Members.{first_in, later_in, first_or_later, nothing_in}
 use Rattle.gr_verdict.proofs.PackageFiles.{mapped}
-use Rattle.gr_finished.specs.Changes.{MarkClosures, MarkFolders}
-use Rattle.gr_finished.proofs.ChangedFolders.{marks_skip, marks_more}
-use Rattle.gr_finished.proofs.ClosureTexts.{package_there}
+use Rattle.gr_keep.specs.Changes.{MarkClosures, MarkFolders}
+use Rattle.gr_keep.proofs.ChangedFolders.{marks_skip, marks_more}
+use Rattle.gr_keep.proofs.ClosureTexts.{package_there}
 use Rattle.gr_affected.specs.Affected.{IsUnaffected, AreAffected}
 use Rattle.gr_affected.specs.Marking.{folders_of, TellsAffected}
 

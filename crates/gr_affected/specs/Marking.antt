@@ -4,7 +4,7 @@ use Rattle.gr_text.specs.Path.{folder}
 use Rattle.gr_text.specs.Workspace.{Workspace}
 use Rattle.gr_edit.specs.EditSet.{FileChanges}
 use Rattle.gr_edit.specs.declared.change.FileChange.{FileChange}
-use Rattle.gr_finished.specs.Changes.{AreMarks, MarkClosures}
+use Rattle.gr_keep.specs.Changes.{AreMarks, MarkClosures}
 use Rattle.gr_affected.specs.Affected.{IsUnaffected}
 use Rattle.gr_affected.specs.declared.marking.MarkedChange.{MarkedChange}
 

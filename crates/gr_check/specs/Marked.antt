@@ -1,6 +1,6 @@
 -- The packages in whose closures a change changes files.
 use Rattle.gr_text.specs.Workspace.{Workspace}
-use Rattle.gr_finished.specs.Changes.{AreMarks}
+use Rattle.gr_keep.specs.Changes.{AreMarks}
 use Rattle.gr_check.specs.declared.edited_workspace.EditedWorkspace.{EditedWorkspace}
 
 -- the marks are those of the change of a workspace, before and after

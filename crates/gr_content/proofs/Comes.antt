@@ -3,7 +3,7 @@ use Rattle.std.proofs.Common.{ℕ, List, Result, Ok, Err, IfOk, subst}
 use Rattle.std.specs.declared.alloc.AllocError.{AllocError}
 use Rattle.gr_compile.specs.declared.built.Built.{Built}
 use Rattle.gr_compile.specs.declared.job.JobRecord.{JobRecord}
-use Rattle.gr_finished.specs.Finished.{Gains}
+use Rattle.gr_keep.specs.Finished.{Gains}
 use Rattle.gr_machine.specs.State.{State}
 use Rattle.gr_machine.specs.Deliveries.{IsFresh, HasUnit}
 use Rattle.gr_content.specs.Outcomes.{ComesTo, FinishesIn, HasTable}

@@ -4,7 +4,7 @@ use Rattle.gr_text.specs.Packages.{package_paths}
 use Rattle.gr_verdict.specs.Found.{KnowsVerdicts}
 use Rattle.gr_compile.specs.declared.built.Built.{Built}
 use Rattle.gr_compile.specs.declared.job.JobRecord.{JobRecord}
-use Rattle.gr_finished.specs.Finished.{Gains}
+use Rattle.gr_keep.specs.Finished.{Gains}
 use Rattle.gr_machine.specs.State.{State}
 use Rattle.gr_machine.specs.Deliveries.{IsFresh, IsRightlyBuilt, HasUnit}
 use Rattle.gr_text.specs.declared.refusal.Refusal.TheVariants.{Stale, Already}

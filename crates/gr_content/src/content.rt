@@ -13,7 +13,7 @@ use crate::deliveries::{Outcome, outcome_of, outcome_on_current};
 use crate::following::state_after;
 use crate::handed::{Handed, take_in};
 use gr_compile::{Built, Job, Out, PackageInputs, SharedPath};
-use gr_finished::Finished;
+use gr_keep::Finished;
 use gr_graph::Graph;
 use crate::history::History;
 use gr_machine::{MadeEdits, State, View, first_waiting};

@@ -6,7 +6,7 @@ ghost use Rattle.gr_content.specs.Current.{BringsCurrent};
 ghost use Rattle.gr_content.specs.Outcomes.{ComesTo, FinishesIn};
 
 use gr_compile::{Built, Job};
-use gr_finished::Finished;
+use gr_keep::Finished;
 use crate::fresh::{fresh_number, number_of};
 use gr_inputs::learned;
 use gr_machine::State;

@@ -1,12 +1,12 @@
 //! The state that follows another by a change of its files.
 ghost use Rattle.std.specs.Prelude.{◌≡◌, IfOk, IsTrue};
 ghost use Rattle.gr_verdict.specs.Found.{KnowsVerdicts};
-ghost use Rattle.gr_finished.specs.Changes.{AreMarks};
-ghost use Rattle.gr_finished.specs.Finished.{HasNone};
+ghost use Rattle.gr_keep.specs.Changes.{AreMarks};
+ghost use Rattle.gr_keep.specs.Finished.{HasNone};
 ghost use Rattle.gr_keep.specs.Carried.{IsCarried};
 ghost use Rattle.gr_content.specs.Following.{IsStateAfter};
 
-use gr_finished::Finished;
+use gr_keep::Finished;
 use gr_graph::Graph;
 use gr_inputs::{kept, marks_of, nothing_carried};
 use gr_keep::{Marks, carried_units};

@@ -8,7 +8,7 @@ use Rattle.gr_text.specs.declared.refusal.Refusal.{Refusal}
 use Rattle.gr_text.specs.declared.refusal.Refusal.TheVariants.{Memory, BadPath, NoFile, NoPackage, Pending, Faulty}
 use Rattle.gr_compile.specs.Builds.{result_of}
 use Rattle.gr_compile.specs.declared.unit.Unit.{Unit as PackageUnit}
-use Rattle.gr_finished.specs.Finished.{IsFinished}
+use Rattle.gr_keep.specs.Finished.{IsFinished}
 use Rattle.gr_machine.specs.declared.view.View.{View}
 
 -- reading one file

@@ -11,7 +11,7 @@ use Rattle.gr_graph.proofs.NamedFiles.{file_of, in_package, is_among}
 use Rattle.gr_graph.proofs.SameFiles.{same_files}
 use Rattle.gr_compile.proofs.Part.{own_folder}
 use Rattle.gr_space.proofs.NamedPaths.{one_option}
-use Rattle.gr_finished.specs.Changes.{HasSameFiles, AreChanged}
+use Rattle.gr_keep.specs.Changes.{HasSameFiles, AreChanged}
 use Rattle.gr_inputs.specs.Named.{AddsFolder, KeepsFile}
 
 -- a package that has the same files has the same text at each path

@@ -12,7 +12,7 @@ use Rattle.gr_verdict.proofs.Local.{same_back, same_within, told_there}
 use Rattle.gr_verdict.proofs.Members.{passes}
 use Rattle.gr_verdict.proofs.PackageFiles.{package_file}
 use Rattle.gr_compile.specs.Inputs.{AreInputs, HasClosuresOf}
-use Rattle.gr_finished.proofs.ClosureTexts.{inputs_same, package_there}
+use Rattle.gr_keep.proofs.ClosureTexts.{inputs_same, package_there}
 
 -- verdicts on packages of the inputs are those on the packages in the workspace
 pub found_here : (w inputs : Workspace) → HasClosuresOf w inputs → (found : List KnownVerdict) → AreVerdictsOf inputs found → AreVerdictsOf w found

@@ -29,11 +29,11 @@ use Rattle.gr_verdict.proofs.Members.{one_sorted, passes, passed}
 use Rattle.gr_verdict.proofs.PackageFiles.{package_file, mapped as mapped_from}
 use Rattle.gr_compile.specs.Inputs.{AreGoFiles, AreInputs}
 use Rattle.gr_compile.proofs.Part.{own_folder}
-use Rattle.gr_finished.specs.Changes.{HasSameFiles}
+use Rattle.gr_keep.specs.Changes.{HasSameFiles}
 use Rattle.gr_inputs.specs.Inputs.{ArePackages, faulty_file}
 use Rattle.gr_inputs.proofs.ChangedFiles.{same_texts}
 use Rattle.gr_inputs.proofs.ParsedFiles.{parsed_files}
-use Rattle.gr_finished.proofs.ClosureTexts.{inputs_keep}
+use Rattle.gr_keep.proofs.ClosureTexts.{inputs_keep}
 
 -- ---- two lists place by place
 module _ {X Y : Type 0} (f : X → Y) where

@@ -3,7 +3,7 @@ use Rattle.std.specs.Prelude.{◌≡◌, ℕ, List, length, Some, slice_get}
 use Rattle.gr_text.specs.Packages.{package_paths}
 use Rattle.gr_text.specs.Workspace.{Workspace}
 use Rattle.gr_graph.specs.FaultyFiles.{FaultyParts}
-use Rattle.gr_finished.specs.Changes.{HasSameFiles}
+use Rattle.gr_keep.specs.Changes.{HasSameFiles}
 
 -- a file without a tree by its path and its text
 abbrev pub faulty_file : FaultyParts → List ℕ × List ℕ

@@ -2,11 +2,11 @@
 ghost use Rattle.std.specs.Prelude.{IfOk};
 ghost use Rattle.gr_text.specs.Workspace.{Workspace};
 ghost use Rattle.gr_verdict.specs.Found.{KnowsVerdicts};
-ghost use Rattle.gr_finished.specs.Changes.{AreMarks};
-ghost use Rattle.gr_finished.specs.Finished.{HasNone};
+ghost use Rattle.gr_keep.specs.Changes.{AreMarks};
+ghost use Rattle.gr_keep.specs.Finished.{HasNone};
 ghost use Rattle.gr_keep.specs.Carried.{IsCarried};
 
-use gr_finished::Finished;
+use gr_keep::Finished;
 use gr_graph::Graph;
 use gr_keep::{Marks, none_carried, verdicts_after};
 use gr_verdict::{Known, SharedKnown};

@@ -2,10 +2,10 @@
 ghost use Rattle.std.specs.Prelude.{◌≡◌, ◌↔◌, Contains, IfOk, IsTrue, OnOk};
 ghost use Rattle.gr_graph.specs.Filling.{names};
 ghost use Rattle.gr_graph.specs.Staying.{DiffersOnlyAt};
-ghost use Rattle.gr_finished.specs.Changes.{AreChanged, AreMarks};
+ghost use Rattle.gr_keep.specs.Changes.{AreChanged, AreMarks};
 ghost use Rattle.gr_inputs.specs.Named.{AddsFolder, KeepsFile};
 
-use gr_finished::has_text;
+use gr_keep::has_text;
 use gr_graph::Graph;
 use gr_keep::{Marks, closure_marks};
 use gr_space::MadeChange;

@@ -7,7 +7,7 @@ ghost use Rattle.gr_graph.specs.Graphs.{HoldsPackages, OfPackage};
 ghost use Rattle.gr_graph.specs.Packages.{IsInClosure};
 ghost use Rattle.gr_verdict.specs.Earlier.{tree_file};
 ghost use Rattle.gr_compile.specs.Inputs.{AreInputs};
-ghost use Rattle.gr_finished.specs.Changes.{HasSameFiles};
+ghost use Rattle.gr_keep.specs.Changes.{HasSameFiles};
 ghost use Rattle.gr_inputs.specs.Inputs.{ArePackages, faulty_file};
 
 use gr_compile::PackageInputs;

@@ -13,11 +13,11 @@ use Rattle.gr_graph.proofs.Asked.{number, at_contains}
 use Rattle.gr_verdict.specs.Closures.{HasSameClosure}
 use Rattle.gr_verdict.proofs.Local.{same_back}
 use Rattle.gr_compile.specs.declared.unit.Unit.{Unit as PackageUnit}
-use Rattle.gr_finished.specs.Finished.{Table, HasNone, IsFinished}
-use Rattle.gr_finished.proofs.FinishedUnits.{unit_at}
+use Rattle.gr_keep.specs.Finished.{Table, HasNone, IsFinished}
+use Rattle.gr_keep.proofs.FinishedUnits.{unit_at}
 use Rattle.gr_keep.specs.Carried.{IsCarried}
-use Rattle.gr_finished.specs.Changes.{AreMarks, KeepsUnit}
-use Rattle.gr_finished.proofs.ClosureTexts.{same_texts, same_files, package_there}
+use Rattle.gr_keep.specs.Changes.{AreMarks, KeepsUnit}
+use Rattle.gr_keep.proofs.ClosureTexts.{same_texts, same_files, package_there}
 
 -- the closures have the same texts just where the package is marked neither before nor after
 module _ (v w : Workspace) (p : List ℕ) (before after : List Bool) (old new : ℕ) (a : AreMarks v w before) (b : AreMarks w v after)

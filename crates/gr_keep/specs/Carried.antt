@@ -4,8 +4,8 @@ use Rattle.gr_text.specs.Workspace.{Workspace}
 use Rattle.gr_text.specs.Packages.{package_paths}
 use Rattle.gr_verdict.specs.Closures.{HasSameClosure}
 use Rattle.gr_compile.specs.declared.unit.Unit.{Unit as PackageUnit}
-use Rattle.gr_finished.specs.Changes.{AreMarks}
-use Rattle.gr_finished.specs.Finished.{Table, IsFinished}
+use Rattle.gr_keep.specs.Changes.{AreMarks}
+use Rattle.gr_keep.specs.Finished.{Table, IsFinished}
 use Rattle.gr_keep.specs.declared.changes.Marks.{Marks}
 
 -- Whether the closure of a package has the same texts before and after a change, where these are the marks of the change, and the

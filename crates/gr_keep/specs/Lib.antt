@@ -1,2 +1,4 @@
 -- The definitions of this crate.
 pub mod Carried
+pub mod Finished
+pub mod Changes

@@ -4,13 +4,14 @@ ghost use Rattle.gr_text.specs.Packages.{package_paths};
 ghost use Rattle.gr_text.specs.Workspace.{Workspace};
 ghost use Rattle.gr_graph.specs.Graphs.{OfPackage};
 ghost use Rattle.gr_keep.specs.Carried.{IsCarried, TellsKept};
-ghost use Rattle.gr_finished.specs.Changes.{AreMarks, KeepsUnit};
-ghost use Rattle.gr_finished.specs.Finished.{HasNone};
+ghost use Rattle.gr_keep.specs.Changes.{AreMarks, KeepsUnit};
+ghost use Rattle.gr_keep.specs.Finished.{HasNone};
 
 use crate::changes::Marks;
 use gr_chunks::SharedList;
 use gr_compile::Unit;
-use gr_finished::{Finished, number_near};
+use crate::finished::Finished;
+use crate::near::number_near;
 use gr_graph::Graph;
 use gr_verdict::is_marked;
 use std::alloc::{AllocError, Global};

@@ -1,9 +1,9 @@
 //! In whose closures the packages are that have other files after a change.
 ghost use Rattle.std.specs.Prelude.{IfOk};
 ghost use Rattle.gr_graph.specs.Filling.{names};
-ghost use Rattle.gr_finished.specs.Changes.{MarkClosures};
+ghost use Rattle.gr_keep.specs.Changes.{MarkClosures};
 
-use gr_finished::folder_marks;
+use crate::folders::folder_marks;
 use gr_graph::Graph;
 use std::alloc::{AllocError, Global};
 

@@ -4,11 +4,11 @@ ghost use Rattle.gr_text.specs.Packages.{package_paths};
 ghost use Rattle.gr_graph.specs.Graphs.{OfPackage};
 ghost use Rattle.gr_verdict.specs.Found.{KnowsVerdicts};
 ghost use Rattle.gr_verdict.specs.Told.{MayTell};
-ghost use Rattle.gr_finished.specs.Changes.{AreMarks};
+ghost use Rattle.gr_keep.specs.Changes.{AreMarks};
 
 use crate::carried::keeps_texts;
 use crate::changes::Marks;
-use gr_finished::number_near;
+use crate::near::number_near;
 use gr_graph::Graph;
 use gr_verdict::{Known, KnownVerdict};
 use std::alloc::{AllocError, Global};

@@ -2,9 +2,17 @@
 #![tactic(auto)]
 
 mod carried;
+mod changed;
 mod changes;
+mod finished;
+mod folders;
 mod knowing;
+mod near;
 
 pub use carried::{carried_units, keeps_texts, none_carried};
 pub use changes::{Marks, closure_marks};
 pub use knowing::verdicts_after;
+pub use changed::has_text;
+pub use finished::Finished;
+pub use folders::folder_marks;
+pub use near::number_near;

@@ -17,7 +17,7 @@ use Rattle.gr_compile.specs.declared.job.JobRecord.{JobRecord}
 use Rattle.gr_compile.specs.declared.unit.Unit.{Unit as PackageUnit}
 use Rattle.gr_compile.specs.Units.{IsUnitOf}
 use Rattle.gr_compile.proofs.Locality.{local_unit}
-use Rattle.gr_finished.specs.Finished.{Table, Gains}
+use Rattle.gr_keep.specs.Finished.{Table, Gains}
 use Rattle.gr_machine.specs.declared.event.Event.{Event}
 use Rattle.gr_machine.specs.declared.event.Event.TheVariants.{Look, Log, Commit, Undo, Redo, Take, Deliver, GiveBack}
 use Rattle.gr_machine.specs.declared.event.Reply.{Reply}
@@ -29,7 +29,7 @@ use Rattle.gr_machine.specs.Run.{Run}
 use Rattle.gr_machine.specs.Deliveries.{IsFresh, IsRightlyBuilt}
 use Rattle.gr_machine.specs.Step.{Answers}
 use Rattle.gr_machine.specs.Current.{AreUnits, HasCurrentUnits, UnitsAreCurrent, StepsKeepUnits, FinishedAreCurrent}
-use Rattle.gr_finished.proofs.ClosureTexts.{inputs_same, package_there}
+use Rattle.gr_keep.proofs.ClosureTexts.{inputs_same, package_there}
 
 -- what a list has where it was written
 set_here : {X : Type 0} (xs : List X) (n : ℕ) (y z : X) → slice_get (set xs n y) n ≡ Some z → y ≡ z

@@ -6,8 +6,8 @@ use Rattle.gr_compile.specs.Inputs.{AreInputs}
 use Rattle.gr_compile.specs.declared.built.Built.{Built}
 use Rattle.gr_compile.specs.declared.job.JobRecord.{JobRecord}
 use Rattle.gr_compile.specs.declared.unit.Unit.{Unit as PackageUnit}
-use Rattle.gr_finished.specs.Finished.{Table}
-use Rattle.gr_finished.proofs.FinishedUnits.{unit_at}
+use Rattle.gr_keep.specs.Finished.{Table}
+use Rattle.gr_keep.proofs.FinishedUnits.{unit_at}
 use Rattle.gr_machine.specs.State.{State}
 use Rattle.gr_machine.specs.Deliveries.{IsFresh, HasUnit}
 

@@ -7,7 +7,7 @@ use Rattle.gr_graph.specs.Graphs.{OfPackage}
 use Rattle.gr_graph.proofs.Asked.{at_contains, number}
 use Rattle.gr_compile.specs.Jobs.{JobsOut, IsTaken}
 use Rattle.gr_compile.specs.declared.unit.Unit.{Unit as PackageUnit}
-use Rattle.gr_finished.proofs.FinishedUnits.{unit_at}
+use Rattle.gr_keep.proofs.FinishedUnits.{unit_at}
 use Rattle.gr_machine.specs.State.{State}
 use Rattle.gr_machine.specs.Waiting.{IsWaiting, IsFirstWaiting}
 

@@ -5,7 +5,7 @@ use Rattle.gr_text.specs.Workspace.{Workspace}
 use Rattle.gr_text.specs.declared.limits.Limits.{Limits}
 use Rattle.gr_compile.specs.Units.{IsUnitOf}
 use Rattle.gr_compile.specs.declared.unit.Unit.{Unit as PackageUnit}
-use Rattle.gr_finished.specs.Finished.{Table, IsFinished}
+use Rattle.gr_keep.specs.Finished.{Table, IsFinished}
 use Rattle.gr_machine.specs.declared.event.Event.{Event}
 use Rattle.gr_machine.specs.declared.event.Reply.{Reply}
 use Rattle.gr_machine.specs.State.{State}

@@ -5,7 +5,7 @@ use Rattle.gr_compile.specs.declared.built.Built.{Built}
 use Rattle.gr_compile.specs.declared.job.JobRecord.{JobRecord}
 use Rattle.gr_compile.specs.declared.unit.Unit.{Unit as PackageUnit}
 use Rattle.gr_compile.specs.Units.{IsUnitIn}
-use Rattle.gr_finished.specs.Finished.{IsFinished}
+use Rattle.gr_keep.specs.Finished.{IsFinished}
 use Rattle.gr_machine.specs.State.{State}
 
 -- what was built is of the Job's package, both are of the state's number, and the inputs of both are the texts of the package's

@@ -6,7 +6,7 @@ use Rattle.gr_text.specs.declared.limits.Limits.{Limits}
 use Rattle.gr_compile.specs.Jobs.{JobsOut, Loses, label_of}
 use Rattle.gr_compile.specs.declared.job.JobRecord.{JobRecord}
 use Rattle.gr_compile.specs.declared.unit.Unit.{Unit as PackageUnit}
-use Rattle.gr_finished.specs.Finished.{Table, Gains}
+use Rattle.gr_keep.specs.Finished.{Table, Gains}
 use Rattle.gr_machine.specs.declared.view.View.{View}
 use Rattle.gr_space.specs.declared.snapshot.Snapshot.{Snapshot}
 use Rattle.gr_space.specs.declared.change.Change.{Change}

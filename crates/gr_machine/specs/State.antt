@@ -1,7 +1,7 @@
 -- A state of the history.
 use Rattle.std.specs.Prelude.{ℕ}
 use Rattle.gr_text.specs.Workspace.{Workspace}
-use Rattle.gr_finished.specs.Finished.{Table}
+use Rattle.gr_keep.specs.Finished.{Table}
 
 pub record State : Type 0 where
   pub number : ℕ

@@ -6,7 +6,7 @@ use Rattle.gr_text.specs.declared.refusal.Refusal.TheVariants.{Memory, Moved, No
 use Rattle.gr_compile.specs.Jobs.{IsOut, JobsOut, label_of, with_job}
 use Rattle.gr_compile.specs.declared.built.Built.{Built}
 use Rattle.gr_compile.specs.declared.job.JobRecord.{JobRecord}
-use Rattle.gr_finished.specs.Finished.{Table}
+use Rattle.gr_keep.specs.Finished.{Table}
 use Rattle.gr_machine.specs.declared.view.View.{View}
 use Rattle.gr_machine.specs.declared.event.Event.{Event}
 use Rattle.gr_machine.specs.declared.event.Event.TheVariants.{Look, Log, Commit, Undo, Redo, Take, Deliver, GiveBack}

@@ -7,7 +7,7 @@ use Rattle.gr_compile.specs.Inputs.{AreInputs}
 use Rattle.gr_compile.specs.Jobs.{JobsOut, IsTaken}
 use Rattle.gr_compile.specs.declared.job.JobRecord.{JobRecord}
 use Rattle.gr_compile.specs.declared.unit.Unit.{Unit as PackageUnit}
-use Rattle.gr_finished.specs.Finished.{IsFinished}
+use Rattle.gr_keep.specs.Finished.{IsFinished}
 use Rattle.gr_machine.specs.State.{State}
 use Rattle.gr_machine.specs.Machine.{Content}
 

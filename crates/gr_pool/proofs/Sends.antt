@@ -24,7 +24,7 @@ use Rattle.gr_verdict.specs.contracts.known.Known.{the_row as known}
 use Rattle.gr_verdict.specs.contracts.shared_known.SharedKnown.{the_row as shared_known}
 use Rattle.gr_compile.specs.contracts.unit.Compiled.{the_row as compiled}
 use Rattle.gr_compile.specs.contracts.unit.Unit.{the_row as unit}
-use Rattle.gr_finished.specs.contracts.finished.Finished.{the_row as finished}
+use Rattle.gr_keep.specs.contracts.finished.Finished.{the_row as finished}
 use Rattle.gr_machine.specs.contracts.state.State.{the_row as state}
 use Rattle.gr_content.specs.contracts.history.History.{the_field as history_field}
 use Rattle.gr_content.specs.contracts.content.Content.{the_row as content}

@@ -2,7 +2,7 @@
 ghost use Rattle.std.specs.Prelude.{◌↔◌, IsTrue};
 ghost use Rattle.gr_pool.specs.Call.{HasUnit, IsBuilt};
 
-use gr_finished::Finished;
+use gr_keep::Finished;
 use gr_machine::View;
 
 /// Whether the package of a number is finished.

@@ -2,8 +2,8 @@
 use Rattle.std.proofs.Common.{Bool, List, length, ap, subst, ◌∙◌}
 use Rattle.std.proofs.lemmas.Result.{IfOk-weaker}
 use Rattle.gr_graph.specs.Reaching.{MarkReaching}
-use Rattle.gr_finished.specs.Changes.{MarkClosures}
-use Rattle.gr_finished.proofs.ChangedFolders.{closures_marked}
+use Rattle.gr_keep.specs.Changes.{MarkClosures}
+use Rattle.gr_keep.proofs.ChangedFolders.{closures_marked}
 use Rattle.gr_affected.specs.Marking.{folders_of}
 use Rattle.gr_affected.proofs.marking.reaching_marks.Goals as goal
 

@@ -1,6 +1,6 @@
 -- The package of one more changed file, if there is one, is marked.
 use Rattle.std.proofs.Common.{◌+◌, Bool, Global, Vec, take, sym, subst}
-use Rattle.gr_finished.specs.Changes.{MarkFolders}
+use Rattle.gr_keep.specs.Changes.{MarkFolders}
 use Rattle.gr_affected.specs.Marking.{folders_of}
 use Rattle.gr_affected.proofs.Marked.{mark_one, mark_none}
 use Rattle.gr_affected.proofs.marking.touched_marks.Goals.{in-Some, in_default}

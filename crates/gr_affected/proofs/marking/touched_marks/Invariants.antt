@@ -1,6 +1,6 @@
 -- The packages are marked that hold one of the changed files that were passed.
 use Rattle.std.proofs.Common.{take}
-use Rattle.gr_finished.specs.Changes.{MarkFolders}
+use Rattle.gr_keep.specs.Changes.{MarkFolders}
 use Rattle.gr_affected.specs.Marking.{folders_of}
 use Rattle.gr_affected.proofs.marking.touched_marks.Given as goal
 

@@ -3,7 +3,7 @@ use Rattle.std.proofs.Common.{◌≡◌, ap, sym, subst}
 use Rattle.std.specs.Prelude.{IfOk}
 use Rattle.gr_edit.specs.EditSet.{FileChanges, edited}
 use Rattle.gr_text.specs.Workspace.{Workspace}
-use Rattle.gr_finished.specs.Changes.{AreMarks}
+use Rattle.gr_keep.specs.Changes.{AreMarks}
 use Rattle.gr_revision.specs.RevisionsOfEdits.{revision_of}
 use Rattle.gr_space.specs.declared.change.Change.{Change}
 use Rattle.gr_check.specs.Preserved.{TellsPreserved}

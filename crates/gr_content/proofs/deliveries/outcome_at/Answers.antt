@@ -6,7 +6,7 @@ use Rattle.std.proofs.lemmas.Option.{slice_get_within}
 use Rattle.gr_text.specs.Packages.{package_paths}
 use Rattle.gr_verdict.specs.Found.{KnowsVerdicts}
 use Rattle.gr_compile.specs.declared.unit.Unit.{Unit as PackageUnit}
-use Rattle.gr_finished.specs.Finished.{Table}
+use Rattle.gr_keep.specs.Finished.{Table}
 use Rattle.gr_machine.specs.State.{State}
 use Rattle.gr_compile.specs.Inputs.{HasClosuresOf}
 use Rattle.gr_inputs.proofs.LearnedVerdicts.{inputs_closures}

@@ -2,7 +2,7 @@
 use Rattle.std.proofs.Common.{sym, subst}
 use Rattle.std.proofs.lemmas.Result.{IfOk-weaker}
 use Rattle.gr_text.specs.Workspace.{Workspace}
-use Rattle.gr_finished.specs.Finished.{HasNone}
+use Rattle.gr_keep.specs.Finished.{HasNone}
 use Rattle.gr_keep.specs.Carried.{IsCarried}
 use Rattle.gr_machine.specs.State.{State}
 use Rattle.gr_content.proofs.following.carried_bare.Goals as goal

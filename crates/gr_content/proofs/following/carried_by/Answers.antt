@@ -1,6 +1,6 @@
 -- The marks are those of a change of the state's files.
 use Rattle.std.proofs.Common.{sym, subst}
-use Rattle.gr_finished.specs.Changes.{AreMarks}
+use Rattle.gr_keep.specs.Changes.{AreMarks}
 use Rattle.gr_keep.specs.Carried.{IsCarried}
 use Rattle.gr_machine.specs.State.{State}
 use Rattle.gr_content.proofs.following.carried_by.Goals as goal

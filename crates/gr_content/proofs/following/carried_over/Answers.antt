@@ -2,7 +2,7 @@
 use Rattle.std.proofs.Common.{IfOk, sym, ap, subst, ◌∙◌}
 use Rattle.gr_space.specs.declared.change.Change.{Change}
 use Rattle.gr_verdict.specs.Found.{KnowsVerdicts}
-use Rattle.gr_finished.specs.Changes.{AreMarks}
+use Rattle.gr_keep.specs.Changes.{AreMarks}
 use Rattle.gr_keep.specs.Carried.{IsCarried}
 use Rattle.gr_machine.specs.State.{State}
 use Rattle.gr_content.proofs.following.carried_over.Goals as goal

@@ -1,7 +1,7 @@
 -- The table of the state is asked.
 use Rattle.std.proofs.Common.{subst}
 use Rattle.std.proofs.lemmas.Bool.{false≢true}
-use Rattle.gr_finished.specs.Finished.{HasNone}
+use Rattle.gr_keep.specs.Finished.{HasNone}
 use Rattle.gr_machine.specs.State.{State}
 use Rattle.gr_content.proofs.following.has_nothing.Goals as goal
 

@@ -3,7 +3,7 @@ use Rattle.std.proofs.Common.{◌≡◌, Some, slice_get, ap, subst, ◌∙◌}
 use Rattle.gr_text.specs.Packages.{package_paths}
 use Rattle.gr_text.specs.Workspace.{Workspace}
 use Rattle.gr_graph.proofs.Asked.{at_contains}
-use Rattle.gr_finished.proofs.FinishedUnits.{unit_at}
+use Rattle.gr_keep.proofs.FinishedUnits.{unit_at}
 use Rattle.gr_desk.proofs.queries.object.Goals as goal
 
 pub returns-in_default-get : goal.returns-in_default-get

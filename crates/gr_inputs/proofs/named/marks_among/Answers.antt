@@ -1,8 +1,8 @@
 -- The marks of both workspaces.
 use Rattle.std.proofs.Common.{Bor, List, ℕ, subst}
 use Rattle.gr_graph.specs.Filling.{names}
-use Rattle.gr_finished.specs.Changes.{MarkClosures}
-use Rattle.gr_finished.proofs.ChangedFolders.{marks_before, marks_after}
+use Rattle.gr_keep.specs.Changes.{MarkClosures}
+use Rattle.gr_keep.proofs.ChangedFolders.{marks_before, marks_after}
 use Rattle.gr_inputs.proofs.named.marks_among.Goals as goal
 
 pub returns-clause-before : goal.returns-clause-before

@@ -3,7 +3,7 @@ use Rattle.std.proofs.Common.{Bor, IfOk, List, ℕ, sym, ap, subst}
 use Rattle.gr_text.specs.Workspace.{Workspace}
 use Rattle.gr_graph.specs.Filling.{names}
 use Rattle.gr_graph.specs.Staying.{DiffersOnlyAt}
-use Rattle.gr_finished.specs.Changes.{AreMarks}
+use Rattle.gr_keep.specs.Changes.{AreMarks}
 use Rattle.gr_space.specs.declared.change.Change.{Change}
 use Rattle.gr_inputs.proofs.named.marks_of.Goals as goal
 

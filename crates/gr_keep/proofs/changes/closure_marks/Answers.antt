@@ -3,8 +3,8 @@ use Rattle.std.proofs.Common.{Bool, List, subst, ◌∙◌, ap, length}
 use Rattle.std.proofs.lemmas.Result.{IfOk-weaker}
 use Rattle.gr_graph.specs.Filling.{names}
 use Rattle.gr_graph.specs.Reaching.{MarkReaching}
-use Rattle.gr_finished.specs.Changes.{MarkClosures}
-use Rattle.gr_finished.proofs.ChangedFolders.{closures_marked}
+use Rattle.gr_keep.specs.Changes.{MarkClosures}
+use Rattle.gr_keep.proofs.ChangedFolders.{closures_marked}
 use Rattle.gr_keep.proofs.changes.closure_marks.Goals as goal
 
 pub reaching-requires : goal.reaching-requires

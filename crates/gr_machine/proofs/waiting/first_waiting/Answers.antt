@@ -1,6 +1,6 @@
 -- What is finished at the front of the table does not wait.
 use Rattle.std.proofs.Common.{subst}
-use Rattle.gr_finished.specs.Finished.{AreFinishedBelow}
+use Rattle.gr_keep.specs.Finished.{AreFinishedBelow}
 use Rattle.gr_machine.specs.State.{State}
 use Rattle.gr_machine.proofs.waiting.first_waiting.Goals as goal
 

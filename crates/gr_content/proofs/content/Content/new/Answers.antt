@@ -3,7 +3,7 @@ use Rattle.std.proofs.Common.{◌≡◌, ℕ, List, length, sym, ap, subst, ◌�
 use Rattle.gr_text.specs.Packages.{package_paths}
 use Rattle.gr_text.specs.Workspace.{Workspace}
 use Rattle.gr_verdict.specs.Found.{KnowsVerdicts}
-use Rattle.gr_finished.specs.Finished.{Table}
+use Rattle.gr_keep.specs.Finished.{Table}
 use Rattle.gr_graph.proofs.UpdatedPackages.{no_paths}
 use Rattle.gr_content.proofs.content.Content.new.Goals as goal
 

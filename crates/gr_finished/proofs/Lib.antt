@@ -1,4 +1,0 @@
--- The lemmas of this crate.
-pub mod FinishedUnits
-pub mod ClosureTexts
-pub mod ChangedFolders
