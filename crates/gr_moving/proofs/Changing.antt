@@ -20,10 +20,10 @@ use Rattle.gr_edit.proofs.Changes.{change_found, change_held}
 use Rattle.gr_edit.proofs.Entries.{none_from}
 use Rattle.gr_edit.proofs.Searched.{one_way_sorted}
 use Rattle.gr_renaming.proofs.Sources.{entries_in_order}
-use Rattle.gr_moved_paths.specs.declared.moved.Moved.{Moved}
-use Rattle.gr_moved_paths.specs.Paths.{IsUnder}
+use Rattle.gr_moving.specs.declared.moved.Moved.{Moved}
+use Rattle.gr_moving.specs.Paths.{IsUnder}
 use Rattle.gr_moving.specs.Changes.{MovesOrEdits}
-use Rattle.gr_moved_paths.specs.Steps.{TellsNewPath}
+use Rattle.gr_moving.specs.PathSteps.{TellsNewPath}
 use Rattle.gr_moving.specs.Steps.{EditMap, edits_found, change_by, TellsChange, TellsChanges, AreChangesOf, none, kept, changed}
 
 abbrev pub Files : Type 0

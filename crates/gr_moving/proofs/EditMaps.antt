@@ -13,7 +13,7 @@ use Rattle.gr_edit.specs.declared.edit.Edit.{Edit}
 use Rattle.gr_edit.proofs.Entries.{exact_path}
 use Rattle.gr_bound.specs.Workspaces.{IsPackageAt}
 use Rattle.gr_bound.proofs.Units.{one_at}
-use Rattle.gr_moved_paths.specs.declared.moved.Moved.{Moved}
+use Rattle.gr_moving.specs.declared.moved.Moved.{Moved}
 use Rattle.gr_moving.specs.Changes.{AreGoEdits}
 use Rattle.gr_moving.specs.FileEdits.{AreFileEdits}
 use Rattle.gr_moving.specs.Steps.{EditMap, edits_for, AddsEdits, IsFileAt, AreEditsAt, HasFileIn, AreEditsIn, KnowsEdits}

@@ -19,12 +19,12 @@ use Rattle.gr_edit.specs.declared.edit.Edit.{Edit}
 use Rattle.gr_edit.proofs.Held.{nothing_in}
 use Rattle.gr_edit.proofs.Entries.{entry_of, get_entry, value_of}
 use Rattle.gr_bound.specs.Workspaces.{IsSound, known_in}
-use Rattle.gr_moved_paths.specs.declared.moved.Moved.{Moved}
-use Rattle.gr_moved_paths.specs.Paths.{IsUnder, HasMoved, HasMovedFile}
+use Rattle.gr_moving.specs.declared.moved.Moved.{Moved}
+use Rattle.gr_moving.specs.Paths.{IsUnder, HasMoved, HasMovedFile}
 use Rattle.gr_moving.specs.Changes.{AreGoEdits, AreEditsOf, IsPathAfter, MovesOrEdits}
 use Rattle.gr_moving.specs.MoveEdits.{IsMoveOf, AreMoveEdits, HoldsNoOther}
 use Rattle.gr_moving.specs.Steps.{EditMap, edits_for, edits_or_none, edits_found, KnowsEdits, AreChangesOf}
-use Rattle.gr_moved_paths.proofs.PathParts.{one_source, moved_under}
+use Rattle.gr_moving.proofs.PathParts.{one_source, moved_under}
 use Rattle.gr_moving.proofs.GoFiles.{text_of_file, package_of_file}
 use Rattle.gr_moving.proofs.Changing.{change_from, file_cases, change_is, change_is_none, changes_in_order}
 use Rattle.gr_moving.proofs.Targets.{targets_are_distinct}

@@ -8,3 +8,4 @@ pub mod Changing
 pub mod Targets
 pub mod Fitting
 pub mod Planning
+pub mod PathParts

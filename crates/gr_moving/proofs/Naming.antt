@@ -26,7 +26,7 @@ use Rattle.gr_asked.proofs.OnePlace.{same_files}
 use Rattle.gr_bound.specs.Standing.{InPackage}
 use Rattle.gr_bound.proofs.Packages.{package_there, in_package, of_package}
 use Rattle.gr_naming.specs.NewName.{IsNewName, IsReserved}
-use Rattle.gr_moved_paths.specs.Paths.{last_of}
+use Rattle.gr_moving.specs.Paths.{last_of}
 use Rattle.gr_moving.specs.Following.{Follows}
 use Rattle.gr_moving.specs.Steps.{MayFollow}
 

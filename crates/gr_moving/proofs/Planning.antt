@@ -12,8 +12,8 @@ use Rattle.gr_edit.specs.EditSet.{FileChanges}
 use Rattle.gr_edit.specs.declared.change.FileChange.{FileChange}
 use Rattle.gr_edit.proofs.Entries.{get_entry, some_is}
 use Rattle.gr_bound.specs.Workspaces.{IsSound, known_in}
-use Rattle.gr_moved_paths.specs.declared.moved.Moved.{Moved}
-use Rattle.gr_moved_paths.specs.Paths.{HasMoved}
+use Rattle.gr_moving.specs.declared.moved.Moved.{Moved}
+use Rattle.gr_moving.specs.Paths.{HasMoved}
 use Rattle.gr_moving.specs.MoveEdits.{IsMoveOf, HoldsNoOther, PlansMoveEdits}
 use Rattle.gr_moving.specs.Steps.{EditMap, KnowsEdits, AreChangesOf, TellsChanges}
 use Rattle.gr_moving.proofs.Fitting.{are_move_edits, fits}

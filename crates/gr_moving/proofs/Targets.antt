@@ -16,10 +16,10 @@ use Rattle.gr_edit.specs.Fits.{new_path}
 use Rattle.gr_edit.specs.declared.change.FileChange.{FileChange}
 use Rattle.gr_edit.proofs.Held.{first_in, later_in}
 use Rattle.gr_edit.proofs.Entries.{not_true}
-use Rattle.gr_moved_paths.specs.declared.moved.Moved.{Moved}
-use Rattle.gr_moved_paths.specs.Paths.{HasMoved}
+use Rattle.gr_moving.specs.declared.moved.Moved.{Moved}
+use Rattle.gr_moving.specs.Paths.{HasMoved}
 use Rattle.gr_moving.specs.Changes.{MovesOrEdits}
-use Rattle.gr_moved_paths.proofs.PathParts.{one_source}
+use Rattle.gr_moving.proofs.PathParts.{one_source}
 
 abbrev target : FileChange → Option (List ℕ)
 target c = new_path c.fate

@@ -21,11 +21,11 @@ use Rattle.gr_bound.specs.Bindings.{AddsAll}
 use Rattle.gr_bound.proofs.AddingAll.{BelowAll, next_below, all_none, all_as}
 use Rattle.gr_renaming.specs.FileEdits.{EndBy}
 use Rattle.gr_renaming.proofs.Editing.{all_one, end_more, end_push, follow_at, at_end}
-use Rattle.gr_moved_paths.specs.declared.moved.Moved.{Moved}
-use Rattle.gr_moved_paths.specs.Paths.{quoted, HasMovedPackage}
+use Rattle.gr_moving.specs.declared.moved.Moved.{Moved}
+use Rattle.gr_moving.specs.Paths.{quoted, HasMovedPackage}
 use Rattle.gr_moving.specs.FileEdits.{ReplacesPath, ReplacesName, IsEditAt, AreFileEdits}
 use Rattle.gr_moving.specs.Steps.{IsNewLiteral, edits_with}
-use Rattle.gr_moved_paths.proofs.PathParts.{one_moved_package}
+use Rattle.gr_moving.proofs.PathParts.{one_moved_package}
 
 -- one edit of each kind
 

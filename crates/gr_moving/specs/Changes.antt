@@ -9,8 +9,8 @@ use Rattle.gr_edit.specs.declared.change.FileChange.{FileChange}
 use Rattle.gr_edit.specs.declared.change.Fate.TheVariants.{Stays, Moves}
 use Rattle.gr_edit.specs.declared.edit.Edit.{Edit}
 use Rattle.gr_bound.specs.Uses.{IsPackage}
-use Rattle.gr_moved_paths.specs.declared.moved.Moved.{Moved}
-use Rattle.gr_moved_paths.specs.Paths.{IsUnder, HasMovedFile}
+use Rattle.gr_moving.specs.declared.moved.Moved.{Moved}
+use Rattle.gr_moving.specs.Paths.{IsUnder, HasMovedFile}
 use Rattle.gr_moving.specs.FileEdits.{AreFileEdits}
 
 -- the edits of the Go file of a path, which is a file of some package

@@ -11,8 +11,8 @@ use Rattle.gr_imports.specs.Laid.{literal_of}
 use Rattle.gr_declared.specs.Package.{Package}
 use Rattle.gr_declared.specs.Written.{BindsToken, ImportsPath}
 use Rattle.gr_renaming.specs.FileEdits.{EndBy}
-use Rattle.gr_moved_paths.specs.declared.moved.Moved.{Moved}
-use Rattle.gr_moved_paths.specs.Paths.{HasMovedPackage, quoted}
+use Rattle.gr_moving.specs.declared.moved.Moved.{Moved}
+use Rattle.gr_moving.specs.Paths.{HasMovedPackage, quoted}
 
 -- the token is the literal of an import of a package that moves, and gets the new path
 pub record ReplacesPath (f : SourceFile) (m : Moved) (i : ℕ) (e : Edit) : Type 0 where

@@ -4,7 +4,7 @@ use Rattle.gr_imports.specs.Files.{package_name}
 use Rattle.gr_declared.specs.Package.{Package}
 use Rattle.gr_bound.specs.Standing.{InPackage}
 use Rattle.gr_naming.specs.NewName.{IsNewName, IsReserved}
-use Rattle.gr_moved_paths.specs.Paths.{last_of}
+use Rattle.gr_moving.specs.Paths.{last_of}
 
 -- the package is called as the last element of its path, and that of the new path is another name that a package may have
 pub record Follows (IsPackage : Package → Type 0) (from to : List ℕ) : Type 0 where

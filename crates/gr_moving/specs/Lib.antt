@@ -4,3 +4,5 @@ pub mod FileEdits
 pub mod Changes
 pub mod MoveEdits
 pub mod Steps
+pub mod Paths
+pub mod PathSteps

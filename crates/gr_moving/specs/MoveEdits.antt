@@ -11,8 +11,8 @@ use Rattle.gr_edit.specs.Fits.{Fits, path_after}
 use Rattle.gr_edit.specs.Moved.{edits_by}
 use Rattle.gr_edit.specs.declared.change.FileChange.{FileChange}
 use Rattle.gr_bound.specs.Uses.{IsPackage}
-use Rattle.gr_moved_paths.specs.declared.moved.Moved.{Moved}
-use Rattle.gr_moved_paths.specs.Paths.{IsUnder, HasMoved}
+use Rattle.gr_moving.specs.declared.moved.Moved.{Moved}
+use Rattle.gr_moving.specs.Paths.{IsUnder, HasMoved}
 use Rattle.gr_moving.specs.Following.{IsNameAfter}
 use Rattle.gr_moving.specs.Changes.{AreEditsOf, IsPathAfter, MovesOrEdits}
 

@@ -19,9 +19,9 @@ use Rattle.gr_edit.specs.declared.change.Fate.TheVariants.{Stays, Moves}
 use Rattle.gr_edit.specs.declared.edit.Edit.{Edit}
 use Rattle.gr_bound.specs.Workspaces.{IsPackageAt}
 use Rattle.gr_naming.specs.NewName.{IsNewName, IsReserved}
-use Rattle.gr_moved_paths.specs.declared.moved.Moved.{Moved}
-use Rattle.gr_moved_paths.specs.Steps.{HasNoPathFor}
-use Rattle.gr_moved_paths.specs.Paths.{IsUnder, HasMovedPackage, quoted}
+use Rattle.gr_moving.specs.declared.moved.Moved.{Moved}
+use Rattle.gr_moving.specs.PathSteps.{HasNoPathFor}
+use Rattle.gr_moving.specs.Paths.{IsUnder, HasMovedPackage, quoted}
 use Rattle.gr_moving.specs.FileEdits.{AreFileEdits}
 use Rattle.gr_moving.specs.Changes.{AreGoEdits, MovesOrEdits}
 

@@ -15,7 +15,7 @@ use crate::marks::import_marks;
 use crate::names::is_package_name;
 use gr_declared::{Index, Package};
 use gr_edit::Edit;
-use gr_moved_paths::Moved;
+use crate::moved::Moved;
 use gr_scan::{Class, Piece};
 use gr_text::{FileText, Span};
 use gr_tree::FileTree;

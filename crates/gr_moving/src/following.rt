@@ -6,7 +6,7 @@ ghost use Rattle.gr_bound.specs.Uses.{IsPackage};
 ghost use Rattle.gr_bound.specs.Workspaces.{IsSound, known_in};
 ghost use Rattle.gr_bound.specs.Standing.{InPackage};
 ghost use Rattle.gr_naming.specs.NewName.{IsNewName, IsReserved};
-ghost use Rattle.gr_moved_paths.specs.Paths.{last_of};
+ghost use Rattle.gr_moving.specs.Paths.{last_of};
 ghost use Rattle.gr_moving.specs.Following.{Follows, IsNameAfter};
 ghost use Rattle.gr_moving.specs.Steps.{MayFollow};
 

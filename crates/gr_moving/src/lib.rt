@@ -6,8 +6,14 @@ mod file_edits;
 mod following;
 mod literals;
 mod marks;
+mod moved;
 mod moving;
 mod names;
 mod package_edits;
+mod paths;
+mod quoting;
 
 pub use moving::move_edits;
+pub use moved::Moved;
+pub use paths::{is_under, new_path};
+pub use quoting::quoted_path;

@@ -4,7 +4,8 @@ ghost use Rattle.gr_tree.specs.SourceFile.{source_of};
 ghost use Rattle.gr_moving.specs.Steps.{IsNewLiteral};
 
 use gr_imports::literal;
-use gr_moved_paths::{Moved, quoted_path};
+use crate::moved::Moved;
+use crate::quoting::quoted_path;
 use gr_text::FileText;
 use gr_tree::FileTree;
 use std::alloc::{AllocError, Global};

@@ -9,7 +9,7 @@ use crate::following::name_after;
 use crate::package_edits::all_edits;
 use gr_edit::{EditSet, FileChange};
 use gr_graph::Graph;
-use gr_moved_paths::Moved;
+use crate::moved::Moved;
 use gr_text::{Path, Refusal};
 use gr_verdict::Findings;
 use std::alloc::{AllocError, Global};

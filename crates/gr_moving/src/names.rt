@@ -9,7 +9,7 @@ ghost use Rattle.gr_moving.specs.FileEdits.{IsClauseName, IsImportUse};
 
 use gr_declared::{Index, Package};
 use gr_imports::{clause_token, literal_of};
-use gr_moved_paths::Moved;
+use crate::moved::Moved;
 use gr_tree::FileTree;
 
 /// Whether a path was found, and is this one.

@@ -17,7 +17,7 @@ use gr_declared::{Index, Interfaces, Package};
 use gr_edit::Edits;
 use gr_expr::symbol::SharedPath;
 use gr_graph::Graph;
-use gr_moved_paths::Moved;
+use crate::moved::Moved;
 use gr_scope::table::ScopeTable;
 use gr_text::Path;
 use gr_tree::FileTree;

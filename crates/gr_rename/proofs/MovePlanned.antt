@@ -24,7 +24,7 @@ use Rattle.gr_space.specs.Fits.{FitsLimits}
 use Rattle.gr_space.specs.declared.snapshot.Snapshot.{Snapshot}
 use Rattle.gr_space.specs.declared.change.Change.{Change}
 use Rattle.gr_text.specs.Workspace.{Workspace}
-use Rattle.gr_moved_paths.specs.Paths.{IsUnder}
+use Rattle.gr_moving.specs.Paths.{IsUnder}
 use Rattle.gr_moving.specs.MoveEdits.{AreMoveEdits, HasNoNewPath, IsFree, HoldsNoOther, PlansMoveEdits}
 use Rattle.gr_rename.specs.MovePlan.{IsAsked, IsElsewhere, IsBeside, IsMovable, IsMoving, IsNaming, PlansMove}
 use Rattle.gr_rename.specs.MoveSteps.{moving_by, ArePaths, RefusesTarget, RefusesConflict, RefusesLength, PlansEdits, PlansIn}

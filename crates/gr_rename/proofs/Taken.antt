@@ -5,7 +5,7 @@ use Rattle.std.specs.FinMap.{entries, get}
 use Rattle.gr_text.specs.Workspace.{Workspace}
 use Rattle.gr_edit.proofs.Held.{nothing_in, first_in, later_in, first_or_later}
 use Rattle.gr_edit.proofs.Entries.{entry_of, get_entry, value_of, some_is}
-use Rattle.gr_moved_paths.specs.Paths.{IsUnder}
+use Rattle.gr_moving.specs.Paths.{IsUnder}
 use Rattle.gr_moving.specs.MoveEdits.{IsFree}
 use Rattle.gr_rename.specs.MovePlan.{IsTaken}
 

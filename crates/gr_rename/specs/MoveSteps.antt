@@ -16,7 +16,7 @@ use Rattle.gr_space.specs.Fits.{FitsLimits}
 use Rattle.gr_space.specs.declared.snapshot.Snapshot.{Snapshot}
 use Rattle.gr_space.specs.declared.change.Change.{Change}
 use Rattle.gr_space.specs.declared.change.ChangeKind.TheVariants.{Move}
-use Rattle.gr_moved_paths.specs.Paths.{IsUnder}
+use Rattle.gr_moving.specs.Paths.{IsUnder}
 use Rattle.gr_moving.specs.MoveEdits.{IsFree}
 use Rattle.gr_rename.specs.MovePlan.{IsToldOf, IsTaken, HasConflict, HasNameConflict, IsTooLong, IsTooLarge, IsMoved}
 

@@ -6,7 +6,7 @@ ghost use Rattle.gr_rename.specs.MovePlan.{IsTaken};
 ghost use Rattle.gr_rename.specs.MoveSteps.{RefusesTarget};
 
 use gr_graph::Graph;
-use gr_moved_paths::is_under;
+use gr_moving::is_under;
 use gr_text::{Files, Path, Refusal};
 
 /// Whether a path is that of a package.

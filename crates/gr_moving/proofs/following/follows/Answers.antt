@@ -3,7 +3,7 @@ use Rattle.std.proofs.Common.{◌≡◌, sym, ◌∙◌}
 use Rattle.std.proofs.lemmas.Bool.{false≢true}
 use Rattle.gr_bound.specs.Uses.{IsPackage}
 use Rattle.gr_bound.specs.Workspaces.{known_in}
-use Rattle.gr_moved_paths.specs.Paths.{last_of}
+use Rattle.gr_moving.specs.Paths.{last_of}
 use Rattle.gr_moving.proofs.Naming.{follows_with, may_from}
 use Rattle.gr_moving.proofs.following.follows.Goals as goal
 

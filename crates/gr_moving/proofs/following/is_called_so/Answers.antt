@@ -2,7 +2,7 @@
 use Rattle.std.proofs.Common.{◌≡◌, ap, sym, ◌∙◌}
 use Rattle.std.specs.Prelude.{Some, slice_get}
 use Rattle.gr_text.specs.Packages.{package_paths}
-use Rattle.gr_moved_paths.specs.Paths.{last_of}
+use Rattle.gr_moving.specs.Paths.{last_of}
 use Rattle.gr_moving.proofs.Naming.{called_in}
 use Rattle.gr_moving.proofs.following.is_called_so.Goals as goal
 

@@ -4,7 +4,7 @@ use Rattle.std.specs.Prelude.{MatchOption}
 use Rattle.std.proofs.lemmas.Result.{IfOk-weaker}
 use Rattle.gr_tree.specs.SourceFile.{source_of}
 use Rattle.gr_imports.specs.Files.{HasLiteral}
-use Rattle.gr_moved_paths.specs.Paths.{HasMovedPackage, quoted}
+use Rattle.gr_moving.specs.Paths.{HasMovedPackage, quoted}
 use Rattle.gr_moving.specs.Steps.{IsNewLiteral}
 use Rattle.gr_moving.proofs.TokenEdits.{no_literal, the_literal, literal_told}
 use Rattle.gr_moving.proofs.literals.new_literal.Goals as goal

@@ -1,7 +1,7 @@
 //! The new paths of packages that move, in double quotes.
 ghost use Rattle.std.specs.Prelude.{ℕ, List, ◌≡◌, ◌↔◌, ◌++◌, IsTrue, IfOk, MatchOption};
-ghost use Rattle.gr_moved_paths.specs.Paths.{HasMovedPackage, quoted};
-ghost use Rattle.gr_moved_paths.specs.Steps.{IsBehind};
+ghost use Rattle.gr_moving.specs.Paths.{HasMovedPackage, quoted};
+ghost use Rattle.gr_moving.specs.PathSteps.{IsBehind};
 
 use crate::moved::Moved;
 use gr_text::FileText;

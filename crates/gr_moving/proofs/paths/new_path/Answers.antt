@@ -1,7 +1,7 @@
 -- The answers to the goals of `paths::new_path`.
 use Rattle.std.proofs.Common.{◌≡◌, ◌∷◌, ◌++◌, rules}
-use Rattle.gr_moved_paths.proofs.PathParts.{moved_file, refused}
-use Rattle.gr_moved_paths.proofs.paths.new_path.Goals as goal
+use Rattle.gr_moving.proofs.PathParts.{moved_file, refused}
+use Rattle.gr_moving.proofs.paths.new_path.Goals as goal
 
 pub returns-in-Err : goal.returns-in-Err
 returns-in-Err c =

@@ -1,7 +1,7 @@
 //! The paths of files in the folder that is moved.
 ghost use Rattle.std.specs.Prelude.{◌≡◌, ◌↔◌, ◌++◌, ◌∷◌, IsTrue, IfOk, MatchOption, string_bytes};
-ghost use Rattle.gr_moved_paths.specs.Paths.{IsUnder};
-ghost use Rattle.gr_moved_paths.specs.Steps.{ReadsNewPath, TellsNewPath};
+ghost use Rattle.gr_moving.specs.Paths.{IsUnder};
+ghost use Rattle.gr_moving.specs.PathSteps.{ReadsNewPath, TellsNewPath};
 
 use crate::moved::Moved;
 use gr_text::{Path, Refusal};

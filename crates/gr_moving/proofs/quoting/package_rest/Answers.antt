@@ -2,8 +2,8 @@
 use Rattle.std.proofs.Common.{◌≡◌, sym, subst, ◌∙◌}
 use Rattle.std.proofs.lemmas.Bool.{false≢true}
 use Rattle.std.proofs.lemmas.List.{append_cancel_left}
-use Rattle.gr_moved_paths.specs.Steps.{IsBehind}
-use Rattle.gr_moved_paths.proofs.quoting.package_rest.Goals as goal
+use Rattle.gr_moving.specs.PathSteps.{IsBehind}
+use Rattle.gr_moving.proofs.quoting.package_rest.Goals as goal
 
 pub returns-else-is_behind : goal.returns-else-is_behind
 returns-else-is_behind c = λ rest e behind.

@@ -9,9 +9,9 @@ use Rattle.gr_text.specs.Path.{IsPath}
 use Rattle.gr_text.specs.declared.refusal.Refusal.{Refusal}
 use Rattle.gr_text.specs.declared.refusal.Refusal.TheVariants.{Memory, TooLarge}
 use Rattle.std.specs.Prelude.{Ok, Err}
-use Rattle.gr_moved_paths.specs.declared.moved.Moved.{Moved}
-use Rattle.gr_moved_paths.specs.Paths.{IsUnder, HasMoved, HasMovedPackage}
-use Rattle.gr_moved_paths.specs.Steps.{IsBehind, ReadsNewPath, TellsNewPath}
+use Rattle.gr_moving.specs.declared.moved.Moved.{Moved}
+use Rattle.gr_moving.specs.Paths.{IsUnder, HasMoved, HasMovedPackage}
+use Rattle.gr_moving.specs.PathSteps.{IsBehind, ReadsNewPath, TellsNewPath}
 
 -- what stands behind other bytes
 

@@ -1,7 +1,7 @@
 -- The answers to the goals of `quoting::quoted_path`.
 use Rattle.std.proofs.Common.{◌≡◌, ◌++◌, ap, sym, ◌∙◌}
-use Rattle.gr_moved_paths.proofs.PathParts.{moves_behind}
-use Rattle.gr_moved_paths.proofs.quoting.quoted_path.Goals as goal
+use Rattle.gr_moving.proofs.PathParts.{moves_behind}
+use Rattle.gr_moving.proofs.quoting.quoted_path.Goals as goal
 
 pub returns-in-None : goal.returns-in-None
 returns-in-None c = λ new h.
