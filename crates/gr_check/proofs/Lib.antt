@@ -5,3 +5,5 @@ pub mod Laid
 pub mod Unaffected
 pub mod Marked
 pub mod Losing
+pub mod UnaffectedPackages
+pub mod MarkedClosure

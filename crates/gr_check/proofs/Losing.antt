@@ -14,7 +14,7 @@ use Rattle.gr_bound.specs.Bindings.{place_at}
 use Rattle.gr_bound.specs.Workspaces.{known_in}
 use Rattle.gr_revision.specs.Revisions.{Revision}
 use Rattle.gr_revision.specs.RevisionsOfEdits.{called_by, revision_of}
-use Rattle.gr_affected.specs.Affected.{AreAffected}
+use Rattle.gr_check.specs.Affected.{AreAffected}
 use Rattle.gr_check.specs.declared.among.MarkedPackages.{MarkedPackages}
 use Rattle.gr_check.specs.declared.answer.Answer.{Answer}
 use Rattle.gr_check.specs.declared.answer.Answer.TheVariants.{Yes, No, Unknown}

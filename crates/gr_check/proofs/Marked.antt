@@ -26,7 +26,7 @@ use Rattle.gr_bound.proofs.Packages.{in_package}
 use Rattle.gr_bound.proofs.Folders.{begins_in_folder}
 use Rattle.gr_revision.specs.Revisions.{Revision}
 use Rattle.gr_revision.specs.RevisionsOfEdits.{called_by, revision_of}
-use Rattle.gr_affected.specs.Affected.{AreAffected}
+use Rattle.gr_check.specs.Affected.{AreAffected}
 use Rattle.gr_check.specs.declared.among.MarkedPackages.{MarkedPackages}
 use Rattle.gr_placed.specs.declared.declared_places.DeclaredPlaces.{DeclaredPlaces}
 use Rattle.gr_sound.specs.Corresponding.{stands}

@@ -19,8 +19,8 @@ use Rattle.gr_asked.specs.Within.{StandsWithin, IsDeclaredWithin, predeclared as
 use Rattle.gr_bound.proofs.Folders.{begins_in_folder, file_in_folder}
 use Rattle.gr_asked.proofs.Bindings.{use_stays}
 use Rattle.gr_asked.proofs.Standing.{token_file, bound_within}
-use Rattle.gr_affected.specs.Affected.{IsUnaffected}
-use Rattle.gr_affected.proofs.Unaffected.{stays_put, declared_then}
+use Rattle.gr_check.specs.Affected.{IsUnaffected}
+use Rattle.gr_check.proofs.UnaffectedPackages.{stays_put, declared_then}
 use Rattle.gr_sound.specs.Corresponding.{Corresponds, predeclared, stands}
 use Rattle.gr_placed.specs.Outside.{path_by}
 use Rattle.gr_kept.specs.BoundToOne.{IsBoundToOne}

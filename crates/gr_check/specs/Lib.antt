@@ -4,3 +4,5 @@ pub mod Among
 pub mod Planned
 pub mod Answers
 pub mod Marked
+pub mod Affected
+pub mod Marking

@@ -1,14 +1,17 @@
 //! Whether an edit set preserves the bindings of a workspace.
 #![tactic(auto)]
 
+pub mod affected;
 mod among;
 mod answer;
 mod edited_workspace;
 mod keeps_among;
 mod lost;
+mod marking;
 mod planned;
 mod preserving;
 mod reading;
 
 pub use planned::{Planned, within_limits};
 pub use preserving::preserves;
+pub use marking::{Affected, affected_by};

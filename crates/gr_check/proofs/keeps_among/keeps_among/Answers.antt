@@ -6,7 +6,7 @@ use Rattle.gr_edit.specs.EditSet.{edited}
 use Rattle.gr_verdict.specs.declared.findings.Findings.{Findings}
 use Rattle.gr_bound.specs.Workspaces.{known_in}
 use Rattle.gr_revision.specs.RevisionsOfEdits.{revision_of}
-use Rattle.gr_affected.specs.Affected.{AreAffected}
+use Rattle.gr_check.specs.Affected.{AreAffected}
 use Rattle.gr_check.specs.Answers.{Tells}
 use Rattle.gr_check.specs.Preserved.{KeepsBindings}
 use Rattle.gr_check.proofs.keeps_among.keeps_among.Goals as goal

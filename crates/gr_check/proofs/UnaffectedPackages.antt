@@ -15,7 +15,7 @@ use Rattle.gr_bound.specs.Uses.{IsPackage}
 use Rattle.gr_bound.specs.Standing.{IsDeclaredAt}
 use Rattle.gr_asked.specs.Within.{StandsWithin}
 use Rattle.gr_asked.proofs.Standing.{within_stays}
-use Rattle.gr_affected.specs.Affected.{IsUnaffected}
+use Rattle.gr_check.specs.Affected.{IsUnaffected}
 
 abbrev moved_by : Place → Option FileChange → Place
 moved_by place change = record { path = unwrap_or (path_by_change change place.path) place.path; offset = moved_offset (edits_by change) place.offset }

@@ -1,6 +1,6 @@
 -- The answers to the goals of `laws::unaffected_stays`.
-use Rattle.gr_affected.proofs.Unaffected.{stays_put, declared_then}
-use Rattle.gr_affected.proofs.laws.unaffected_stays.Goals as goal
+use Rattle.gr_check.proofs.UnaffectedPackages.{stays_put, declared_then}
+use Rattle.gr_check.proofs.affected.unaffected_stays.Goals as goal
 
 pub returns-clause-places : goal.returns-clause-places
 returns-clause-places c = λ w x s p is place closed. stays_put w x s p is place closed

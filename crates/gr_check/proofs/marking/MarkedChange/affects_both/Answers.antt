@@ -4,8 +4,8 @@ use Rattle.std.proofs.lemmas.Bool.{false≢true}
 use Rattle.std.proofs.lemmas.Option.{slice_get-get_or}
 use Rattle.gr_text.specs.Packages.{package_paths}
 use Rattle.gr_graph.specs.Search.{IsMarked}
-use Rattle.gr_affected.proofs.Marked.{by_touched, by_texts}
-use Rattle.gr_affected.proofs.marking.MarkedChange.affects_both.Goals as goal
+use Rattle.gr_check.proofs.MarkedClosure.{by_touched, by_texts}
+use Rattle.gr_check.proofs.marking.MarkedChange.affects_both.Goals as goal
 
 pub returns-then-is_marked : goal.returns-then-is_marked
 returns-then-is_marked c =

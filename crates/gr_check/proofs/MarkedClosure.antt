@@ -23,8 +23,8 @@ use Rattle.gr_verdict.proofs.PackageFiles.{mapped}
 use Rattle.gr_keep.specs.Changes.{MarkClosures, MarkFolders}
 use Rattle.gr_keep.proofs.ChangedFolders.{marks_skip, marks_more}
 use Rattle.gr_keep.proofs.ClosureTexts.{package_there}
-use Rattle.gr_affected.specs.Affected.{IsUnaffected, AreAffected}
-use Rattle.gr_affected.specs.Marking.{folders_of, TellsAffected}
+use Rattle.gr_check.specs.Affected.{IsUnaffected, AreAffected}
+use Rattle.gr_check.specs.Marking.{folders_of, TellsAffected}
 
 -- the folder of a changed file is among their folders
 folder_among : (changed : List FileChange) (c : FileChange) → Contains changed c → Contains (folders_of changed) (folder c.path)

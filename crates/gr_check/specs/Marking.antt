@@ -5,8 +5,8 @@ use Rattle.gr_text.specs.Workspace.{Workspace}
 use Rattle.gr_edit.specs.EditSet.{FileChanges}
 use Rattle.gr_edit.specs.declared.change.FileChange.{FileChange}
 use Rattle.gr_keep.specs.Changes.{AreMarks, MarkClosures}
-use Rattle.gr_affected.specs.Affected.{IsUnaffected}
-use Rattle.gr_affected.specs.declared.marking.MarkedChange.{MarkedChange}
+use Rattle.gr_check.specs.Affected.{IsUnaffected}
+use Rattle.gr_check.specs.declared.marking.MarkedChange.{MarkedChange}
 
 -- the folders of changed files
 abbrev pub folders_of : List FileChange → List (List ℕ)

@@ -1,8 +1,8 @@
 -- The answers to the goals of `marking::MarkedChange::before_marks`.
 use Rattle.std.proofs.Common.{◌≡◌, length, subst, arith}
 use Rattle.gr_text.specs.Packages.{package_paths}
-use Rattle.gr_affected.proofs.Marked.{AreMarked, no_marks, more_marks, all_marked}
-use Rattle.gr_affected.proofs.marking.MarkedChange.before_marks.Goals as goal
+use Rattle.gr_check.proofs.MarkedClosure.{AreMarked, no_marks, more_marks, all_marked}
+use Rattle.gr_check.proofs.marking.MarkedChange.before_marks.Goals as goal
 
 pub loop-old-init : goal.loop-old-init
 loop-old-init c =

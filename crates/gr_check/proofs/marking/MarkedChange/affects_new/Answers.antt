@@ -4,8 +4,8 @@ use Rattle.std.specs.Prelude.{Some, Contains}
 use Rattle.std.proofs.lemmas.Option.{same_Some, slice_get_within}
 use Rattle.gr_text.specs.Packages.{package_paths}
 use Rattle.gr_graph.proofs.Asked.{at_contains}
-use Rattle.gr_affected.proofs.Marked.{come}
-use Rattle.gr_affected.proofs.marking.MarkedChange.affects_new.Goals as goal
+use Rattle.gr_check.proofs.MarkedClosure.{come}
+use Rattle.gr_check.proofs.marking.MarkedChange.affects_new.Goals as goal
 
 pub returns-in-None : goal.returns-in-None
 returns-in-None c = λ p at.

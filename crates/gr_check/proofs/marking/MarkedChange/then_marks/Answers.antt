@@ -1,8 +1,8 @@
 -- The answers to the goals of `marking::MarkedChange::then_marks`.
 use Rattle.std.proofs.Common.{◌≡◌, length, subst, arith}
 use Rattle.gr_text.specs.Packages.{package_paths}
-use Rattle.gr_affected.proofs.Marked.{AreMarked, no_marks, more_marks, all_marked}
-use Rattle.gr_affected.proofs.marking.MarkedChange.then_marks.Goals as goal
+use Rattle.gr_check.proofs.MarkedClosure.{AreMarked, no_marks, more_marks, all_marked}
+use Rattle.gr_check.proofs.marking.MarkedChange.then_marks.Goals as goal
 
 pub loop-new-init : goal.loop-new-init
 loop-new-init c =

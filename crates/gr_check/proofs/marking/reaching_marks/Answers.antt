@@ -4,8 +4,8 @@ use Rattle.std.proofs.lemmas.Result.{IfOk-weaker}
 use Rattle.gr_graph.specs.Reaching.{MarkReaching}
 use Rattle.gr_keep.specs.Changes.{MarkClosures}
 use Rattle.gr_keep.proofs.ChangedFolders.{closures_marked}
-use Rattle.gr_affected.specs.Marking.{folders_of}
-use Rattle.gr_affected.proofs.marking.reaching_marks.Goals as goal
+use Rattle.gr_check.specs.Marking.{folders_of}
+use Rattle.gr_check.proofs.marking.reaching_marks.Goals as goal
 
 pub reaching-requires : goal.reaching-requires
 reaching-requires c = ap length c.deref.ensures.value ∙ c.in_ok-marks.ensures.size

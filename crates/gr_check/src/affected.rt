@@ -11,7 +11,7 @@ ghost use Rattle.gr_bound.specs.declared.declaration.Declaration.{Declaration};
 ghost use Rattle.gr_bound.specs.Uses.{IsPackage};
 ghost use Rattle.gr_bound.specs.Standing.{IsDeclaredAt};
 ghost use Rattle.gr_asked.specs.Within.{StandsWithin};
-ghost use Rattle.gr_affected.specs.Affected.{IsUnaffected};
+ghost use Rattle.gr_check.specs.Affected.{IsUnaffected};
 
 /// Where a change does not affect a package, no place in the files of its closure moves, and each declaration that stands there
 /// stands there afterwards.

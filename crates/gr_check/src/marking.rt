@@ -4,8 +4,8 @@ ghost use Rattle.std.specs.Prelude.{◌≡◌, ◌<◌, IfOk, length, slice_get}
 ghost use Rattle.gr_text.specs.Packages.{package_paths};
 ghost use Rattle.gr_graph.specs.Graphs.{OfPackage};
 ghost use Rattle.gr_keep.specs.Changes.{AreMarks, MarkClosures, MarkFolders};
-ghost use Rattle.gr_affected.specs.Affected.{AreAffected};
-ghost use Rattle.gr_affected.specs.Marking.{IsRead, TellsAffected, folders_of};
+ghost use Rattle.gr_check.specs.Affected.{AreAffected};
+ghost use Rattle.gr_check.specs.Marking.{IsRead, TellsAffected, folders_of};
 
 use gr_edit::{EditSet, FileChange};
 use gr_graph::Graph;

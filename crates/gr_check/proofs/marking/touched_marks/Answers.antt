@@ -1,10 +1,10 @@
 -- The package of one more changed file, if there is one, is marked.
 use Rattle.std.proofs.Common.{◌+◌, Bool, Global, Vec, take, sym, subst}
 use Rattle.gr_keep.specs.Changes.{MarkFolders}
-use Rattle.gr_affected.specs.Marking.{folders_of}
-use Rattle.gr_affected.proofs.Marked.{mark_one, mark_none}
-use Rattle.gr_affected.proofs.marking.touched_marks.Goals.{in-Some, in_default}
-use Rattle.gr_affected.proofs.marking.touched_marks.Goals as goal
+use Rattle.gr_check.specs.Marking.{folders_of}
+use Rattle.gr_check.proofs.MarkedClosure.{mark_one, mark_none}
+use Rattle.gr_check.proofs.marking.touched_marks.Goals.{in-Some, in_default}
+use Rattle.gr_check.proofs.marking.touched_marks.Goals as goal
 
 pub loop-change-preserved : goal.loop-change-preserved
 loop-change-preserved c =
