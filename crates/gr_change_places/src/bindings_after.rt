@@ -8,13 +8,13 @@ ghost use Rattle.gr_bound.specs.Identifiers.{BeginsAt};
 ghost use Rattle.gr_change_places.specs.Scopes.{AreAllScopes, package_scoped};
 ghost use Rattle.gr_change_places.specs.ScopeBindings.{IsBoundIn, IsBoundInNumber, IsScopeBound, AreScopeBindings};
 
+use crate::scopes::PackageScopes;
 use gr_bound::bindings::sort;
 use gr_bound::{BoundSpot, Declaration, Spot, declaration_in_scope};
 use gr_declared::{Interfaces, Package};
 use gr_expr::symbol::SharedPath;
 use gr_graph::Graph;
 use gr_placed::beginning;
-use crate::scopes::PackageScopes;
 use gr_text::Place;
 use std::alloc::{AllocError, Global};
 

@@ -10,6 +10,6 @@ mod scopes;
 
 pub use bindings_after::scope_bindings;
 pub use files_behind::lie_behind;
-pub use places_before::{before_of, old_places, symbol};
 pub use names::clause_names;
+pub use places_before::{before_of, old_places, symbol};
 pub use scopes::{PackageScopes, scoped_packages, scopes_at};

@@ -12,6 +12,6 @@ mod planned;
 mod preserving;
 mod reading;
 
+pub use marking::{Affected, affected_by};
 pub use planned::{Planned, within_limits};
 pub use preserving::preserves;
-pub use marking::{Affected, affected_by};

@@ -17,13 +17,14 @@ use crate::judge::Judge;
 use crate::judging::judge_unit;
 use gr_bindings::exports::exports;
 use gr_bound::{BoundSpot, Packages, all_seen};
-use gr_change_places::{lie_behind, old_places, scope_bindings};
+use gr_change_places::{
+    PackageScopes, clause_names, lie_behind, old_places, scope_bindings, scoped_packages,
+};
 use gr_edit::EditSet;
 use gr_graph::Graph;
 use gr_members_after::{NewMembers, new_members};
 use gr_placed::declared_places::{DeclaredPlaces, declared_places};
 use gr_revision::Moves;
-use gr_change_places::{PackageScopes, clause_names, scoped_packages};
 use gr_tree::FileTree;
 use gr_verdict::Findings;
 use std::alloc::{AllocError, Global};

@@ -2,12 +2,11 @@
 ghost use Rattle.std.specs.Prelude.{◌≡◌};
 
 use gr_bound::{BoundSpot, Packages};
-use gr_members_after::TypesAfter;
+use gr_change_places::PackageScopes;
 use gr_graph::Graph;
-use gr_members_after::NewMembers;
+use gr_members_after::{NewMembers, TypesAfter};
 use gr_placed::declared_places::DeclaredPlaces;
 use gr_revision::Moves;
-use gr_change_places::PackageScopes;
 use std::collections::BTreeMap;
 
 /// What is known of a change: the packages before, the members of their types under new names, what they export, and their

@@ -12,11 +12,10 @@ ghost use Rattle.gr_change_places.specs.OldPlaces.{HasGoneTo};
 
 use crate::judge::Judge;
 use gr_bound::Declaration;
-use gr_change_places::before_of;
+use gr_change_places::{PackageScopes, before_of, scopes_at};
 use gr_imports::literal_of;
 use gr_placed::declared_places::declared_at;
 use gr_placed::place_of;
-use gr_change_places::{PackageScopes, scopes_at};
 use gr_sound::{are_predeclared, goes_to};
 use gr_text::Place;
 use std::alloc::AllocError;

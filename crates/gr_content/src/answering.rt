@@ -7,8 +7,8 @@ ghost use Rattle.gr_machine.specs.Step.{HasPlace, Keeps};
 ghost use Rattle.gr_content.specs.Entered.{entry_left, with_entry};
 
 use crate::content::Content;
-use crate::question::{Answered, Asked, Question};
 use crate::entering::add_entry;
+use crate::question::{Answered, Asked, Question};
 use gr_machine::{Entry, Line};
 
 /// Adds the entry of an event that was answered to the journal, if it has one. With the answer comes a copy of the entry.

@@ -12,10 +12,10 @@ ghost use Rattle.gr_machine.specs.declared.event.Event.TheVariants.{Commit, Deli
 use crate::deliveries::{Outcome, outcome_of, outcome_on_current};
 use crate::following::state_after;
 use crate::handed::{Handed, take_in};
-use gr_compile::{Built, Job, Out, PackageInputs, SharedPath};
-use gr_keep::Finished;
-use gr_graph::Graph;
 use crate::history::History;
+use gr_compile::{Built, Job, Out, PackageInputs, SharedPath};
+use gr_graph::Graph;
+use gr_keep::Finished;
 use gr_machine::{MadeEdits, State, View, first_waiting};
 use gr_space::MadeChange;
 use gr_text::{Limits, Refusal};

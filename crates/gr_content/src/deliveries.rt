@@ -5,10 +5,10 @@ ghost use Rattle.gr_compile.specs.Inputs.{AreInputs};
 ghost use Rattle.gr_content.specs.Current.{BringsCurrent};
 ghost use Rattle.gr_content.specs.Outcomes.{ComesTo, FinishesIn};
 
-use gr_compile::{Built, Job};
-use gr_keep::Finished;
 use crate::fresh::{fresh_number, number_of};
+use gr_compile::{Built, Job};
 use gr_inputs::learned;
+use gr_keep::Finished;
 use gr_machine::State;
 use gr_verdict::SharedKnown;
 use std::alloc::{AllocError, Global};

@@ -6,10 +6,9 @@ ghost use Rattle.gr_keep.specs.Finished.{HasNone};
 ghost use Rattle.gr_keep.specs.Carried.{IsCarried};
 ghost use Rattle.gr_content.specs.Following.{IsStateAfter};
 
-use gr_keep::Finished;
 use gr_graph::Graph;
 use gr_inputs::{kept, marks_of, nothing_carried};
-use gr_keep::{Marks, carried_units};
+use gr_keep::{Finished, Marks, carried_units};
 use gr_machine::{MadeEdits, State};
 use gr_space::MadeChange;
 use gr_verdict::SharedKnown;

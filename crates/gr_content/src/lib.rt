@@ -13,8 +13,8 @@ mod question;
 
 pub use answering::{answer, enter};
 pub use content::Content;
-pub use handed::Handed;
-pub use question::{Answered, Asked, Question};
 pub use entering::add_entry;
 pub use fresh::{fresh_number, number_of};
+pub use handed::Handed;
 pub use history::History;
+pub use question::{Answered, Asked, Question};

@@ -6,9 +6,8 @@ ghost use Rattle.gr_keep.specs.Changes.{AreMarks};
 ghost use Rattle.gr_keep.specs.Finished.{HasNone};
 ghost use Rattle.gr_keep.specs.Carried.{IsCarried};
 
-use gr_keep::Finished;
 use gr_graph::Graph;
-use gr_keep::{Marks, none_carried, verdicts_after};
+use gr_keep::{Finished, Marks, none_carried, verdicts_after};
 use gr_verdict::{Known, SharedKnown};
 use std::alloc::{AllocError, Global};
 

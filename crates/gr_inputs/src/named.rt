@@ -5,9 +5,8 @@ ghost use Rattle.gr_graph.specs.Staying.{DiffersOnlyAt};
 ghost use Rattle.gr_keep.specs.Changes.{AreChanged, AreMarks};
 ghost use Rattle.gr_inputs.specs.Named.{AddsFolder, KeepsFile};
 
-use gr_keep::has_text;
 use gr_graph::Graph;
-use gr_keep::{Marks, closure_marks};
+use gr_keep::{Marks, closure_marks, has_text};
 use gr_space::MadeChange;
 use gr_text::Path;
 use std::alloc::{AllocError, Global};

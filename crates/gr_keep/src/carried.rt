@@ -8,10 +8,10 @@ ghost use Rattle.gr_keep.specs.Changes.{AreMarks, KeepsUnit};
 ghost use Rattle.gr_keep.specs.Finished.{HasNone};
 
 use crate::changes::Marks;
-use gr_chunks::SharedList;
-use gr_compile::Unit;
 use crate::finished::Finished;
 use crate::near::number_near;
+use gr_chunks::SharedList;
+use gr_compile::Unit;
 use gr_graph::Graph;
 use gr_verdict::is_marked;
 use std::alloc::{AllocError, Global};

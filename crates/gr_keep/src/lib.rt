@@ -10,9 +10,9 @@ mod knowing;
 mod near;
 
 pub use carried::{carried_units, keeps_texts, none_carried};
-pub use changes::{Marks, closure_marks};
-pub use knowing::verdicts_after;
 pub use changed::has_text;
+pub use changes::{Marks, closure_marks};
 pub use finished::Finished;
 pub use folders::folder_marks;
+pub use knowing::verdicts_after;
 pub use near::number_near;

@@ -7,6 +7,6 @@ mod keeping;
 mod kept;
 mod near;
 
+pub use keeping::are_kept;
 pub use kept::keeps;
 pub use near::Near;
-pub use keeping::are_kept;

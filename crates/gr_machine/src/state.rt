@@ -3,8 +3,8 @@ ghost use Rattle.std.specs.Prelude.{◌≡◌, IfOk};
 ghost use Rattle.gr_verdict.specs.Found.{KnowsVerdicts};
 
 use crate::view::KnownSnapshot;
-use gr_keep::Finished;
 use gr_graph::Graph;
+use gr_keep::Finished;
 use gr_space::Snapshot;
 use gr_text::Limits;
 use gr_verdict::SharedKnown;

@@ -2,8 +2,8 @@
 ghost use Rattle.std.specs.Prelude.{◌≡◌};
 ghost use Rattle.gr_verdict.specs.Found.{KnowsVerdicts};
 
-use gr_keep::Finished;
 use gr_graph::Graph;
+use gr_keep::Finished;
 use gr_space::Snapshot;
 use gr_verdict::{Known, SharedKnown};
 use std::marker::Model;

@@ -7,6 +7,6 @@ mod new_names;
 mod types_after;
 
 pub use looking::{counts, member};
-pub use types_after::{TypesAfter, Written};
 pub use members::{NewMembers, new_members};
 pub use new_names::{NewName, NewNames, is_rank};
+pub use types_after::{TypesAfter, Written};

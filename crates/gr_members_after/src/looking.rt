@@ -13,12 +13,12 @@ ghost use Rattle.gr_members_after.specs.NamesAfter.{IsMethodAfter};
 ghost use Rattle.gr_members_after.specs.MembersAfter.{CountsAfter, FieldCounts, IsFirst, IsFirstMethod, IsMemberAfter, IsMethodIn, MethodCounts};
 ghost use Rattle.gr_members_after.specs.MembersFound.{IsFieldBehind, IsMethodBehind, IsRankFound, KnowsMembers, known_types};
 
+use crate::new_names::{NewName, is_rank};
+use crate::types_after::{TypesAfter, Written};
 use gr_bound::Declaration;
 use gr_expr::symbol::{SharedPath, Symbol};
 use gr_expr::types::GoType;
 use gr_expr::world::{Shape, World};
-use crate::types_after::{TypesAfter, Written};
-use crate::new_names::{NewName, is_rank};
 use std::alloc::AllocError;
 
 /// The struct of a type, or the one that a pointer points to.

@@ -11,12 +11,12 @@ ghost use Rattle.gr_bound.specs.Workspaces.{IsSound};
 ghost use Rattle.gr_members_after.specs.MembersAfter.{HasFieldAfter, IsFieldIn, IsFirstField};
 ghost use Rattle.gr_members_after.specs.MembersFound.{AreMembersFound, IsRankFound, IsStructFound, KnowsMembers, known_types};
 
+use crate::members::NewMembers;
 use gr_bound::own_of;
 use gr_expr::symbol::Symbol;
 use gr_expr::world::{Definition, Underlying};
 use gr_graph::Graph;
 use gr_imports::is_exported;
-use crate::members::NewMembers;
 use gr_verdict::Findings;
 
 /// The types of a workspace before a change, with their members under the new names, by the packages' numbers.

@@ -4,9 +4,9 @@ ghost use Rattle.std.specs.Option.{option_to_list};
 ghost use Rattle.std.specs.FinMap as map;
 ghost use Rattle.gr_moving.specs.Steps.{edits_found, TellsChange, TellsChanges, edited_or_none, change_by};
 
-use gr_edit::{Edit, Edits, Fate, FileChange};
 use crate::moved::Moved;
 use crate::paths::new_path;
+use gr_edit::{Edit, Edits, Fate, FileChange};
 use gr_text::{Files, Path, Refusal};
 use std::alloc::{AllocError, Global};
 use std::collections::BTreeMap;

@@ -12,10 +12,10 @@ ghost use Rattle.gr_moving.specs.Steps.{edits_with};
 
 use crate::literals::new_literal;
 use crate::marks::import_marks;
+use crate::moved::Moved;
 use crate::names::is_package_name;
 use gr_declared::{Index, Package};
 use gr_edit::Edit;
-use crate::moved::Moved;
 use gr_scan::{Class, Piece};
 use gr_text::{FileText, Span};
 use gr_tree::FileTree;

@@ -13,7 +13,7 @@ mod package_edits;
 mod paths;
 mod quoting;
 
-pub use moving::move_edits;
 pub use moved::Moved;
+pub use moving::move_edits;
 pub use paths::{is_under, new_path};
 pub use quoting::quoted_path;

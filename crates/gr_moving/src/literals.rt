@@ -3,9 +3,9 @@ ghost use Rattle.std.specs.Prelude.{ℕ, List, IfOk, MatchOption};
 ghost use Rattle.gr_tree.specs.SourceFile.{source_of};
 ghost use Rattle.gr_moving.specs.Steps.{IsNewLiteral};
 
-use gr_imports::literal;
 use crate::moved::Moved;
 use crate::quoting::quoted_path;
+use gr_imports::literal;
 use gr_text::FileText;
 use gr_tree::FileTree;
 use std::alloc::{AllocError, Global};

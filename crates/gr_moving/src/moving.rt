@@ -6,10 +6,10 @@ ghost use Rattle.gr_moving.specs.MoveEdits.{IsMoveOf, HoldsNoOther, PlansMoveEdi
 
 use crate::changes::changes;
 use crate::following::name_after;
+use crate::moved::Moved;
 use crate::package_edits::all_edits;
 use gr_edit::{EditSet, FileChange};
 use gr_graph::Graph;
-use crate::moved::Moved;
 use gr_text::{Path, Refusal};
 use gr_verdict::Findings;
 use std::alloc::{AllocError, Global};

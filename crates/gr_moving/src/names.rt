@@ -7,9 +7,9 @@ ghost use Rattle.gr_declared.specs.PackageView.{package_of, IsIndexOf};
 ghost use Rattle.gr_declared.specs.Written.{ImportsPath};
 ghost use Rattle.gr_moving.specs.FileEdits.{IsClauseName, IsImportUse};
 
+use crate::moved::Moved;
 use gr_declared::{Index, Package};
 use gr_imports::{clause_token, literal_of};
-use crate::moved::Moved;
 use gr_tree::FileTree;
 
 /// Whether a path was found, and is this one.

@@ -12,12 +12,12 @@ ghost use Rattle.gr_moving.specs.FileEdits.{AreFileEdits};
 ghost use Rattle.gr_moving.specs.Steps.{AddsEdits, AreEditsIn, HasFileIn, IsFileAt, AreEditsAt, KnowsEdits};
 
 use crate::file_edits::edits_of;
+use crate::moved::Moved;
 use gr_bound::{laid_table, path_of, trees};
 use gr_declared::{Index, Interfaces, Package};
 use gr_edit::Edits;
 use gr_expr::symbol::SharedPath;
 use gr_graph::Graph;
-use crate::moved::Moved;
 use gr_scope::table::ScopeTable;
 use gr_text::Path;
 use gr_tree::FileTree;

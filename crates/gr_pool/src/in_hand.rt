@@ -11,8 +11,7 @@ ghost use Rattle.gr_pool.specs.Working.{ComesBack, Sends};
 use gr_book::{HandingIn, Taking};
 use gr_compile::{Built, Job, build};
 use gr_content::Handed;
-use gr_pool::Shared;
-use gr_pool::{Opening, Seat};
+use gr_pool::{Opening, Seat, Shared};
 use std::alloc::{AllocError, Global};
 use std::sync::Wait;
 

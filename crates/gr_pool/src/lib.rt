@@ -13,12 +13,12 @@ mod settling;
 mod shared;
 mod working;
 
-pub use shared::Shared;
+pub use gate::{Gate, OpenGate};
+pub use locked::{Locked, is_done, turn_away};
 pub use opening::Opening;
 pub use receipt::Receipt;
 pub use seat::{Seat, jobs_after, reserve};
 pub use settle::{are_counted, merged, seats_apart, seats_rise, seats_stand};
-pub use locked::{Locked, is_done, turn_away};
 pub use settling::Unsettled;
-pub use gate::{Gate, OpenGate};
+pub use shared::Shared;
 pub use working::worker;

@@ -7,8 +7,7 @@ ghost use Rattle.gr_pool.specs.Working.{Delivers, HandsIn, IsWork, WorksOften};
 use crate::gate::Gate;
 use crate::in_hand::{InHand, take};
 use gr_compile::Built;
-use gr_pool::Shared;
-use gr_pool::{Opening, Seat};
+use gr_pool::{Opening, Seat, Shared};
 use std::alloc::Global;
 use std::sync::Wait;
 

@@ -8,11 +8,11 @@ ghost use Rattle.gr_bound.specs.Workspaces.{IsSound, known_in};
 ghost use Rattle.gr_renaming.specs.RenameEdits.{IsSourceIn};
 ghost use Rattle.gr_renaming.specs.Changes.{IsPathOf, AddsChange, AreSourceChanges};
 
+use crate::file_edits::edits_of;
 use crate::paths::paths_of;
+use crate::renamed::Renamed;
 use gr_bound::trees;
 use gr_edit::{Edits, Fate, FileChange};
-use crate::file_edits::edits_of;
-use crate::renamed::Renamed;
 use gr_graph::Graph;
 use gr_text::Path;
 use gr_tree::FileTree;

@@ -8,7 +8,7 @@ mod paths;
 mod renamed;
 mod renaming;
 
-pub use literal::literal_of;
-pub use renaming::rename_edits;
 pub use file_edits::edits_of;
+pub use literal::literal_of;
 pub use renamed::{Literal, Renamed};
+pub use renaming::rename_edits;

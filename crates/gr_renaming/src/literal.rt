@@ -11,10 +11,10 @@ ghost use Rattle.gr_bound.specs.Uses.{IsPackage};
 ghost use Rattle.gr_bound.specs.Workspaces.{IsSound, IsPackageAt, known_in};
 ghost use Rattle.gr_renaming.specs.Literals.{IsTokenOf, IsUnnamed, IsLiteralIn, IsLiteralOf, IsLiteralFound};
 
+use crate::renamed::Literal;
 use gr_bound::{Declaration, laid_table, path_of, trees};
 use gr_declared::{Interfaces, Package};
 use gr_expr::symbol::SharedPath;
-use crate::renamed::Literal;
 use gr_graph::Graph;
 use gr_imports::is_import;
 use gr_scope::table::ScopeTable;

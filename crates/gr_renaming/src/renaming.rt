@@ -8,9 +8,9 @@ ghost use Rattle.gr_renaming.specs.RenameEdits.{IsRenamedBy, AreEditsOf, AreRena
 
 use crate::changes::changes_of;
 use crate::literal::literal_of;
+use crate::renamed::Renamed;
 use gr_bound::Declaration;
 use gr_edit::EditSet;
-use crate::renamed::Renamed;
 use gr_graph::Graph;
 use gr_text::FileText;
 use gr_uses::list_uses;

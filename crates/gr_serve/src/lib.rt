@@ -10,6 +10,6 @@ mod threads;
 mod turns;
 
 pub use fault::ServeFault;
+pub use held::Held;
 pub use serving::serve;
 pub use session::{Connection, session_at_seat};
-pub use held::Held;

@@ -2,8 +2,7 @@
 ghost use Rattle.gr_serve.specs.Session.{ConversesAtSeat};
 
 use crate::held::Held;
-use gr_pool::Shared;
-use gr_pool::{Opening, Seat};
+use gr_pool::{Opening, Seat, Shared};
 use gr_text::Limits;
 use gr_wire::{SessionFault, converse};
 use std::alloc::Global;

@@ -1,11 +1,9 @@
 //! The threads of a server.
 use crate::session::{Connection, session_at_seat};
 use crate::turns::Turns;
-use gr_pool::Shared;
-use gr_pool::{Opening, Seat};
+use gr_pool::{Gate, Opening, Seat, Shared, worker};
 use gr_text::Limits;
 use gr_wire::SessionFault;
-use gr_pool::{Gate, worker};
 use std::alloc::Global;
 use std::io::{BufReader, BufWriter};
 use std::os::unix::net::UnixStream;

@@ -4,11 +4,11 @@
 mod fault;
 
 use fault::ProgramFault;
+use gr_pool::OpenGate;
 use gr_serve::serve;
 use gr_text::Limits;
 use gr_wire::session_alone;
 use gr_words::{Words, WordsFault, read_words};
-use gr_pool::OpenGate;
 use std::env::Env;
 use std::fmt::Display;
 use std::io::{BufReader, BufWriter, ErrorKind};

@@ -6,10 +6,10 @@ ghost use Rattle.gr_wire.specs.Answers.{Answered};
 ghost use Rattle.gr_wire.specs.Awaits.{AwaitsNext, LeavesSent, StepLeavesSent};
 ghost use Rattle.gr_wire.specs.Transcript.{SessionEnds, CountsFaults, StepEnds};
 
+use crate::written::{WrittenReply, print_reply};
 use gr_desk::{Desk, act};
 use gr_line::{ByteSource, InputFault, Message, Sink, WriteFailed};
 use gr_next_message::{LineBuffer, Next, read_command};
-use crate::written::{WrittenReply, print_reply};
 use gr_text::{Limits, Refusal};
 use std::alloc::Global;
 
