@@ -1,4 +1,4 @@
-"""rt ci, with three things done otherwise that change nothing of what is proved and refused, and one more thing run.
+"""rt ci, with four things done otherwise that change nothing of what is proved and refused, and one more thing run.
 
 usage: python3 checks/gate.py
 
@@ -11,6 +11,11 @@ proof with the longest chain behind it has up to three processors, also where ot
 left for each processor. Else a proof has one: with two or three it may take up to twice the processor time, where others are proved beside it.
 checks/gate.sh runs this.
 
+Edits: rt ci tries the only must-fail edit of a crate by a check of all of it, and several over a proof of the crate, each by a check that loads
+as much again. Here each edit is tried from nothing: the functions that it changes are checked first, with those that they call, as rt check --only
+does. What is refused of them is refused of the crate. Where it is not refused so, or the edit changes what is no function, the crate is checked
+whole with it, and that tells.
+
 Layout: rt ci refuses a crate with a file that rt fmt lays out otherwise, before it proves it. Here all crates are asked first.
 
 The program: where rt runs a build of gr_server, all of crates/gr_server/sessions and the checks of program.py are run on the same build. One
@@ -21,6 +26,7 @@ import importlib.machinery
 import importlib.util
 import inspect
 import os
+import re
 import shutil
 import subprocess
 import sys
@@ -39,6 +45,9 @@ LONG = 0.8
 CHECKS = os.path.dirname(os.path.abspath(__file__))
 SECONDS = os.path.join(CHECKS, "gate_seconds.txt")
 PROGRAM = "gr_server"
+# How a function of a file begins, and how a check of some functions ends.
+FUNCTION = re.compile(r"^ *(?:pub(?:\(\w+\))? )?(?:unsafe )?fn (\w+)", re.MULTILINE)
+ALONE = re.compile(r"^only=(\d+) proved=(\d+)$", re.MULTILINE)
 
 
 def load(path):
@@ -131,6 +140,71 @@ def lanes_of(rt):
     return in_lanes
 
 
+def function_at(text, at):
+    """The name of the function in whose text a place of a file lies, or none."""
+    names = FUNCTION.findall(text, 0, at)
+    return names[-1] if names else None
+
+
+def changed_functions(crate, texts):
+    """The functions that new texts of some files change, each at its first change; none where one changes what is no function."""
+    found = []
+    for path, text in texts.items():
+        with open(os.path.join(crate.folder, path), encoding="utf-8") as file:
+            before = file.read()
+        at = len(os.path.commonprefix([before, text]))
+        name = function_at(before, at) if path.startswith("src/") else None
+        if name is None:
+            return []
+        found.append(name)
+    return found
+
+
+def is_refused(ran):
+    """Whether a check of some functions alone did not prove them all: `only=CHECKED proved=PROVED`."""
+    counts = ALONE.search(ran.stdout)
+    return ran.returncode == 1 and bool(counts) and int(counts[1]) > int(counts[2])
+
+
+def checked_alone_first(rt):
+    """A way to check a crate with other texts, for rt's own: the functions that are changed alone, and the crate where these are not refused."""
+    own = rt.checked
+
+    def checked(crate, texts, flags, kept):
+        names = [] if kept else changed_functions(crate, texts)
+        if names:
+            ran = own(crate, texts, [*flags, *(f"--only={name}" for name in names)], None)
+            if is_refused(ran):
+                # rt tells by this word of a whole check
+                ran.stdout += "logic=not-proved\n"
+                return ran
+        return own(crate, texts, flags, kept)
+
+    return checked
+
+
+def edits_one_by_one(rt):
+    """A way to add the tasks that try a crate's edits, for rt's own: each as if it were the crate's only one."""
+    own = rt.add_edits
+
+    def add_edits(tasks, crate, edits, *others):
+        parts = []
+        for number, edit in enumerate(edits):
+            alone = {}
+            parts.append(own(alone, crate, [edit], *others))
+            tasks.update({(*key[:-1], number): task for key, task in alone.items()})
+
+        def results(given):
+            return [told({(crate.name, "edits", 0): given[crate.name, "edits", number]})[0] for number, (told, _) in enumerate(parts)]
+
+        def known():
+            return {number: known_of()[0] for number, (_, known_of) in enumerate(parts) if known_of()}
+
+        return results, known
+
+    return add_edits
+
+
 def answers_sessions(rt, program):
     """Runs the stored sessions on a copy of the program, as rt runs programs: as nobody, if it is root. It tells of each that differs."""
     sessions, name = replay.stored(), os.path.basename(program)
@@ -184,6 +258,8 @@ def main():
         return 1
     asked = []
     rt.run = with_checks(rt, asked)
+    if hasattr(rt, "checked") and hasattr(rt, "add_edits"):
+        rt.checked, rt.add_edits = checked_alone_first(rt), edits_one_by_one(rt)
     crate = rt.rtlib.Crate
     crate.stamp, crate.below = once(crate.stamp), once(crate.below)
     if hasattr(rt, "in_lanes"):

@@ -8,10 +8,12 @@ ghost use Rattle.gr_machine.specs.declared.event.Reply.TheVariants.{Refused, Tak
 ghost use Rattle.gr_pool.specs.Call.{Replies};
 ghost use Rattle.gr_pool.specs.Working.{ComesBack, Sends};
 
+use crate::opening::Opening;
+use crate::seat::Seat;
+use crate::shared::Shared;
 use gr_book::{HandingIn, Taking};
 use gr_compile::{Built, Job, build};
 use gr_content::Handed;
-use gr_pool::{Opening, Seat, Shared};
 use std::alloc::{AllocError, Global};
 use std::sync::Wait;
 

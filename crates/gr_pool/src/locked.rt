@@ -7,12 +7,15 @@ ghost use Rattle.gr_pool.specs.Steps.{IsReplayed, IsStepOf, StepsAt};
 ghost use Rattle.gr_pool.specs.Outcome.{book_in};
 ghost use Rattle.gr_pool.specs.Settled.{IsSettled, receipt_count};
 
+use crate::opening::Opening;
+use crate::receipt::Receipt;
+use crate::seat::Seat;
+use crate::settle::merged;
 use crate::settling::{Unsettled, is_settled};
 use gr_book::Book;
 use gr_content::Question;
 use gr_graph::Graph;
 use gr_machine::{Entry, EntryKind, Line, Told};
-use gr_pool::{Opening, Receipt, Seat, merged};
 use gr_text::Refusal;
 use gr_verdict::Known;
 use std::alloc::{AllocError, Global};

@@ -2,9 +2,11 @@
 ghost use Rattle.std.specs.Prelude.{◌↔◌, ◌≤◌, IsTrue, length};
 ghost use Rattle.gr_pool.specs.Settled.{IsSettled};
 
+use crate::opening::Opening;
+use crate::seat::Seat;
+use crate::settle::{are_counted, seats_apart, seats_rise, seats_stand};
 use gr_book::Book;
 use gr_machine::Entry;
-use gr_pool::{Opening, Seat, are_counted, seats_apart, seats_rise, seats_stand};
 
 /// What was handed in is not what the journal gained. The book is handed back.
 pub struct Unsettled {

@@ -6,8 +6,10 @@ ghost use Rattle.gr_pool.specs.Working.{Delivers, HandsIn, IsWork, WorksOften};
 
 use crate::gate::Gate;
 use crate::in_hand::{InHand, take};
+use crate::opening::Opening;
+use crate::seat::Seat;
+use crate::shared::Shared;
 use gr_compile::Built;
-use gr_pool::{Opening, Seat, Shared};
 use std::alloc::Global;
 use std::sync::Wait;
 
