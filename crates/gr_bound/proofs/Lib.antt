@@ -18,6 +18,6 @@ pub mod ExportNumbers
 pub mod PlaceOrder
 pub mod BindingOrder
 pub mod Excluding
-pub mod Packages
+pub mod PackageNumbers
 pub mod Folders
 pub mod Alike

@@ -22,7 +22,7 @@ use Rattle.gr_bound.specs.Bindings.{place_at}
 use Rattle.gr_bound.specs.Uses.{IsPackage, IsUseOf}
 use Rattle.gr_bound.specs.Workspaces.{IsPackageAt, known_in}
 use Rattle.gr_bound.specs.Standing.{StandsIn, IsDeclaredAt}
-use Rattle.gr_bound.proofs.Packages.{in_package}
+use Rattle.gr_bound.proofs.PackageNumbers.{in_package}
 use Rattle.gr_bound.proofs.Folders.{begins_in_folder}
 use Rattle.gr_revision.specs.Revisions.{Revision}
 use Rattle.gr_revision.specs.RevisionsOfEdits.{called_by, revision_of}

@@ -25,7 +25,7 @@ use Rattle.gr_bound.specs.Workspaces.{known_in}
 use Rattle.gr_bound.proofs.Units.{one_package}
 use Rattle.gr_revision.specs.Revisions.{Revision}
 use Rattle.gr_bound.specs.Standing.{InPackage}
-use Rattle.gr_bound.proofs.Packages.{in_package}
+use Rattle.gr_bound.proofs.PackageNumbers.{in_package}
 use Rattle.gr_members_after.specs.declared.members.NewMembers.{NewMembers}
 use Rattle.gr_members_after.specs.declared.new_names.NewName.{NewName}
 use Rattle.gr_members_after.specs.declared.types_after.TypesAfter.{TypesAfter}

@@ -21,7 +21,7 @@ use Rattle.gr_edit.proofs.Entries.{entry_of}
 use Rattle.gr_bound.specs.Uses.{IsPackage}
 use Rattle.gr_bound.specs.Workspaces.{IsSound, IsPackageAt, known_in}
 use Rattle.gr_asked.proofs.OnePlace.{same_files}
-use Rattle.gr_bound.proofs.Packages.{package_there}
+use Rattle.gr_bound.proofs.PackageNumbers.{package_there}
 use Rattle.gr_renaming.proofs.Sources.{source_text}
 use Rattle.gr_moving.specs.Steps.{HasFileIn}
 

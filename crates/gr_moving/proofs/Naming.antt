@@ -24,7 +24,7 @@ use Rattle.gr_bound.specs.Uses.{IsPackage}
 use Rattle.gr_bound.specs.Workspaces.{IsSound, known_in}
 use Rattle.gr_asked.proofs.OnePlace.{same_files}
 use Rattle.gr_bound.specs.Standing.{InPackage}
-use Rattle.gr_bound.proofs.Packages.{package_there, in_package, of_package}
+use Rattle.gr_bound.proofs.PackageNumbers.{package_there, in_package, of_package}
 use Rattle.gr_naming.specs.NewName.{IsNewName, IsReserved}
 use Rattle.gr_moving.specs.Paths.{last_of}
 use Rattle.gr_moving.specs.Following.{Follows}

@@ -24,7 +24,7 @@ use Rattle.gr_bound.specs.Uses.{IsPackage}
 use Rattle.gr_bound.proofs.NamedPlaces.{one_field_place, one_method_place}
 use Rattle.gr_bound.proofs.Units.{one_package}
 use Rattle.gr_bound.specs.Standing.{InPackage, TokenAt, IsScopeAt, IsPositionOf, StandsIn, IsDeclaredAt}
-use Rattle.gr_bound.proofs.Packages.{in_package, of_package}
+use Rattle.gr_bound.proofs.PackageNumbers.{in_package, of_package}
 use Rattle.gr_revision.proofs.Ending.{pushed_get}
 use Rattle.gr_placed.specs.declared.declared_places.DeclaredPlaces.{DeclaredPlaces}
 use Rattle.gr_placed.specs.DeclaredPlaces.{IsFound, IsFoundIn, BeginsIn, ArePlacesOf, StandsBy}

@@ -8,7 +8,7 @@ use Rattle.gr_verdict.specs.Verdicts.{Verdicts}
 use Rattle.gr_bound.specs.declared.declaration.Declaration.TheVariants.{Declared}
 use Rattle.gr_bound.specs.Uses.{IsPackage}
 use Rattle.gr_bound.specs.Workspaces.{IsPackageAt}
-use Rattle.gr_bound.proofs.Packages.{in_package, of_package}
+use Rattle.gr_bound.proofs.PackageNumbers.{in_package, of_package}
 use Rattle.gr_renaming.specs.declared.renamed.Literal.{Literal}
 use Rattle.gr_renaming.specs.Literals.{IsLiteralIn, IsLiteralOf, IsLiteralFound}
 

@@ -1,5 +1,5 @@
 -- The answers to the goals of `laws::numbers_have_packages`.
-use Rattle.gr_bound.proofs.Packages.{package_there}
+use Rattle.gr_bound.proofs.PackageNumbers.{package_there}
 use Rattle.gr_bound.proofs.standing.numbers_have_packages.Goals as goal
 
 pub returns : goal.returns

@@ -2,7 +2,7 @@
 use Rattle.gr_bound.specs.Workspaces.{known_in}
 use Rattle.gr_members_after.proofs.Looking.{field_counts, true_in}
 use Rattle.gr_members_after.specs.MembersAfter.{FieldCounts}
-use Rattle.gr_bound.proofs.Packages.{no_package}
+use Rattle.gr_bound.proofs.PackageNumbers.{no_package}
 use Rattle.std.proofs.lemmas.Bool.{false≢true}
 use Rattle.gr_members_after.proofs.looking.field_counts.Goals as goal
 

@@ -4,7 +4,7 @@ use Rattle.gr_members_after.proofs.Looking.{method_counts, no_method, of_one}
 use Rattle.gr_members_after.specs.MembersAfter.{MethodCounts}
 use Rattle.gr_members_after.specs.MembersFound.{known_types}
 use Rattle.gr_members_after.specs.NewMembers.{AreNewMembers}
-use Rattle.gr_bound.proofs.Packages.{no_package}
+use Rattle.gr_bound.proofs.PackageNumbers.{no_package}
 use Rattle.std.proofs.lemmas.Bool.{false≢true}
 use Rattle.std.proofs.lemmas.Result.{IfOk-weaker}
 use Rattle.gr_members_after.proofs.looking.method_counts.Goals as goal

@@ -3,7 +3,7 @@ use Rattle.gr_bound.specs.Workspaces.{known_in}
 use Rattle.gr_members_after.proofs.Looking.{first_is, found_in}
 use Rattle.gr_members_after.specs.NamesAfter.{IsMethodAfter}
 use Rattle.gr_members_after.specs.MembersAfter.{IsFirst}
-use Rattle.gr_bound.proofs.Packages.{no_package}
+use Rattle.gr_bound.proofs.PackageNumbers.{no_package}
 use Rattle.gr_members_after.proofs.looking.own_method.Goals as goal
 
 pub returns-in-None : goal.returns-in-None

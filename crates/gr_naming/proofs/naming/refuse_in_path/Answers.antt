@@ -8,7 +8,7 @@ use Rattle.gr_bound.specs.Uses.{IsPackage}
 use Rattle.gr_bound.specs.Workspaces.{known_in}
 use Rattle.gr_bound.specs.Standing.{InPackage}
 use Rattle.gr_bound.specs.Called.{IsCalledIn}
-use Rattle.gr_bound.proofs.Packages.{package_there, in_package, of_package}
+use Rattle.gr_bound.proofs.PackageNumbers.{package_there, in_package, of_package}
 use Rattle.gr_naming.specs.NewName.{IsReserved}
 use Rattle.gr_naming.specs.Naming.{IsMainIn, IsTopLevelIn}
 use Rattle.gr_naming.proofs.Refusing.{Agree, refuses_as}

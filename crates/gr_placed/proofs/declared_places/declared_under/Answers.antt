@@ -4,7 +4,7 @@ use Rattle.std.specs.Prelude.{Some, Contains, slice_get}
 use Rattle.std.proofs.lemmas.Option.{slice_get-get_or}
 use Rattle.gr_text.specs.Packages.{package_paths}
 use Rattle.gr_bound.specs.Standing.{StandsIn}
-use Rattle.gr_bound.proofs.Packages.{no_package}
+use Rattle.gr_bound.proofs.PackageNumbers.{no_package}
 use Rattle.gr_placed.proofs.Found.{beyond}
 use Rattle.gr_placed.proofs.Declared.{place_under, no_places_there}
 use Rattle.gr_placed.proofs.declared_places.declared_under.Goals as goal

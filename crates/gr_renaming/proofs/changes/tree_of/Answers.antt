@@ -5,7 +5,7 @@ use Rattle.std.proofs.lemmas.Option.{same_Some, slice_get_within}
 use Rattle.gr_text.specs.Packages.{package_paths}
 use Rattle.gr_bound.specs.Workspaces.{known_in}
 use Rattle.gr_meanings.proofs.BoundLists.{slice_get_some}
-use Rattle.gr_bound.proofs.Packages.{package_there}
+use Rattle.gr_bound.proofs.PackageNumbers.{package_there}
 use Rattle.gr_renaming.proofs.Sources.{trees_in_order, tree_found, none_found}
 use Rattle.gr_renaming.proofs.changes.tree_of.Goals as goal
 

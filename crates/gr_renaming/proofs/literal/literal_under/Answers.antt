@@ -7,7 +7,7 @@ use Rattle.gr_text.specs.Packages.{package_paths}
 use Rattle.gr_bound.specs.declared.declaration.Declaration.TheVariants.{Declared}
 use Rattle.gr_bound.specs.Uses.{IsPackage}
 use Rattle.gr_bound.specs.Workspaces.{known_in}
-use Rattle.gr_bound.proofs.Packages.{package_there}
+use Rattle.gr_bound.proofs.PackageNumbers.{package_there}
 use Rattle.gr_renaming.specs.Literals.{IsLiteralIn, IsLiteralOf, IsLiteralFound}
 use Rattle.gr_renaming.proofs.Literals.{found_in}
 use Rattle.gr_renaming.proofs.literal.literal_under.Goals as goal
