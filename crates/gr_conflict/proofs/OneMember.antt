@@ -16,7 +16,7 @@ use Rattle.gr_bound.proofs.Units.{one_package}
 use Rattle.gr_members_after.specs.NamesAfter.{IsFieldAfter, IsMethodAfter}
 use Rattle.gr_members_after.specs.MembersAfter.{IsFirst, IsFirstField, IsFieldIn, IsMethodIn, IsFieldOfStruct}
 use Rattle.gr_members_after.specs.MembersAfter.{IsMethodOfOwner, IsMemberAfter}
-use Rattle.gr_members_after.proofs.Looking.{one_first}
+use Rattle.gr_members_after.proofs.FieldsAfter.{one_first}
 
 same_symbol : (s u : Symbol) → s.package ≡ u.package → s.rank ≡ u.rank → s ≡ u
 same_symbol s u e f =

@@ -1,6 +1,6 @@
 -- The lemmas of this crate.
 pub mod Structs
-pub mod Looking
+pub mod FieldsAfter
 pub mod Firsts
 pub mod Noting
 pub mod Naming

@@ -1,7 +1,7 @@
 -- The answers to the goals of `looking::field_behind`.
 use Rattle.gr_expr.specs.View.{type_of}
 use Rattle.gr_expr.specs.WorldView.{underlying_in}
-use Rattle.gr_members_after.proofs.Looking.{no_field_behind, field_behind}
+use Rattle.gr_members_after.proofs.FieldsAfter.{no_field_behind, field_behind}
 use Rattle.gr_members_after.specs.MembersFound.{known_types}
 use Rattle.std.proofs.lemmas.Result.{IfOk-weaker}
 use Rattle.gr_members_after.proofs.looking.field_behind.Goals as goal

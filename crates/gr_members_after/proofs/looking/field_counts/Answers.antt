@@ -1,6 +1,6 @@
 -- The answers to the goals of `looking::field_counts`.
 use Rattle.gr_bound.specs.Workspaces.{known_in}
-use Rattle.gr_members_after.proofs.Looking.{field_counts, true_in}
+use Rattle.gr_members_after.proofs.FieldsAfter.{field_counts, true_in}
 use Rattle.gr_members_after.specs.MembersAfter.{FieldCounts}
 use Rattle.gr_bound.proofs.PackageNumbers.{no_package}
 use Rattle.std.proofs.lemmas.Bool.{false≢true}

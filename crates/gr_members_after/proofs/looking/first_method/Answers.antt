@@ -1,5 +1,5 @@
 -- The answers to the goals of `looking::first_method`.
-use Rattle.gr_members_after.proofs.Looking.{method_first}
+use Rattle.gr_members_after.proofs.FieldsAfter.{method_first}
 use Rattle.gr_members_after.specs.MembersFound.{known_types}
 use Rattle.std.proofs.Common.{sym, ◌∙◌}
 use Rattle.std.proofs.lemmas.Bool.{false≢true}

@@ -1,7 +1,7 @@
 -- The answers to the goals of `looking::is_first_method`.
 use Rattle.gr_bound.specs.Workspaces.{known_in}
 use Rattle.gr_expr.specs.declared.symbol.Symbol.{Symbol}
-use Rattle.gr_members_after.proofs.Looking.{one_method}
+use Rattle.gr_members_after.proofs.FieldsAfter.{one_method}
 use Rattle.gr_members_after.specs.MembersAfter.{IsFirstMethod}
 use Rattle.gr_members_after.specs.MembersFound.{known_types, IsRankFound}
 use Rattle.gr_bound.specs.Standing.{InPackage}

@@ -2,7 +2,7 @@
 use Rattle.gr_bound.specs.Steps.{IsDeclarationFound}
 use Rattle.gr_expr.specs.View.{type_of}
 use Rattle.gr_expr.specs.WorldView.{underlying_in}
-use Rattle.gr_members_after.proofs.Looking.{method_is_member, field_is_member}
+use Rattle.gr_members_after.proofs.FieldsAfter.{method_is_member, field_is_member}
 use Rattle.gr_members_after.specs.MembersFound.{known_types, IsFieldBehind}
 use Rattle.std.proofs.Common.{subst}
 use Rattle.std.proofs.lemmas.Result.{IfOk-weaker}

@@ -1,5 +1,5 @@
 -- The answers to the goals of `looking::method`.
-use Rattle.gr_members_after.proofs.Looking.{method_seen, method_unseen}
+use Rattle.gr_members_after.proofs.FieldsAfter.{method_seen, method_unseen}
 use Rattle.gr_members_after.specs.MembersFound.{known_types}
 use Rattle.std.proofs.Common.{sym, ◌∙◌}
 use Rattle.gr_members_after.proofs.looking.method.Goals as goal

@@ -1,6 +1,6 @@
 -- The answers to the goals of `looking::method_behind`.
 use Rattle.gr_expr.specs.View.{type_of}
-use Rattle.gr_members_after.proofs.Looking.{no_method_behind, method_behind}
+use Rattle.gr_members_after.proofs.FieldsAfter.{no_method_behind, method_behind}
 use Rattle.gr_members_after.specs.MembersFound.{known_types}
 use Rattle.std.proofs.lemmas.Result.{IfOk-weaker}
 use Rattle.gr_members_after.proofs.looking.method_behind.Goals as goal

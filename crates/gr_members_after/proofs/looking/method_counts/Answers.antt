@@ -1,6 +1,6 @@
 -- The answers to the goals of `looking::method_counts`.
 use Rattle.gr_bound.specs.Workspaces.{known_in}
-use Rattle.gr_members_after.proofs.Looking.{method_counts, no_method, of_one}
+use Rattle.gr_members_after.proofs.FieldsAfter.{method_counts, no_method, of_one}
 use Rattle.gr_members_after.specs.MembersAfter.{MethodCounts}
 use Rattle.gr_members_after.specs.MembersFound.{known_types}
 use Rattle.gr_members_after.specs.NewMembers.{AreNewMembers}

@@ -1,6 +1,6 @@
 -- The answers to the goals of `looking::own_method`.
 use Rattle.gr_bound.specs.Workspaces.{known_in}
-use Rattle.gr_members_after.proofs.Looking.{first_is, found_in}
+use Rattle.gr_members_after.proofs.FieldsAfter.{first_is, found_in}
 use Rattle.gr_members_after.specs.NamesAfter.{IsMethodAfter}
 use Rattle.gr_members_after.specs.MembersAfter.{IsFirst}
 use Rattle.gr_bound.proofs.PackageNumbers.{no_package}

@@ -1,5 +1,5 @@
 -- The answers to the goals of `types_after::TypesAfter::field`.
-use Rattle.gr_members_after.proofs.Looking.{field_seen, field_unseen}
+use Rattle.gr_members_after.proofs.FieldsAfter.{field_seen, field_unseen}
 use Rattle.gr_members_after.specs.MembersFound.{known_types}
 use Rattle.std.proofs.Common.{sym, ◌∙◌}
 use Rattle.gr_members_after.proofs.types_after.TypesAfter.field.Goals as goal

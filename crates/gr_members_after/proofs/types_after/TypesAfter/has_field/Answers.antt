@@ -1,6 +1,6 @@
 -- The answers to the goals of `types_after::TypesAfter::has_field`.
 use Rattle.gr_bound.specs.Workspaces.{known_in}
-use Rattle.gr_members_after.proofs.Looking.{has_no_field, has_the_field}
+use Rattle.gr_members_after.proofs.FieldsAfter.{has_no_field, has_the_field}
 use Rattle.gr_members_after.specs.MembersAfter.{IsFieldIn}
 use Rattle.gr_members_after.specs.MembersFound.{known_types, IsRankFound}
 use Rattle.std.proofs.Common.{subst, sym, ◌∙◌}

@@ -1,5 +1,5 @@
 -- The answers to the goals of `types_after::TypesAfter::members_beside`.
-use Rattle.gr_members_after.proofs.Looking.{members_there}
+use Rattle.gr_members_after.proofs.FieldsAfter.{members_there}
 use Rattle.gr_text.specs.Packages.{package_paths}
 use Rattle.std.proofs.Common.{ap, subst, sym, ◌∙◌}
 use Rattle.std.specs.Prelude.{Some, Contains}
