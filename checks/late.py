@@ -18,7 +18,7 @@ from history import History, answered
 from server import DEADLINE, PROGRAM, Client, Server, put, same, settles
 
 # How many functions the package has, one try after another.
-SIZES = (400, 800, 1600, 1600, 1600)
+SIZES = (300, 600, 1200, 1800, 1800, 1800)
 FUNCTION = b"\nfunc F0(x int) int {\n\treturn x" + b" + x * 2" * 60 + b"\n}\n"
 MORE = b"package a\n\nvar V int\n"
 OTHER = b"package b\n"
@@ -43,10 +43,16 @@ def object_of_large(functions, *others):
     return told[1] + repeated(function + end, functions) + rest
 
 
+def has_object(client, number, functions, *others):
+    """The package has the object of these texts in the state of this number."""
+    head, told = client.ask(b"object a\n")
+    same((head, told[:20], told == object_of_large(functions, *others)), (b"ok %d" % number, b"object a a\nfunc a#F0", True))
+
+
 def builds(client, number, functions, *others):
-    """All is built in the state of this number, and the object of the package is that of the texts which it has there."""
+    """All is built in the state of this number, the package from these texts."""
     same(client.ask(b"wait\n"), (b"ok %d" % number, b""))
-    same(client.ask(b"object a\n"), (b"ok %d" % number, object_of_large(functions, *others)))
+    has_object(client, number, functions, *others)
 
 
 def waits_for(client, wanted):
@@ -76,7 +82,8 @@ def journal(client):
         entries += more
         threading.Event().wait(pause if is_out(entries) else 0)
         pause *= 2
-        same(pause < DEADLINE, True)
+        if pause > DEADLINE:
+            raise AssertionError("a Job stays out")
     return entries
 
 
@@ -260,7 +267,7 @@ def given_back():
         resource.prlimit(program.pid, resource.RLIMIT_DATA, (soft, hard))
         same(client.ask(b"work\n"), (b"ok 1", b"a\n"))
         same(client.ask(b"work\n"), (b"no 23", b""))
-        same(client.ask(b"object a\n"), (b"ok 1", object_of_large(SIZES[0])))
+        has_object(client, 1, SIZES[0])
         shown = shows(journal(client), "commit 0 ok 1, take 1 ok 1", "give 1 ok 1, take 1 ok 1, deliver 1 ok 1", {0: 0, 1: 1})
         client.end()
         same((shown, program.wait(DEADLINE)), (True, 0))
