@@ -7,6 +7,7 @@ stay beside the gate, since they need more of a machine, or take longer.
 
 import connections
 import editors
+import late
 import limits
 import serve
 import statuses
@@ -25,6 +26,7 @@ CHECKS = (
     editors.workers_at_once,
     editors.one_worker_alone,
     editors.settled_length,
+    *late.CHECKS,
     connections.cut_while_sending,
     connections.cut_while_reading,
     *streams.CHECKS,

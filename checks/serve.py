@@ -12,13 +12,14 @@ import sys
 
 import connections
 import editors
+import late
 import limits
 import statuses
 import story
 import streams
 from server import PROGRAM, passes
 
-CHECKS = statuses.CHECKS + limits.CHECKS + editors.CHECKS + connections.CHECKS + streams.CHECKS + story.CHECKS
+CHECKS = statuses.CHECKS + limits.CHECKS + editors.CHECKS + late.CHECKS + connections.CHECKS + streams.CHECKS + story.CHECKS
 
 
 def main(checks=CHECKS):

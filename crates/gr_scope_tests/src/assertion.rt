@@ -1,8 +1,7 @@
-//! An assertion as a call: the macro is many steps to a prover, a call is one. And what tests begin with.
+//! An assertion as a call: the macro is many steps to a prover, a call is one. And what a text is as a file.
 ghost use Rattle.std.specs.Prelude.{IsTrue};
 
-use gr_book::Book;
-use gr_text::{FileText, Limits};
+use gr_text::FileText;
 use std::alloc::Global;
 use std::process::Abort;
 
@@ -11,10 +10,6 @@ pub(crate) fn holds(rt: &impl Abort, fact: bool)
     ensures { IsTrue fact }
 {
     assert!(rt; fact);
-}
-
-pub(crate) fn book(rt: &(impl Abort + AllocGlobal)) -> Book {
-    Book::new(rt.alloc(), Limits::FULL).expect(rt, "a book")
 }
 
 /// A text as a file has it.
