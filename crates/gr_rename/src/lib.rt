@@ -4,10 +4,10 @@
 pub mod exact;
 pub mod exports;
 pub mod laws;
+mod move_plan;
 mod plan;
-mod plan_move;
 pub mod restored;
 mod targets;
 
+pub use move_plan::plan_move;
 pub use plan::plan_rename;
-pub use plan_move::plan_move;

@@ -4,7 +4,7 @@ use Rattle.gr_edit.specs.EditSet.{FileChanges}
 use Rattle.gr_space.specs.declared.change.Change.{Change}
 use Rattle.gr_rename.specs.MoveSteps.{moving_by, PlansEdits}
 use Rattle.gr_check.specs.Planned.{change_in}
-use Rattle.gr_rename.proofs.plan_move.plan_edits.Goals as goal
+use Rattle.gr_rename.proofs.move_plan.plan_edits.Goals as goal
 
 pub judged-requires-clause-is_change : goal.judged-requires-clause-is_change
 judged-requires-clause-is_change c =

@@ -7,7 +7,7 @@ use Rattle.gr_check.specs.Preserved.{Preserves}
 use Rattle.gr_space.specs.declared.change.Change.{Change}
 use Rattle.gr_rename.specs.MoveSteps.{RefusesConflict}
 use Rattle.gr_rename.proofs.MovePlanned.{conflict_of_length}
-use Rattle.gr_rename.proofs.plan_move.refuse_length.Goals as goal
+use Rattle.gr_rename.proofs.move_plan.refuse_length.Goals as goal
 
 pub refuse_conflict-requires-clause-base : goal.refuse_conflict-requires-clause-base
 refuse_conflict-requires-clause-base c = ap (λ (x : Change). x.base) c.in_ok-change.ensures

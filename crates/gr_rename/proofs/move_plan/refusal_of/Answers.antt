@@ -5,7 +5,7 @@ use Rattle.gr_text.specs.declared.refusal.Refusal.{Refusal}
 use Rattle.gr_bound.specs.Workspaces.{known_in}
 use Rattle.gr_rename.specs.MoveSteps.{RefusesConflict}
 use Rattle.gr_rename.proofs.MovePlanned.{told_conflict}
-use Rattle.gr_rename.proofs.plan_move.refusal_of.Goals as goal
+use Rattle.gr_rename.proofs.move_plan.refusal_of.Goals as goal
 
 pub returns-in-Ok : goal.returns-in-Ok
 returns-in-Ok c =

@@ -3,7 +3,7 @@ use Rattle.gr_bound.specs.Workspaces.{known_in}
 use Rattle.gr_bound.proofs.Units.{list_of_sound}
 use Rattle.gr_rename.proofs.MovePlanned.{name_refused, name_planned}
 use Rattle.gr_check.specs.Planned.{change_in}
-use Rattle.gr_rename.proofs.plan_move.refuse_long.Goals as goal
+use Rattle.gr_rename.proofs.move_plan.refuse_long.Goals as goal
 
 pub move_edits-requires-clause-free : goal.move_edits-requires-clause-free
 move_edits-requires-clause-free c = λ path is under. under

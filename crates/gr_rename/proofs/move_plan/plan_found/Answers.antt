@@ -3,7 +3,7 @@ use Rattle.gr_bound.specs.Workspaces.{known_in}
 use Rattle.gr_bound.proofs.Units.{list_of_sound}
 use Rattle.gr_rename.proofs.MovePlanned.{spared_by_free, edits_planned}
 use Rattle.gr_check.specs.Planned.{change_in}
-use Rattle.gr_rename.proofs.plan_move.plan_found.Goals as goal
+use Rattle.gr_rename.proofs.move_plan.plan_found.Goals as goal
 
 pub move_edits-requires-clause-free : goal.move_edits-requires-clause-free
 move_edits-requires-clause-free c = spared_by_free c.args.snapshot.now.files c.args.from.now c.args.to.now c.requires.free

@@ -5,7 +5,7 @@ use Rattle.gr_verdict.specs.Found.{KnowsVerdicts}
 use Rattle.gr_space.specs.declared.change.Change.{Change}
 use Rattle.gr_rename.proofs.MovePlanned.{conflict_planned, kept_planned}
 use Rattle.gr_check.specs.Planned.{change_in}
-use Rattle.gr_rename.proofs.plan_move.judged.Goals as goal
+use Rattle.gr_rename.proofs.move_plan.judged.Goals as goal
 
 pub refuse_conflict-requires-clause-base : goal.refuse_conflict-requires-clause-base
 refuse_conflict-requires-clause-base c = ap (λ (x : Change). x.base) c.requires.is_change

@@ -6,7 +6,7 @@ use Rattle.gr_revision.specs.RevisionsOfEdits.{revision_of}
 use Rattle.gr_space.specs.declared.change.Change.{Change}
 use Rattle.gr_check.specs.Preserved.{TellsPreserved}
 use Rattle.gr_rename.specs.MoveSteps.{RefusesConflict}
-use Rattle.gr_rename.proofs.plan_move.refuse_conflict.Goals as goal
+use Rattle.gr_rename.proofs.move_plan.refuse_conflict.Goals as goal
 
 pub refusal_of-requires-clause-after : goal.refusal_of-requires-clause-after
 refusal_of-requires-clause-after c = rw c.get.ensures c.requires.after

@@ -4,7 +4,7 @@ use Rattle.gr_text.specs.Path.{IsPath}
 use Rattle.gr_rename.specs.MovePlan.{PlansMove}
 use Rattle.gr_rename.proofs.MovePlanned.{source_refused}
 use Rattle.gr_check.specs.Planned.{change_in}
-use Rattle.gr_rename.proofs.plan_move.plan_move.Goals as goal
+use Rattle.gr_rename.proofs.move_plan.plan_move.Goals as goal
 
 pub returns-in-Err-clause-planned : goal.returns-in-Err-clause-planned
 returns-in-Err-clause-planned c = source_refused c.args.snapshot.now c.args.from.now c.args.to.now c.in-Err.refusal c.in-Err.ensures

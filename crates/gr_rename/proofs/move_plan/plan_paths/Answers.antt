@@ -1,7 +1,7 @@
 -- The answers to the goals of `plan::plan_paths`.
 use Rattle.gr_rename.proofs.MovePlanned.{target_refused, in_planned}
 use Rattle.gr_check.specs.Planned.{change_in}
-use Rattle.gr_rename.proofs.plan_move.plan_paths.Goals as goal
+use Rattle.gr_rename.proofs.move_plan.plan_paths.Goals as goal
 
 pub returns-in-Err-clause-planned : goal.returns-in-Err-clause-planned
 returns-in-Err-clause-planned c = target_refused c.args.snapshot.now c.args.from.now c.args.to.now c.requires.paths c.in-Err.refusal c.in-Err.ensures

@@ -5,7 +5,7 @@ use Rattle.gr_revision.specs.RevisionsOfEdits.{revision_of}
 use Rattle.gr_bound.specs.Workspaces.{known_in}
 use Rattle.gr_conflict.specs.declared.conflict.Conflict.{Conflict}
 use Rattle.gr_conflict.specs.Conflicts.{TellsFirst}
-use Rattle.gr_rename.proofs.plan_move.conflict_of.Goals as goal
+use Rattle.gr_rename.proofs.move_plan.conflict_of.Goals as goal
 
 pub returns-in-Some : goal.returns-in-Some
 returns-in-Some c =

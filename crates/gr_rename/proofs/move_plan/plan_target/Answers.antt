@@ -4,7 +4,7 @@ use Rattle.gr_text.specs.Path.{IsPath}
 use Rattle.gr_rename.specs.MovePlan.{PlansMove}
 use Rattle.gr_rename.proofs.MovePlanned.{target_no_path}
 use Rattle.gr_check.specs.Planned.{change_in}
-use Rattle.gr_rename.proofs.plan_move.plan_target.Goals as goal
+use Rattle.gr_rename.proofs.move_plan.plan_target.Goals as goal
 
 pub returns-in-Err-clause-planned : goal.returns-in-Err-clause-planned
 returns-in-Err-clause-planned c = target_no_path c.args.snapshot.now c.args.from.now c.args.to.now c.in-Err.refusal c.in-Err.ensures
