@@ -1,4 +1,5 @@
-//! The declaration to which the identifier at a byte of a file is bound, and that there is one at most.
+//! The declaration to which the identifier at a byte of a file is bound, and that there is one at most; and laws of what members stand
+//! for, and of what stays of a package where the texts of its closure stay.
 #![tactic(auto)]
 
 mod asked;

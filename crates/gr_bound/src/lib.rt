@@ -1,5 +1,5 @@
-//! What identifiers of a workspace are bound to, each way to be bound for itself; what its packages export; and bound identifiers in
-//! the order of their places.
+//! What identifiers of a workspace are bound to, each way to be bound for itself; what its packages export; bound identifiers in the
+//! order of their places; and where declarations stand, and what they are called.
 #![tactic(auto)]
 
 pub mod bindings;

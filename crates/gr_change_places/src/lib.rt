@@ -1,5 +1,5 @@
-//! The places by which a change is judged: the declarations of the workspace before by where they go, and all that the scopes of
-//! the workspace afterwards bind.
+//! The places by which a change is judged: the packages as their scopes are, whatever faults there are; the declarations of the
+//! workspace before by where they go; and all that the scopes of the workspace afterwards bind.
 #![tactic(auto)]
 
 mod bindings_after;

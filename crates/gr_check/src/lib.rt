@@ -1,4 +1,4 @@
-//! Whether an edit set preserves the bindings of a workspace.
+//! Whether an edit set preserves the bindings of a workspace, and which packages it affects.
 #![tactic(auto)]
 
 pub mod affected;

@@ -1,4 +1,5 @@
-//! The states of a workspace with the Jobs that are out, what each event makes of them, and the entry that it leaves.
+//! The states of a workspace: how a change, undo and redo move among them, and how the journal gains an entry; the Jobs that are out,
+//! whether a delivery is still of the current state, and what each event makes of all this.
 #![tactic(auto)]
 
 mod answering;

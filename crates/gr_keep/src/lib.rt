@@ -1,4 +1,4 @@
-//! What a change of a workspace carries over and keeps of its packages.
+//! The units of a workspace's packages that are finished, and what a change carries over and keeps of its packages.
 #![tactic(auto)]
 
 mod carried;

@@ -1,4 +1,5 @@
-//! Whether the bound identifiers of a workspace stay bound, after a change, to what their declarations become.
+//! Whether the bound identifiers of a workspace stay bound, after a change, to what their declarations become: by their order, and by a
+//! search for each.
 #![tactic(auto)]
 
 mod adding;

@@ -1,4 +1,5 @@
-//! The members that types have under the new names of a change. Types, structs and methods are those of the workspace before.
+//! The members that types have under the new names of a change: what fields and methods are called, by their numbers in the package,
+//! which are their ranks, and by the type definitions that they belong to. Types, structs and methods are those of the workspace before.
 #![tactic(auto)]
 
 mod looking;

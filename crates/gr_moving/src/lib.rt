@@ -1,4 +1,4 @@
-//! The edits that move a package, with all that its folder holds, to another folder.
+//! What becomes of paths where a package, with all that its folder holds, moves to another folder, and the edits that move it.
 #![tactic(auto)]
 
 mod changes;

@@ -1,4 +1,5 @@
-//! A book that threads share: a lock round it, which seats call through, and the settling of all.
+//! A book that threads share: what lies under the lock round it, the seats with receipts which call through, the workers, and the
+//! settling of all.
 #![tactic(auto)]
 
 mod built;

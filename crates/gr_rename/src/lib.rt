@@ -1,4 +1,5 @@
-//! Plans a rename: the edit set that gives the declaration at a byte another name, or why there is none.
+//! Plans a rename and a move: the edit set, or why there is none; and laws of what these plans and the history promise together: bindings
+//! are kept, undo and redo restore them, and what other packages see of a package is its own.
 #![tactic(auto)]
 
 pub mod exact;

@@ -1,4 +1,4 @@
-//! The edits that give a declaration, with all that is bound to it, another name.
+//! The edits that give a declaration, with all that is bound to it, another name: those of one file, and of all.
 #![tactic(auto)]
 
 mod changes;

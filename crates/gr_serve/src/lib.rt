@@ -1,4 +1,5 @@
-//! The server on a Unix socket: threads that serve sessions, and threads that build packages, over one shared book.
+//! The server on a Unix socket: threads that serve sessions, each at a seat as at a desk, and threads that build packages, over one
+//! shared book.
 #![tactic(auto)]
 
 mod fault;
