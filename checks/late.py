@@ -141,12 +141,17 @@ def begins(client, number, functions):
     waits_for(client, b"take %d ok %d\n" % (number + 1, number + 1))
 
 
+def put_meanwhile(first, second, functions, path, text):
+    """Another file is put while the package is built."""
+    begins(first, 0, functions)
+    same(second.ask(put(1, path, text)), (b"ok 2", b""))
+
+
 def put_of_the_package():
     """A file is put in the package while it is built: the delivery is stale, and the package is built again."""
 
     def play(first, second, functions):
-        begins(first, 0, functions)
-        same(second.ask(put(1, "a/1.go", MORE)), (b"ok 2", b""))
+        put_meanwhile(first, second, functions, "a/1.go", MORE)
         builds(second, 2, functions, MORE)
         before, behind = "commit 0 ok 1, take 1 ok 1, commit 1 ok 2", "deliver 1 no 21, take 2 ok 2, deliver 2 ok 2"
         return shows(journal(first), before, behind, {0: 0, 1: 1, 2: 1})
@@ -158,8 +163,7 @@ def put_of_another():
     """Another package is put while it is built. Its texts are the same in the new state, and the delivery is stale all the same."""
 
     def play(first, second, functions):
-        begins(first, 0, functions)
-        same(second.ask(put(1, "b/0.go", OTHER)), (b"ok 2", b""))
+        put_meanwhile(first, second, functions, "b/0.go", OTHER)
         builds(second, 2, functions)
         before = "commit 0 ok 1, take 1 ok 1, commit 1 ok 2"
         behind = "deliver 1 no 21, take 2 ok 2, deliver 2 ok 2, take 2 ok 2, deliver 2 ok 2"
