@@ -223,8 +223,7 @@ def refused_itself(stdout, name):
     said = re.findall(rf"^fn \S*\b{name}: (.*)", stdout, re.MULTILINE)
     if len(said) != 1 or not said[0].startswith(("not proved", "no proof")) or "it calls" in said[0]:
         return ""
-    places = re.findall(rf"^(?:note: )?(?:\./)?(?:src|proofs/(?:\S*/)?{name})/\S+:\d+:\d+: .*", stdout, re.MULTILINE)
-    return next(iter(places), f"{name}: {said[0]}")
+    return f"{name}: {said[0]}"
 
 
 def tried_together(rt, own, crate, edits):
