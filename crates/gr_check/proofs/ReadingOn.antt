@@ -118,8 +118,8 @@ one_read wanted some more n lt still own cases old new h marked r =
           (λ b x. (marked, x)) (λ b x. x.1) r.bound);
       identifiers = λ t. told_by_more (λ m place. IsMarked marks m × BeginsInNumber w known m place) some more n still own cases []
           old.gathered.identifiers.items new.gathered.identifiers.items (h.identifiers t)
-          (all_as old.gathered.identifiers.items new.gathered.identifiers.items (BeginsInNumber w known n) (λ place. IsMarked marks n × BeginsInNumber w known n place)
-          (λ place x. (marked, x)) (λ place x. x.1) (r.identifiers t));
+          (all_as old.gathered.identifiers.items new.gathered.identifiers.items (BeginsInNumber w known n)
+          (λ place. IsMarked marks n × BeginsInNumber w known n place) (λ place x. (marked, x)) (λ place x. x.1) (r.identifiers t));
     }
 
 one_passed : (wanted : Wanted) (some more : List ℕ) (n : ℕ) → ((m : ℕ) → Contains some m → Contains more m) →

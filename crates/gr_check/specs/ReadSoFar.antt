@@ -31,9 +31,11 @@ IsHeldOfSome wanted numbers n held =
 pub record IsReadSoFar (wanted : Wanted) (numbers : List ℕ) (s : SoFar) : Type 0 where
   pub places : HoldsOfEach (IsHeldOfSome wanted numbers) (length (package_paths wanted.graph.now)) s.places.items
   pub exports : AreSomeExports wanted.graph.now (known_in wanted.found.now) s.numbers.items
-  pub bound : AddsAll [] s.gathered.bound.items (OfSome numbers (λ n b. IsMarked wanted.marks.now n × IsBoundAt wanted.graph.now (known_in wanted.found.now) n b))
+  pub bound : AddsAll [] s.gathered.bound.items
+      (OfSome numbers (λ n b. IsMarked wanted.marks.now n × IsBoundAt wanted.graph.now (known_in wanted.found.now) n b))
   pub identifiers : IsTrue wanted.identifiers →
-      AddsAll [] s.gathered.identifiers.items (OfSome numbers (λ n place. IsMarked wanted.marks.now n × BeginsInNumber wanted.graph.now (known_in wanted.found.now) n place))
+      AddsAll [] s.gathered.identifiers.items
+          (OfSome numbers (λ n place. IsMarked wanted.marks.now n × BeginsInNumber wanted.graph.now (known_in wanted.found.now) n place))
 
 -- the package of a number was read
 pub record ReadsOne (wanted : Wanted) (n : ℕ) (old new : SoFar) : Type 0 where
