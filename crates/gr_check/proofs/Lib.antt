@@ -2,6 +2,7 @@
 pub mod Resolving
 pub mod Deciding
 pub mod Laid
+pub mod ReadingOn
 pub mod Unaffected
 pub mod Marked
 pub mod Losing

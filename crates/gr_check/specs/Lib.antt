@@ -1,6 +1,7 @@
 -- The definitions of this crate.
 pub mod Preserved
 pub mod Among
+pub mod ReadSoFar
 pub mod Planned
 pub mod Answers
 pub mod Marked

@@ -11,7 +11,7 @@ ghost use Rattle.gr_check.specs.Among.{AreHeld, AreIdentifiersAmong, IsBoundMark
 ghost use Rattle.gr_placed.specs.Outside.{IsOutside, path_by};
 ghost use Rattle.gr_sound.specs.Sound.{packages_of};
 
-use crate::reading::{Held, read_marked};
+use crate::reading_order::{Held, read_marked};
 use gr_bindings::Bindings;
 use gr_bound::{BoundSpot, Declaration};
 use gr_expr::symbol::SharedPath;

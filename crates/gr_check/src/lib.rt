@@ -11,6 +11,7 @@ mod marking;
 mod planned;
 mod preserving;
 mod reading;
+mod reading_order;
 
 pub use marking::{Affected, affected_by};
 pub use planned::{Planned, within_limits};

@@ -1,17 +1,17 @@
-//! The marked packages of a workspace without faults, each of which is read once: where its declarations stand, what its identifiers
-//! are bound to, and, where it is wanted, where these begin.
-ghost use Rattle.std.specs.Prelude.{◌<◌, length, IfOk, IsTrue, OnOk};
+//! What is read of one marked package of a workspace without faults: where its declarations stand, what its identifiers are bound to,
+//! where these begin, if that is wanted, and what the package exports.
+ghost use Rattle.std.specs.Prelude.{◌<◌, length, IfOk, IfSome, IsTrue, OnOk};
 ghost use Rattle.gr_text.specs.Packages.{package_paths};
-ghost use Rattle.gr_graph.specs.Search.{IsMarked};
 ghost use Rattle.gr_bindings.specs.KnownExports.{KnowsExports};
-ghost use Rattle.gr_bound.specs.Bindings.{AddsAll, IsBoundAt, IsBoundAmong};
+ghost use Rattle.gr_bound.specs.Bindings.{AddsAll, IsBoundAt};
+ghost use Rattle.gr_bound.specs.Exports.{AreNumbersAt};
 ghost use Rattle.gr_bound.specs.Packages.{IsTableAs};
 ghost use Rattle.gr_bound.specs.Workspaces.{IsSound, known_in};
-ghost use Rattle.gr_check.specs.Among.{AreHeldOf, AreIdentifiersAmong, HoldsMarked, IsHeldOf, IsIdentifierAmong};
 ghost use Rattle.gr_placed.specs.DeclaredPlaces.{AreDeclaredAt};
 ghost use Rattle.gr_placed.specs.Identified.{BeginsInNumber};
 
-use gr_bindings::{Bindings, KnownExports, bind_laid, imported_exports};
+use gr_bindings::{KnownExports, bind_laid};
+use gr_bound::exports::numbers_by;
 use gr_bound::{BoundSpot, path_of, read_table};
 use gr_declared::{Interfaces, Package};
 use gr_graph::Graph;
@@ -21,6 +21,7 @@ use gr_scope::table::ScopeTable;
 use gr_text::Place;
 use gr_verdict::{Findings, is_marked, seen};
 use std::alloc::{AllocError, Global};
+use std::collections::BTreeMap;
 
 /// Which packages are read: the marked ones, over what those export that they import; and whether the places at which their
 /// identifiers begin are wanted.
@@ -38,13 +39,11 @@ pub struct Gathered {
     pub identifiers: Vec<Place>,
 }
 
-/// What is held of the marked packages: where their declarations stand, by the packages' numbers, what their identifiers are bound to,
-/// and, where they were wanted, the places at which these begin.
+/// What is read of one package: where its declarations stand, and what it exports, if a marked package imports it.
 #[derive(Drop)]
-pub struct Held {
-    pub places: Vec<Option<DeclaredPlaces>>,
-    pub bindings: Bindings,
-    pub identifiers: Vec<Place>,
+pub struct ReadPackage {
+    pub places: DeclaredPlaces,
+    pub numbers: Option<BTreeMap<Vec<u8>, usize>>,
 }
 
 /// Where the declarations of the package of a number stand, by what this sees and its table.
@@ -144,16 +143,94 @@ fn gather_laid(
     places_laid(alloc, exports.graph, exports.found, seen, table, number)
 }
 
+/// Whether a marked package imports the package of a number. Only speed rests on it.
+fn is_imported(graph: &Graph, marks: &[bool], number: usize) -> bool
+    requires { number < length (package_paths graph.now) }
+{
+    for importer in graph.importers(number) {
+        if is_marked(marks, *importer) {
+            return true;
+        }
+    }
+    false
+}
+
+/// What the package of a number exports, by what this sees and its table.
+fn numbers_laid(
+    alloc: Global,
+    graph: &Graph,
+    found: &Findings,
+    seen: &Interfaces,
+    table: &ScopeTable<'_>,
+    number: usize,
+) -> Result<BTreeMap<Vec<u8>, usize>, AllocError>
+    requires in_range { number < length (package_paths graph.now) }
+    requires sound { IsSound graph.now found.now }
+    requires table { IsTableAs graph.now (known_in found.now) number table.now seen.now }
+    ensures { IfOk result (AreNumbersAt graph.now (known_in found.now) number) }
+{
+    let path = path_of(graph, found, number);
+    let files = table.files();
+    numbers_by(alloc, path, files, table, seen)
+}
+
+/// The same, if a marked package imports that one.
+fn imported_numbers(
+    alloc: Global,
+    reading: &Reading<'_>,
+    seen: &Interfaces,
+    table: &ScopeTable<'_>,
+    number: usize,
+) -> Result<Option<BTreeMap<Vec<u8>, usize>>, AllocError>
+    requires in_range { number < length (package_paths reading.now.exports.now.graph.now) }
+    requires exports { KnowsExports reading.now.exports.now }
+    requires table { let e = reading.now.exports.now in IsTableAs e.graph.now (known_in e.found.now) number table.now seen.now }
+    ensures { let e = reading.now.exports.now in IfOk result (λ numbers. IfSome numbers (AreNumbersAt e.graph.now (known_in e.found.now) number)) }
+{
+    let graph = reading.exports.graph;
+    let found = reading.exports.found;
+    if is_imported(graph, reading.marks, number) {
+        let numbers = numbers_laid(alloc, graph, found, seen, table, number)?;
+        return Ok(Some(numbers));
+    }
+    Ok(None)
+}
+
+/// Gathers what is wanted of the package of a number, and tells what is read of it, by what this sees and its table.
+fn read_laid(
+    alloc: Global,
+    gathered: &mut Gathered,
+    reading: &Reading<'_>,
+    seen: &Interfaces,
+    table: &ScopeTable<'_>,
+    number: usize,
+) -> Result<ReadPackage, AllocError>
+    requires in_range { number < length (package_paths reading.now.exports.now.graph.now) }
+    requires exports { KnowsExports reading.now.exports.now }
+    requires table { let e = reading.now.exports.now in IsTableAs e.graph.now (known_in e.found.now) number table.now seen.now }
+    ensures places { let e = reading.now.exports.now in IfOk result (λ read. AreDeclaredAt e.graph.now (known_in e.found.now) number read.places) }
+    ensures numbers { let e = reading.now.exports.now in IfOk result (λ read. IfSome read.numbers (AreNumbersAt e.graph.now (known_in e.found.now) number)) }
+    ensures bound { let e = reading.now.exports.now in
+        OnOk result (AddsAll gathered.old.bound.items gathered.new.bound.items (IsBoundAt e.graph.now (known_in e.found.now) number)) }
+    ensures identifiers { let e = reading.now.exports.now in
+        OnOk result (IsTrue reading.now.identifiers → AddsAll gathered.old.identifiers.items gathered.new.identifiers.items (BeginsInNumber e.graph.now (known_in e.found.now) number)) }
+{
+    let numbers = imported_numbers(alloc, reading, seen, table, number)?;
+    let places = gather_laid(alloc, gathered, reading, seen, table, number)?;
+    Ok(ReadPackage { places, numbers })
+}
+
 /// The same of the package of a number, which is read for it.
-fn gather_read(
+pub(crate) fn gather_read(
     alloc: Global,
     gathered: &mut Gathered,
     reading: &Reading<'_>,
     number: usize,
-) -> Result<DeclaredPlaces, AllocError>
+) -> Result<ReadPackage, AllocError>
     requires in_range { number < length (package_paths reading.now.exports.now.graph.now) }
     requires exports { KnowsExports reading.now.exports.now }
-    ensures places { let e = reading.now.exports.now in IfOk result (AreDeclaredAt e.graph.now (known_in e.found.now) number) }
+    ensures places { let e = reading.now.exports.now in IfOk result (λ read. AreDeclaredAt e.graph.now (known_in e.found.now) number read.places) }
+    ensures numbers { let e = reading.now.exports.now in IfOk result (λ read. IfSome read.numbers (AreNumbersAt e.graph.now (known_in e.found.now) number)) }
     ensures bound { let e = reading.now.exports.now in
         OnOk result (AddsAll gathered.old.bound.items gathered.new.bound.items (IsBoundAt e.graph.now (known_in e.found.now) number)) }
     ensures identifiers { let e = reading.now.exports.now in
@@ -163,96 +240,5 @@ fn gather_read(
     let found = reading.exports.found;
     let seen = seen(alloc, graph, number, &found.interfaces)?;
     let table = read_table(alloc, graph, found, &seen, number)?;
-    gather_laid(alloc, gathered, reading, &seen, &table, number)
-}
-
-/// The same if the package is marked; of another nothing is read.
-fn gather_if_marked(
-    alloc: Global,
-    gathered: &mut Gathered,
-    reading: &Reading<'_>,
-    number: usize,
-) -> Result<Option<DeclaredPlaces>, AllocError>
-    requires in_range { number < length (package_paths reading.now.exports.now.graph.now) }
-    requires exports { KnowsExports reading.now.exports.now }
-    ensures places { let e = reading.now.exports.now in IfOk result (IsHeldOf e.graph.now (known_in e.found.now) reading.now.marks.now number) }
-    ensures bound { let e = reading.now.exports.now in
-        OnOk result (AddsAll gathered.old.bound.items gathered.new.bound.items (λ b. IsMarked reading.now.marks.now number × IsBoundAt e.graph.now (known_in e.found.now) number b)) }
-    ensures identifiers { let e = reading.now.exports.now in
-        OnOk result (IsTrue reading.now.identifiers → AddsAll gathered.old.identifiers.items gathered.new.identifiers.items (λ place. IsMarked reading.now.marks.now number × BeginsInNumber e.graph.now (known_in e.found.now) number place)) }
-{
-    if is_marked(reading.marks, number) {
-        Ok(Some(gather_read(alloc, gathered, reading, number)?))
-    } else {
-        Ok(None)
-    }
-}
-
-/// Gathers what is wanted of all marked packages, and tells where their declarations stand, by the packages' numbers.
-fn gather_marked(
-    alloc: Global,
-    gathered: &mut Gathered,
-    reading: &Reading<'_>,
-) -> Result<Vec<Option<DeclaredPlaces>>, AllocError>
-    requires { KnowsExports reading.now.exports.now }
-    ensures places { let e = reading.now.exports.now in IfOk result (λ all. AreHeldOf e.graph.now (known_in e.found.now) reading.now.marks.now all.items) }
-    ensures bound { let e = reading.now.exports.now in
-        OnOk result (AddsAll gathered.old.bound.items gathered.new.bound.items (IsBoundAmong e.graph.now (known_in e.found.now) (IsMarked reading.now.marks.now))) }
-    ensures identifiers { let e = reading.now.exports.now in
-        OnOk result (IsTrue reading.now.identifiers → AddsAll gathered.old.identifiers.items gathered.new.identifiers.items (IsIdentifierAmong e.graph.now (known_in e.found.now) reading.now.marks.now)) }
-{
-    let mut all = Vec::new(alloc);
-    for number in 0..reading.exports.graph.len() {
-        all.push(gather_if_marked(alloc, gathered, reading, number)?)?;
-    }
-    Ok(all)
-}
-
-/// What is held of the marked packages, over what those export that they import.
-fn hold_marked(alloc: Global, reading: &Reading<'_>) -> Result<Held, AllocError>
-    requires { KnowsExports reading.now.exports.now }
-    ensures held { let e = reading.now.exports.now in
-        IfOk result (λ held. HoldsMarked e.graph.now e.found.now reading.now.marks.now held.places.items held.bindings) }
-    ensures identifiers { let e = reading.now.exports.now in
-        IfOk result (λ held. IsTrue reading.now.identifiers → AreIdentifiersAmong e.graph.now (known_in e.found.now) reading.now.marks.now held.identifiers.items) }
-{
-    let mut gathered = Gathered {
-        bound: Vec::new(alloc),
-        identifiers: Vec::new(alloc),
-    };
-    let places = gather_marked(alloc, &mut gathered, reading)?;
-    let Gathered { bound, identifiers } = gathered;
-    let bindings = Bindings::among(bound)?;
-    Ok(Held {
-        places,
-        bindings,
-        identifiers,
-    })
-}
-
-/// What is held of the marked packages of a workspace without faults; with the places at which their identifiers begin, where these are
-/// wanted. Only these packages are read, each once, and of those that they import what these export.
-pub fn read_marked(
-    alloc: Global,
-    graph: &Graph,
-    found: &Findings,
-    marks: &[bool],
-    identifiers: bool,
-) -> Result<Held, AllocError>
-    requires { IsSound graph.now found.now }
-    ensures held { IfOk result (λ held. HoldsMarked graph.now found.now marks.now held.places.items held.bindings) }
-    ensures identifiers { IfOk result (λ held. IsTrue identifiers → AreIdentifiersAmong graph.now (known_in found.now) marks.now held.identifiers.items) }
-{
-    let numbers = imported_exports(alloc, graph, found, marks)?;
-    let exports = KnownExports {
-        graph,
-        found,
-        numbers: &numbers,
-    };
-    let reading = Reading {
-        exports: &exports,
-        marks,
-        identifiers,
-    };
-    hold_marked(alloc, &reading)
+    read_laid(alloc, gathered, reading, &seen, &table, number)
 }

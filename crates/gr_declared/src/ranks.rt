@@ -41,7 +41,7 @@ fn ranks_of(
     ensures { IfOk result (λ ranks. AreRanks (λ p. p) places.now (layout_in table.now) (length table.now.sites) ranks.items) }
 {
     let found = ranks_by_token(alloc, places)?;
-    let mut ranks = Vec::new(alloc);
+    let mut ranks = Vec::with_capacity(alloc, table.len())?;
     for d in 0..table.len() {
         ranks.push(number_of(table, &found, d))?;
     }
@@ -52,7 +52,7 @@ fn ranks_of(
 fn variable_places(alloc: Global, variables: &[Variable<'_>]) -> Result<Vec<Position>, AllocError>
     ensures { IfOk result (λ places. places.items ≡ map variable_place (map variable_of variables.now)) }
 {
-    let mut places = Vec::new(alloc);
+    let mut places = Vec::with_capacity(alloc, variables.len())?;
     for variable in variables {
         places.push(Position {
             file: variable.file,
@@ -67,7 +67,7 @@ fn variable_places(alloc: Global, variables: &[Variable<'_>]) -> Result<Vec<Posi
 fn type_places(alloc: Global, types: &[TypeDef<'_>]) -> Result<Vec<Position>, AllocError>
     ensures { IfOk result (λ places. places.items ≡ map type_place (map type_of types.now)) }
 {
-    let mut places = Vec::new(alloc);
+    let mut places = Vec::with_capacity(alloc, types.len())?;
     for definition in types {
         places.push(Position {
             file: definition.file,
@@ -82,7 +82,7 @@ fn type_places(alloc: Global, types: &[TypeDef<'_>]) -> Result<Vec<Position>, Al
 fn function_places(alloc: Global, functions: &[Function<'_>]) -> Result<Vec<Position>, AllocError>
     ensures { IfOk result (λ places. places.items ≡ map function_place (map function_of functions.now)) }
 {
-    let mut places = Vec::new(alloc);
+    let mut places = Vec::with_capacity(alloc, functions.len())?;
     for function in functions {
         places.push(Position {
             file: function.file,

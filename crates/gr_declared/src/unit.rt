@@ -53,7 +53,7 @@ fn import_path(alloc: Global, unit: Package<'_>, d: usize) -> Result<Option<Vec<
 fn import_paths(alloc: Global, unit: Package<'_>) -> Result<Vec<Option<Vec<u8>>>, AllocError>
     ensures { IfOk result (λ paths. ArePaths (package_of unit.entry) (length unit.entry.table.now.sites) paths.items) }
 {
-    let mut paths = Vec::new(alloc);
+    let mut paths = Vec::with_capacity(alloc, unit.table.len())?;
     for d in 0..unit.table.len() {
         paths.push(import_path(alloc, unit, d)?)?;
     }

@@ -68,7 +68,7 @@ fn package_names<'a, N: PackageNames>(
 ) -> Result<Vec<Option<&'a [u8]>>, AllocError>
     ensures { IfOk result (λ names. ArePackageNames (map source_of files.now) (N.name_of packages.now) (laid_in plain.now) (name_given names.items)) }
 {
-    let mut names = Vec::new(alloc);
+    let mut names = Vec::with_capacity(alloc, plain.len())?;
     for u in 0..plain.len() {
         names.push(package_name(alloc, plain, files, packages, u)?)?;
     }

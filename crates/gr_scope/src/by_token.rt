@@ -5,6 +5,7 @@ ghost use Rattle.gr_scope.specs.Scoped.{layout_in};
 
 use crate::identifiers::Identifiers;
 use crate::model::Position;
+use gr_tree::FileTree;
 use std::alloc::{AllocError, Global};
 
 /// At each token of each file a number, or none.
@@ -18,6 +19,9 @@ fn reach(row: &mut Vec<Option<usize>>, token: usize) -> Result<(), AllocError>
     ensures kept { OnOk result ((t : ℕ) → number_in row.new.items t ≡ number_in row.old.items t) }
     ensures reached { OnOk result (token < length row.new.items) }
 {
+    if row.len() <= token {
+        row.reserve((token - row.len()).saturating_add(1))?;
+    }
     while row.len() <= token {
         row.push(None)?;
     }
@@ -33,7 +37,25 @@ fn set_token(row: &mut Vec<Option<usize>>, token: usize, number: usize) -> Resul
     Ok(())
 }
 
+/// A row with no number, as long as the tokens of a file are.
+fn row_of(alloc: Global, file: &FileTree) -> Result<Vec<Option<usize>>, AllocError>
+    ensures { IfOk result (λ row. (t : ℕ) → number_in row.items t ≡ None) }
+{
+    vec![in alloc; None; file.pieces().tokens().len()]
+}
+
 impl ByToken {
+    /// No number at any token, with room for the tokens of files.
+    fn over(alloc: Global, files: &[FileTree]) -> Result<ByToken, AllocError>
+        ensures { IfOk result (λ found. (file token : ℕ) → number_at found file token ≡ None) }
+    {
+        let mut rows = Vec::with_capacity(alloc, files.len())?;
+        for file in files {
+            rows.push(row_of(alloc, file)?)?;
+        }
+        Ok(ByToken { rows })
+    }
+
     /// No number at any token.
     pub fn new(alloc: Global) -> ByToken
         ensures { (file token : ℕ) → number_at result file token ≡ None }
@@ -118,7 +140,7 @@ fn note_identifier(
 pub fn identifiers_by_token(alloc: Global, identifiers: &Identifiers) -> Result<ByToken, AllocError>
     ensures { IfOk result (λ found. AreIdentifiers (layout_in identifiers.now) (length identifiers.now.sites) (number_at found)) }
 {
-    let mut found = ByToken::new(alloc);
+    let mut found = ByToken::over(alloc, identifiers.files())?;
     for u in 0..identifiers.len() {
         note_identifier(alloc, &mut found, identifiers, u)?;
     }

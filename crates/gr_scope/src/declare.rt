@@ -9,6 +9,7 @@ ghost use Rattle.gr_scope.specs.Trees.{AreNumbered};
 use crate::declarations::add_file;
 use crate::identifiers::Identifiers;
 use crate::model::{Block, Identifier, Position, Role};
+use crate::room::identifier_count;
 use crate::source::RankedFile;
 use gr_tree::FileTree;
 use std::alloc::{AllocError, Global};
@@ -48,7 +49,7 @@ fn identifiers_of<'a>(
     ensures sites { IfOk result (λ v. map site_of v.items ≡ package_sites (map spelled_file files.now)) }
     ensures numbered { IfOk result (λ v. AreNumbered (map spelled_file files.now)) }
 {
-    let mut found = Vec::new(alloc);
+    let mut found = Vec::with_capacity(alloc, identifier_count(files))?;
     add_universe(&mut found)?;
     for rank in 0..files.len() {
         let tree = &files[rank];

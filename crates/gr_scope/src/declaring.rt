@@ -1,5 +1,5 @@
 //! Which identifiers of a package declare, found once for each, in their order.
-ghost use Rattle.std.specs.Prelude.{◌≡◌, ◌<◌, ◌+◌, ◌↔◌, length, IsTrue, IfOk, OnOk};
+ghost use Rattle.std.specs.Prelude.{ℕ, List, ◌≡◌, ◌<◌, ◌+◌, ◌↔◌, length, IsTrue, IfOk, OnOk};
 ghost use Rattle.std.specs.Option.{ForSome};
 ghost use Rattle.gr_scope.specs.Bindings.{Declares, MayDeclare};
 ghost use Rattle.gr_scope.specs.Known.{AreDeclared, AreFirst};
@@ -118,6 +118,20 @@ fn standing_of(identifiers: &[Identifier], names: &[usize], links: &Links, d: us
 }
 
 impl DeclaredIn {
+    /// Nothing of the identifiers yet, with room for all of them.
+    fn new(alloc: Global, identifiers: &[Identifier]) -> Result<DeclaredIn, AllocError>
+        ensures { IfOk result (λ declared. (numbers : List ℕ) → AreFirst identifiers.now numbers 0 declared) }
+    {
+        let links = Links::new(alloc, identifiers)?;
+        let declaring = Vec::with_capacity(alloc, identifiers.len())?;
+        let leading = Vec::with_capacity(alloc, identifiers.len())?;
+        Ok(DeclaredIn {
+            links,
+            declaring,
+            leading,
+        })
+    }
+
     /// Adds the next identifier.
     fn add(
         &mut self,
@@ -150,12 +164,7 @@ pub(crate) fn declared_of(
     requires numbered { AreBelow (length identifiers.now) names.now }
     ensures { IfOk result (λ declared. AreDeclared identifiers.now names.now declared) }
 {
-    let links = Links::new(alloc, identifiers)?;
-    let mut declared = DeclaredIn {
-        links,
-        declaring: Vec::new(alloc),
-        leading: Vec::new(alloc),
-    };
+    let mut declared = DeclaredIn::new(alloc, identifiers)?;
     for d in 0..identifiers.len() {
         declared.add(identifiers, names, d)?;
     }

@@ -42,7 +42,7 @@ fn bindings_of(
     requires declared { AreDeclared identifiers.now names.now declared.now }
     ensures { IfOk result (λ found. AreBindings (layout_of identifiers.now) (told names.now) (length identifiers.now) found.items) }
 {
-    let mut found = Vec::new(alloc);
+    let mut found = Vec::with_capacity(alloc, identifiers.len())?;
     for u in 0..identifiers.len() {
         found.push(bound_to(identifiers, names, declared, u))?;
     }

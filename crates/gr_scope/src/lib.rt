@@ -18,6 +18,7 @@ mod nearest;
 mod numbering;
 mod outer;
 mod resolve;
+mod room;
 mod simple;
 mod source;
 mod statements;

@@ -12,6 +12,7 @@ use crate::model::Identifier;
 use crate::numbering::number_at;
 use crate::outer::OuterName;
 use crate::resolve::role_at;
+use crate::room::name_room;
 use indexmap::IndexMap;
 use std::alloc::{AllocError, Global};
 
@@ -30,11 +31,13 @@ impl Links {
     pub(crate) fn new(alloc: Global, identifiers: &[Identifier]) -> Result<Links, AllocError>
         ensures { IfOk result (λ links. (numbers : List ℕ) → AreLinks identifiers.now numbers 0 links) }
     {
+        let outer = IndexMap::with_capacity(alloc, name_room(identifiers))?;
         let last = vec![in alloc; None; identifiers.len()]?;
+        let around = Vec::with_capacity(alloc, identifiers.len())?;
         Ok(Links {
-            outer: IndexMap::new(alloc),
+            outer,
             last,
-            around: Vec::new(alloc),
+            around,
         })
     }
 

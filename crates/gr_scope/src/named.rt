@@ -58,7 +58,7 @@ fn named_identifiers<'a>(
 ) -> Result<Vec<Identifier<'a>>, AllocError>
     ensures { IfOk result (λ found. map site_of found.items ≡ named_sites (name_given names.now) (map site_of identifiers.now)) }
 {
-    let mut found = Vec::new(alloc);
+    let mut found = Vec::with_capacity(alloc, identifiers.len())?;
     for u in 0..identifiers.len() {
         found.push(named_identifier(&identifiers[u], name_given(names, u)))?;
     }

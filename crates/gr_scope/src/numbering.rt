@@ -6,6 +6,7 @@ ghost use Rattle.gr_scope.specs.Table.{layout_of, names_of, IsFirstOf};
 
 use crate::model::{Identifier, Role};
 use crate::resolve::{name_at, role_at};
+use crate::room::name_room;
 use indexmap::IndexMap;
 use std::alloc::{AllocError, Global};
 
@@ -78,8 +79,8 @@ pub(crate) fn numbers_of(
     ensures apart { IfOk result (λ numbers. TellApart (layout_of identifiers.now) (names_of identifiers.now) (length identifiers.now) numbers.items) }
     ensures below { IfOk result (λ numbers. AreBelow (length identifiers.now) numbers.items) }
 {
-    let mut firsts = IndexMap::new(alloc);
-    let mut numbers = Vec::new(alloc);
+    let mut firsts = IndexMap::with_capacity(alloc, name_room(identifiers))?;
+    let mut numbers = Vec::with_capacity(alloc, identifiers.len())?;
     for u in 0..identifiers.len() {
         numbers.push(next_number(&mut firsts, identifiers, u)?)?;
     }

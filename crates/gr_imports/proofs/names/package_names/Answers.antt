@@ -6,7 +6,7 @@ use Rattle.gr_imports.proofs.NameParts.{sized_next, names_next}
 use Rattle.gr_imports.proofs.names.package_names.Goals as goal
 
 pub loop-u-init : goal.loop-u-init
-loop-u-init g c = record { sized = ap length c.new-names.ensures.items; each = λ k lt. absurd (omega arith) }
+loop-u-init g c = record { sized = ap length c.in_ok-names.ensures.items; each = λ k lt. absurd (omega arith) }
 
 pub loop-u-preserved : goal.loop-u-preserved
 loop-u-preserved g c = record {

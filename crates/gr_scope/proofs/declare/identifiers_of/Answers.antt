@@ -17,7 +17,7 @@ loop-rank-preserved c = record {
 
 pub returns : goal.returns
 returns c = record {
-  sites = package_made _ c.loop-rank.found.items c.args.files.now c.loop-rank.rank c.new-found.ensures.items (omega arith)
+  sites = package_made _ c.loop-rank.found.items c.args.files.now c.loop-rank.rank c.in_ok-found.ensures.items (omega arith)
       (adds_then c.in_ok-add_universe.ensures c.loop-rank.invariant.added);
   numbered = package_numbered c.args.files.now c.loop-rank.rank (omega arith) c.loop-rank.invariant.numbered;
 }

@@ -5,7 +5,7 @@ use Rattle.gr_scope.proofs.Kept.{bindings_none, bindings_next}
 use Rattle.gr_scope.proofs.known.bindings_of.Goals as goal
 
 pub loop-u-init : goal.loop-u-init
-loop-u-init c = bindings_none (layout_of c.args.identifiers.now) (told c.args.names.now) c.new-found.result.items c.new-found.ensures.items
+loop-u-init c = bindings_none (layout_of c.args.identifiers.now) (told c.args.names.now) c.in_ok-found.found.items c.in_ok-found.ensures.items
 
 pub loop-u-preserved : goal.loop-u-preserved
 loop-u-preserved c =

@@ -6,7 +6,7 @@ use Rattle.gr_scope.proofs.NamedSites.{found_none, found_next}
 use Rattle.gr_scope.proofs.named.named_identifiers.Goals as goal
 
 pub loop-u-init : goal.loop-u-init
-loop-u-init c = found_none (name_given c.args.names.now) c.new-found.result.items (map site_of c.args.identifiers.now) c.new-found.ensures.items
+loop-u-init c = found_none (name_given c.args.names.now) c.in_ok-found.found.items (map site_of c.args.identifiers.now) c.in_ok-found.ensures.items
 
 pub loop-u-preserved : goal.loop-u-preserved
 loop-u-preserved c =

@@ -10,8 +10,8 @@ returns c = λ numbers.
     let l = layout_of c.args.identifiers.now in
     let n = length c.args.identifiers.now in
     record {
-      outer = outer_none l (told numbers) c.new.result (λ key. search rules);
+      outer = outer_none l (told numbers) c.in_ok-outer.outer (λ key. search rules);
       lasts = lasts_none l n (told numbers) c.in_ok-last.last.items (c.in_ok-last.ensures.items_if_clones_equal (search rules));
-      linked = linked_none l n (told numbers) c.new-2.result.items c.new-2.ensures.items;
-      near = near_none l (told numbers) c.new-2.result.items;
+      linked = linked_none l n (told numbers) c.in_ok-around.around.items c.in_ok-around.ensures.items;
+      near = near_none l (told numbers) c.in_ok-around.around.items;
     }
