@@ -105,7 +105,7 @@ one_read wanted some more n lt still own cases old new h marked r =
                   let here : slice_get (set old.places.items n (Some r.held)) n ≡ Some held =
                   subst (λ k. slice_get (set old.places.items n (Some r.held)) k ≡ Some held) same there in
                   let is : Some r.held ≡ held = same_Some (Some r.held) held
-                      (sym (get_set_same old.places.items n (Some r.held) (subst (λ k. n < k) (sym h.places.size) lt)) ∙ here) in
+                  (sym (get_set_same old.places.items n (Some r.held) (subst (λ k. n < k) (sym h.places.size) lt)) ∙ here) in
                   subst (λ k. IsHeldOfSome wanted more k held) (sym same) (subst (IsHeldOfSome wanted more n) is r.declared))
               | inr other ↦ held_still wanted some more m held
                   (λ in_more _. elim (cases m in_more) [ inl o ↦ o | inr e ↦ absurd (other (sym e)) ])

@@ -35,7 +35,7 @@ pub record IsReadSoFar (wanted : Wanted) (numbers : List ℕ) (s : SoFar) : Type
       (OfSome numbers (λ n b. IsMarked wanted.marks.now n × IsBoundAt wanted.graph.now (known_in wanted.found.now) n b))
   pub identifiers : IsTrue wanted.identifiers →
       AddsAll [] s.gathered.identifiers.items
-          (OfSome numbers (λ n place. IsMarked wanted.marks.now n × BeginsInNumber wanted.graph.now (known_in wanted.found.now) n place))
+      (OfSome numbers (λ n place. IsMarked wanted.marks.now n × BeginsInNumber wanted.graph.now (known_in wanted.found.now) n place))
 
 -- the package of a number was read
 pub record ReadsOne (wanted : Wanted) (n : ℕ) (old new : SoFar) : Type 0 where
