@@ -11,11 +11,7 @@ proof with the longest chain behind it has up to three processors, also where ot
 left for each processor. Else a proof has one: with two or three it may take up to twice the processor time, where others are proved beside it.
 checks/gate.sh runs this.
 
-Edits: rt ci tries the only must-fail edit of a crate by a check of all of it, and several over a proof of the crate, each by a check that loads
-as much again. Here the edits of a crate that change different functions are tried together, from nothing, by one check of these functions and of
-those that they call, as rt check --only does. That tells of an edit where it refuses the very function that the edit changes, and not only since
-one that it calls is refused. Any other edit is tried by itself: by a check of the function that it changes, and where that does not refuse it, or the edit
-changes what is no function, by a check of the whole crate.
+Edits: each is tried by a check of the functions that it changes (edits.py).
 
 Layout: rt ci refuses a crate with a file that rt fmt lays out otherwise, before it proves it. Here all crates are asked first.
 
@@ -27,16 +23,15 @@ import importlib.machinery
 import importlib.util
 import inspect
 import os
-import re
 import shutil
 import subprocess
 import sys
 import tempfile
-import threading
 from concurrent.futures import FIRST_COMPLETED, ThreadPoolExecutor, wait
 
 sys.dont_write_bytecode = True
 
+import edits
 import replay
 
 # More memory than a proof was seen to take, in bytes.
@@ -47,9 +42,7 @@ LONG = 0.8
 CHECKS = os.path.dirname(os.path.abspath(__file__))
 SECONDS = os.path.join(CHECKS, "gate_seconds.txt")
 PROGRAM = "gr_server"
-# How a function of a file begins, and how a check of some functions ends.
-FUNCTION = re.compile(r"^ *(?:pub(?:\(\w+\))? )?(?:unsafe )?fn (\w+)", re.MULTILINE)
-ALONE = re.compile(r"^only=(\d+) proved=(\d+)$", re.MULTILINE)
+
 
 
 def load(path):
@@ -142,138 +135,6 @@ def lanes_of(rt):
     return in_lanes
 
 
-def function_at(text, at):
-    """The name of the function in whose text a place of a file lies, or none."""
-    names = FUNCTION.findall(text, 0, at)
-    return names[-1] if names else None
-
-
-def changed_functions(folder, texts):
-    """The functions that new texts of some files of a folder change, each at its first change; none where one changes what is no function."""
-    found = []
-    for path, text in texts.items():
-        with open(os.path.join(folder, path), encoding="utf-8") as file:
-            before = file.read()
-        at = len(os.path.commonprefix([before, text]))
-        name = function_at(before, at) if path.startswith("src/") else None
-        if name is None:
-            return []
-        found.append(name)
-    return found
-
-
-def only(names):
-    return [f"--only={name}" for name in names]
-
-
-def is_refused(ran):
-    """Whether a check of some functions alone did not prove them all: `only=CHECKED proved=PROVED`."""
-    counts = ALONE.search(ran.stdout)
-    return ran.returncode == 1 and bool(counts) and int(counts[1]) > int(counts[2])
-
-
-def checked_alone_first(rt):
-    """A way to check a crate with other texts, for rt's own: the functions that are changed alone, and the crate where these are not refused."""
-    own = rt.checked
-
-    def checked(crate, texts, flags, kept):
-        names = [] if kept else changed_functions(crate.folder, texts)
-        if names:
-            ran = own(crate, texts, [*flags, *only(names)], None)
-            if is_refused(ran):
-                # rt tells by this word of a whole check
-                ran.stdout += "logic=not-proved\n"
-                return ran
-        return own(crate, texts, flags, kept)
-
-    return checked
-
-
-def rounds_of(rt, crate, edits):
-    """Edits of a crate that change one function each, in rounds whose edits change different ones: for each round the texts of all of its
-    edits together, and the name of the function that each changes."""
-    rounds, left = [], edits
-    while left:
-        texts, names, later = {}, {}, []
-        with tempfile.TemporaryDirectory() as room:
-            for part in rt.rtlib.PARTS:
-                if os.path.isdir(f"{crate.folder}/{part}"):
-                    shutil.copytree(f"{crate.folder}/{part}", f"{room}/{part}")
-            for edit in left:
-                changed, why = rt.read_edit(edit, room)
-                functions = [] if why else changed_functions(room, changed)
-                if len(functions) != 1:
-                    continue
-                if functions[0] in names.values():
-                    later.append(edit)
-                    continue
-                names[edit] = functions[0]
-                for path, text in changed.items():
-                    texts[path] = text
-                    with open(f"{room}/{path}", "w", encoding="utf-8") as file:
-                        file.write(text)
-        if names:
-            rounds.append((texts, names))
-        left = later
-    return rounds
-
-
-def refused_itself(stdout, name):
-    """What a check says of a function of that name that it refuses, if it is one alone, and not only since a function that it calls is refused."""
-    said = re.findall(rf"^fn \S*\b{name}: (.*)", stdout, re.MULTILINE)
-    if len(said) != 1 or not said[0].startswith(("not proved", "no proof")) or "it calls" in said[0]:
-        return ""
-    return f"{name}: {said[0]}"
-
-
-def tried_together(rt, own, crate, edits):
-    """What is said of each edit of a crate that is refused beside its others."""
-    told = {}
-    for texts, names in rounds_of(rt, crate, edits):
-        if len(names) < 2:
-            continue
-        ran = own(crate, texts, ["--jobs", "1", *only(names.values())], None)
-        for edit, name in names.items():
-            why = refused_itself(ran.stdout, name) if is_refused(ran) else ""
-            if why:
-                told[edit] = f"must-fail {crate.name}/{os.path.basename(edit)}: refused, as it must be: {why[:160]}"
-    return told
-
-
-def edits_together(rt):
-    """Ways to add the tasks that try a crate's edits and to try one, for rt's own: the first task tries those together that change different
-    functions, and each tells of its own edit, or tries that by itself, as if it were the crate's only one."""
-    own_add, own_try, own_check = rt.add_edits, rt.must_fail, rt.checked
-    asked, told, alone = {}, {}, {}
-
-    def add_edits(tasks, crate, edits, *others):
-        asked[crate.name], alone[crate.name] = edits, threading.Lock()
-        parts = []
-        for number, edit in enumerate(edits):
-            added = {}
-            parts.append(own_add(added, crate, [edit], *others))
-            for key, (waits, *rest) in added.items():
-                tasks[*key[:-1], number] = ([*waits, (crate.name, "edits", 0)] if number else waits, *rest)
-
-        def results(given):
-            return [told_of({(crate.name, "edits", 0): given[crate.name, "edits", number]})[0] for number, (told_of, _) in enumerate(parts)]
-
-        def known():
-            return {number: known_of()[0] for number, (_, known_of) in enumerate(parts) if known_of()}
-
-        return results, known
-
-    def must_fail(crate, edit, flags, kept=None):
-        with alone[crate.name]:
-            if crate.name not in told:
-                told[crate.name] = tried_together(rt, own_check, crate, asked[crate.name])
-        if edit in told[crate.name]:
-            return rt.REFUSED, told[crate.name][edit]
-        return own_try(crate, edit, flags, kept)
-
-    return add_edits, must_fail
-
-
 def answers_sessions(rt, program):
     """Runs the stored sessions on a copy of the program, as rt runs programs: as nobody, if it is root. It tells of each that differs."""
     sessions, name = replay.stored(), os.path.basename(program)
@@ -327,9 +188,8 @@ def main():
         return 1
     asked = []
     rt.run = with_checks(rt, asked)
-    if hasattr(rt, "checked") and hasattr(rt, "add_edits"):
-        rt.add_edits, rt.must_fail = edits_together(rt)
-        rt.checked = checked_alone_first(rt)
+    if hasattr(rt, "must_fail") and hasattr(rt, "add_edits"):
+        rt.add_edits, rt.must_fail = edits.edits_together(rt)
     crate = rt.rtlib.Crate
     crate.stamp, crate.below = once(crate.stamp), once(crate.below)
     if hasattr(rt, "in_lanes"):
