@@ -21,9 +21,16 @@ pub(crate) fn share_held(
 }
 
 /// What is known of the interface of one package, if anything is. A clone shares it.
-#[derive(Drop)]
 pub struct KnownInterface {
     pub(crate) known: Option<Arc<Interface, Global>>,
+}
+
+/// Written out, so that crates above call it and don't prove again how each part is dropped.
+impl Drop for KnownInterface {
+    fn drop(self) {
+        let KnownInterface { known } = self;
+        drop(known);
+    }
 }
 
 impl Model for KnownInterface {
