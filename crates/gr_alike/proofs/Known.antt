@@ -8,14 +8,14 @@ use Rattle.std.specs.Map.{lookup}
 use Rattle.std.specs.Ordering.{nat_cmp, is_eq}
 use Rattle.std.proofs.lemmas.Option.{slice_get-map}
 use Rattle.gr_expr.specs.World as plain
-use Rattle.gr_expr.specs.WorldView.{no_definition, field_of, method_of, definition_of, definition_or_none, ranked, definitions_at}
+use Rattle.gr_expr.specs.WorldView.{no_definition, field_of, method_of, definition_of, definition_or_none, definitions_listed, known_at, ranked}
 use Rattle.gr_expr.specs.declared.symbol.Symbol.{Symbol}
 use Rattle.gr_expr.specs.declared.world.Definition.{Definition}
 use Rattle.gr_declared.specs.Package as seen
-use Rattle.gr_expr.specs.declared.interfaces.PackageScope.{PackageScope}
+use Rattle.gr_expr.specs.declared.interfaces.Interface.{Interface}
 use Rattle.gr_declared.specs.declared.interfaces.Interfaces.{Interfaces}
-use Rattle.gr_declared.specs.InterfacesView.{export_of, scope_name, name_or_none, scope_export, interface_in, scope_in}
-use Rattle.gr_alike.specs.Known.{entry_value, KnownScope, known_scope, KnownDefinition, known_definition, Known, known_in, IsKnownAlike}
+use Rattle.gr_declared.specs.InterfacesView.{export_of, known_name, known_scope, name_or_none, scope_export, interface_known}
+use Rattle.gr_alike.specs.Known.{entry_value, KnownDefinition, known_definition, Known, known_in, known_of, IsKnownAlike}
 
 -- the value of a name
 abbrev value_named : {Y : Type 0} → List ℕ → List (List ℕ × Y) → Option Y
@@ -56,47 +56,50 @@ definition_known : (s : Symbol) (d : Option Definition) → definition_or_none s
 definition_known s None = refl
 definition_known s (Some d) = plain_known d
 
-abbrev plain_at : Symbol → Option (List KnownDefinition) → ℕ → plain.Definition
+abbrev plain_name : Option Known → Option (List ℕ)
+plain_name None = None
+plain_name (Some k) = Some k.scope.name
+
+name_same : (known : Option Interface) → known_name known ≡ plain_name (known_of known)
+name_same None = refl
+name_same (Some i) = refl
+
+abbrev plain_export : Option Known → List ℕ → Option seen.Export
+plain_export None name = None
+plain_export (Some k) name = value_named name k.scope.exported
+
+export_same : (known : Option Interface) (name : List ℕ) → scope_export (known_scope known) name ≡ plain_export (known_of known) name
+export_same None name = refl
+export_same (Some i) name = value_found export_of name i.scope.exported.entries
+
+abbrev plain_at : Symbol → Option Known → ℕ → plain.Definition
 plain_at s None rank = no_definition s
-plain_at s (Some ds) rank = plain_or_none s (slice_get ds rank)
+plain_at s (Some k) rank = plain_or_none s (slice_get k.definitions rank)
 
-known_at : (s : Symbol) (ds : Option (List Definition)) (rank : ℕ) →
-    definition_or_none s (ranked ds rank) ≡ plain_at s (option_map (map known_definition) ds) rank
-known_at s None rank = refl
-known_at s (Some ds) rank = definition_known s (slice_get ds rank) ∙ ap (plain_or_none s) (sym (slice_get-map known_definition ds rank))
+definition_same : (s : Symbol) (known : Option Interface) (rank : ℕ) →
+    definition_or_none s (ranked (definitions_listed known) rank) ≡ plain_at s (known_of known) rank
+definition_same s None rank = refl
+definition_same s (Some i) rank =
+    definition_known s (slice_get i.definitions.items rank) ∙ ap (plain_or_none s) (sym (slice_get-map known_definition i.definitions.items rank))
 
-abbrev known_name : Option KnownScope → Option (List ℕ)
-known_name None = None
-known_name (Some s) = Some s.name
-
-name_known : (s : Option PackageScope) → scope_name s ≡ known_name (option_map known_scope s)
-name_known None = refl
-name_known (Some s) = refl
-
-abbrev known_export : Option KnownScope → List ℕ → Option seen.Export
-known_export None name = None
-known_export (Some s) name = value_named name s.exported
-
-export_known : (s : Option PackageScope) (name : List ℕ) → scope_export s name ≡ known_export (option_map known_scope s) name
-export_known None name = refl
-export_known (Some s) name = value_found export_of name s.exported.entries
-
-abbrev known_interface : (path : List ℕ) → Known → seen.Interface
-known_interface path k = record {
-  name = name_or_none (known_name k.scope);
-  exported = λ name. known_export k.scope name;
-  definition = λ rank. plain_at (record { «package» = path; rank = rank }) k.definitions rank;
+abbrev plain_interface : (path : List ℕ) → Option Known → seen.Interface
+plain_interface path k = record {
+  name = name_or_none (plain_name k);
+  exported = λ name. plain_export k name;
+  definition = λ rank. plain_at (record { «package» = path; rank = rank }) k rank;
 }
 
-interface_known : (i : Interfaces) (path : List ℕ) → interface_in i path ≡ known_interface path (known_in i path)
-interface_known i path = λ at. record {
-  name = name_or_none (name_known (scope_in i path) at);
-  exported = λ name. export_known (scope_in i path) name at;
-  definition = λ rank. known_at (record { «package» = path; rank = rank }) (definitions_at i.definitions path) rank at;
+interface_same : (known : Option Interface) (path : List ℕ) → interface_known path known ≡ plain_interface path (known_of known)
+interface_same known path = λ at. record {
+  name = name_or_none (name_same known at);
+  exported = λ name. export_same known name at;
+  definition = λ rank. definition_same (record { «package» = path; rank = rank }) known rank at;
 }
 
-pub same_known : (a b : Interfaces) (path : List ℕ) → known_in a path ≡ known_in b path → IsKnownAlike a b path
-same_known a b path e = record {
-  name = name_known (scope_in a path) ∙ (ap (λ k. known_name k.scope) e ∙ sym (name_known (scope_in b path)));
-  interface = interface_known a path ∙ (ap (known_interface path) e ∙ sym (interface_known b path));
-}
+pub same_known : (known : Option Interface) (all : Interfaces) (path : List ℕ) → known_of known ≡ known_in all path → IsKnownAlike known all path
+same_known known all path e =
+    let there = known_at all.definitions path in
+    record {
+      name = name_same known ∙ (ap plain_name e ∙ sym (name_same there));
+      interface = interface_same known path ∙ (ap (plain_interface path) e ∙ sym (interface_same there path));
+    }

@@ -3,12 +3,13 @@ use Rattle.std.specs.Prelude.{ℕ, ◌≡◌, List, map, Option, option_map}
 use Rattle.std.specs.Global.{Vec}
 use Rattle.gr_expr.specs.Types.{Underlying}
 use Rattle.gr_expr.specs.World as plain
-use Rattle.gr_expr.specs.WorldView.{underlying_of, field_of, method_of, definitions_at}
+use Rattle.gr_expr.specs.WorldView.{underlying_of, field_of, method_of, known_at}
 use Rattle.gr_expr.specs.declared.world.Definition.{Definition}
 use Rattle.gr_declared.specs.Package as seen
+use Rattle.gr_expr.specs.declared.interfaces.Interface.{Interface}
 use Rattle.gr_expr.specs.declared.interfaces.PackageScope.{PackageScope}
 use Rattle.gr_declared.specs.declared.interfaces.Interfaces.{Interfaces}
-use Rattle.gr_declared.specs.InterfacesView.{export_of, name_in, interface_in, scope_in}
+use Rattle.gr_declared.specs.InterfacesView.{export_of, name_in, known_name, interface_in, interface_known}
 
 -- a name with its value
 abbrev pub entry_value : {X Y : Type 0} → (X → Y) → Vec ℕ × X → List ℕ × Y
@@ -35,18 +36,23 @@ known_definition d = record {
   methods = map (entry_value method_of) d.methods.entries;
 }
 
--- what is known of the package of a path
+-- what is known of a package
 pub record Known : Type 0 where
-  pub scope : Option KnownScope
-  pub definitions : Option (List KnownDefinition)
+  pub scope : KnownScope
+  pub definitions : List KnownDefinition
 
-abbrev pub known_in : Interfaces → List ℕ → Known
-known_in i path = record {
-  scope = option_map known_scope (scope_in i path);
-  definitions = option_map (map known_definition) (definitions_at i.definitions path);
-}
+abbrev pub known_as : Interface → Known
+known_as i = record { scope = known_scope i.scope; definitions = map known_definition i.definitions.items }
 
--- the package of a path has the same name and the same interface here and there
-pub record IsKnownAlike (a b : Interfaces) (path : List ℕ) : Type 0 where
-  pub name : name_in a path ≡ name_in b path
-  pub interface : interface_in a path ≡ interface_in b path
+-- likewise, if anything is known of it
+abbrev pub known_of : Option Interface → Option Known
+known_of known = option_map known_as known
+
+-- what is known of the package of a path
+abbrev pub known_in : Interfaces → List ℕ → Option Known
+known_in i path = known_of (known_at i.definitions path)
+
+-- the package of a path, of which this is known, has the same name and the same interface as it has there
+pub record IsKnownAlike (known : Option Interface) (all : Interfaces) (path : List ℕ) : Type 0 where
+  pub name : known_name known ≡ name_in all path
+  pub interface : interface_known path known ≡ interface_in all path

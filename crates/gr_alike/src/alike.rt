@@ -1,16 +1,27 @@
 //! Whether the same is known of a package here and there.
 ghost use Rattle.std.specs.Prelude.{◌≡◌, ◌↔◌, IsTrue};
-ghost use Rattle.gr_alike.specs.Known.{known_in, IsKnownAlike};
+ghost use Rattle.gr_alike.specs.Known.{known_as, known_in, known_of, IsKnownAlike};
 
 use crate::definitions::are_definitions_alike;
 use crate::scopes::are_scopes_alike;
-use gr_declared::Interfaces;
+use gr_declared::{Interface, Interfaces, KnownInterface};
 
-/// Whether the same is known of the package of a path here and there: its name, its exported names with what they mean, and its
-/// type definitions, each with its underlying type, its fields and its methods. It then has the same interface.
-pub fn are_alike(a: &Interfaces, b: &Interfaces, path: &[u8]) -> bool
-    ensures exact { IsTrue result ↔ (known_in a.now path.now ≡ known_in b.now path.now) }
-    ensures interface { IsTrue result → IsKnownAlike a.now b.now path.now }
+fn are_interfaces_alike(one: &Interface, other: &Interface) -> bool
+    ensures { IsTrue result ↔ (known_as one.now ≡ known_as other.now) }
 {
-    are_scopes_alike(a, b, path) && are_definitions_alike(a, b, path)
+    are_scopes_alike(&one.scope, &other.scope)
+        && are_definitions_alike(&one.definitions, &other.definitions)
+}
+
+/// Whether the same is known of a package, as this tells, as of that of a path: its name, its exported names with what they mean, and
+/// its type definitions, each with its underlying type, its fields and its methods. The package of the path then has the same interface.
+pub fn are_alike(known: &KnownInterface, all: &Interfaces, path: &[u8]) -> bool
+    ensures exact { IsTrue result ↔ (known_of known.now ≡ known_in all.now path.now) }
+    ensures interface { IsTrue result → IsKnownAlike known.now all.now path.now }
+{
+    match (known.get(), all.definitions().interface(path)) {
+        (None, None) => true,
+        (Some(one), Some(other)) => are_interfaces_alike(one, other),
+        _ => false,
+    }
 }

@@ -1,12 +1,11 @@
 //! When type definitions are alike: their underlying types, fields and methods.
-ghost use Rattle.std.specs.Prelude.{◌≡◌, ◌↔◌, IsTrue, map, option_map, option_copied};
+ghost use Rattle.std.specs.Prelude.{◌≡◌, ◌↔◌, IsTrue, map, option_map};
 ghost use Rattle.gr_expr.specs.Types.{same_underlying};
 ghost use Rattle.gr_expr.specs.View.{type_of, signature_of};
-ghost use Rattle.gr_expr.specs.WorldView.{underlying_of, field_of, method_of, definitions_at};
+ghost use Rattle.gr_expr.specs.WorldView.{underlying_of, field_of, method_of};
 ghost use Rattle.gr_alike.specs.Known.{entry_value, known_definition};
 
 use crate::parts::{Alike, are_lists_alike, are_maps_alike};
-use gr_declared::Interfaces;
 use gr_expr::symbol::Symbol;
 use gr_expr::types::{GoType, Signature};
 use gr_expr::world::{Definition, Field, Method, Underlying};
@@ -121,25 +120,9 @@ impl Alike for Definition {
     }
 }
 
-fn definitions<'a>(known: &'a Interfaces, path: &[u8]) -> Option<&'a [Definition]>
-    ensures { option_copied result ≡ definitions_at known.now.definitions path.now }
-{
-    known.definitions().of(path)
-}
-
-fn are_lists_of_definitions_alike(one: &[Definition], other: &[Definition]) -> bool
+/// Whether the same type definitions are known.
+pub(crate) fn are_definitions_alike(one: &[Definition], other: &[Definition]) -> bool
     ensures { IsTrue result ↔ (map known_definition one.now ≡ map known_definition other.now) }
 {
     are_lists_alike(one, other)
-}
-
-/// Whether the same type definitions are known of the package of a path.
-pub(crate) fn are_definitions_alike(a: &Interfaces, b: &Interfaces, path: &[u8]) -> bool
-    ensures { IsTrue result ↔ (option_map (map known_definition) (definitions_at a.now.definitions path.now) ≡ option_map (map known_definition) (definitions_at b.now.definitions path.now)) }
-{
-    match (definitions(a, path), definitions(b, path)) {
-        (None, None) => true,
-        (Some(one), Some(other)) => are_lists_of_definitions_alike(one, other),
-        _ => false,
-    }
 }

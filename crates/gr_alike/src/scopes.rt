@@ -1,11 +1,11 @@
 //! When the scopes of packages are alike: their names, and what they export.
-ghost use Rattle.std.specs.Prelude.{◌≡◌, ◌↔◌, IsTrue, map, option_map};
-ghost use Rattle.gr_declared.specs.InterfacesView.{meaning_of, export_of, scope_in};
+ghost use Rattle.std.specs.Prelude.{◌≡◌, ◌↔◌, IsTrue, map};
+ghost use Rattle.gr_declared.specs.InterfacesView.{meaning_of, export_of};
 ghost use Rattle.gr_alike.specs.Known.{entry_value, known_scope};
 
 use crate::definitions::{is_same_signature, is_same_type};
 use crate::parts::{Alike, are_maps_alike, is_same_name};
-use gr_declared::{Export, ExportMeaning, Interfaces, PackageScope};
+use gr_declared::{Export, ExportMeaning, PackageScope};
 use std::collections::BTreeMap;
 
 #[tactic(auto, unfolding(gr_declared::specs::InterfacesView::meaning_of))]
@@ -36,19 +36,9 @@ fn are_same_exports(one: &BTreeMap<Vec<u8>, Export>, other: &BTreeMap<Vec<u8>, E
     are_maps_alike(one, other)
 }
 
-fn is_scope_alike(one: &PackageScope, other: &PackageScope) -> bool
+/// Whether the same name and the same exported names are known.
+pub(crate) fn are_scopes_alike(one: &PackageScope, other: &PackageScope) -> bool
     ensures { IsTrue result ↔ (known_scope one.now ≡ known_scope other.now) }
 {
     is_same_name(&one.name, &other.name) && are_same_exports(&one.exported, &other.exported)
-}
-
-/// Whether the same name and the same exported names are known of the package of a path.
-pub(crate) fn are_scopes_alike(a: &Interfaces, b: &Interfaces, path: &[u8]) -> bool
-    ensures { IsTrue result ↔ (option_map known_scope (scope_in a.now path.now) ≡ option_map known_scope (scope_in b.now path.now)) }
-{
-    match (a.scope(path), b.scope(path)) {
-        (None, None) => true,
-        (Some(one), Some(other)) => is_scope_alike(one, other),
-        _ => false,
-    }
 }

@@ -50,6 +50,10 @@ scope_name (Some s) = Some s.name.items
 abbrev pub name_in : Interfaces → List ℕ → Option (List ℕ)
 name_in i path = scope_name (scope_in i path)
 
+-- the same, by what is known of the package
+abbrev pub known_name : Option Interface → Option (List ℕ)
+known_name known = scope_name (known_scope known)
+
 abbrev pub name_or_none : Option (List ℕ) → List ℕ
 name_or_none None = []
 name_or_none (Some name) = name
@@ -105,7 +109,7 @@ pub record Sets (old new : Interfaces) (path : List ℕ) (interface : seen.Inter
 
 -- one path has what is known of its package, and all else stays
 abbrev pub SetsKnown : (old new : Interfaces) (path : List ℕ) → Option Interface → Type 0
-SetsKnown old new path known = Sets old new path (interface_known path known) (scope_name (known_scope known))
+SetsKnown old new path known = Sets old new path (interface_known path known) (known_name known)
 
 -- the interface of the package of a path is added
 abbrev pub AddsInterface : (old new : Interfaces) (path : List ℕ) → Interface → Type 0

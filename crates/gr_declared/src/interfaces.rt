@@ -3,9 +3,10 @@
 ghost use Rattle.std.specs.Prelude.{◌≡◌, ℕ, List, None, IsSome, option_copied, option_map, is_some, IfOk, OnOk, OnErr};
 ghost use Rattle.gr_imports.specs.States.{state_in};
 ghost use Rattle.gr_imports.specs.declared.states.ImportState.TheVariants.{Missing};
-ghost use Rattle.gr_expr.specs.WorldView.{shared_interface};
+ghost use Rattle.gr_expr.specs.WorldView.{known_at, shared_interface};
 ghost use Rattle.gr_declared.specs.InterfacesView.{export_of, exported_in, scope_in, interface_in, no_interface, name_in, Notes, KnowsSame, SetsKnown, AddsInterface, Shares, IsBehindAll, EndsAt};
 
+use crate::known_interface::{KnownInterface, share_held};
 use gr_expr::interfaces::{Export, Interface, PackageScope};
 use gr_expr::world::Definitions;
 use gr_imports::{Exports, ImportState, ImportStates, PackageNames};
@@ -36,18 +37,6 @@ fn export<'a>(scope: &'a PackageScope, name: &[u8]) -> Option<&'a Export>
     ensures { option_map (λ e. export_of e.now) result ≡ exported_in scope.now name.now }
 {
     scope.exported.get(name)
-}
-
-/// What is seen of a package, shared once more.
-fn share_held(
-    held: &Option<Arc<Interface, Global>>,
-) -> Result<Option<Arc<Interface, Global>>, AllocError>
-    ensures { IfOk result (λ h. shared_interface h ≡ shared_interface held.now) }
-{
-    match held {
-        None => Ok(None),
-        Some(interface) => Ok(Some(Arc::try_clone(interface)?)),
-    }
 }
 
 impl Interfaces {
@@ -111,6 +100,19 @@ impl Interfaces {
         export(self.scope(path)?, name)
     }
 
+    /// What is known of the interface of the package of a path. Both then share it.
+    pub fn known(&self, path: &[u8]) -> Result<KnownInterface, AllocError>
+        ensures { IfOk result (λ one. one ≡ known_at self.now.definitions path.now) }
+    {
+        match self.definitions.packages.get(path) {
+            None => Ok(KnownInterface { known: None }),
+            Some(held) => {
+                let known = share_held(held)?;
+                Ok(KnownInterface { known })
+            }
+        }
+    }
+
     /// Notes what an imported path is.
     pub fn note(&mut self, path: Vec<u8>, state: ImportState) -> Result<(), AllocError>
         ensures noted { OnOk result (Notes (state_in self.old.states) (state_in self.new.states) path.items state) }
@@ -151,27 +153,17 @@ impl Interfaces {
         Ok(())
     }
 
-    /// Takes what others know of the package of a path, in the place of what is known of it here. Both then share it.
-    pub fn share(
+    /// Takes what is known of the package of a path, in the place of what is known of it here. Both then share it.
+    pub fn share_known(
         &mut self,
-        alloc: Global,
-        others: &Interfaces,
-        path: &[u8],
+        path: SharedPath,
+        known: &KnownInterface,
     ) -> Result<(), AllocError>
-        ensures shared { OnOk result (Shares others.now self.old self.new path.now) }
+        ensures set { OnOk result (SetsKnown self.old self.new path known.now) }
         ensures refused { OnErr result ((p : List ℕ) → KnowsSame self.old self.new p) }
     {
-        match others.definitions.packages.entry_from(path, 0) {
-            None => {
-                self.set(SharedPath::new(alloc, path)?, None)?;
-                Ok(())
-            }
-            Some(entry) => {
-                let known = share_held(entry.value)?;
-                self.set(entry.path.clone()?, known)?;
-                Ok(())
-            }
-        }
+        let held = share_held(&known.known)?;
+        self.set(path, held)
     }
 
     /// Adds what is known of the package of a path that stands behind all that are here.
@@ -189,7 +181,18 @@ impl Interfaces {
         Ok(())
     }
 
-    /// The same as `share`, of a path that stands behind all that are here, so that it is compared with none of them. It is looked for
+    /// The same as `share_known`, of a path that stands behind all that are here, so that it is compared with none of them.
+    pub fn push_known(&mut self, path: SharedPath, known: &KnownInterface) -> Result<(), AllocError>
+        requires { IsBehindAll self.old path }
+        ensures set { OnOk result (SetsKnown self.old self.new path known.now) }
+        ensures end { OnOk result (EndsAt self.new path) }
+        ensures refused { OnErr result ((p : List ℕ) → KnowsSame self.old self.new p) }
+    {
+        let held = share_held(&known.known)?;
+        self.push(path, held)
+    }
+
+    /// Takes what others know of the package of a path that stands behind all that are here. Both then share it. It is looked for
     /// first at a number among the packages that the others know; where many are taken in the order of their paths, the number that
     /// is answered is the one for the next.
     pub fn share_next(

@@ -1,12 +1,18 @@
 -- What is known in the same way gives the same interface.
-use Rattle.std.proofs.Common.{◌≡◌}
-use Rattle.gr_alike.specs.Known.{known_in}
+use Rattle.std.proofs.Common.{◌≡◌, sym, ap, ◌∙◌}
+use Rattle.std.specs.Prelude.{Some}
+use Rattle.gr_expr.specs.WorldView.{known_at}
+use Rattle.gr_alike.specs.Known.{Known, known_of}
 use Rattle.gr_alike.proofs.Known.{same_known}
 use Rattle.gr_alike.proofs.alike.are_alike.Goals as goal
 
-pub returns-then-are_scopes_alike-clause-interface : goal.returns-then-are_scopes_alike-clause-interface
-returns-then-are_scopes_alike-clause-interface c = λ t.
-    let scope = c.are_scopes_alike.ensures.0 c.if-are_scopes_alike.true in
-    let definitions = c.are_definitions_alike.ensures.0 t in
-    let same : known_in c.args.a.now c.args.path.now ≡ known_in c.args.b.now c.args.path.now = λ i. record { scope = scope i; definitions = definitions i } in
-    same_known c.args.a.now c.args.b.now c.args.path.now same
+pub returns-in-Some-Some-clause-interface : goal.returns-in-Some-Some-clause-interface
+returns-in-Some-Some-clause-interface c = λ t.
+    let known = c.args.known.now in
+    let all = c.args.all.now in
+    let path = c.args.path.now in
+    let one : Some c.in-Some-Some.one.now ≡ known = c.in-Some-Some.ensures in
+    let other : Some c.in-Some-Some.other.now ≡ known_at all.definitions path =
+    c.in-Some-Some.ensures' ∙ ap (λ ds. known_at ds path) c.definitions.ensures in
+    let same = ap (λ (k : Known). Some k) (c.are_interfaces_alike.ensures.0 t) in
+    same_known known all path (ap known_of (sym one) ∙ same ∙ ap known_of other)
