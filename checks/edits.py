@@ -5,7 +5,7 @@ the edits of a crate that change one function each are tried together where thes
 alone, for which each other function of the crate, which was proved as it stands, is given by its contract. What is refused of a function there is
 refused of the crate. An edit that is not refused so, or changes something else, is tried by a check of the whole crate.
 
-gate.py has rt ci try edits by these.
+gate.py has rt ci try edits by these. A function is named by its path below its crate, as in `module::Type::function`.
 """
 import json
 import os
@@ -17,8 +17,15 @@ import threading
 
 # How a function of a file begins, one in a cycle of calls, and how a check of some functions ends.
 FUNCTION = re.compile(r"^ *(?:pub(?:\(\w+\))? )?(?:unsafe )?fn (\w+)", re.MULTILINE)
-IN_CYCLE = re.compile(r"#\[cycle\(\w+\)\]\s*(?:#\[.*\]\s*)*(?:pub(?:\(\w+\))? )?(?:unsafe )?fn (\w+)")
+IN_CYCLE = re.compile(r"#\[cycle\((\w+)\)\]\s*(?:#\[.*\]\s*)*(?:pub(?:\(\w+\))? )?(?:unsafe )?fn (\w+)")
 ENDED = re.compile(r"^only=\d+ holes=\d+$", re.MULTILINE)
+
+
+def functions_of(crate):
+    """The functions that a crate's built library holds, by their paths."""
+    with open(f"{crate.folder}/out/rlib/{crate.name}.rlib/toolchain/mir.json", encoding="utf-8") as file:
+        paths = [path.partition("::") for path, *_ in json.load(file)]
+    return [path for name, _, path in paths if name == crate.name and "+" not in path]
 
 
 def function_at(text, at):
@@ -27,51 +34,31 @@ def function_at(text, at):
     return names[-1] if names else None
 
 
-def changed_functions(folder, texts):
-    """The functions that new texts of some files of a folder change, each at its first change; none where one changes what is no function."""
-    found = []
-    for path, text in texts.items():
-        with open(os.path.join(folder, path), encoding="utf-8") as file:
-            before = file.read()
-        at = len(os.path.commonprefix([before, text]))
-        name = function_at(before, at) if path.startswith("src/") else None
-        if name is None:
-            return []
-        found.append(name)
-    return found
-
-
-def functions_of(crate):
-    """The paths below a crate of the functions that its built library holds, each with its words."""
-    with open(f"{crate.folder}/out/rlib/{crate.name}.rlib/toolchain/mir.json", encoding="utf-8") as file:
-        paths = [words.split("::") for words, *_ in json.load(file)]
-    return [path[1:] for path in paths if path[0] == crate.name and not any("+" in word for word in path)]
-
-
-def copied(rt, crate, room):
-    for part in rt.rtlib.PARTS:
-        if os.path.isdir(f"{crate.folder}/{part}"):
-            shutil.copytree(f"{crate.folder}/{part}", f"{room}/{part}")
-
-
 def changed_function(rt, crate, edit):
-    """The name of the function that an edit changes, if it changes just one."""
+    """The function in which an edit of one file changes something first, if the crate has one of its name in that module."""
     texts, why = rt.read_edit(edit, crate.folder)
-    names = [] if why else changed_functions(crate.folder, texts)
-    return names[0] if len(set(names)) == 1 else None
+    if why or len(texts) != 1:
+        return None
+    (path, text), = texts.items()
+    with open(f"{crate.folder}/{path}", encoding="utf-8") as file:
+        before = file.read()
+    name = function_at(before, len(os.path.commonprefix([before, text])))
+    module = re.sub(r"^src/|lib\.rt$|\.rt$", "", path).replace("/", "::")
+    found = [it for it in functions_of(crate) if it.startswith(module) and it.rpartition("::")[2] == name]
+    return found[0] if path.startswith("src/") and len(found) == 1 else None
 
 
 def rounds_of(rt, crate, edits):
-    """Edits of a crate that change one function each, in rounds whose edits change different ones: for each edit the function."""
+    """Edits of a crate that change one function each, in rounds whose edits change different ones: for each edit its function."""
     rounds = []
     for edit in edits:
-        name = changed_function(rt, crate, edit)
-        if name is not None:
-            free = next((names for names in rounds if name not in names.values()), None)
+        function = changed_function(rt, crate, edit)
+        if function is not None:
+            free = next((functions for functions in rounds if function not in functions.values()), None)
             if free is None:
                 free = {}
                 rounds.append(free)
-            free[edit] = name
+            free[edit] = function
     return rounds
 
 
@@ -81,43 +68,63 @@ def written(room, texts):
             file.write(text)
 
 
-def left_unproved(crate, names, room):
-    """Takes the proofs of all functions of a crate away but of those with these names, and of cycles of calls. Their contracts stay."""
-    cycles = set()
-    for at, _, files in os.walk(f"{room}/src"):
+def unproved(folder):
+    """Takes the proof of a function, or of a cycle of calls, away. What calls it still goes by its contract."""
+    os.makedirs(folder, exist_ok=True)
+    for name in ("Answers.antt", "Invariants.antt"):
+        if os.path.exists(f"{folder}/{name}"):
+            os.remove(f"{folder}/{name}")
+    written(folder, {"Proof.antt": "-- proved as the crate stands\n"})
+
+
+def cycles_in(folder):
+    """The names of the functions of each cycle of calls in a folder's files, by the cycle's name."""
+    cycles = {}
+    for at, _, files in os.walk(folder):
         for name in files:
             with open(f"{at}/{name}", encoding="utf-8") as file:
-                cycles.update(IN_CYCLE.findall(file.read()))
-    for path in functions_of(crate):
-        if path[-1] not in names and path[-1] not in cycles:
-            folder = "/".join([room, "proofs", *path])
-            os.makedirs(folder, exist_ok=True)
-            for name in ("Answers.antt", "Invariants.antt"):
-                if os.path.exists(f"{folder}/{name}"):
-                    os.remove(f"{folder}/{name}")
-            written(folder, {"Proof.antt": "-- proved as the crate stands\n"})
+                for cycle, function in IN_CYCLE.findall(file.read()):
+                    cycles.setdefault(cycle, set()).add(function)
+    return cycles
 
 
-def checked_alone(rt, crate, names):
-    """What a check says of a crate's functions that edits change, given as the names of these by the edits, with all of the edits."""
+def leave_unproved(crate, functions, room):
+    """Takes the proofs of all functions of a crate away but of these, and of cycles of calls that may have one of these."""
+    names, cycles, in_cycles = {it.rpartition("::")[2] for it in functions}, cycles_in(f"{room}/src"), set()
+    for at, folders, _ in os.walk(f"{room}/proofs"):
+        for cycle in [it[1:] for it in folders if it.startswith("+")]:
+            members = cycles.get(cycle, {cycle})
+            in_cycles.update(members)
+            if not members & names:
+                unproved(f"{at}/+{cycle}")
+    for function in functions_of(crate):
+        if function not in functions and function.rpartition("::")[2] not in in_cycles:
+            unproved("/".join([room, "proofs", *function.split("::")]))
+
+
+def checked_alone(rt, crate, functions):
+    """What a check says of the functions that edits change, given by the edits, with all of these edits."""
     with tempfile.TemporaryDirectory(prefix=f"rt-edit-{os.getpid()}-") as room:
-        copied(rt, crate, room)
-        for edit in names:
+        for part in rt.rtlib.PARTS:
+            if os.path.isdir(f"{crate.folder}/{part}"):
+                shutil.copytree(f"{crate.folder}/{part}", f"{room}/{part}")
+        for edit in functions:
             texts, why = rt.read_edit(edit, room)
             written(room, {} if why else texts)
-        left_unproved(crate, names.values(), room)
-        only = [f"--only={name}" for name in names.values()]
+        leave_unproved(crate, functions.values(), room)
+        only = [f"--only={function}" for function in functions.values()]
         words = [rt.rtlib.RATTLE, "check", *crate.words(["--jobs", "1", "--allow-holes", *only], keeps=False)]
         how = {"cwd": room, "stdin": subprocess.DEVNULL, "stdout": subprocess.PIPE, "stderr": subprocess.STDOUT, "errors": "replace"}
         return subprocess.run([*rt.rtlib.guarded(), *words], **how).stdout
 
 
-def refusal_of(said, name):
-    """What a check of changed functions says of the one of a name, if it refuses just that one for itself: since a goal of it is open or an answer of
-    it fails, and not since what it calls or cites was not proved. It tells nothing else."""
-    lines = re.findall(rf"^fn \S*\b{name}: (.*)", said, re.MULTILINE)
+def refusal_of(said, function):
+    """What a check says of a changed function, if it refuses it for itself: since a goal of it is open or an answer of it fails, and not since what it
+    calls or cites was not proved. It tells nothing else."""
+    lines = re.findall(rf"^fn \w+::{function}: (.*)", said, re.MULTILINE)
     if not ENDED.search(said) or len(lines) != 1:
         return ""
+    name = function.rpartition("::")[2]
     failed = re.findall(rf"^(?:\./)?proofs/\S*/(?:{name}|\+\w+)/\w+\.antt:\d+:\d+: error: (.*)", said, re.MULTILINE)
     failed = [it for it in failed if "was not admitted" not in it]
     if lines[0].startswith("no proof: expected answers"):
@@ -128,10 +135,10 @@ def refusal_of(said, name):
 def tried_together(rt, crate, edits):
     """What is said of each edit of a crate that is refused beside its others."""
     told = {}
-    for names in rounds_of(rt, crate, edits):
-        said = checked_alone(rt, crate, names)
-        for edit, name in names.items():
-            why = refusal_of(said, name)
+    for functions in rounds_of(rt, crate, edits):
+        said = checked_alone(rt, crate, functions)
+        for edit, function in functions.items():
+            why = refusal_of(said, function)
             if why:
                 told[edit] = f"must-fail {crate.name}/{os.path.basename(edit)}: refused, as it must be: {why[:160]}"
     return told
