@@ -64,7 +64,8 @@ faultless_unit-requires c =
     record {
       at = c.requires.at;
       whole = c.requires.found.whole;
-      found = subst (IsFaultless w (known_by all) (known_at all.definitions p) p) (sym c.deref-in-None.ensures.value) (without_faults w p all f c.requires.found empty);
+      found = subst (IsFaultless w (known_by all) (known_at all.definitions p) p) (sym c.deref-in-None.ensures.value)
+          (without_faults w p all f c.requires.found empty);
     }
 
 pub returns-in-Some : goal.returns-in-Some
