@@ -11,17 +11,18 @@ use Rattle.gr_graph.specs.FaultyFiles.{FaultyParts}
 use Rattle.gr_graph.specs.Parsed.{AreParsed}
 use Rattle.gr_expr.specs.declared.found.MemberUse.{MemberUse}
 use Rattle.gr_expr.specs.declared.world.Definition.{Definition}
-use Rattle.gr_expr.specs.WorldView.{definition_or_none, definitions_at, ranked}
+use Rattle.gr_expr.specs.WorldView.{definition_or_none, definitions_listed, ranked}
 use Rattle.gr_meanings.specs.PackageOf.{IsPackageOf}
+use Rattle.gr_expr.specs.declared.interfaces.Interface.{Interface as FoundInterface}
 use Rattle.gr_declared.specs.declared.interfaces.Interfaces.{Interfaces}
 use Rattle.gr_declared.specs.Definitions.{IsDefinition}
 use Rattle.gr_types.specs.Interfaces.{IsInterface}
-use Rattle.gr_declared.specs.InterfacesView.{interface_in}
+use Rattle.gr_declared.specs.InterfacesView.{interface_known}
 use Rattle.gr_meanings.specs.MemberUses.{AreMemberUses, uses_in}
 use Rattle.gr_declared.specs.Package.{Package, Interface, symbol_in}
 use Rattle.gr_verdict.specs.FaultLists.{AreListed}
 use Rattle.gr_verdict.specs.Steps.{IsSeenIn}
-use Rattle.gr_verdict.specs.Told.{known_by, IsFinding, IsFindingOf}
+use Rattle.gr_verdict.specs.Told.{known_by, verdict_known, IsFinding, IsFindingOf}
 use Rattle.gr_verdict.specs.Verdicts.{Verdicts, AreSeen, AreVerdictsBelow, HasInterface, IsFaultBy, IsPackageIn, IsVerdict, IsVerdictBy}
 use Rattle.gr_verdict.specs.declared.finding.Finding.{Finding}
 use Rattle.gr_verdict.proofs.Adding.{finding_as}
@@ -34,26 +35,27 @@ use Rattle.gr_compile.specs.Compiling.{HaveNamesBelow, IsFaultless, IsFaultlessS
 use Rattle.gr_compile.specs.Units.{IsCompiled}
 
 -- the definitions of an interface are those of the package, by their ranks
-own_definitions : (p : Package) (all : Interfaces) (list : List Definition) → IsInterface p (interface_in all p.path) →
-    ((rank : ℕ) → slice_get list rank ≡ ranked (definitions_at all.definitions p.path) rank) → AreOwnDefinitions p list
-own_definitions p all list i same = record {
+own_definitions : (p : Package) (known : Option FoundInterface) (list : List Definition) → IsInterface p (interface_known p.path known) →
+    ((rank : ℕ) → slice_get list rank ≡ ranked (definitions_listed known) rank) → AreOwnDefinitions p list
+own_definitions p known list i same = record {
   own = λ rank d at. subst (λ (o : Option Definition). IsDefinition p rank (definition_or_none (symbol_in p rank) o)) (sym (same rank))
       (i.definitions rank d at);
   beyond = λ rank past. ap (λ (o : Option Definition). definition_or_none (symbol_in p rank) o) (same rank) ∙ i.beyond rank past;
 }
 
-module _ (w : Workspace) (p : List ℕ) (known : Verdicts) (all : Interfaces) (members : List (Vec MemberUse)) (found : IsFaultless w known all p members) where
+module _ (w : Workspace) (p : List ℕ) (known : Verdicts) (one : Option FoundInterface) (members : List (Vec MemberUse))
+    (found : IsFaultless w known one p members) where
   -- what others see of it
-  own : HasInterface w known p (interface_in all p)
+  own : HasInterface w known p (interface_known p one)
   own =
-      let verdict : IsVerdictBy w known p (known_by all p) = verdict_by w p known (known_by all p) found.below found.verdict in
-      verdict.has_interface (elim (cases_Bool (known_by all p).faulty) [
+      let verdict : IsVerdictBy w known p (verdict_known p one) = verdict_by w p known (verdict_known p one) found.below found.verdict in
+      verdict.has_interface (elim (cases_Bool (verdict_known p one).faulty) [
         | inl e ↦ (let f = verdict.has_faults.0 e in absurd (nothing_in f.0 ((found.listed.each f.0).1 f.1)))
         | inr e ↦ e
       ])
 
   -- the object that was printed where it was checked is its object
-  pub compiled_as : (text : List ℕ) → IsTextOf w p text → IsCompiled w p (interface_in all p) text
+  pub compiled_as : (text : List ℕ) → IsTextOf w p text → IsCompiled w p (interface_known p one) text
   compiled_as text t =
       let same : own.checked ≡ t.checked = checked_as_one w p known t.known found.below t.right own.checked t.checked own.is_package t.is_package in
       record {
@@ -62,7 +64,7 @@ module _ (w : Workspace) (p : List ℕ) (known : Verdicts) (all : Interfaces) (m
         faultless = record { known = known; right = found.below; listed = found.listed };
         checked = t.checked;
         is_package = t.is_package;
-        interface = subst (λ d. IsInterface d (interface_in all p)) same own.is_interface;
+        interface = subst (λ d. IsInterface d (interface_known p one)) same own.is_interface;
         files_of = t.is_printed.files_of;
         are_files = t.is_printed.are_files;
         is_object = t.is_printed.is_object;
@@ -80,18 +82,17 @@ module _ (w : Workspace) (p : List ℕ) (known : Verdicts) (all : Interfaces) (m
       is_package = is;
     }
 
-    seen_as : (c : Package) → IsPackageOf p trees name_of interface_of c → IsInterface c (interface_in all p)
-    seen_as c is = subst (λ d. IsInterface d (interface_in all p)) (one_checked w known p own.checked c own.is_package (package_by c is)) own.is_interface
+    seen_as : (c : Package) → IsPackageOf p trees name_of interface_of c → IsInterface c (interface_known p one)
+    seen_as c is = subst (λ d. IsInterface d (interface_known p one)) (one_checked w known p own.checked c own.is_package (package_by c is)) own.is_interface
 
-    pub definitions_by : (list : List Definition) → ((rank : ℕ) → slice_get list rank ≡ ranked (definitions_at all.definitions p) rank) →
+    pub definitions_by : (list : List Definition) → ((rank : ℕ) → slice_get list rank ≡ ranked (definitions_listed one) rank) →
         OwnDefinitionsOf p trees name_of interface_of list
     definitions_by list same c is =
         let path : c.path ≡ p = ap (λ (d : Package). d.path) is.is_package in
-        own_definitions c all list (subst (λ (q : List ℕ). IsInterface c (interface_in all q)) (sym path) (seen_as c is))
-        (subst (λ (q : List ℕ). (rank : ℕ) → slice_get list rank ≡ ranked (definitions_at all.definitions q) rank) (sym path) same)
+        own_definitions c one list (subst (λ (q : List ℕ). IsInterface c (interface_known q one)) (sym path) (seen_as c is)) same
 
     pub compiled_by : (packages : CalledPackages) (text : List ℕ) → HaveNamesBelow w p packages →
-        IsObjectTextOf p trees name_of interface_of (map uses_in members) packages text → IsCompiled w p (interface_in all p) text
+        IsObjectTextOf p trees name_of interface_of (map uses_in members) packages text → IsCompiled w p (interface_known p one) text
     compiled_by packages text names made =
         let c = made.0 in
         let is : IsPackageIn w known p c = package_by c made.1 in
@@ -110,9 +111,10 @@ module _ (w : Workspace) (p : List ℕ) (known : Verdicts) (all : Interfaces) (m
         }
 
 -- by what was found in p before, and by the verdicts on those that it builds on, where nothing else is known
-pub seen_faultless : (w : Workspace) (p : List ℕ) (seen own : Interfaces) (f : Finding) → AreVerdictsBelow w p (known_by seen) → IsSeenIn w p seen →
-    IsVerdict w p (known_by own p) → IsFindingOf w p f → f.faults.items ≡ [] → IsFaultlessSeeing w seen own p f.members.items
-seen_faultless w p seen alone f below told right g empty =
+pub seen_faultless : (w : Workspace) (p : List ℕ) (seen : Interfaces) (own : Option FoundInterface) (f : Finding) →
+    AreVerdictsBelow w p (known_by seen) → IsSeenIn w p seen →
+    IsVerdict w p (verdict_known p own) → IsFindingOf w p f → f.faults.items ≡ [] → IsFaultlessSeeing w seen own p f.members.items
+seen_faultless w p seen one f below told right g empty =
     let known = known_by seen in
     let is : IsFinding w known p f = finding_as w p g.known known (right_alike w p g.known known g.right below) f g.finding in
     record {

@@ -12,11 +12,11 @@ use Rattle.gr_expr.specs.declared.world.Definition.{Definition}
 use Rattle.gr_declared.specs.Package.{Package}
 use Rattle.gr_expr.specs.declared.interfaces.Interface.{Interface}
 use Rattle.gr_declared.specs.declared.interfaces.Interfaces.{Interfaces}
-use Rattle.gr_declared.specs.InterfacesView.{interface_in, name_in}
+use Rattle.gr_declared.specs.InterfacesView.{interface_in, interface_known, name_in}
 use Rattle.gr_verdict.specs.declared.fault.FileFault.{FileFault}
 use Rattle.gr_verdict.specs.FaultLists.{AreListed}
 use Rattle.gr_verdict.specs.Found.{AreVerdictsOf, KnowsVerdicts}
-use Rattle.gr_verdict.specs.Told.{known_by, AreUsesOf}
+use Rattle.gr_verdict.specs.Told.{verdict_known, AreUsesOf}
 use Rattle.gr_verdict.specs.Verdicts.{Verdicts, AreSeen, IsFaultBy, IsPackageIn, IsVerdict, AreVerdictsBelow}
 use Rattle.gr_object.specs.declared.packages.CalledPackages.{CalledPackages}
 use Rattle.gr_object.specs.ObjectView.{HaveNames}
@@ -39,23 +39,23 @@ pub record HaveNamesBelow (w : Workspace) (p : List ℕ) (packages : CalledPacka
   pub are_files : AreFilesBelow w p files_of
   pub have_names : HaveNames packages files_of
 
--- What is found where p has no fault, by what is known of the packages that it builds on: the verdict on p, as these interfaces tell
--- it, and the uses of members in the files of p.
-pub record IsFaultless (w : Workspace) (known : Verdicts) (own : Interfaces) (p : List ℕ) (members : List (Vec MemberUse)) : Type 0 where
+-- What is found where p has no fault, by what is known of the packages that it builds on: the verdict on p, by what is known of its
+-- interface, and the uses of members in the files of p.
+pub record IsFaultless (w : Workspace) (known : Verdicts) (own : Option Interface) (p : List ℕ) (members : List (Vec MemberUse)) : Type 0 where
   pub below : AreVerdictsBelow w p known
-  pub verdict : IsVerdict w p (known_by own p)
+  pub verdict : IsVerdict w p (verdict_known p own)
   pub listed : AreListed (IsFaultBy w known p) []
   pub uses : AreUsesOf w known p members
 
--- likewise, where the first interfaces tell just what p sees of others
-pub record IsFaultlessSeeing (w : Workspace) (seen own : Interfaces) (p : List ℕ) (members : List (Vec MemberUse)) : Type 0 where
+-- likewise, where these interfaces tell just what p sees of others
+pub record IsFaultlessSeeing (w : Workspace) (seen : Interfaces) (own : Option Interface) (p : List ℕ) (members : List (Vec MemberUse)) : Type 0 where
   pub known : Verdicts
   pub faultless : IsFaultless w known own p members
   pub are_seen : AreSeen w known p (name_in seen) (interface_in seen)
 
--- interfaces that have of the path what others have of it, and nothing of any other path
-pub record HasJust (all : Interfaces) (path : List ℕ) (one : Interfaces) : Type 0 where
-  pub same : interface_in one path ≡ interface_in all path
+-- interfaces that have of the path what is known of it, and nothing of any other path
+pub record HasJust (path : List ℕ) (known : Option Interface) (one : Interfaces) : Type 0 where
+  pub same : interface_in one path ≡ interface_known path known
   pub alone : KnowsOnly path one
 
 -- the unit holds just these faults

@@ -2,6 +2,7 @@
 ghost use Rattle.std.specs.Prelude.{◌≡◌, ℕ, [], Some, slice_get, IfOk};
 ghost use Rattle.gr_text.specs.Packages.{package_paths};
 ghost use Rattle.gr_text.specs.Workspace.{Workspace};
+ghost use Rattle.gr_expr.specs.WorldView.{known_at};
 ghost use Rattle.gr_declared.specs.InterfacesView.{interface_in};
 ghost use Rattle.gr_verdict.specs.Found.{IsFoundBy, KnowsVerdicts};
 ghost use Rattle.gr_verdict.specs.Told.{known_by, AreWhole};
@@ -12,7 +13,7 @@ use crate::checked_text::text_first;
 use crate::known_text::object_of;
 use crate::package_at::PackageAt;
 use crate::unit::{Compiled, Unit};
-use gr_declared::Interfaces;
+use gr_declared::{Interfaces, KnownInterface};
 use gr_expr::found::MemberUse;
 use gr_expr::symbol::SharedPath;
 use gr_graph::Graph;
@@ -20,16 +21,17 @@ use gr_text::FileText;
 use gr_verdict::{FileFault, Finding, FoundPackage, Known, KnownVerdict, Progress, seen};
 use std::alloc::{AllocError, Global};
 
-/// The interface of one package alone: of all others nothing is told.
+/// What is known of the interface of one package alone: of all others nothing is told.
 fn interface_of(
     alloc: Global,
-    all: &Interfaces,
     path: &SharedPath,
+    known: &KnownInterface,
 ) -> Result<Interfaces, AllocError>
-    ensures { IfOk result (HasJust all.now path.now) }
+    ensures { IfOk result (HasJust path.now known.now) }
 {
     let mut one = Interfaces::new(alloc);
-    one.share(alloc, all, path.path())?;
+    let path = path.clone()?;
+    one.share_known(path, known)?;
     Ok(one)
 }
 
@@ -42,7 +44,8 @@ fn done_unit(
 ) -> Result<Unit, AllocError>
     ensures { IfOk result (λ unit. (w : Workspace) → IsCompiled w path.now (interface_in all.now path.now) object → IsUnitOf w path.now unit) }
 {
-    let interface = interface_of(alloc, all, path)?;
+    let known = all.known(path.path())?;
+    let interface = interface_of(alloc, path, &known)?;
     Unit::new(alloc, Compiled::Done { interface, object })
 }
 
@@ -56,11 +59,12 @@ fn faultless_unit(
 ) -> Result<Unit, AllocError>
     requires at { IsPackageAt at path.now }
     requires whole { AreWhole all.now }
-    requires found { IsFaultless at.graph.now (known_by all.now) all.now path.now members.now }
+    requires found { IsFaultless at.graph.now (known_by all.now) (known_at all.now.definitions path.now) path.now members.now }
     ensures { IfOk result (IsUnitOf at.entry.graph.now path.now) }
 {
     let interfaces = seen(alloc, at.graph, at.number, all)?;
-    let object = object_of(alloc, at, path, &interfaces, all, members)?;
+    let own = all.definitions().interface(path.path());
+    let object = object_of(alloc, at, path, &interfaces, own, members)?;
     done_unit(alloc, path, all, object)
 }
 

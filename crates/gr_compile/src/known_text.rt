@@ -1,7 +1,7 @@
 //! A package in which it is known what is found: its object is printed by that, where it has no fault.
-ghost use Rattle.std.specs.Prelude.{◌≡◌, ℕ, slice_get, IfOk};
-ghost use Rattle.gr_expr.specs.WorldView.{definitions_at, ranked};
-ghost use Rattle.gr_declared.specs.InterfacesView.{interface_in};
+ghost use Rattle.std.specs.Prelude.{◌≡◌, ℕ, option_copied, slice_get, IfOk};
+ghost use Rattle.gr_expr.specs.WorldView.{definitions_listed, ranked};
+ghost use Rattle.gr_declared.specs.InterfacesView.{interface_known};
 ghost use Rattle.gr_verdict.specs.Steps.{IsSeenIn, IsUnderway};
 ghost use Rattle.gr_verdict.specs.Told.{TellsVerdict};
 ghost use Rattle.gr_compile.specs.Compiling.{IsFaultlessSeeing, IsPackageAt, MayBeText};
@@ -9,7 +9,7 @@ ghost use Rattle.gr_compile.specs.Units.{IsCompiled};
 
 use crate::naming::names_below;
 use crate::package_at::PackageAt;
-use gr_declared::Interfaces;
+use gr_declared::{Interface, Interfaces};
 use gr_expr::found::MemberUse;
 use gr_expr::symbol::SharedPath;
 use gr_expr::world::Definition;
@@ -19,31 +19,32 @@ use gr_verdict::{KnownVerdict, Progress};
 use std::alloc::{AllocError, Global};
 
 /// The type definitions of a package, by their ranks.
-fn definitions_of<'a>(all: &'a Interfaces, path: &[u8]) -> &'a [Definition]
-    ensures { (rank : ℕ) → slice_get result.now rank ≡ ranked (definitions_at all.now.definitions path.now) rank }
+fn definitions_of(own: Option<&Interface>) -> &[Definition]
+    ensures { (rank : ℕ) → slice_get result.now rank ≡ ranked (definitions_listed (option_copied own)) rank }
 {
-    match all.definitions().of(path) {
+    match own {
         None => &[],
-        Some(definitions) => definitions,
+        Some(interface) => interface.definitions.as_slice(),
     }
 }
 
-/// The text of the object of a package without faults, by interfaces that tell just what it sees of others, and by those that tell of it.
+/// The text of the object of a package without faults, by interfaces that tell just what it sees of others, and by what is known of
+/// its own interface.
 pub(crate) fn object_of(
     alloc: Global,
     at: PackageAt<'_>,
     path: &SharedPath,
     seen: &Interfaces,
-    own: &Interfaces,
+    own: Option<&Interface>,
     members: &[Vec<MemberUse>],
 ) -> Result<FileText, AllocError>
     requires at { IsPackageAt at path.now }
-    requires found { IsFaultlessSeeing at.graph.now seen.now own.now path.now members.now }
-    ensures { IfOk result (λ text. IsCompiled at.entry.graph.now path.now (interface_in own.now path.now) text) }
+    requires found { IsFaultlessSeeing at.graph.now seen.now (option_copied own) path.now members.now }
+    ensures { IfOk result (λ text. IsCompiled at.entry.graph.now path.now (interface_known path.now (option_copied own)) text) }
 {
     let files = at.graph.package(at.number);
     let packages = names_below(alloc, at)?;
-    let definitions = definitions_of(own, path.path());
+    let definitions = definitions_of(own);
     let trees = files.trees.as_slice();
     let given = Faultless {
         path,
@@ -74,13 +75,7 @@ pub(crate) fn known_text(
         return Ok(None);
     }
     let seen = progress.interfaces();
-    let text = object_of(
-        alloc,
-        at,
-        path,
-        seen,
-        verdict.interfaces(),
-        &finding.members,
-    )?;
+    let own = verdict.known().get();
+    let text = object_of(alloc, at, path, seen, own, &finding.members)?;
     Ok(Some(text))
 }

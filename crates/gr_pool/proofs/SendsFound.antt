@@ -13,10 +13,10 @@ use Rattle.gr_expr.specs.contracts.interfaces.Export.{the_row as exported}
 use Rattle.gr_expr.specs.contracts.interfaces.PackageScope.{the_row as scope}
 use Rattle.gr_expr.specs.contracts.interfaces.Interface.{the_row as interface}
 use Rattle.gr_declared.specs.contracts.interfaces.Interfaces.{the_row as interfaces}
+use Rattle.gr_declared.specs.contracts.known_interface.KnownInterface.{the_row as known_interface}
 use Rattle.gr_verdict.specs.contracts.fault.FileFault.{the_row as file_fault}
 use Rattle.gr_verdict.specs.contracts.finding.Finding.{the_row as finding}
 use Rattle.gr_verdict.specs.contracts.finding.SharedFinding.{the_row as shared_finding}
-use Rattle.gr_verdict.specs.contracts.known.SharedInterfaces.{the_row as shared_interfaces}
 use Rattle.gr_verdict.specs.contracts.known.KnownVerdict.{the_row as verdict}
 use Rattle.gr_text.proofs.path.Path.TheSendSync.{the_send as Path-send, the_sync as Path-sync}
 use Rattle.gr_path_table.proofs.shared_path.SharedPath.TheSendSync.{the_send as SharedPath-send, the_sync as SharedPath-sync}
@@ -113,14 +113,14 @@ shared_finding_sent = search (owned, finding_sent, finding_shared) depth 30 fits
 pub shared_finding_shared : IsSync shared_finding
 shared_finding_shared = search (owned, finding_sent, finding_shared) depth 30 fits 50000
 
-pub shared_interfaces_sent : IsSend shared_interfaces
-shared_interfaces_sent = search (owned, interfaces_sent, interfaces_shared) depth 30 fits 50000
+pub known_interface_sent : IsSend known_interface
+known_interface_sent = search (owned, interface_sent, interface_shared) depth 30 fits 50000
 
-pub shared_interfaces_shared : IsSync shared_interfaces
-shared_interfaces_shared = search (owned, interfaces_sent, interfaces_shared) depth 30 fits 50000
+pub known_interface_shared : IsSync known_interface
+known_interface_shared = search (owned, interface_sent, interface_shared) depth 30 fits 50000
 
 pub verdict_sent : IsSend verdict
-verdict_sent = search (owned, shared_finding_sent, shared_interfaces_sent) depth 30 fits 50000
+verdict_sent = search (owned, shared_finding_sent, known_interface_sent) depth 30 fits 50000
 
 pub verdict_shared : IsSync verdict
-verdict_shared = search (owned, shared_finding_shared, shared_interfaces_shared) depth 30 fits 50000
+verdict_shared = search (owned, shared_finding_shared, known_interface_shared) depth 30 fits 50000

@@ -12,7 +12,7 @@ use Rattle.gr_graph.specs.Search.{IsMarked}
 use Rattle.gr_graph.proofs.Asked.{number}
 use Rattle.gr_graph.proofs.PackagePaths.{paths_sorted, one_number}
 use Rattle.gr_declared.proofs.Mentioning.{get_set_other}
-use Rattle.gr_declared.specs.InterfacesView.{Shares}
+use Rattle.gr_declared.specs.InterfacesView.{SetsKnown}
 use Rattle.gr_declared.specs.declared.interfaces.Interfaces.{Interfaces}
 use Rattle.gr_alike.specs.Known.{IsKnownAlike}
 use Rattle.gr_verdict.specs.declared.finding.Finding.{Finding}
@@ -20,18 +20,17 @@ use Rattle.gr_verdict.specs.declared.gathered.Gathered.{Gathered}
 use Rattle.gr_verdict.specs.declared.known.KnownVerdict.{KnownVerdict}
 use Rattle.gr_verdict.specs.Verdicts.{Verdict, Verdicts, IsVerdictBy, IsVerdict, AreVerdictsBelow, follows}
 use Rattle.gr_verdict.specs.Laws.{IsSameVerdict}
-use Rattle.gr_verdict.specs.Told.{is_unknown, known_by, AreWhole, IsFinding}
+use Rattle.gr_verdict.specs.Told.{is_unknown, known_by, verdict_known, IsFinding}
 use Rattle.gr_verdict.specs.Steps.{IsGathered, Learns, MayLearn}
 use Rattle.gr_verdict.specs.Earlier.{AreTold, HaveSameImports, AreMarkedBelow, StandsWith, WasKnown, AreSteady}
 use Rattle.gr_verdict.proofs.Adding.{finding_as}
 use Rattle.gr_verdict.proofs.Alike.{KnowsAlike}
 use Rattle.gr_verdict.proofs.Alike as alike
 use Rattle.gr_verdict.proofs.Closed.{to_package}
-use Rattle.gr_verdict.proofs.Knowing.{verdict_of}
+use Rattle.gr_verdict.proofs.Knowing.{is_whole, verdict_of, verdict_set}
 use Rattle.gr_verdict.proofs.OneVerdict.{one_verdict, verdict_by}
 use Rattle.gr_verdict.proofs.SameImports.{imports_back, builds_by, stands_by}
 use Rattle.gr_verdict.proofs.StandsAlike.{by_there, finding_there}
-use Rattle.gr_verdict.proofs.Taking.{whole_shared}
 
 module _ (v w : Workspace) (same : HaveSameImports v w) (p : List ℕ) (files : package_files v p ≡ package_files w p) (a b : Verdicts)
     (sees : KnowsAlike v p a b) where
@@ -48,7 +47,7 @@ pub verdicts_follow : (v w : Workspace) (p : List ℕ) (a b : Verdicts) (x : Ver
 verdicts_follow v w p a b x same files right also sees h = follows b also (steady_verdict v w same p files a b sees x (verdict_by v p a x right h))
 
 -- what was known of a package is what is known
-was_known : (one : KnownVerdict) (all : Interfaces) (q : List ℕ) → IsKnownAlike one.interfaces all q → known_by one.interfaces q ≡ known_by all q
+was_known : (one : KnownVerdict) (all : Interfaces) (q : List ℕ) → IsKnownAlike one.known all q → verdict_known q one.known ≡ known_by all q
 was_known one all q is = ap₂ verdict_of (ap is_unknown is.name) is.interface
 
 module _ (v w : Workspace) (same : HaveSameImports v w) (verdicts : List (Option KnownVerdict)) (told : AreTold v verdicts) (marks : List Bool)
@@ -61,22 +60,23 @@ module _ (v w : Workspace) (same : HaveSameImports v w) (verdicts : List (Option
       let was = (steady m.0 q m.1 (below m.0 q m.1 here)).1 in
       let then = told m.0 q was.verdict (subst (λ ps. slice_get ps m.0 ≡ Some q) (sym same.paths) m.1) was.was in
       subst (IsSameVerdict (known q)) (was_known was.verdict old.interfaces q was.alike)
-      (one_verdict v q (known q) (known_by was.verdict.interfaces q) (right q on) then.right)
+      (one_verdict v q (known q) (verdict_known q was.verdict.known) (right q on) then.right)
 
-  pub stands_learnt : (p : List ℕ) (one : KnownVerdict) (new : Gathered) → AreWhole old.interfaces → StandsWith v w marks p one →
-      Shares one.interfaces old.interfaces new.interfaces p →
-      Learns w p one.finding old.interfaces new.interfaces
-  stands_learnt p one new whole stands s =
+  pub stands_learnt : (p : List ℕ) (one : KnownVerdict) (new : Gathered) → StandsWith v w marks p one →
+      SetsKnown old.interfaces new.interfaces one.finding.path one.known → Learns w p one.finding old.interfaces new.interfaces
+  stands_learnt p one new stands there =
       let f = stands.told.finding in
+      let s : SetsKnown old.interfaces new.interfaces p one.known =
+      subst (λ (q : List ℕ). SetsKnown old.interfaces new.interfaces q one.known) f.finding.has_path there in
       let sees = seen_before p f.known f.right stands.below in
-      let here : known_by one.interfaces p ≡ known_by new.interfaces p = ap₂ verdict_of (sym (ap is_unknown s.has_name)) (sym s.has_interface) in
+      let here : verdict_known p one.known ≡ known_by new.interfaces p = verdict_set old.interfaces new.interfaces p one.known s in
       record {
         is_finding = steady_finding v w same p stands.files f.known (known_by old.interfaces) sees one.finding f.finding;
         is_verdict = subst (IsVerdictBy w (known_by old.interfaces) p) here
-            (steady_verdict v w same p stands.files f.known (known_by old.interfaces) sees (known_by one.interfaces p)
-            (verdict_by v p f.known (known_by one.interfaces p) f.right stands.told.right));
+            (steady_verdict v w same p stands.files f.known (known_by old.interfaces) sees (verdict_known p one.known)
+            (verdict_by v p f.known (verdict_known p one.known) f.right stands.told.right));
         elsewhere = s.elsewhere;
-        whole = whole_shared p one.interfaces old.interfaces new.interfaces s stands.told.whole whole;
+        whole = is_whole new.interfaces;
       }
 
 -- one package further

@@ -1,19 +1,21 @@
 -- What is known of packages, one package further.
-use Rattle.std.proofs.Common.{ℕ, ◌≡◌, ◌⊎◌, inl, inr, Bool, List, sym, ap, subst, ◌∙◌}
-use Rattle.std.specs.Prelude.{Contains, Some, None, slice_get}
+use Rattle.std.proofs.Common.{ℕ, ◌≡◌, ◌⊎◌, inl, inr, Bool, List, refl, sym, ap, subst, ◌∙◌}
+use Rattle.std.specs.Prelude.{Contains, Option, Some, None, slice_get}
 use Rattle.std.proofs.Math.Path.{ap₂}
-use Rattle.std.proofs.lemmas.Option.{same_Some}
+use Rattle.std.proofs.lemmas.Option.{none-some, same_Some}
 use Rattle.gr_text.specs.Workspace.{Workspace}
 use Rattle.gr_text.specs.Packages.{package_paths}
 use Rattle.gr_graph.proofs.Asked.{at_contains}
 use Rattle.gr_graph.proofs.PackagePaths.{paths_sorted, one_number}
 use Rattle.gr_imports.specs.States.{state_in}
+use Rattle.gr_expr.specs.declared.interfaces.Interface.{Interface as FoundInterface}
+use Rattle.gr_expr.specs.WorldView.{known_at}
 use Rattle.gr_declared.specs.Package.{Interface}
-use Rattle.gr_declared.specs.InterfacesView.{name_in, interface_in, KnowsSame}
+use Rattle.gr_declared.specs.InterfacesView.{name_in, known_name, interface_in, interface_known, no_interface, KnowsSame, SetsKnown}
 use Rattle.gr_declared.specs.declared.interfaces.Interfaces.{Interfaces}
 use Rattle.gr_verdict.specs.declared.finding.Finding.{Finding}
 use Rattle.gr_verdict.specs.Verdicts.{BuildsOn, Verdict, IsVerdict, follows}
-use Rattle.gr_verdict.specs.Told.{is_unknown, known_by, AreWhole}
+use Rattle.gr_verdict.specs.Told.{is_unknown, known_by, verdict_known, AreWhole}
 use Rattle.gr_verdict.specs.Steps.{AreKnown, Learns}
 
 -- where the same is known of a path
@@ -32,12 +34,17 @@ verdict_of faulty interface = record { faulty = faulty; interface = interface }
 pub verdict_same : (all more : Interfaces) (q : List ℕ) → KnowsSame all more q → known_by all q ≡ known_by more q
 verdict_same all more q same = ap₂ verdict_of (sym (ap is_unknown same.name)) (sym same.interface)
 
--- and where the same is told of a package, so is its verdict
-pub verdict_as : (w : Workspace) (p : List ℕ) (a b : Interfaces) → name_in b p ≡ name_in a p → interface_in b p ≡ interface_in a p →
-    IsVerdict w p (known_by a p) → IsVerdict w p (known_by b p)
-verdict_as w p a b name interface right =
-    subst (λ i. IsVerdict w p (verdict_of (is_unknown (name_in b p)) i)) (sym interface)
-    (subst (λ o. IsVerdict w p (verdict_of (is_unknown o) (interface_in a p))) (sym name) right)
+-- where it is set what is known of a package, its verdict is that
+pub verdict_set : (old new : Interfaces) (p : List ℕ) (known : Option FoundInterface) → SetsKnown old new p known → verdict_known p known ≡ known_by new p
+verdict_set old new p known set = ap₂ verdict_of (sym (ap is_unknown set.has_name)) (sym set.has_interface)
+
+-- where no name is known of a package, nothing is
+unnamed : (p : List ℕ) (known : Option FoundInterface) → known_name known ≡ None → interface_known p known ≡ no_interface p
+unnamed p None gone = refl
+unnamed p (Some i) gone = absurd (none-some i.scope.name.items (sym gone))
+
+pub is_whole : (all : Interfaces) → AreWhole all
+is_whole all q gone = unnamed q (known_at all.definitions q) gone
 
 -- a package that is known is another than one that is not
 pub another : (w : Workspace) (Is : ℕ → Type 0) (n : ℕ) (p : List ℕ) → slice_get (package_paths w) n ≡ Some p → (Is n → ⊥) → (m : ℕ) (r : List ℕ) → Is m →

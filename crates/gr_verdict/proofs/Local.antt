@@ -15,7 +15,7 @@ use Rattle.gr_verdict.specs.Verdicts.{follows, AreVerdictsBelow}
 use Rattle.gr_verdict.specs.declared.finding.Finding.{Finding}
 use Rattle.gr_verdict.specs.declared.known.KnownVerdict.{KnownVerdict}
 use Rattle.gr_verdict.specs.FaultLists.{ListsPackageFaults}
-use Rattle.gr_verdict.specs.Told.{known_by, IsFindingOf, TellsVerdict}
+use Rattle.gr_verdict.specs.Told.{verdict_known, IsFindingOf, TellsVerdict}
 use Rattle.gr_verdict.specs.Closures.{HasSameClosure}
 use Rattle.gr_verdict.proofs.Closed.{from_package, to_package, in_closure_then}
 use Rattle.gr_verdict.proofs.Members.{one_sorted}
@@ -145,7 +145,6 @@ local_finding w x p f own same h = record {
 pub told_there : (w x : Workspace) (p : List ℕ) (one : KnownVerdict) → Contains (package_paths w) p → HasSameClosure w x p → TellsVerdict w p one →
     TellsVerdict x p one
 told_there w x p one own same told = record {
-  right = local_verdict w x p (known_by one.interfaces p) own same told.right;
-  whole = told.whole;
+  right = local_verdict w x p (verdict_known p one.known) own same told.right;
   finding = local_finding w x p one.finding own same told.finding;
 }

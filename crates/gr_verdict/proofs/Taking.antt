@@ -7,18 +7,16 @@ use Rattle.std.proofs.lemmas.List.{length-set}
 use Rattle.std.proofs.lemmas.Option.{none-some, same_Some, slice_get_within}
 use Rattle.gr_text.specs.Workspace.{Workspace}
 use Rattle.gr_text.specs.Packages.{package_paths}
-use Rattle.gr_declared.specs.InterfacesView.{name_in, interface_in, no_interface, Shares}
-use Rattle.gr_declared.specs.declared.interfaces.Interfaces.{Interfaces}
-use Rattle.gr_declared.proofs.ByteKeys.{cases_bytes}
+use Rattle.gr_declared.specs.InterfacesView.{name_in, interface_in, no_interface, SetsKnown}
 use Rattle.gr_declared.proofs.Mentioning.{get_set_same, get_set_other}
 use Rattle.gr_verdict.specs.declared.finding.Finding.{Finding}
 use Rattle.gr_verdict.specs.declared.gathered.Gathered.{Gathered}
 use Rattle.gr_verdict.specs.declared.known.KnownVerdict.{KnownVerdict}
-use Rattle.gr_verdict.specs.Told.{known_by, AreWhole, IsFindingOf, TellsVerdict}
+use Rattle.gr_verdict.specs.Told.{known_by, IsFindingOf, TellsVerdict}
 use Rattle.gr_verdict.specs.Steps.{AreKnown, AreGathered, IsGathered}
 use Rattle.gr_verdict.specs.Verdicts.{IsVerdict}
 use Rattle.gr_verdict.proofs.Gathering.{gathered_or_here, gathered_stays}
-use Rattle.gr_verdict.proofs.Knowing.{known_next, verdict_as}
+use Rattle.gr_verdict.proofs.Knowing.{is_whole, known_next, verdict_set}
 
 -- lists, one item further
 
@@ -30,16 +28,6 @@ before_or_last (z ∷ zs) y zero x e = inl e
 before_or_last (z ∷ zs) y (suc m) x e = elim (before_or_last zs y m x e) [
   | inl c ↦ inl c
   | inr h ↦ (let same : m ≡ length zs = h.0 in inr (omega arith, h.1))
-]
-
--- what is known without a name is known as nothing, also with what is shared of one package
-pub whole_shared : (p : List ℕ) (others old new : Interfaces) → Shares others old new p → (name_in others p ≡ None → interface_in others p ≡ no_interface p) →
-    AreWhole old → AreWhole new
-whole_shared p others old new s nothing whole q gone = elim (cases_bytes q p) [
-  | inl e ↦ (
-      let none : name_in others p ≡ None = sym s.has_name ∙ ap (name_in new) (sym e) ∙ gone in
-      ap (interface_in new) e ∙ s.has_interface ∙ nothing none ∙ ap no_interface (sym e))
-  | inr ne ↦ (let same = s.elsewhere q ne in same.interface ∙ whole q (sym same.name ∙ gone))
 ]
 
 -- nothing yet
@@ -70,7 +58,8 @@ none_gathered w count all size none names interfaces = record {
 
 module _ (w : Workspace) (n : ℕ) (p : List ℕ) (at : slice_get (package_paths w) n ≡ Some p) (old new : Gathered)
     (h : AreGathered w (length (package_paths w)) old) (unknown : IsGathered old.findings.items n → ⊥) (told : KnownVerdict) (tells : TellsVerdict w p told)
-    (is_set : new.findings.items ≡ set old.findings.items n (Some told.finding)) (s : Shares told.interfaces old.interfaces new.interfaces p) where
+    (is_set : new.findings.items ≡ set old.findings.items n (Some told.finding))
+    (there : SetsKnown old.interfaces new.interfaces told.finding.path told.known) where
   abbrev fs : List (Option Finding)
   fs = old.findings.items
 
@@ -97,13 +86,16 @@ module _ (w : Workspace) (n : ℕ) (p : List ℕ) (at : slice_get (package_paths
 
   pub taken_next : AreGathered w (length (package_paths w)) new
   taken_next =
-      let own : IsVerdict w p (known_by new.interfaces p) = verdict_as w p told.interfaces new.interfaces s.has_name s.has_interface tells.right in
+      let s : SetsKnown old.interfaces new.interfaces p told.known =
+      subst (λ (q : List ℕ). SetsKnown old.interfaces new.interfaces q told.known) tells.finding.finding.has_path there in
+      let own : IsVerdict w p (known_by new.interfaces p) =
+      subst (IsVerdict w p) (verdict_set old.interfaces new.interfaces p told.known s) tells.right in
       record {
         size = ap length is_set ∙ length-set fs n (Some told.finding) ∙ h.size;
         verdicts = subst (λ l. AreKnown w (IsGathered l) new.interfaces) (sym is_set)
             (known_next w (IsGathered fs) (IsGathered gs) n p at (λ m c. gathered_or_here fs n m told.finding c)
             (λ m c. gathered_stays fs n m told.finding within c) (told.finding, here) unknown old.interfaces new.interfaces h.verdicts s.elsewhere
-            (whole_shared p told.interfaces old.interfaces new.interfaces s tells.whole h.verdicts.whole) own);
+            (is_whole new.interfaces) own);
         each = each_taken;
       }
 

@@ -9,16 +9,16 @@ use Rattle.std.proofs.lemmas.Option.{none-some, same_Some, slice_get_within}
 use Rattle.gr_text.specs.Workspace.{Workspace}
 use Rattle.gr_text.specs.Packages.{package_paths}
 use Rattle.gr_graph.specs.Graphs.{OfPackage}
-use Rattle.gr_declared.specs.InterfacesView.{name_in, interface_in}
+use Rattle.gr_expr.specs.declared.interfaces.Interface.{Interface}
+use Rattle.gr_expr.specs.WorldView.{known_at}
 use Rattle.gr_declared.specs.declared.interfaces.Interfaces.{Interfaces}
 use Rattle.gr_declared.proofs.Mentioning.{get_set_same, get_set_other}
 use Rattle.gr_declared.proofs.Paths.{get_before, get_last}
 use Rattle.gr_verdict.specs.declared.known.Known.{Known}
 use Rattle.gr_verdict.specs.declared.known.KnownVerdict.{KnownVerdict}
 use Rattle.gr_verdict.specs.Found.{HoldSameVerdicts, KnowsVerdicts, AreKnownNext}
-use Rattle.gr_verdict.specs.Told.{known_by, AreWhole, IsFindingOf, TellsVerdict, MayTell}
+use Rattle.gr_verdict.specs.Told.{known_by, verdict_known, IsFindingOf, TellsVerdict, MayTell}
 use Rattle.gr_verdict.specs.Verdicts.{IsVerdict}
-use Rattle.gr_verdict.proofs.Knowing.{verdict_as}
 
 -- nothing yet: it is right of every workspace
 
@@ -78,11 +78,9 @@ module _ (w : Workspace) (n : ℕ) (old new : Known) (found : Option KnownVerdic
 
 -- a verdict that all tell, told alone
 
-pub told_alone : (w : Workspace) (p : List ℕ) (all : Interfaces) (one : KnownVerdict) → name_in one.interfaces p ≡ name_in all p →
-    interface_in one.interfaces p ≡ interface_in all p → AreWhole all → IsVerdict w p (known_by all p) →
-    IsFindingOf w p one.finding → TellsVerdict w p one
-told_alone w p all one name interface whole right finding = record {
-  right = verdict_as w p all one.interfaces name interface right;
-  whole = λ gone. interface ∙ whole p (sym name ∙ gone);
+pub told_alone : (w : Workspace) (p : List ℕ) (all : Interfaces) (one : KnownVerdict) → one.known ≡ known_at all.definitions p →
+    IsVerdict w p (known_by all p) → IsFindingOf w p one.finding → TellsVerdict w p one
+told_alone w p all one same right finding = record {
+  right = subst (λ (k : Option Interface). IsVerdict w p (verdict_known p k)) (sym same) right;
   finding = finding;
 }

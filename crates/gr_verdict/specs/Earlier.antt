@@ -42,7 +42,7 @@ pub record StandsWith (v w : Workspace) (marks : List Bool) (p : List ℕ) (one 
 pub record WasKnown (old : List (Option KnownVerdict)) (all : Interfaces) (n : ℕ) (q : List ℕ) : Type 0 where
   pub verdict : KnownVerdict
   pub was : slice_get old n ≡ Some (Some verdict)
-  pub alike : IsKnownAlike verdict.interfaces all q
+  pub alike : IsKnownAlike verdict.known all q
 
 -- of a marked package the verdict is known, and the same was known of it
 abbrev pub AreSteady : Workspace → List (Option KnownVerdict) → Gathered → List Bool → Type 0

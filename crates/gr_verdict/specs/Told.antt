@@ -3,13 +3,14 @@ use Rattle.std.specs.Prelude.{ℕ, ◌≡◌, Bool, true, false, List, [], Optio
 use Rattle.std.specs.Global.{Vec}
 use Rattle.gr_text.specs.Workspace.{Workspace}
 use Rattle.gr_expr.specs.declared.found.MemberUse.{MemberUse}
+use Rattle.gr_expr.specs.declared.interfaces.Interface.{Interface}
 use Rattle.gr_declared.specs.Package.{Package}
-use Rattle.gr_declared.specs.InterfacesView.{name_in, interface_in, no_interface}
+use Rattle.gr_declared.specs.InterfacesView.{name_in, known_name, interface_in, interface_known, no_interface}
 use Rattle.gr_meanings.specs.MemberUses.{AreMemberUses, uses_in}
 use Rattle.gr_qualified.specs.declared.lists.Qualified.{Qualified}
 use Rattle.gr_qualified.specs.Qualified.{AreQualified}
 use Rattle.gr_declared.specs.declared.interfaces.Interfaces.{Interfaces}
-use Rattle.gr_verdict.specs.Verdicts.{Verdicts, IsPackageIn, IsFaultBy, IsVerdict, AreVerdictsBelow}
+use Rattle.gr_verdict.specs.Verdicts.{Verdict, Verdicts, IsPackageIn, IsFaultBy, IsVerdict, AreVerdictsBelow}
 use Rattle.gr_verdict.specs.FaultLists.{AreListed}
 use Rattle.gr_verdict.specs.declared.finding.Finding.{Finding}
 use Rattle.gr_verdict.specs.declared.known.KnownVerdict.{KnownVerdict}
@@ -21,6 +22,10 @@ is_unknown (Some name) = false
 -- what is known of packages where these interfaces are: one without a name has faults
 abbrev pub known_by : Interfaces → Verdicts
 known_by all q = record { faulty = is_unknown (name_in all q); interface = interface_in all q }
+
+-- the same of one package, by what is known of its interface
+abbrev pub verdict_known : (path : List ℕ) → Option Interface → Verdict
+verdict_known path known = record { faulty = is_unknown (known_name known); interface = interface_known path known }
 
 -- of a package without a name nothing is known
 abbrev pub AreWhole : Interfaces → Type 0
@@ -51,10 +56,9 @@ pub record IsFindingOf (w : Workspace) (p : List ℕ) (f : Finding) : Type 0 whe
   pub right : AreVerdictsBelow w p known
   pub finding : IsFinding w known p f
 
--- what is known of p: what is found in it, and the verdict on it, as interfaces that tell of p alone
+-- what is known of p: what is found in it, and the verdict on it
 pub record TellsVerdict (w : Workspace) (p : List ℕ) (one : KnownVerdict) : Type 0 where
-  pub right : IsVerdict w p (known_by one.interfaces p)
-  pub whole : name_in one.interfaces p ≡ None → interface_in one.interfaces p ≡ no_interface p
+  pub right : IsVerdict w p (verdict_known p one.known)
   pub finding : IsFindingOf w p one.finding
 
 -- what is known of p, if anything is

@@ -179,7 +179,7 @@ fn keep_or_judge(
         return Ok(());
     }
     if let Some(verdict) = standing(earlier, graph, number, steady) {
-        all.keep(alloc, number, &graph.package(number).path, verdict)?;
+        all.keep(number, verdict)?;
         return Ok(());
     }
     judge_unknown(alloc, graph, number, cycles, all)?;

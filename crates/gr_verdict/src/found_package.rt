@@ -40,14 +40,13 @@ pub(crate) fn take_or_judge(
     if all.knows(number) {
         return Ok(());
     }
-    take_known(alloc, graph, number, known, all)?;
+    take_known(graph, number, known, all)?;
     judge_next(alloc, graph, number, &[], all)?;
     Ok(())
 }
 
 /// The verdict on a package, if it was found now, and was not known before.
 fn new_verdict(
-    alloc: Global,
     graph: &Graph,
     number: usize,
     known: &Known,
@@ -59,7 +58,7 @@ fn new_verdict(
 {
     match known.get(number) {
         Some(_) => Ok(None),
-        None => verdict_found(alloc, graph, number, now),
+        None => verdict_found(graph, number, now),
     }
 }
 
@@ -93,7 +92,7 @@ pub(crate) fn found_now(
 {
     let mut found = Vec::new(alloc);
     for number in numbers {
-        let verdict = new_verdict(alloc, graph, *number, known, now)?;
+        let verdict = new_verdict(graph, *number, known, now)?;
         push_some(&mut found, verdict)?;
     }
     Ok(found)

@@ -3,7 +3,7 @@ ghost use Rattle.std.specs.Prelude.{◌≡◌, ◌<◌, ◌↔◌, ℕ, List, le
 ghost use Rattle.std.proofs.Math.ListN.{set};
 ghost use Rattle.gr_text.specs.Packages.{package_paths};
 ghost use Rattle.gr_graph.specs.Graphs.{OfPackage};
-ghost use Rattle.gr_declared.specs.InterfacesView.{EndsAt, IsBehindAll, Shares, interface_in, name_in, no_interface};
+ghost use Rattle.gr_declared.specs.InterfacesView.{EndsAt, IsBehindAll, SetsKnown, interface_in, name_in, no_interface};
 ghost use Rattle.gr_verdict.specs.declared.finding.Finding.{Finding as Found};
 ghost use Rattle.gr_verdict.specs.Found.{KnowsVerdicts};
 ghost use Rattle.gr_verdict.specs.Told.{MayTell};
@@ -100,38 +100,27 @@ impl Gathered {
     }
 
     /// Takes what was known of a package, of which nothing is known yet.
-    pub(crate) fn keep(
-        &mut self,
-        alloc: Global,
-        number: usize,
-        path: &[u8],
-        verdict: &KnownVerdict,
-    ) -> Result<(), AllocError>
+    pub(crate) fn keep(&mut self, number: usize, verdict: &KnownVerdict) -> Result<(), AllocError>
         requires { number < length self.old.findings.items }
         ensures findings { OnOk result (self.new.findings.items ≡ set self.old.findings.items number (Some verdict.now.finding)) }
-        ensures interfaces { OnOk result (Shares verdict.now.interfaces self.old.interfaces self.new.interfaces path.now) }
+        ensures interfaces { OnOk result (SetsKnown self.old.interfaces self.new.interfaces verdict.now.finding.path verdict.now.known) }
     {
         let finding = verdict.finding.clone()?;
-        self.interfaces.share(alloc, verdict.interfaces(), path)?;
+        verdict.share_with(&mut self.interfaces)?;
         self.findings[number] = Some(finding);
         Ok(())
     }
 
     /// The same, of a package whose path stands behind those of all whose interfaces are here.
-    fn keep_next(
-        &mut self,
-        number: usize,
-        path: &[u8],
-        verdict: &KnownVerdict,
-    ) -> Result<(), AllocError>
+    fn keep_next(&mut self, number: usize, verdict: &KnownVerdict) -> Result<(), AllocError>
         requires number { number < length self.old.findings.items }
-        requires behind { IsBehindAll self.old.interfaces path.now }
+        requires behind { IsBehindAll self.old.interfaces verdict.now.finding.path }
         ensures findings { OnOk result (self.new.findings.items ≡ set self.old.findings.items number (Some verdict.now.finding)) }
-        ensures interfaces { OnOk result (Shares verdict.now.interfaces self.old.interfaces self.new.interfaces path.now) }
-        ensures end { OnOk result (EndsAt self.new.interfaces path.now) }
+        ensures interfaces { OnOk result (SetsKnown self.old.interfaces self.new.interfaces verdict.now.finding.path verdict.now.known) }
+        ensures end { OnOk result (EndsAt self.new.interfaces verdict.now.finding.path) }
     {
         let finding = verdict.finding.clone()?;
-        self.interfaces.share_next(verdict.interfaces(), path, 0)?;
+        verdict.push_to(&mut self.interfaces)?;
         self.findings[number] = Some(finding);
         Ok(())
     }
@@ -139,7 +128,6 @@ impl Gathered {
 
 /// Takes what is known of a package, of which nothing was taken yet.
 pub(crate) fn take_known(
-    alloc: Global,
     graph: &Graph,
     number: usize,
     known: &Known,
@@ -156,7 +144,7 @@ pub(crate) fn take_known(
     let Some(verdict) = known.get(number) else {
         return Ok(());
     };
-    all.keep(alloc, number, &graph.package(number).path, verdict)?;
+    all.keep(number, verdict)?;
     Ok(())
 }
 
@@ -181,9 +169,7 @@ fn take_next(
         taken.knew_each = false;
         return Ok(());
     };
-    taken
-        .all
-        .keep_next(number, &graph.package(number).path, verdict)?;
+    taken.all.keep_next(number, verdict)?;
     Ok(())
 }
 
@@ -227,7 +213,6 @@ pub(crate) fn gather_some(
 
 /// The verdict on a package, if it is found now.
 pub(crate) fn verdict_found(
-    alloc: Global,
     graph: &Graph,
     number: usize,
     now: &Gathered,
@@ -240,13 +225,12 @@ pub(crate) fn verdict_found(
         return Ok(None);
     };
     let finding = finding.clone()?;
-    let verdict = KnownVerdict::of(alloc, &graph.package(number).path, finding, &now.interfaces)?;
+    let verdict = KnownVerdict::of(finding, &now.interfaces)?;
     Ok(Some(verdict))
 }
 
 /// What is known of a package, if anything was known before, or is now.
 fn verdict_now(
-    alloc: Global,
     graph: &Graph,
     number: usize,
     before: &Known,
@@ -261,7 +245,7 @@ fn verdict_now(
         let verdict = verdict.clone()?;
         return Ok(Some(verdict));
     }
-    verdict_found(alloc, graph, number, now)
+    verdict_found(graph, number, now)
 }
 
 /// What was known of packages before, with what is found now.
@@ -277,7 +261,7 @@ pub(crate) fn known_now(
 {
     let mut all = Known::with_capacity(alloc, graph.len())?;
     for number in 0..graph.len() {
-        let verdict = verdict_now(alloc, graph, number, before, now)?;
+        let verdict = verdict_now(graph, number, before, now)?;
         all.push(verdict)?;
     }
     Ok(all)

@@ -3,7 +3,8 @@
 ghost use Rattle.std.specs.Prelude.{◌≡◌, ◌<◌, ◌≤◌, ◌↔◌, ◌++◌, [], ◌∷◌, length, IfOk, IfSome, IsTrue, MatchOption, None, OnOk, Some, slice_get};
 ghost use Rattle.std.proofs.Math.ListN.{set};
 ghost use Rattle.gr_text.specs.Workspace.{Workspace};
-ghost use Rattle.gr_declared.specs.InterfacesView.{interface_in, name_in};
+ghost use Rattle.gr_expr.specs.WorldView.{known_at};
+ghost use Rattle.gr_declared.specs.InterfacesView.{EndsAt, IsBehindAll, SetsKnown};
 ghost use Rattle.gr_verdict.specs.Earlier.{HaveSameImports};
 ghost use Rattle.gr_verdict.specs.Found.{HoldSameVerdicts, KnowsVerdicts};
 ghost use Rattle.gr_verdict.specs.declared.known.KnownVerdict.{KnownVerdict as Verdict};
@@ -11,84 +12,27 @@ ghost use Rattle.gr_verdict.specs.declared.known.KnownVerdict.{KnownVerdict as V
 use crate::earlier::Earlier;
 use crate::finding::{Finding, SharedFinding};
 use crate::steady::have_same_imports;
-use gr_declared::Interfaces;
+use gr_declared::{Interfaces, KnownInterface};
 use gr_expr::symbol::SharedPath;
 use gr_graph::Graph;
 use std::alloc::{AllocError, Global};
-use std::marker::Model;
-use std::sync::Arc;
 
-/// Interfaces. A clone shares them.
-#[derive(Drop)]
-pub struct SharedInterfaces {
-    interfaces: Arc<Interfaces, Global>,
-}
-
-impl Model for SharedInterfaces {
-    ghost use Rattle.std.specs.Arc.{arc_value};
-    ghost use Rattle.gr_declared.specs.declared.interfaces.Interfaces.{Interfaces};
-    ghost use Rattle.gr_declared.specs.contracts.interfaces.Interfaces.{the_row};
-
-    ghost Value = { Interfaces };
-
-    ghost coded = { the_row.coded };
-
-    ghost view = { λ a. arc_value a.interfaces };
-}
-
-impl SharedInterfaces {
-    /// The interface of the package of a path, as all tell it.
-    fn of(alloc: Global, path: &[u8], all: &Interfaces) -> Result<SharedInterfaces, AllocError>
-        ensures name { IfOk result (λ one. name_in one path.now ≡ name_in all.now path.now) }
-        ensures interface { IfOk result (λ one. interface_in one path.now ≡ interface_in all.now path.now) }
-    {
-        let mut interfaces = Interfaces::new(alloc);
-        interfaces.share(alloc, all, path)?;
-        let interfaces = Arc::new(alloc, interfaces)?;
-        Ok(SharedInterfaces { interfaces })
-    }
-
-    fn get(&self) -> &Interfaces
-        ensures { result.now ≡ self.now }
-    {
-        &self.interfaces
-    }
-}
-
-impl Clone for SharedInterfaces {
-    ghost is_clone = { λ interfaces copy. copy ≡ interfaces };
-
-    fn clone(&self) -> Result<SharedInterfaces, AllocError> {
-        let interfaces = Arc::try_clone(&self.interfaces)?;
-        Ok(SharedInterfaces { interfaces })
-    }
-}
-
-/// What is found in a package, and the verdict on it, as interfaces that tell of it alone: with its interface if it has no
-/// fault, and with nothing if it has some. A clone shares both.
+/// What is found in a package, and the verdict on it: its interface is known if it has no fault, and nothing is known if it has some.
+/// A clone shares both.
 #[derive(Drop)]
 pub struct KnownVerdict {
     pub(crate) finding: SharedFinding,
-    pub(crate) interfaces: SharedInterfaces,
+    pub(crate) known: KnownInterface,
 }
 
 impl KnownVerdict {
-    /// What is found in the package of a path, and the verdict on it, as all tell it.
-    pub(crate) fn of(
-        alloc: Global,
-        path: &[u8],
-        finding: SharedFinding,
-        all: &Interfaces,
-    ) -> Result<KnownVerdict, AllocError>
+    /// What is found in a package, and the verdict on it, as all tell it.
+    pub(crate) fn of(finding: SharedFinding, all: &Interfaces) -> Result<KnownVerdict, AllocError>
         ensures finding { IfOk result (λ one. one.finding ≡ finding) }
-        ensures name { IfOk result (λ one. name_in one.interfaces path.now ≡ name_in all.now path.now) }
-        ensures interface { IfOk result (λ one. interface_in one.interfaces path.now ≡ interface_in all.now path.now) }
+        ensures known { IfOk result (λ one. one.known ≡ known_at all.now.definitions finding.path) }
     {
-        let interfaces = SharedInterfaces::of(alloc, path, all)?;
-        Ok(KnownVerdict {
-            finding,
-            interfaces,
-        })
+        let known = all.known(finding.get().path.path())?;
+        Ok(KnownVerdict { finding, known })
     }
 
     /// The path of the package.
@@ -105,11 +49,31 @@ impl KnownVerdict {
         self.finding.get()
     }
 
-    /// The interfaces that tell of the package.
-    pub fn interfaces(&self) -> &Interfaces
-        ensures { result.now ≡ self.now.interfaces }
+    /// What is known of the package's interface.
+    pub fn known(&self) -> &KnownInterface
+        ensures { result.now ≡ self.now.known }
     {
-        self.interfaces.get()
+        &self.known
+    }
+
+    /// Tells it to interfaces, in the place of what they know of the package.
+    pub(crate) fn share_with(&self, all: &mut Interfaces) -> Result<(), AllocError>
+        ensures { OnOk result (SetsKnown all.old all.new self.now.finding.path self.now.known) }
+    {
+        let path = self.path().clone()?;
+        all.share_known(path, &self.known)?;
+        Ok(())
+    }
+
+    /// The same, where the package's path stands behind those of all that are there.
+    pub(crate) fn push_to(&self, all: &mut Interfaces) -> Result<(), AllocError>
+        requires { IsBehindAll all.old self.now.finding.path }
+        ensures set { OnOk result (SetsKnown all.old all.new self.now.finding.path self.now.known) }
+        ensures end { OnOk result (EndsAt all.new self.now.finding.path) }
+    {
+        let path = self.path().clone()?;
+        all.push_known(path, &self.known)?;
+        Ok(())
     }
 }
 
@@ -118,11 +82,8 @@ impl Clone for KnownVerdict {
 
     fn clone(&self) -> Result<KnownVerdict, AllocError> {
         let finding = self.finding.clone()?;
-        let interfaces = self.interfaces.clone()?;
-        Ok(KnownVerdict {
-            finding,
-            interfaces,
-        })
+        let known = self.known.clone()?;
+        Ok(KnownVerdict { finding, known })
     }
 }
 

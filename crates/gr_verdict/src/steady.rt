@@ -175,7 +175,7 @@ pub(crate) fn is_steady(earlier: &Earlier, graph: &Graph, number: usize, all: &I
     ensures { IsTrue result → OfPackage graph.now number (WasKnown earlier.now.verdicts.items all.now number) }
 {
     match earlier.verdict(number) {
-        Some(one) => are_alike(one.interfaces(), all, &graph.package(number).path),
+        Some(one) => are_alike(one.known(), all, &graph.package(number).path),
         None => false,
     }
 }

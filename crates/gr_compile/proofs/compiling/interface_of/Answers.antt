@@ -1,16 +1,16 @@
 -- The answers to the goals of `compiling::interface_of`.
 use Rattle.std.proofs.Common.{◌≡◌, ℕ, List, subst, ◌∙◌}
-use Rattle.gr_declared.specs.InterfacesView.{Shares}
+use Rattle.gr_declared.specs.InterfacesView.{SetsKnown}
 use Rattle.gr_compile.specs.Units.{IsUnknown}
 use Rattle.gr_compile.proofs.compiling.interface_of.Goals as goal
 
 pub returns : goal.returns
 returns c =
     let p = c.args.path.now in
-    let all = c.args.all.now in
+    let known = c.args.known.now in
     let none = c.new-one.result in
-    let one = c.share.new.self in
-    let shared : Shares all none one p = subst (λ (q : List ℕ). Shares all none one q) c.path.ensures c.in_ok-share.ensures.shared in
+    let one = c.share_known.new.self in
+    let shared : SetsKnown none one p known = subst (λ (q : List ℕ). SetsKnown none one q known) c.in_ok-path.ensures.cases c.in_ok-share_known.ensures.set in
     let unknown : (q : List ℕ) → (q ≡ p → ⊥) → IsUnknown one q = λ q other. record {
       name = (shared.elsewhere q other).name ∙ c.new-one.ensures.names q;
       interface = (shared.elsewhere q other).interface ∙ c.new-one.ensures.interfaces q;

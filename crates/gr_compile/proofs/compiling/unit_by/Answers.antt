@@ -2,6 +2,7 @@
 use Rattle.std.proofs.Common.{◌≡◌, ℕ, List, [], sym, subst, ◌∙◌}
 use Rattle.std.proofs.lemmas.Result.{IfOk-weaker}
 use Rattle.gr_text.specs.Workspace.{Workspace}
+use Rattle.gr_expr.specs.WorldView.{known_at}
 use Rattle.gr_verdict.specs.declared.finding.Finding.{Finding}
 use Rattle.gr_declared.specs.declared.interfaces.Interfaces.{Interfaces}
 use Rattle.gr_verdict.specs.FaultLists.{AreListed}
@@ -24,7 +25,7 @@ faults_alone p list (compiled.Done interface object) e = absurd (cc)
 
 -- of one that has no faults
 without_faults : (w : Workspace) (p : List ℕ) (all : Interfaces) (f : Finding) → IsFoundBy w p all f → f.faults.items ≡ [] →
-    IsFaultless w (known_by all) all p f.members.items
+    IsFaultless w (known_by all) (known_at all.definitions p) p f.members.items
 without_faults w p all f is empty = record {
   below = is.below;
   verdict = is.own;
@@ -63,7 +64,8 @@ faultless_unit-requires c =
     record {
       at = c.requires.at;
       whole = c.requires.found.whole;
-      found = subst (IsFaultless w (known_by all) all p) (sym c.deref-in-None.ensures.value) (without_faults w p all f c.requires.found empty);
+      found = subst (IsFaultless w (known_by all) (known_at all.definitions p) p) (sym c.deref-in-None.ensures.value)
+          (without_faults w p all f c.requires.found empty);
     }
 
 pub returns-in-Some : goal.returns-in-Some
@@ -75,6 +77,6 @@ returns-in-Some c =
     let empty = vec_empty f.faults c.is_empty.result c.is_empty.ensures c.if-not-is_empty.false in
     let object = c.in-Some.object in
     IfOk-weaker c.done_unit.result _ (IsUnitOf w p)
-    (λ unit h. h w (compiled_as w p (known_by all) all f.members.items (without_faults w p all f c.requires.found empty) object
+    (λ unit h. h w (compiled_as w p (known_by all) (known_at all.definitions p) f.members.items (without_faults w p all f c.requires.found empty) object
     (c.requires.text object c.in-Some.is)))
     c.done_unit.ensures

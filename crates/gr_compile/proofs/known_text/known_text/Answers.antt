@@ -1,8 +1,10 @@
 -- The answers to the goals of `known_text::known_text`.
 use Rattle.std.proofs.Common.{◌≡◌, List, [], sym, subst}
+use Rattle.std.specs.Prelude.{Option, option_copied}
 use Rattle.std.specs.Global.{Vec}
 use Rattle.std.proofs.lemmas.Option.{none-some}
 use Rattle.gr_expr.specs.declared.found.MemberUse.{MemberUse}
+use Rattle.gr_expr.specs.declared.interfaces.Interface.{Interface}
 use Rattle.gr_declared.specs.declared.interfaces.Interfaces.{Interfaces}
 use Rattle.gr_verdict.specs.declared.finding.Finding.{Finding}
 use Rattle.gr_verdict.proofs.Gathering.{known_right}
@@ -25,12 +27,13 @@ object_of-requires-clause-found c =
     let below = known_right w p all right.right (right.below p c.requires.at.has_path) in
     let empty = subst (λ (g : Finding). g.faults.items ≡ []) c.finding-finding.ensures
     (vec_empty f.faults c.is_empty.result c.is_empty.ensures c.if-not-is_empty.false) in
-    let base : IsFaultlessSeeing w all.interfaces one.interfaces p one.finding.members.items =
-    seen_faultless w p all.interfaces one.interfaces one.finding below c.requires.told c.requires.verdict.right c.requires.verdict.finding empty in
-    let members : IsFaultlessSeeing w all.interfaces one.interfaces p f.members.items =
-    subst (λ (g : Finding). IsFaultlessSeeing w all.interfaces one.interfaces p g.members.items) (sym c.finding-finding.ensures) base in
-    let listed : IsFaultlessSeeing w all.interfaces one.interfaces p c.deref.result.now =
-    subst (IsFaultlessSeeing w all.interfaces one.interfaces p) (sym c.deref.ensures.value) members in
-    let told : IsFaultlessSeeing w all.interfaces c.interfaces.result.now p c.deref.result.now =
-    subst (λ (i : Interfaces). IsFaultlessSeeing w all.interfaces i p c.deref.result.now) (sym c.interfaces.ensures) listed in
-    subst (λ (i : Interfaces). IsFaultlessSeeing w i c.interfaces.result.now p c.deref.result.now) (sym c.interfaces-seen.ensures) told
+    let base : IsFaultlessSeeing w all.interfaces one.known p one.finding.members.items =
+    seen_faultless w p all.interfaces one.known one.finding below c.requires.told c.requires.verdict.right c.requires.verdict.finding empty in
+    let members : IsFaultlessSeeing w all.interfaces one.known p f.members.items =
+    subst (λ (g : Finding). IsFaultlessSeeing w all.interfaces one.known p g.members.items) (sym c.finding-finding.ensures) base in
+    let listed : IsFaultlessSeeing w all.interfaces one.known p c.deref.result.now =
+    subst (IsFaultlessSeeing w all.interfaces one.known p) (sym c.deref.ensures.value) members in
+    let own = option_copied c.get-own.result in
+    let told : IsFaultlessSeeing w all.interfaces own p c.deref.result.now =
+    subst (λ (k : Option Interface). IsFaultlessSeeing w all.interfaces k p c.deref.result.now) (sym (c.get-own.ensures ∙ c.known.ensures)) listed in
+    subst (λ (i : Interfaces). IsFaultlessSeeing w i own p c.deref.result.now) (sym c.interfaces-seen.ensures) told

@@ -1,12 +1,11 @@
 -- The answers to the goals of `known_text::object_of`.
 use Rattle.std.proofs.Common.{◌≡◌, ℕ, List, map, sym, subst, ◌∙◌}
-use Rattle.std.specs.Prelude.{slice_get}
+use Rattle.std.specs.Prelude.{option_copied}
 use Rattle.std.proofs.lemmas.Option.{same_Some, slice_get_within}
 use Rattle.std.proofs.lemmas.Result.{IfOk-weaker}
 use Rattle.gr_text.specs.Packages.{package_paths, package_files}
 use Rattle.gr_graph.specs.Parsed.{AreParsed}
-use Rattle.gr_expr.specs.WorldView.{definitions_at, ranked}
-use Rattle.gr_declared.specs.InterfacesView.{name_in, interface_in}
+use Rattle.gr_declared.specs.InterfacesView.{name_in, interface_in, interface_known}
 use Rattle.gr_meanings.specs.MemberUses.{uses_in}
 use Rattle.gr_object.specs.ObjectView.{OwnDefinitionsOf, IsObjectTextOf}
 use Rattle.gr_compile.specs.Compiling.{IsPackageAt}
@@ -29,25 +28,22 @@ pub object-requires : goal.object-requires
 object-requires c =
     let w = c.args.at.graph.now in
     let p = c.args.path.now in
-    let all = c.args.own.now in
+    let one = option_copied c.args.own in
     let files = c.package-files.result.now in
     let folder : files.path.items ≡ p = same_Some files.path.items p (sym c.package-files.ensures.path ∙ c.requires.at.has_path) in
     let parsed = subst (λ q. AreParsed (package_files w q) files.trees.items files.faulty.items) folder c.package-files.ensures.files in
     let i = c.args.seen.now in
     let found = c.requires.found in
     let list = c.definitions_of-definitions.result.now in
-    let same : (rank : ℕ) → slice_get list rank ≡ ranked (definitions_at all.definitions p) rank =
-    subst (λ (q : List ℕ). (rank : ℕ) → slice_get list rank ≡ ranked (definitions_at all.definitions q) rank) c.path.ensures
-    c.definitions_of-definitions.ensures in
     subst (λ ts. OwnDefinitionsOf p ts (name_in i) (interface_in i) list) (sym c.as_slice-trees.ensures.value)
-    (definitions_by w p found.known all c.args.members.now found.faultless files.trees.items files.faulty.items parsed (name_in i) (interface_in i)
-    found.are_seen list same)
+    (definitions_by w p found.known one c.args.members.now found.faultless files.trees.items files.faulty.items parsed (name_in i) (interface_in i)
+    found.are_seen list c.definitions_of-definitions.ensures)
 
 pub returns : goal.returns
 returns c =
     let w = c.args.at.graph.now in
     let p = c.args.path.now in
-    let all = c.args.own.now in
+    let one = option_copied c.args.own in
     let members = c.args.members.now in
     let files = c.package-files.result.now in
     let folder : files.path.items ≡ p = same_Some files.path.items p (sym c.package-files.ensures.path ∙ c.requires.at.has_path) in
@@ -58,8 +54,8 @@ returns c =
     let text = c.in_ok-text.text.items in
     let made = subst (λ ts. IsObjectTextOf p ts (name_in i) (interface_in i) (map uses_in members) packages text) c.as_slice-trees.ensures.value
     c.in_ok-text.ensures in
-    let compiled : IsCompiled w p (interface_in all p) text =
-    compiled_by w p found.known all members found.faultless files.trees.items files.faulty.items parsed (name_in i) (interface_in i)
+    let compiled : IsCompiled w p (interface_known p one) text =
+    compiled_by w p found.known one members found.faultless files.trees.items files.faulty.items parsed (name_in i) (interface_in i)
     found.are_seen packages text (c.in_ok-packages.ensures p c.requires.at.has_path) made in
-    IfOk-weaker c.new.result (λ t. t ≡ text) (IsCompiled w p (interface_in all p)) (λ t is. subst (IsCompiled w p (interface_in all p)) (sym is) compiled)
+    IfOk-weaker c.new.result (λ t. t ≡ text) (IsCompiled w p (interface_known p one)) (λ t is. subst (IsCompiled w p (interface_known p one)) (sym is) compiled)
     c.new.ensures

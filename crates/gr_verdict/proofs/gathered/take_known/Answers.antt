@@ -1,8 +1,6 @@
 -- The answers to the goals of `gathered::take_known`.
-use Rattle.std.proofs.Common.{◌≡◌, ◌<◌, List, ℕ, length, sym, subst, ◌∙◌}
-use Rattle.std.proofs.lemmas.Option.{same_Some}
+use Rattle.std.proofs.Common.{◌<◌, length, sym, subst}
 use Rattle.gr_text.specs.Packages.{package_paths}
-use Rattle.gr_declared.specs.InterfacesView.{Shares}
 use Rattle.gr_meanings.proofs.BoundLists.{slice_get_some}
 use Rattle.gr_verdict.proofs.Taking.{taken_before, taken_next, taken_still}
 use Rattle.gr_verdict.proofs.gathered.take_known.Goals as goal
@@ -15,15 +13,14 @@ returns c =
     let w = c.args.graph.now in
     let n = c.args.number in
     let p = slice_get_some (package_paths w) n c.requires.number in
-    let path : c.deref.result.now ≡ p.0 = c.deref.ensures.value ∙ same_Some c.package.result.now.path.items p.0 (sym c.package.ensures.path ∙ p.1) in
     let told = c.in-Some.verdict.now in
     let old = c.args.all.now in
     let new = c.keep.new.self in
+    let kept = c.in_ok-keep.ensures in
     let within : n < length old.findings.items = subst (λ k. n < k) (sym c.requires.all.size) c.requires.number in
     record {
-      right = taken_next w n p.0 p.1 old new c.requires.all c.requires.unknown told (c.requires.known n p.0 told p.1 c.in-Some.ensures)
-          c.in_ok-keep.ensures.findings
-          (subst (λ (q : List ℕ). Shares told.interfaces old.interfaces new.interfaces q) path c.in_ok-keep.ensures.interfaces);
-      others = λ m other g. taken_before old.findings.items new.findings.items n told.finding c.in_ok-keep.ensures.findings m other g;
-      kept = λ m g. taken_still old.findings.items new.findings.items n told.finding within c.in_ok-keep.ensures.findings m g;
+      right = taken_next w n p.0 p.1 old new c.requires.all c.requires.unknown told (c.requires.known n p.0 told p.1 c.in-Some.ensures) kept.findings
+          kept.interfaces;
+      others = λ m other g. taken_before old.findings.items new.findings.items n told.finding kept.findings m other g;
+      kept = λ m g. taken_still old.findings.items new.findings.items n told.finding within kept.findings m g;
     }

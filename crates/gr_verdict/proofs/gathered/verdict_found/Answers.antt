@@ -1,7 +1,8 @@
 -- The answers to the goals of `gathered::verdict_found`.
 use Rattle.std.proofs.Common.{◌≡◌, List, ℕ, sym, subst, ◌∙◌}
 use Rattle.std.proofs.lemmas.Option.{none-some, same_Some}
-use Rattle.gr_declared.specs.InterfacesView.{name_in, interface_in}
+use Rattle.gr_expr.specs.WorldView.{known_at}
+use Rattle.gr_verdict.specs.declared.finding.Finding.{Finding}
 use Rattle.gr_verdict.specs.Told.{IsFindingOf, TellsVerdict}
 use Rattle.gr_verdict.proofs.Telling.{told_alone}
 use Rattle.gr_verdict.proofs.gathered.verdict_found.Goals as goal
@@ -18,8 +19,10 @@ returns c = λ p at one is.
     let told = c.in_ok-verdict.verdict in
     let f = c.in-Some.finding.now in
     let there = c.in-Some.ensures in
-    let path : c.deref.result.now ≡ p = c.deref.ensures.value ∙ same_Some c.package.result.now.path.items p (sym c.package.ensures.path ∙ at) in
-    let name = subst (λ (q : List ℕ). name_in told.interfaces q ≡ name_in all q) path c.in_ok-verdict.ensures.name in
-    let interface = subst (λ (q : List ℕ). interface_in told.interfaces q ≡ interface_in all q) path c.in_ok-verdict.ensures.interface in
-    let finding = subst (IsFindingOf w p) (sym (c.in_ok-verdict.ensures.finding ∙ c.in_ok-finding.ensures.cases)) (now.each n p f at there) in
-    subst (TellsVerdict w p) (same_Some told one is) (told_alone w p all told name interface now.verdicts.whole (now.verdicts.right n p (f, there) at) finding)
+    let found : IsFindingOf w p f = now.each n p f at there in
+    let copy : c.in_ok-finding.finding ≡ f = c.in_ok-finding.ensures.cases in
+    let known : told.known ≡ known_at all.definitions p =
+    subst (λ (q : List ℕ). told.known ≡ known_at all.definitions q) found.finding.has_path
+    (subst (λ (g : Finding). told.known ≡ known_at all.definitions g.path) copy c.in_ok-verdict.ensures.known) in
+    let finding = subst (IsFindingOf w p) (sym (c.in_ok-verdict.ensures.finding ∙ copy)) found in
+    subst (TellsVerdict w p) (same_Some told one is) (told_alone w p all told known (now.verdicts.right n p (f, there) at) finding)

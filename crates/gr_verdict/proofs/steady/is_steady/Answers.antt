@@ -1,6 +1,8 @@
 -- The answers to the goals of `steady::is_steady`.
 use Rattle.std.proofs.Common.{◌≡◌, List, ℕ, sym, subst, ◌∙◌}
+use Rattle.std.specs.Prelude.{Option}
 use Rattle.std.proofs.lemmas.Option.{same_Some}
+use Rattle.gr_expr.specs.declared.interfaces.Interface.{Interface}
 use Rattle.gr_alike.specs.Known.{IsKnownAlike}
 use Rattle.gr_verdict.proofs.steady.is_steady.Goals as goal
 
@@ -10,6 +12,6 @@ returns-in-Some c = λ t p at.
     record {
       verdict = c.in-Some.one.now;
       was = c.in-Some.ensures.verdict;
-      alike = subst (λ i. IsKnownAlike i c.args.all.now p) c.interfaces.ensures
-          (subst (λ (q : List ℕ). IsKnownAlike c.interfaces.result.now c.args.all.now q) path (c.are_alike.ensures.interface t));
+      alike = subst (λ (k : Option Interface). IsKnownAlike k c.args.all.now p) c.known.ensures
+          (subst (λ (q : List ℕ). IsKnownAlike c.known.result.now c.args.all.now q) path (c.are_alike.ensures.interface t));
     }
