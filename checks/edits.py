@@ -35,7 +35,7 @@ def function_at(text, at):
 
 
 def changed_function(rt, crate, edit):
-    """The function in which an edit of one file changes something first, if the crate has one of its name in that module."""
+    """The function in which an edit of one file changes something first, if its name and its module tell it."""
     texts, why = rt.read_edit(edit, crate.folder)
     if why or len(texts) != 1:
         return None
@@ -44,7 +44,10 @@ def changed_function(rt, crate, edit):
         before = file.read()
     name = function_at(before, len(os.path.commonprefix([before, text])))
     module = re.sub(r"^src/|lib\.rt$|\.rt$", "", path).replace("/", "::")
-    found = [it for it in functions_of(crate) if it.startswith(module) and it.rpartition("::")[2] == name]
+    found = [it for it in functions_of(crate) if it.rpartition("::")[2] == name]
+    if len(found) > 1:
+        # (a method stands in the module of its type, so this may not tell it)
+        found = [it for it in found if it.startswith(f"{module}::")]
     return found[0] if path.startswith("src/") and len(found) == 1 else None
 
 
@@ -118,27 +121,28 @@ def checked_alone(rt, crate, functions):
         return subprocess.run([*rt.rtlib.guarded(), *words], **how).stdout
 
 
-def refusal_of(said, function):
+def refusal_of(said, function, cycles):
     """What a check says of a changed function, if it refuses it for itself: since a goal of it is open or an answer of it fails, and not since what it
     calls or cites was not proved. It tells nothing else."""
     lines = re.findall(rf"^fn \w+::{function}: (.*)", said, re.MULTILINE)
     if not ENDED.search(said) or len(lines) != 1:
         return ""
     name = function.rpartition("::")[2]
-    failed = re.findall(rf"^(?:\./)?proofs/\S*/(?:{name}|\+\w+)/\w+\.antt:\d+:\d+: error: (.*)", said, re.MULTILINE)
-    failed = [it for it in failed if "was not admitted" not in it]
     if lines[0].startswith("no proof: expected answers"):
         return f"{name}: {lines[0]}"
+    folders = [name, *(rf"\+{it}" for it in [name, *(cycle for cycle, members in cycles.items() if name in members)])]
+    failed = re.findall(rf"^(?:\./)?proofs/(?:\S*/)?(?:{'|'.join(folders)})/\w+\.antt:\d+:\d+: error: (.*)", said, re.MULTILINE)
+    failed = [it for it in failed if "was not admitted" not in it]
     return f"{name}: {failed[0]}" if lines[0].startswith("not proved") and failed else ""
 
 
 def tried_together(rt, crate, edits):
     """What is said of each edit of a crate that is refused beside its others."""
-    told = {}
+    told, cycles = {}, cycles_in(f"{crate.folder}/src")
     for functions in rounds_of(rt, crate, edits):
         said = checked_alone(rt, crate, functions)
         for edit, function in functions.items():
-            why = refusal_of(said, function)
+            why = refusal_of(said, function, cycles)
             if why:
                 told[edit] = f"must-fail {crate.name}/{os.path.basename(edit)}: refused, as it must be: {why[:160]}"
     return told
