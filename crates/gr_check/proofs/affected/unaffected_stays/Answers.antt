@@ -1,4 +1,4 @@
--- The answers to the goals of `laws::unaffected_stays`.
+-- The answers to the goals of `affected::unaffected_stays`.
 use Rattle.gr_check.proofs.UnaffectedPackages.{stays_put, declared_then}
 use Rattle.gr_check.proofs.affected.unaffected_stays.Goals as goal
 
