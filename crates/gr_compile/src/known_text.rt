@@ -20,7 +20,7 @@ use std::alloc::{AllocError, Global};
 
 /// The type definitions of a package, by their ranks.
 fn definitions_of(own: Option<&Interface>) -> &[Definition]
-    ensures { (rank : ℕ) → slice_get result.now rank ≡ ranked (definitions_listed (option_copied own)) rank }
+    ensures { (rank : ℕ) → slice_get result.now rank ≡ ranked (definitions_listed (option_copied own.entry)) rank }
 {
     match own {
         None => &[],
@@ -40,7 +40,7 @@ pub(crate) fn object_of(
 ) -> Result<FileText, AllocError>
     requires at { IsPackageAt at path.now }
     requires found { IsFaultlessSeeing at.graph.now seen.now (option_copied own) path.now members.now }
-    ensures { IfOk result (λ text. IsCompiled at.entry.graph.now path.now (interface_known path.now (option_copied own)) text) }
+    ensures { IfOk result (λ text. IsCompiled at.entry.graph.now path.now (interface_known path.now (option_copied own.entry)) text) }
 {
     let files = at.graph.package(at.number);
     let packages = names_below(alloc, at)?;

@@ -20,21 +20,22 @@ seen-requires c = record {
 }
 
 -- what is known of the package's own interface
-own_known : (c : goal.After-interface-own) → option_copied c.interface-own.result ≡ known_at c.args.all.now.definitions c.args.path.now
-own_known c =
-    c.interface-own.ensures ∙ ap (λ (ds : Definitions). known_at ds c.path.result.now) c.definitions.ensures ∙
-    ap (λ (q : List ℕ). known_at c.args.all.now.definitions q) c.path.ensures
+own_known : (all ds : Definitions) (p q : List ℕ) (own : Option Interface) → own ≡ known_at ds q → ds ≡ all → q ≡ p → own ≡ known_at all p
+own_known all ds p q own is same path = is ∙ ap (λ (d : Definitions). known_at d q) same ∙ ap (λ (r : List ℕ). known_at all r) path
 
 pub object_of-requires : goal.object_of-requires
 object_of-requires c =
     let w = c.args.at.graph.now in
     let p = c.args.path.now in
-    let known = known_by c.args.all.now in
+    let all = c.args.all.now in
+    let known = known_by all in
+    let own = own_known all.definitions c.definitions.result.now p c.path.result.now (option_copied c.interface-own.result) c.interface-own.ensures
+    c.definitions.ensures c.path.ensures in
     record {
       at = c.requires.at;
       found = record {
         known = known;
-        faultless = subst (λ (k : Option Interface). IsFaultless w known k p c.args.members.now) (sym (own_known c)) c.requires.found;
+        faultless = subst (λ (k : Option Interface). IsFaultless w known k p c.args.members.now) (sym own) c.requires.found;
         are_seen = c.in_ok-interfaces.ensures.seen p c.requires.at.has_path;
       };
     }
@@ -43,6 +44,9 @@ pub returns : goal.returns
 returns c =
     let w = c.args.at.graph.now in
     let p = c.args.path.now in
+    let all = c.args.all.now in
+    let own = own_known all.definitions c.definitions.result.now p c.path.result.now (option_copied c.interface-own.result) c.interface-own.ensures
+    c.definitions.ensures c.path.ensures in
     let object = c.in_ok-object.object in
-    let compiled = subst (λ (k : Option Interface). IsCompiled w p (interface_known p k) object) (own_known c) c.in_ok-object.ensures in
+    let compiled = subst (λ (k : Option Interface). IsCompiled w p (interface_known p k) object) own c.in_ok-object.ensures in
     IfOk-weaker c.done_unit.result _ _ (λ unit h. h w compiled) c.done_unit.ensures

@@ -1,16 +1,14 @@
 -- The answers to the goals of `known_text::known_text`.
-use Rattle.std.proofs.Common.{◌≡◌, List, [], sym, subst}
+use Rattle.std.proofs.Common.{◌≡◌, [], sym, subst, ◌∙◌}
 use Rattle.std.specs.Prelude.{Option, option_copied}
-use Rattle.std.specs.Global.{Vec}
 use Rattle.std.proofs.lemmas.Option.{none-some}
-use Rattle.gr_expr.specs.declared.found.MemberUse.{MemberUse}
 use Rattle.gr_expr.specs.declared.interfaces.Interface.{Interface}
 use Rattle.gr_declared.specs.declared.interfaces.Interfaces.{Interfaces}
 use Rattle.gr_verdict.specs.declared.finding.Finding.{Finding}
 use Rattle.gr_verdict.proofs.Gathering.{known_right}
 use Rattle.gr_verdict.proofs.Members.{vec_empty}
 use Rattle.gr_compile.specs.Compiling.{IsFaultlessSeeing}
-use Rattle.gr_compile.proofs.Faultless.{seen_faultless, text_compiled}
+use Rattle.gr_compile.proofs.Faultless.{seen_faultless}
 use Rattle.gr_compile.proofs.known_text.known_text.Goals as goal
 
 pub returns-then-not-is_empty : goal.returns-then-not-is_empty

@@ -1,5 +1,5 @@
 -- The answers to the goals of `known_text::object_of`.
-use Rattle.std.proofs.Common.{◌≡◌, ℕ, List, map, sym, subst, ◌∙◌}
+use Rattle.std.proofs.Common.{◌≡◌, map, sym, subst, ◌∙◌}
 use Rattle.std.specs.Prelude.{option_copied}
 use Rattle.std.proofs.lemmas.Option.{same_Some, slice_get_within}
 use Rattle.std.proofs.lemmas.Result.{IfOk-weaker}
