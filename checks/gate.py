@@ -11,7 +11,7 @@ proof with the longest chain behind it has up to three processors, also where ot
 left for each processor. Else a proof has one: with two or three it may take up to twice the processor time, where others are proved beside it.
 checks/gate.sh runs this.
 
-Edits: each is tried by a check of the functions that it changes (edits.py).
+Edits: each is tried by a check of the functions that it changes (must_fail.py).
 
 Layout: rt ci refuses a crate with a file that rt fmt lays out otherwise, before it proves it. Here all crates are asked first.
 
@@ -31,7 +31,7 @@ from concurrent.futures import FIRST_COMPLETED, ThreadPoolExecutor, wait
 
 sys.dont_write_bytecode = True
 
-import edits
+import must_fail
 import replay
 
 # More memory than a proof was seen to take, in bytes.
@@ -189,7 +189,7 @@ def main():
     asked = []
     rt.run = with_checks(rt, asked)
     if hasattr(rt, "must_fail") and hasattr(rt, "add_edits"):
-        rt.add_edits, rt.must_fail = edits.edits_together(rt)
+        rt.add_edits, rt.must_fail = must_fail.edits_together(rt)
     crate = rt.rtlib.Crate
     crate.stamp, crate.below = once(crate.stamp), once(crate.below)
     if hasattr(rt, "in_lanes"):
