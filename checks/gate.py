@@ -15,7 +15,8 @@ Edits: each is tried by a check of the functions that it changes (must_fail.py).
 
 Memory: the prover keeps what it frees, so that it takes less than half as many pages from the kernel.
 
-Layout: rt ci refuses a crate with a file that rt fmt lays out otherwise, before it proves it. Here all crates are asked first.
+Layout: rt ci refuses a crate with a file that rt fmt lays out otherwise, before it proves it. Here all crates are asked first, while
+rt reads them.
 
 The program: where rt runs a build of gr_server, all of crates/gr_server/sessions and the checks of program.py are run on the same build. One
 that is answered otherwise fails the run of the program, so the gate fails, and its last line tells of it.
@@ -57,15 +58,19 @@ def load(path):
     return module
 
 
+class OutOfLayout(Exception):
+    """Names the crates with a file that rt fmt would lay out otherwise."""
+
+
 def once(method):
-    """A method of a crate without arguments, asked once for each folder."""
+    """A method of a crate, asked once for each folder and arguments."""
     known = {}
 
     @functools.wraps(method)
-    def asked(crate):
-        if crate.folder not in known:
-            known[crate.folder] = method(crate)
-        return known[crate.folder]
+    def asked(crate, *words):
+        if (crate.folder, *words) not in known:
+            known[crate.folder, *words] = method(crate, *words)
+        return known[crate.folder, *words]
 
     return asked
 
@@ -106,11 +111,13 @@ def lanes_at_once():
     return max(1, min(processors() + more, free // MEMORY_OF_ONE))
 
 
-def lanes_of(rt):
-    """A way to run tasks side by side, for rt's own: what they wait for and what they give is the same."""
+def lanes_of(rt, layout):
+    """A way to run tasks side by side, for rt's own: what they wait for and what they give is the same. No task begins before it is known that
+    no crate is out of layout."""
     own = rt.in_lanes
 
     def in_lanes(tasks):
+        stop_out_of_layout(layout)
         lanes = lanes_at_once()
         if any(len(task) != 4 or len(inspect.signature(task[3]).parameters) < 2 for task in tasks.values()):
             # a kit whose tasks are of another form
@@ -184,24 +191,35 @@ def out_of_layout(rt):
     return [name for name in sorted(os.listdir(crates)) if rt.rtlib.fmt(os.path.join(crates, name), "--check", sys.stdout)]
 
 
+def stop_out_of_layout(layout):
+    """Ends a run where a crate is out of layout, as soon as it is known whether one is."""
+    if layout.result():
+        raise OutOfLayout(", ".join(layout.result()))
+
+
 def main():
     rt = load(os.path.realpath(shutil.which("rt")))
-    wrong = out_of_layout(rt)
-    if wrong:
-        print(f"rt fmt lays out files of {', '.join(wrong)} otherwise\n0 passed, {len(wrong)} failed")
-        return 1
     os.environ.setdefault(*KEEPS_FREED)
     asked = []
     rt.run = with_checks(rt, asked)
     if hasattr(rt, "must_fail") and hasattr(rt, "add_edits"):
         rt.add_edits, rt.must_fail = must_fail.edits_together(rt)
     crate = rt.rtlib.Crate
-    crate.stamp, crate.below = once(crate.stamp), once(crate.below)
-    if hasattr(rt, "in_lanes"):
-        rt.in_lanes = lanes_of(rt)
-    else:
-        os.environ["RT_JOBS"] = str(lanes_at_once())
-    status = rt.main(["ci"])
+    crate.stamp, crate.below, crate.count = once(crate.stamp), once(crate.below), once(crate.count)
+    # (its first call sets a signal's handler, which only the main thread may)
+    rt.rtlib.guarded()
+    with ThreadPoolExecutor(1) as beside:
+        layout = beside.submit(out_of_layout, rt)
+        try:
+            if hasattr(rt, "in_lanes"):
+                rt.in_lanes = lanes_of(rt, layout)
+            else:
+                stop_out_of_layout(layout)
+                os.environ["RT_JOBS"] = str(lanes_at_once())
+            status = rt.main(["ci"])
+        except OutOfLayout as wrong:
+            print(f"rt fmt lays out files of {wrong} otherwise\n0 passed, {len(layout.result())} failed")
+            return 1
     if not status and not asked:
         print(f"no stored session was run on {PROGRAM}\n0 passed, 1 failed")
         return 1
