@@ -7,6 +7,7 @@
 # with status 0 where all of them were.
 set -euo pipefail
 cd "$(dirname "$0")/.."
+checks=$PWD/checks
 if [ $# -eq 0 ]; then
     set -- $(find crates -path '*/must-fail/*/*.md' | cut -d/ -f2 | sort -u)
 fi
@@ -31,6 +32,6 @@ for crate in "$@"; do
     for edit in "$edits"/*/*.md; do
         cp "$edit" "$edits/$(basename "$edit" .md).edit"
     done
-    (cd "$copy" && rt must-fail "$crate") || failed=1
+    (cd "$copy" && python3 "$checks/more_edits.py" "$crate") || failed=1
 done
 exit "$failed"
