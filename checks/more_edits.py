@@ -28,12 +28,22 @@ def refused_unedited(rt, crate, edits):
     return [name for name in functions if must_fail.refusal_of(said, name, cycles)]
 
 
+def refused_together(rt, crate, edits):
+    """What is said of each edit that is refused, by checks of the functions that they change. Those of which a check says nothing, as one does with
+    an edit that is no code, are tried by halves."""
+    told = must_fail.tried_together(rt, crate, edits)
+    left = [edit for edit in edits if edit not in told]
+    if len(edits) > 1 and left:
+        half = (len(left) + 1) // 2
+        told.update(refused_together(rt, crate, left[:half]))
+        told.update(refused_together(rt, crate, left[half:]))
+    return told
+
+
 def tried(rt, crate, edits):
     """Whether each edit was refused, and what is said of it."""
-    told = must_fail.tried_together(rt, crate, edits)
+    told = refused_together(rt, crate, edits)
     for edit in edits:
-        if edit not in told:
-            told.update(must_fail.tried_together(rt, crate, [edit]))
         yield (rt.REFUSED, told[edit]) if edit in told else rt.must_fail(crate, edit, ONE)
 
 
