@@ -19,6 +19,8 @@ import threading
 FUNCTION = re.compile(r"^ *(?:pub(?:\(\w+\))? )?(?:unsafe )?fn (\w+)", re.MULTILINE)
 IN_CYCLE = re.compile(r"#\[cycle\((\w+)\)\]\s*(?:#\[.*\]\s*)*(?:pub(?:\(\w+\))? )?(?:unsafe )?fn (\w+)")
 ENDED = re.compile(r"^only=\d+ holes=\d+$", re.MULTILINE)
+# A proof's file where none may stand, since the function calls itself and rattle makes its proof.
+RESERVED = re.compile(r"^\./(proofs/\S+/Proof\.antt): error\[reserved-name\]", re.MULTILINE)
 
 
 def functions_of(crate):
@@ -51,13 +53,20 @@ def changed_function(rt, crate, edit):
     return found[0] if path.startswith("src/") and len(found) == 1 else None
 
 
+def proved_with(function, cycles):
+    """What a function is proved with: the cycle of calls that may have it, or itself."""
+    name = function.rpartition("::")[2]
+    return next((cycle for cycle, members in cycles.items() if name in members), function)
+
+
 def rounds_of(rt, crate, edits):
-    """Edits of a crate that change one function each, in rounds whose edits change different ones: for each edit its function."""
-    rounds = []
+    """Edits of a crate that change one function each, in rounds whose edits change different ones, none of one cycle: for each edit its function."""
+    rounds, cycles = [], cycles_in(f"{crate.folder}/src")
     for edit in edits:
         function = changed_function(rt, crate, edit)
         if function is not None:
-            free = next((functions for functions in rounds if function not in functions.values()), None)
+            own = proved_with(function, cycles)
+            free = next((functions for functions in rounds if all(proved_with(it, cycles) != own for it in functions.values())), None)
             if free is None:
                 free = {}
                 rounds.append(free)
@@ -116,9 +125,13 @@ def checked_alone(rt, crate, functions):
             written(room, {} if why else texts)
         leave_unproved(crate, functions.values(), room)
         only = [f"--only={function}" for function in functions.values()]
-        words = [rt.rtlib.RATTLE, "check", *crate.words(["--jobs", "1", "--allow-holes", *only], keeps=False)]
+        words = [*rt.rtlib.guarded(), rt.rtlib.RATTLE, "check", *crate.words(["--jobs", "1", "--allow-holes", *only], keeps=False)]
         how = {"cwd": room, "stdin": subprocess.DEVNULL, "stdout": subprocess.PIPE, "stderr": subprocess.STDOUT, "errors": "replace"}
-        return subprocess.run([*rt.rtlib.guarded(), *words], **how).stdout
+        said = subprocess.run(words, **how).stdout
+        reserved = RESERVED.findall(said)
+        for path in reserved:
+            os.remove(f"{room}/{path}")
+        return subprocess.run(words, **how).stdout if reserved else said
 
 
 def refusal_of(said, function, cycles):
