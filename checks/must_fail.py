@@ -1,9 +1,10 @@
 """How the gate tries a crate's must-fail edits.
 
 rt ci tries the only edit of a crate by a check of all of it, and several over a proof of the crate, each by a check that loads as much again. Here
-the edits of a crate that change one function each are tried together where these are different functions: by one check of the changed functions
-alone, for which each other function of the crate, which was proved as it stands, is given by its contract. What is refused of a function there is
-refused of the crate. An edit that is not refused so, or changes something else, is tried by a check of the whole crate.
+the edits of a crate that change one function each are tried together where these are different functions, no two of one cycle of calls, which has
+one proof: by one check of the changed functions alone, for which each other function of the crate, which was proved as it stands, is given by its
+contract. What is refused of a function there is refused of the crate. An edit that is not refused so, or changes something else, is tried by a
+check of the whole crate.
 
 gate.py has rt ci try edits by these. A function is named by its path below its crate, as in `module::Type::function`.
 """
