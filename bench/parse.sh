@@ -11,13 +11,13 @@ rt=${RT:-rt}
 work=$(mktemp -d)
 trap 'rm -rf "$work"' EXIT
 mkdir -p "$work/crates"
-for crate in gr_text gr_scan gr_tree gr_parse; do
+for crate in base_chunks base_files go_scanner go_ast go_parser; do
   cp -a "$top/crates/$crate" "$work/crates/$crate"
 done
 mkdir -p "$work/crates/parse_bench/src"
 cp "$here/parse_bench.txt" "$work/crates/parse_bench/src/main.rt"
-grep -E '^(gr_text|gr_scan|gr_tree|gr_parse):' "$top/crates.txt" > "$work/crates.txt"
-echo 'parse_bench: gr_parse gr_scan gr_text' >> "$work/crates.txt"
+grep -E '^(base_chunks|base_files|go_scanner|go_ast|go_parser):' "$top/crates.txt" > "$work/crates.txt"
+echo 'parse_bench: go_parser go_scanner base_files' >> "$work/crates.txt"
 
 program="$work/crates/parse_bench/out/parse_bench"
 (cd "$work/crates/parse_bench" && "$rt" run > "$work/log" 2>&1) || [ -x "$program" ] || { cat "$work/log" >&2; exit 1; }

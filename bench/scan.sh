@@ -15,13 +15,13 @@ fi
 work=$(mktemp -d)
 trap 'rm -rf "$work"' EXIT
 mkdir -p "$work/crates"
-for crate in gr_text gr_scan; do
+for crate in base_chunks base_files go_scanner; do
   cp -a "$top/crates/$crate" "$work/crates/$crate"
 done
 mkdir -p "$work/crates/scan_bench/src"
 cp "$here/scan_bench.txt" "$work/crates/scan_bench/src/main.rt"
-grep -E '^(gr_text|gr_scan):' "$top/crates.txt" > "$work/crates.txt"
-echo 'scan_bench: gr_scan gr_text' >> "$work/crates.txt"
+grep -E '^(base_chunks|base_files|go_scanner):' "$top/crates.txt" > "$work/crates.txt"
+echo 'scan_bench: go_scanner base_files' >> "$work/crates.txt"
 
 awk 'BEGIN {
   size = 0
@@ -43,7 +43,7 @@ rates() {
   } END { printf "  reading %8.1f MB/s\n  scanning %7.1f MB/s, %d tokens\n", best_read, best, tokens }'
 }
 
-echo "gr_scan:"
+echo "go_scanner:"
 program="$work/crates/scan_bench/out/scan_bench"
 (cd "$work/crates/scan_bench" && "$rt" run > "$work/log" 2>&1) || [ -x "$program" ] || { cat "$work/log" >&2; exit 1; }
 (cd "$work" && "$program") | rates

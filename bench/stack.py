@@ -1,6 +1,6 @@
 """The least stack with which a built program takes each form that nests, at the limit of nesting.
 
-    python3 bench/stack.py crates/gr_server/out/gr_server
+    python3 bench/stack.py crates/gorefd/out/gorefd
 
 Each form is put, checked, built and asked for, and the function `y`, which some forms call, is renamed, under `ulimit -s`; the
 threads of `gorefd serve` have a stack of that size too. The answers have to be those under 64 MiB.

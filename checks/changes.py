@@ -6,7 +6,7 @@ import re
 import lexer
 from history import VERBS, Refusal, size_of, words_of
 
-DATA = pathlib.Path(__file__).resolve().parent.parent / "crates" / "gr_server" / "sessions"
+DATA = pathlib.Path(__file__).resolve().parent.parent / "crates" / "gorefd" / "sessions"
 TOKEN = re.compile(r'[^\W\d]\w*|"[^"\n]*"|`[^`]*`|\d\w*|:=|==|!=|<=|>=|&&|\|\||\+=|-=|\*=|/=|%=|\+\+|--|.', re.S)
 KEYWORDS = set("break continue else for func if import package return struct type var".split())
 NAMES = "_ int string bool true false nil len append panic print init a b c p n s t x y T F".split()

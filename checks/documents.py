@@ -91,7 +91,7 @@ def wrong_names(text):
 
 def wrong_crates(text):
     """Crates that the tables of docs/ARCHITECTURE.md have not, or that are none, and how many there are."""
-    told = {name for cell in re.findall(r"^\| (`gr_[^|]*)\|", text, re.M) for name in re.findall(r"gr_\w+", cell)}
+    told = {name for cell in re.findall(r"^\| (`[^|]*)\|", text, re.M) for name in re.findall(r"`((?:base|build|go|history|law|refactor|refs|server|types|workspace)_\w+|gorefd)`", cell)}
     there = {path.parent.name for path in TOP.glob("crates/*/src")}
     return [f"crate {name}" for name in sorted(told ^ there)], len(there)
 

@@ -18,7 +18,7 @@ Memory: the prover keeps what it frees, so that it takes less than half as many 
 Layout: rt ci refuses a crate with a file that rt fmt lays out otherwise, before it proves it. Here all crates are asked first, while
 rt reads them.
 
-The program: where rt runs a build of gr_server, all of crates/gr_server/sessions and the checks of program.py are run on the same build. One
+The program: where rt runs a build of gorefd, all of crates/gorefd/sessions and the checks of program.py are run on the same build. One
 that is answered otherwise fails the run of the program, so the gate fails, and its last line tells of it.
 """
 import functools
@@ -46,7 +46,7 @@ KEEPS_FREED = ("MIMALLOC_PURGE_DELAY", "-1")
 LONG = 0.8
 CHECKS = os.path.dirname(os.path.abspath(__file__))
 SECONDS = os.path.join(CHECKS, "gate_seconds.txt")
-PROGRAM = "gr_server"
+PROGRAM = "gorefd"
 
 
 

@@ -1,6 +1,6 @@
 """Runs a built `gorefd` with each allocation of a session refused in turn: python3 checks/refused.py PROGRAM
 
-The session is `each_command_twice` of `crates/gr_server/sessions`: each command is sent twice. Where the first is refused for want of memory,
+The session is `each_command_twice` of `crates/gorefd/sessions`: each command is sent twice. Where the first is refused for want of memory,
 nothing has changed and the second is answered as the first would be; else the first is answered, and the second as where the first is
 done, or is refused for want of memory. Or there is no memory for the session itself, which ends with that fault. Refused is what the
 program asks the C library for, by a small library that `cc` makes and that is loaded before it.

@@ -2,7 +2,7 @@
 
     python3 checks/replay.py PROGRAM..
 
-checks/gate.py has it run both builds of `gr_server`. What is stored was got from the rules, by hand or by the model, and never from
+checks/gate.py has it run both builds of `gorefd`. What is stored was got from the rules, by hand or by the model, and never from
 a program: `stored.py` compares it with the model. It ends with status 1 where a session differs or none is stored.
 """
 
@@ -12,7 +12,7 @@ import subprocess
 import sys
 from concurrent.futures import ThreadPoolExecutor
 
-FOLDER = pathlib.Path(__file__).resolve().parent.parent / "crates" / "gr_server" / "sessions"
+FOLDER = pathlib.Path(__file__).resolve().parent.parent / "crates" / "gorefd" / "sessions"
 SECONDS = 60
 
 

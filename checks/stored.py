@@ -1,4 +1,4 @@
-"""Compares the stored sessions, those of `crates/gr_server/sessions` or of another folder, with the model.
+"""Compares the stored sessions, those of `crates/gorefd/sessions` or of another folder, with the model.
 
     python3 checks/stored.py [FOLDER]
 

@@ -14,7 +14,7 @@ from server import A, DEADLINE, OBJECT, PROGRAM, Server, connect, put, run, same
 TOP = pathlib.Path(__file__).resolve().parent.parent
 README = (TOP / "README.md").read_text()
 PROTOCOL = (TOP / "docs" / "PROTOCOL.md").read_text()
-PLACE = "crates/gr_server/out/gr_server"
+PLACE = "crates/gorefd/out/gorefd"
 
 
 def section(text, title):

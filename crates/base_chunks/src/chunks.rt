@@ -1,0 +1,180 @@
+//! Lists of chunks: where a key has its place, and one chunk changed.
+ghost use Rattle.std.specs.Prelude.{◌≡◌, ◌+◌, ◌<◌, ◌≤◌, ◌++◌, ◌∷◌, [], IfOk, OnOk, OnErr, length, take, drop, slice_index_or, vec_len};
+ghost use Rattle.base_chunks.specs.Entries.{IsAfterAll, IsBeforeAll, is_before};
+ghost use Rattle.base_chunks.specs.Chunks.{joined, IsMap, Replaces};
+
+use crate::chunk::Chunk;
+use crate::copies::copies_and;
+use crate::entries::MOST;
+use crate::share::Share;
+use std::alloc::{AllocError, Global};
+
+/// Whether a key is below the first of the entries.
+fn is_before<K: Ord, V>(key: &K, entries: &[(K, V)]) -> bool
+    ensures { result ≡ is_before K.cmp key.now entries.now }
+{
+    match entries.first() {
+        Some(first) => key.cmp(&first.0).is_lt(),
+        None => false,
+    }
+}
+
+/// The number of the chunk in which a key has its place.
+pub(crate) fn chunk_of<K: Ord, V>(chunks: &[Chunk<(K, V)>], key: &K) -> usize
+    requires { IsMap K.cmp chunks.now }
+    ensures within { result ≤ length chunks.now }
+    ensures front { IsAfterAll K.cmp key.now (joined (take result chunks.now)) }
+    ensures back { IsBeforeAll K.cmp key.now (joined (drop (result + 1) chunks.now)) }
+{
+    if chunks.is_empty() {
+        return 0;
+    }
+    let mut low = 0;
+    let mut high = chunks.len();
+    'halving: while high - low > 1 {
+        let middle = low + (high - low) / 2;
+        if is_before(key, chunks[middle].items()) {
+            high = middle;
+        } else {
+            low = middle;
+        }
+    }
+    low
+}
+
+/// The items of a chunk, and none where there is no such chunk.
+pub(crate) fn items_at<T>(chunks: &[Chunk<T>], at: usize) -> &[T]
+    ensures { result.now ≡ slice_index_or chunks.now at [] }
+{
+    if at < chunks.len() {
+        chunks[at].items()
+    } else {
+        &[]
+    }
+}
+
+/// Puts a chunk in place of another, or behind all.
+fn put_one<T: Drop>(
+    chunks: &mut Vec<Chunk<T>>,
+    at: usize,
+    chunk: Chunk<T>,
+) -> Result<(), AllocError>
+    requires { at ≤ vec_len chunks.old }
+    ensures ok { OnOk result (chunks.new.items ≡ take at chunks.old.items ++ chunk ∷ drop (at + 1) chunks.old.items) }
+    ensures err { OnErr result (chunks.new.items ≡ chunks.old.items) }
+{
+    if at < chunks.len() {
+        chunks[at] = chunk;
+        Ok(())
+    } else {
+        chunks.push(chunk)?;
+        Ok(())
+    }
+}
+
+/// Puts two chunks in place of one.
+fn put_two<T: Drop>(
+    chunks: &mut Vec<Chunk<T>>,
+    at: usize,
+    first: Chunk<T>,
+    second: Chunk<T>,
+) -> Result<(), AllocError>
+    requires { at < vec_len chunks.old }
+    ensures ok { OnOk result (chunks.new.items ≡ take at chunks.old.items ++ first ∷ second ∷ drop (at + 1) chunks.old.items) }
+    ensures err { OnErr result (chunks.new.items ≡ chunks.old.items) }
+{
+    chunks.insert(at + 1, second)?;
+    chunks[at] = first;
+    Ok(())
+}
+
+/// Takes a chunk out.
+fn take_out<T: Drop>(chunks: &mut Vec<Chunk<T>>, at: usize)
+    ensures { chunks.new.items ≡ take at chunks.old.items ++ drop (at + 1) chunks.old.items }
+{
+    if at < chunks.len() {
+        let chunk = chunks.remove(at);
+        drop(chunk);
+    }
+}
+
+/// The items from a number on, as a chunk of their own.
+fn cut<T: Drop>(items: &mut Vec<T>, at: usize) -> Result<Chunk<T>, AllocError>
+    requires { at ≤ vec_len items.old }
+    ensures front { OnOk result (items.new.items ≡ take at items.old.items) }
+    ensures back { IfOk result (λ chunk. chunk ≡ drop at items.old.items) }
+{
+    let alloc = *items.allocator();
+    let back = items.split_off(at)?;
+    Chunk::new(alloc, back)
+}
+
+/// Puts two parts in place of a chunk: halves, or, where it is the last, all but one item and that one, so that items that come in order
+/// fill their chunks.
+fn put_parts<T: Drop>(
+    chunks: &mut Vec<Chunk<T>>,
+    at: usize,
+    mut items: Vec<T>,
+) -> Result<(), AllocError>
+    requires there { at < vec_len chunks.old }
+    requires two { 1 < vec_len items }
+    ensures ok { OnOk result (Replaces chunks.old.items chunks.new.items at items.items) }
+    ensures err { OnErr result (chunks.new.items ≡ chunks.old.items) }
+{
+    let middle = if at + 1 < chunks.len() {
+        items.len() / 2
+    } else {
+        items.len() - 1
+    };
+    let back = cut(&mut items, middle)?;
+    let front = Chunk::new(*chunks.allocator(), items)?;
+    put_two(chunks, at, front, back)
+}
+
+/// Puts items in place of those of a chunk, or behind all.
+fn replace<T: Drop>(chunks: &mut Vec<Chunk<T>>, at: usize, items: Vec<T>) -> Result<(), AllocError>
+    requires { at ≤ vec_len chunks.old }
+    ensures ok { OnOk result (Replaces chunks.old.items chunks.new.items at items.items) }
+    ensures err { OnErr result (chunks.new.items ≡ chunks.old.items) }
+{
+    if items.is_empty() {
+        take_out(chunks, at);
+        return Ok(());
+    }
+    if items.len() > MOST && at < chunks.len() {
+        return put_parts(chunks, at, items);
+    }
+    let chunk = Chunk::new(*chunks.allocator(), items)?;
+    put_one(chunks, at, chunk)
+}
+
+/// Puts items in place of those of a chunk, or behind all, and tells how many there are then.
+pub(crate) fn put_items<T: Drop>(
+    chunks: &mut Vec<Chunk<T>>,
+    len: usize,
+    at: usize,
+    items: Vec<T>,
+) -> Result<usize, AllocError>
+    requires there { at ≤ vec_len chunks.old }
+    requires len { len ≡ length (joined chunks.old.items) }
+    ensures count { IfOk result (λ n. n ≡ length (joined chunks.new.items)) }
+    ensures ok { OnOk result (Replaces chunks.old.items chunks.new.items at items.items) }
+    ensures err { OnErr result (chunks.new.items ≡ chunks.old.items) }
+{
+    let others = len - items_at(chunks, at).len();
+    let new_len = others.checked_add(items.len()).ok_or(AllocError)?;
+    replace(chunks, at, items)?;
+    Ok(new_len)
+}
+
+/// Items with one more behind them, as a chunk.
+pub(crate) fn chunk_and<T: Share>(
+    alloc: Global,
+    front: &[T],
+    item: T,
+) -> Result<Chunk<T>, AllocError>
+    ensures { IfOk result (λ chunk. chunk ≡ front.now ++ item ∷ []) }
+{
+    let items = copies_and(alloc, front, item)?;
+    Chunk::new(alloc, items)
+}

@@ -1,0 +1,75 @@
+//! An entry set in its chunk.
+ghost use Rattle.std.specs.Prelude.{◌≡◌, ◌+◌, ◌≤◌, [], IfOk, IfErr, OnOk, OnErr, length, slice_index_or, vec_len};
+ghost use Rattle.std.specs.FinMap.{put};
+ghost use Rattle.base_chunks.specs.Entries.{Rises};
+ghost use Rattle.base_chunks.specs.Chunks.{joined, Replaces};
+
+use crate::chunk::Chunk;
+use crate::chunks::{items_at, put_items};
+use crate::entries::{gap, with_entry};
+use crate::share::Share;
+use std::alloc::AllocError;
+
+/// Puts an entry into its chunk, where the key is not there, there is room for it, and the chunk is not shared. Otherwise the entry
+/// comes back.
+fn enter_alone<K: Ord + Share, V: Share>(
+    chunks: &mut Vec<Chunk<(K, V)>>,
+    at: usize,
+    key: K,
+    value: V,
+) -> Result<(), (K, V)>
+    requires { Rises K.cmp (slice_index_or chunks.old.items at []) }
+    ensures ok { OnOk result (Replaces chunks.old.items chunks.new.items at (put K.cmp key value (slice_index_or chunks.old.items at []))) }
+    ensures count { OnOk result (length (joined chunks.new.items) ≡ length (joined chunks.old.items) + 1) }
+    ensures err { OnErr result (chunks.new.items ≡ chunks.old.items) }
+    ensures back { IfErr result (λ back. back ≡ (key, value)) }
+{
+    if at >= chunks.len() {
+        return Err((key, value));
+    }
+    match gap(chunks[at].items(), &key) {
+        Some(place) => chunks[at].insert_alone(place, (key, value)),
+        None => Err((key, value)),
+    }
+}
+
+/// Puts an entry into a copy of its chunk, and tells how many entries there are then.
+fn enter_copied<K: Ord + Share, V: Share>(
+    chunks: &mut Vec<Chunk<(K, V)>>,
+    len: usize,
+    at: usize,
+    entry: (K, V),
+) -> Result<usize, AllocError>
+    requires there { at ≤ vec_len chunks.old }
+    requires len { len ≡ length (joined chunks.old.items) }
+    requires rises { Rises K.cmp (slice_index_or chunks.old.items at []) }
+    ensures count { IfOk result (λ n. n ≡ length (joined chunks.new.items)) }
+    ensures ok { OnOk result (Replaces chunks.old.items chunks.new.items at (put K.cmp entry.0 entry.1 (slice_index_or chunks.old.items at []))) }
+    ensures err { OnErr result (chunks.new.items ≡ chunks.old.items) }
+{
+    let alloc = *chunks.allocator();
+    let entries = with_entry(alloc, items_at(chunks, at), entry.0, entry.1)?;
+    put_items(chunks, len, at, entries)
+}
+
+/// Sets the value at a key in its chunk, which is copied where it is shared, and tells how many entries there are then; asked as the
+/// function before is, since it falls back on that.
+pub(crate) fn enter<K: Ord + Share, V: Share>(
+    chunks: &mut Vec<Chunk<(K, V)>>,
+    len: usize,
+    at: usize,
+    entry: (K, V),
+) -> Result<usize, AllocError>
+    requires there { at ≤ vec_len chunks.old }
+    requires len { len ≡ length (joined chunks.old.items) }
+    requires rises { Rises K.cmp (slice_index_or chunks.old.items at []) }
+    ensures count { IfOk result (λ n. n ≡ length (joined chunks.new.items)) }
+    ensures ok { OnOk result (Replaces chunks.old.items chunks.new.items at (put K.cmp entry.0 entry.1 (slice_index_or chunks.old.items at []))) }
+    ensures err { OnErr result (chunks.new.items ≡ chunks.old.items) }
+{
+    let more = len.checked_add(1).ok_or(AllocError)?;
+    match enter_alone(chunks, at, entry.0, entry.1) {
+        Ok(()) => Ok(more),
+        Err(entry) => enter_copied(chunks, len, at, entry),
+    }
+}

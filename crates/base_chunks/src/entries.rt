@@ -1,0 +1,103 @@
+//! Entries in the order of their keys.
+ghost use Rattle.std.specs.Prelude.{◌≡◌, ◌<◌, ◌≤◌, false, IsTrue, IfOk, IfSome, length, take, drop, insert};
+ghost use Rattle.std.specs.Option.{option_copied};
+ghost use Rattle.std.specs.FinMap.{find, put};
+ghost use Rattle.base_chunks.specs.Entries.{without, Rises, IsAfterAll, is_after, is_at};
+
+use crate::copies::{copies_around, copies_of_both};
+use crate::share::Share;
+use std::alloc::{AllocError, Global};
+
+/// How many entries stand before the place of a key.
+pub(crate) fn place<K: Ord, V>(entries: &[(K, V)], key: &K) -> usize
+    requires { Rises K.cmp entries.now }
+    ensures within { result ≤ length entries.now }
+    ensures front { IsAfterAll K.cmp key.now (take result entries.now) }
+    ensures back { is_after K.cmp key.now (drop result entries.now) ≡ false }
+{
+    let mut low = 0;
+    let mut high = entries.len();
+    'halving: while low < high {
+        let middle = low + (high - low) / 2;
+        if key.cmp(&entries[middle].0).is_gt() {
+            low = middle + 1;
+        } else {
+            high = middle;
+        }
+    }
+    low
+}
+
+/// Whether the entry of that number is that of a key.
+fn is_at<K: Ord, V>(entries: &[(K, V)], at: usize, key: &K) -> bool
+    ensures there { result ≡ is_at K.cmp key.now (drop at entries.now) }
+    ensures within { IsTrue result → at < length entries.now }
+{
+    at < entries.len() && key.cmp(&entries[at].0).is_eq()
+}
+
+/// The value at a key.
+pub(crate) fn value_of<'a, K: Ord, V>(entries: &'a [(K, V)], key: &K) -> Option<&'a V>
+    requires { Rises K.cmp entries.now }
+    ensures { option_copied result ≡ find K.cmp key.now entries.now }
+{
+    let at = place(entries, key);
+    if is_at(entries, at, key) {
+        Some(&entries[at].1)
+    } else {
+        None
+    }
+}
+
+/// How many entries a chunk of a map has at most.
+pub(crate) const MOST: usize = 64;
+
+/// The place of a key among entries, if it is not there and there is room for it.
+pub(crate) fn gap<K: Ord, V>(entries: &[(K, V)], key: &K) -> Option<usize>
+    requires { Rises K.cmp entries.now }
+    ensures within { IfSome result (λ at. at ≤ length entries.now) }
+    ensures put { IfSome result (λ at. (value : V) → put K.cmp key.now value entries.now ≡ insert entries.now at (key.now, value)) }
+{
+    let at = place(entries, key);
+    if entries.len() < MOST && !is_at(entries, at, key) {
+        Some(at)
+    } else {
+        None
+    }
+}
+
+/// Copies of the entries with a value at a key.
+pub(crate) fn with_entry<K: Ord + Share, V: Share>(
+    alloc: Global,
+    entries: &[(K, V)],
+    key: K,
+    value: V,
+) -> Result<Vec<(K, V)>, AllocError>
+    requires { Rises K.cmp entries.now }
+    ensures { IfOk result (λ new. new.items ≡ put K.cmp key value entries.now) }
+{
+    let at = place(entries, &key);
+    if is_at(entries, at, &key) {
+        let same = entries[at].0.share()?;
+        copies_around(alloc, &entries[..at], (same, value), &entries[at + 1..])
+    } else {
+        copies_around(alloc, &entries[..at], (key, value), &entries[at..])
+    }
+}
+
+/// Copies of the entries but that of a key.
+pub(crate) fn without_key<K: Ord + Share, V: Share>(
+    alloc: Global,
+    entries: &[(K, V)],
+    key: &K,
+) -> Result<Vec<(K, V)>, AllocError>
+    requires { Rises K.cmp entries.now }
+    ensures { IfOk result (λ new. new.items ≡ without K.cmp key.now entries.now) }
+{
+    let at = place(entries, key);
+    if is_at(entries, at, key) {
+        copies_of_both(alloc, &entries[..at], &entries[at + 1..])
+    } else {
+        copies_of_both(alloc, &entries[..at], &entries[at..])
+    }
+}

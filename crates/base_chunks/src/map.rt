@@ -1,0 +1,126 @@
+//! A sorted map in chunks.
+ghost use Rattle.std.specs.Prelude.{◌≡◌, ◌↔◌, [], length, IfOk, OnOk, OnErr, IsTrue};
+ghost use Rattle.std.specs.Option.{option_copied};
+ghost use Rattle.std.specs.Map.Iter.{ShowsInOrder, deref_pair};
+ghost use Rattle.std.specs.FinMap.{find, put, is_sorted};
+ghost use Rattle.base_chunks.specs.Entries.{without};
+
+use crate::chunk::Chunk;
+use crate::chunks::{chunk_of, items_at, put_items};
+use crate::copies::copies;
+use crate::entering::enter;
+use crate::entries::{value_of, without_key};
+use crate::items::{Entries, Items};
+use crate::share::{Same, Share};
+use std::alloc::{AllocError, Global};
+use std::marker::Model;
+
+/// A map in the order of its keys. A copy shares the chunks, and a change makes one anew where it is shared. It is seen as its entries.
+#[derive(Drop)]
+pub struct SharedMap<K: Ord, V> {
+    chunks: Vec<Chunk<(K, V)>>,
+    len: usize,
+}
+
+impl<K: Ord, V> Model for SharedMap<K, V> {
+    ghost use Rattle.std.specs.Prelude.{◌≡◌, List, length};
+    ghost use Rattle.base_chunks.specs.Chunks.{joined, IsMap};
+
+    ghost Value = { List (K × V) };
+
+    ghost view = { λ a. joined a.chunks.items };
+
+    ghost invariant = { λ a. (a.len ≡ length (joined a.chunks.items)) × IsMap K.cmp a.chunks.items };
+}
+
+impl<K: Ord, V> SharedMap<K, V> {
+    pub fn new(alloc: Global) -> SharedMap<K, V>
+        ensures { result ≡ [] }
+    {
+        SharedMap {
+            chunks: Vec::new(alloc),
+            len: 0,
+        }
+    }
+
+    pub fn len(&self) -> usize
+        ensures len { result ≡ length self.now }
+        ensures ordered { IsTrue (is_sorted K.cmp self.now) }
+    {
+        self.len
+    }
+
+    pub fn get(&self, key: &K) -> Option<&V>
+        ensures value { option_copied result ≡ find K.cmp key.now self.now }
+        ensures ordered { IsTrue (is_sorted K.cmp self.now) }
+    {
+        let at = chunk_of(&self.chunks, key);
+        value_of(items_at(&self.chunks, at), key)
+    }
+}
+
+impl<K: Ord + Share, V: Share> SharedMap<K, V> {
+    /// Sets the value at a key. A key that is there stays as it is.
+    pub fn insert(&mut self, key: K, value: V) -> Result<(), AllocError>
+        ensures ok { OnOk result (self.new ≡ put K.cmp key value self.old) }
+        ensures err { OnErr result (self.new ≡ self.old) }
+        ensures ordered { IsTrue (is_sorted K.cmp self.old) }
+    {
+        let at = chunk_of(&self.chunks, &key);
+        self.len = enter(&mut self.chunks, self.len, at, (key, value))?;
+        Ok(())
+    }
+
+    /// Takes a key out.
+    pub fn remove(&mut self, key: &K) -> Result<(), AllocError>
+        ensures ok { OnOk result (self.new ≡ without K.cmp key.now self.old) }
+        ensures err { OnErr result (self.new ≡ self.old) }
+        ensures ordered { IsTrue (is_sorted K.cmp self.old) }
+    {
+        let alloc = *self.chunks.allocator();
+        let at = chunk_of(&self.chunks, key);
+        let entries = without_key(alloc, items_at(&self.chunks, at), key)?;
+        self.len = put_items(&mut self.chunks, self.len, at, entries)?;
+        Ok(())
+    }
+
+    /// The same map. The chunks are shared.
+    pub fn copy(&self) -> Result<SharedMap<K, V>, AllocError>
+        ensures { IfOk result (λ copy. copy ≡ self.now) }
+    {
+        let chunks = copies(*self.chunks.allocator(), &self.chunks)?;
+        Ok(SharedMap {
+            chunks,
+            len: self.len,
+        })
+    }
+}
+
+impl<K: Ord, V> SharedMap<K, V> {
+    /// The entries in the order of their keys.
+    pub fn iter(&self) -> Entries<'_, K, V>
+        ensures entries { result ≡ self.now }
+        ensures runs { ShowsInOrder (deref_pair {K = K} {X = V}) }
+        ensures ordered { IsTrue (is_sorted K.cmp self.now) }
+    {
+        Entries::new(Items::new(&[], &self.chunks))
+    }
+}
+
+impl<K: Ord + Same, V: Same> SharedMap<K, V> {
+    /// Whether both have the same entries.
+    pub fn same(&self, other: &SharedMap<K, V>) -> bool
+        ensures { IsTrue result ↔ (self.now ≡ other.now) }
+    {
+        let mut others = other.iter();
+        for (key, value) in self.iter() {
+            let Some((other_key, other_value)) = others.next() else {
+                return false;
+            };
+            if !key.same(other_key) || !value.same(other_value) {
+                return false;
+            }
+        }
+        others.next().is_none()
+    }
+}

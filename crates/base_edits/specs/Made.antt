@@ -1,0 +1,25 @@
+-- How the map of new files is made: the changed paths are taken out, and then all new files are put.
+use Rattle.std.specs.Prelude.{ℕ, List, [], ◌∷◌, Option, Some}
+use Rattle.std.specs.Option.{option_and_then}
+use Rattle.std.specs.List.{filter_map}
+use Rattle.std.specs.FinMap as files
+use Rattle.base_files.specs.Workspace.{Workspace}
+use Rattle.base_edits.specs.EditSet.{FileChanges, file_by}
+use Rattle.base_edits.specs.declared.change.FileChange.{FileChange}
+
+-- without the files of these changes
+abbrev pub without : List FileChange → Workspace → Workspace
+without [] w = w
+without (c ∷ changes) w = without changes (files.remove w c.path)
+
+-- with these files
+abbrev pub with_files : List (List ℕ × List ℕ) → Workspace → Workspace
+with_files [] w = w
+with_files (file ∷ rest) w = with_files rest (files.insert w file.0 file.1)
+
+-- the file that a change makes of one of w
+abbrev pub made_of : Workspace → FileChange → Option (List ℕ × List ℕ)
+made_of w c = option_and_then (λ text. file_by (Some c) (c.path, text)) (files.get w c.path)
+
+abbrev pub made : FileChanges → Workspace → Workspace
+made s w = with_files s.added (with_files (filter_map (made_of w) s.changed) (without s.changed w))

@@ -1,0 +1,24 @@
+-- How far edits of a text reach that end at an offset or before it.
+use Rattle.std.specs.Prelude.{◌≡◌, ℕ, ◌+◌, ◌-◌, ◌≤◌, List, [], ◌∷◌, length, drop, nat_le, if◌then◌else◌}
+use Rattle.base_edits.specs.Edits.{AreInOrder}
+use Rattle.base_edits.specs.Moved.{moved_offset}
+use Rattle.base_edits.specs.declared.edit.Edit.{Edit}
+
+-- how many edits end at an offset or before it, and where the last of them ends in the old and in the new text
+pub record Past : Type 0 where
+  pub edits : ℕ
+  pub old : ℕ
+  pub new : ℕ
+
+-- where an offset behind those edits that end at old is, which is new in the new text, with the edits that are left
+abbrev pub moved_from : ℕ → ℕ → List Edit → ℕ → ℕ
+moved_from old new [] offset = new + (offset - old)
+moved_from old new (e ∷ edits) offset = if nat_le e.span.end offset then moved_from e.span.end (new + ((e.span.start - old) + length e.text)) edits offset
+    else new + (offset - old)
+
+-- the edits that are left lie behind, and move each offset from last on as all edits do
+pub record IsPast (edits : List Edit) (last : ℕ) (past : Past) : Type 0 where
+  pub within : past.edits ≤ length edits
+  pub behind : past.old ≤ last
+  pub order : AreInOrder past.old (drop past.edits edits)
+  pub moves : (offset : ℕ) → last ≤ offset → moved_from past.old past.new (drop past.edits edits) offset ≡ moved_offset edits offset

@@ -1,0 +1,41 @@
+//! Edits of one text.
+ghost use Rattle.std.specs.Prelude.{◌≡◌};
+
+use base_files::{FileText, Span};
+use std::marker::Model;
+
+/// The bytes of a span, and those that take their place. An insertion has an empty span.
+#[derive(Drop)]
+pub struct Edit {
+    pub span: Span,
+    pub text: FileText,
+}
+
+/// The edits of one file.
+#[derive(Drop)]
+pub struct Edits {
+    edits: Vec<Edit>,
+}
+
+impl Model for Edits {
+    ghost use Rattle.std.specs.Prelude.{List};
+    ghost use Rattle.base_edits.specs.declared.edit.Edit.{Edit};
+
+    ghost Value = { List Edit };
+
+    ghost view = { λ a. a.edits.items };
+}
+
+impl Edits {
+    pub fn new(edits: Vec<Edit>) -> Edits
+        ensures { result ≡ edits.items }
+    {
+        Edits { edits }
+    }
+
+    pub fn as_slice(&self) -> &[Edit]
+        ensures { result.now ≡ self.now }
+    {
+        self.edits.as_slice()
+    }
+}

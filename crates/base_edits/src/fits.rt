@@ -1,0 +1,81 @@
+//! Whether changes fit some files.
+ghost use Rattle.std.specs.Prelude.{◌≡◌, ◌↔◌, IsTrue, IfSome};
+ghost use Rattle.std.specs.Option.{option_copied};
+ghost use Rattle.std.specs.List.{All};
+ghost use Rattle.std.specs.List.Sorted.{IsStrictlySortedBy};
+ghost use Rattle.base_files.specs.Workspace.{path_cmp};
+ghost use Rattle.base_edits.specs.Edits.{LieWithin};
+ghost use Rattle.base_edits.specs.EditSet.{change_in, paths_of};
+ghost use Rattle.base_edits.specs.Fits.{IsThere, IsKept, AreFree, new_path};
+
+use crate::change::{Fate, FileChange};
+use crate::edit::Edit;
+use base_files::{FileText, Files, Path};
+
+fn lie_within(edits: &[Edit], size: usize) -> bool
+    ensures { IsTrue result ↔ LieWithin size edits.now }
+{
+    edits.iter().all(|edit| edit.span.end <= size)
+}
+
+fn is_there(change: &FileChange, files: &Files) -> bool
+    ensures { IsTrue result ↔ IsThere files.now change.now }
+{
+    match files.get(&change.path) {
+        Some(text) => lie_within(change.edits.as_slice(), text.len()),
+        None => false,
+    }
+}
+
+/// Whether the changed files are there, with the spans of their edits.
+pub(crate) fn are_there(changed: &[FileChange], files: &Files) -> bool
+    ensures { IsTrue result ↔ All (IsThere files.now) changed.now }
+{
+    changed.iter().all(|change| is_there(change, files))
+}
+
+/// The change of the file that has this path.
+fn change_at<'a>(changed: &'a [FileChange], path: &Path) -> Option<&'a FileChange>
+    requires { IsStrictlySortedBy path_cmp (paths_of changed.now) }
+    ensures { option_copied result ≡ change_in changed.now path.now }
+{
+    match changed.binary_search_by(|change| change.path.cmp(path)) {
+        Ok(place) => Some(&changed[place]),
+        Err(_) => None,
+    }
+}
+
+/// Whether a file of this path is there, and stays where it is.
+fn is_kept(changed: &[FileChange], files: &Files, path: &Path) -> bool
+    requires { IsStrictlySortedBy path_cmp (paths_of changed.now) }
+    ensures { IsTrue result ↔ IsKept changed.now files.now path.now }
+{
+    if files.get(path).is_none() {
+        return false;
+    }
+    match change_at(changed, path) {
+        None => true,
+        Some(change) => matches!(&change.fate, Fate::Stays),
+    }
+}
+
+fn has_free_target(changed: &[FileChange], files: &Files, change: &FileChange) -> bool
+    requires { IsStrictlySortedBy path_cmp (paths_of changed.now) }
+    ensures { IsTrue result ↔ IfSome (new_path change.now.fate) (λ path. ¬ (IsKept changed.now files.now path)) }
+{
+    match &change.fate {
+        Fate::Moves(path) => !is_kept(changed, files, path),
+        _ => true,
+    }
+}
+
+/// Whether no file stays at a path to which one is moved or at which one is added.
+pub(crate) fn are_free(changed: &[FileChange], added: &[(Path, FileText)], files: &Files) -> bool
+    requires { IsStrictlySortedBy path_cmp (paths_of changed.now) }
+    ensures { IsTrue result ↔ AreFree (record { changed = changed.now; added = added.now }) files.now }
+{
+    changed
+        .iter()
+        .all(|change| has_free_target(changed, files, change))
+        && added.iter().all(|file| !is_kept(changed, files, &file.0))
+}

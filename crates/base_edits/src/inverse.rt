@@ -1,0 +1,70 @@
+//! What takes an edit set back.
+ghost use Rattle.std.specs.Prelude.{◌≡◌, IfOk, IfErr, OnOk, OnErr};
+ghost use Rattle.base_edits.specs.EditSet.{edited};
+ghost use Rattle.base_edits.specs.Fits.{Fits};
+ghost use Rattle.base_edits.specs.Inverse.{AreChanges, LeadsBack};
+
+use crate::change::FileChange;
+use crate::prepared::{Prepared, prepare_changes};
+use base_files::{FileText, Files, Path};
+use std::alloc::AllocError;
+use std::marker::Model;
+use std::mem;
+
+/// The changes that lead back to the files before an edit set: for each edited file the spans of new bytes with the old
+/// ones, and the dropped files. It cannot be dropped: it ends in `undo` or in `retire`.
+#[must_use]
+pub struct Inverse {
+    changed: Vec<FileChange>,
+    added: Vec<(Path, FileText)>,
+}
+
+impl Model for Inverse {
+    ghost use Rattle.base_edits.specs.EditSet.{FileChanges};
+    ghost use Rattle.base_edits.specs.Inverse.{AreChanges};
+
+    ghost Value = { FileChanges };
+
+    ghost view = { λ a. record { changed = a.changed.items; added = a.added.items } };
+
+    ghost invariant = { λ a. AreChanges (record { changed = a.changed.items; added = a.added.items }) };
+}
+
+impl Inverse {
+    pub(crate) fn new(changed: Vec<FileChange>, added: Vec<(Path, FileText)>) -> Inverse
+        requires { AreChanges (record { changed = changed.items; added = added.items }) }
+        ensures { result ≡ record { changed = changed.items; added = added.items } }
+    {
+        Inverse { changed, added }
+    }
+
+    /// Gives the files back as they were before, and answers what takes that back. For want of memory the inverse comes back.
+    pub fn undo(self, files: &mut Files) -> Result<Inverse, (Inverse, AllocError)>
+        requires { Fits self files.old }
+        ensures done { OnOk result (files.new ≡ edited self files.old) }
+        ensures redo { IfOk result (λ redo. LeadsBack redo files.new files.old) }
+        ensures back { IfErr result (λ e. e.0 ≡ self) }
+        ensures err { OnErr result (files.new ≡ files.old) }
+    {
+        match prepare_changes(*self.changed.allocator(), files, &self.changed, &self.added) {
+            Ok(
+                Prepared {
+                    files: made,
+                    inverse,
+                },
+            ) => {
+                drop(mem::replace(files, made));
+                self.retire();
+                Ok(inverse)
+            }
+            Err(refused) => Err((self, refused)),
+        }
+    }
+
+    /// Lets the inverse go. No files change.
+    pub fn retire(self) {
+        let Inverse { changed, added } = self;
+        drop(changed);
+        drop(added);
+    }
+}

@@ -1,0 +1,24 @@
+//! Edit sets: what they make of files, how they are taken back, and where they move positions.
+#![tactic(auto)]
+
+mod change;
+mod edit;
+mod edit_set;
+mod fits;
+mod inverse;
+mod laws;
+mod making;
+mod moves;
+mod new_text;
+mod prepared;
+mod reversing;
+
+pub use change::{Fate, FileChange};
+pub use edit::{Edit, Edits};
+pub use edit_set::EditSet;
+pub use inverse::Inverse;
+pub use laws::{
+    each_path_gets_one_file, edits_keep_order, edits_keep_other_bytes, reversed_edits_restore,
+};
+pub use moves::{FileMoves, Moves};
+pub use prepared::{Prepared, prepare};

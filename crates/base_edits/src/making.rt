@@ -1,0 +1,154 @@
+//! How the new files are made, with what takes the changes back.
+ghost use Rattle.std.specs.Prelude.{◌≡◌, [], ◌∷◌, ◌++◌, length, map, IfOk, OnOk};
+ghost use Rattle.std.specs.List.{All, cons_option, filter_map};
+ghost use Rattle.std.specs.FinMap as workspace;
+ghost use Rattle.base_edits.specs.Edits.{AreInOrder, LieWithin, edited_text};
+ghost use Rattle.base_edits.specs.EditSet.{file_by};
+ghost use Rattle.base_edits.specs.Fits.{IsThere};
+ghost use Rattle.base_edits.specs.Inverse.{reversed, back_by, lost_by, back_of, lost_of, dropped, inverse};
+ghost use Rattle.base_edits.specs.Made.{without, with_files, made_of, made};
+
+use crate::change::{Fate, FileChange};
+use crate::edit::Edits;
+use crate::new_text::new_text;
+use crate::reversing::reversed_edits;
+use base_files::{FileText, Files, Path};
+use std::alloc::{AllocError, Global};
+
+/// The new files as far as they are made, the changes that lead back from them, and the files that were dropped.
+#[derive(Drop)]
+pub(crate) struct Making {
+    pub(crate) files: Files,
+    pub(crate) back: Vec<FileChange>,
+    pub(crate) lost: Vec<(Path, FileText)>,
+}
+
+fn take_out(files: &mut Files, changed: &[FileChange]) -> Result<(), AllocError>
+    ensures { OnOk result (files.new ≡ without changed.now files.old) }
+{
+    for change in changed {
+        files.remove(&change.path)?;
+    }
+    Ok(())
+}
+
+fn put_added(files: &mut Files, added: &[(Path, FileText)]) -> Result<(), AllocError>
+    ensures { OnOk result (files.new ≡ with_files added.now files.old) }
+{
+    for (path, text) in added {
+        files.insert(path.clone()?, text.clone()?)?;
+    }
+    Ok(())
+}
+
+fn drop_added(back: &mut Vec<FileChange>, added: &[(Path, FileText)]) -> Result<(), AllocError>
+    ensures { OnOk result (back.new.items ≡ back.old.items ++ map dropped added.now) }
+{
+    for (path, _) in added {
+        let edits = Edits::new(Vec::new(*back.allocator()));
+        back.push(FileChange {
+            path: path.clone()?,
+            edits,
+            fate: Fate::Dropped,
+        })?;
+    }
+    Ok(())
+}
+
+/// Puts the edited text at a path, and notes the change that takes it back to where the file was.
+fn put_edited(
+    alloc: Global,
+    making: &mut Making,
+    text: &FileText,
+    change: &FileChange,
+    to: &Path,
+    fate: Fate,
+) -> Result<(), AllocError>
+    requires order { AreInOrder 0 change.now.edits }
+    requires within { LieWithin (length text.now) change.now.edits }
+    ensures files { OnOk result (making.new.files ≡ workspace.insert making.old.files to.now (edited_text change.now.edits text.now)) }
+    ensures back { OnOk result (making.new.back.items ≡ making.old.back.items ++ (record { path = to.now; edits = reversed change.now.edits text.now; fate = fate }) ∷ []) }
+    ensures lost { OnOk result (making.new.lost.items ≡ making.old.lost.items) }
+{
+    let edits = change.edits.as_slice();
+    let new = new_text(alloc, text, edits)?;
+    let edits = reversed_edits(alloc, text, edits, &new)?;
+    making.files.insert(to.clone()?, new)?;
+    making.back.push(FileChange {
+        path: to.clone()?,
+        edits,
+        fate,
+    })?;
+    Ok(())
+}
+
+fn make_change(
+    alloc: Global,
+    making: &mut Making,
+    text: &FileText,
+    change: &FileChange,
+) -> Result<(), AllocError>
+    requires order { AreInOrder 0 change.now.edits }
+    requires within { LieWithin (length text.now) change.now.edits }
+    ensures files { OnOk result (making.new.files ≡ with_files (cons_option (file_by (Some change.now) (change.now.path, text.now)) []) making.old.files) }
+    ensures back { OnOk result (making.new.back.items ≡ making.old.back.items ++ cons_option (back_by change.now.fate change.now.path (reversed change.now.edits text.now)) []) }
+    ensures lost { OnOk result (making.new.lost.items ≡ making.old.lost.items ++ cons_option (lost_by change.now.fate (change.now.path, text.now)) []) }
+{
+    let path = &change.path;
+    match &change.fate {
+        Fate::Stays => put_edited(alloc, making, text, change, path, Fate::Stays),
+        Fate::Moves(to) => {
+            let from = Fate::Moves(path.clone()?);
+            put_edited(alloc, making, text, change, to, from)
+        }
+        Fate::Dropped => {
+            making.lost.push((path.clone()?, text.clone()?))?;
+            Ok(())
+        }
+    }
+}
+
+fn make_changes(
+    alloc: Global,
+    making: &mut Making,
+    files: &Files,
+    changed: &[FileChange],
+) -> Result<(), AllocError>
+    requires order { All (λ c. AreInOrder 0 c.edits) changed.now }
+    requires there { All (IsThere files.now) changed.now }
+    ensures files { OnOk result (making.new.files ≡ with_files (filter_map (made_of files.now) changed.now) making.old.files) }
+    ensures back { OnOk result (making.new.back.items ≡ making.old.back.items ++ filter_map (back_of files.now) changed.now) }
+    ensures lost { OnOk result (making.new.lost.items ≡ making.old.lost.items ++ filter_map (lost_of files.now) changed.now) }
+{
+    for change in changed {
+        if let Some(text) = files.get(&change.path) {
+            make_change(alloc, making, text, change)?;
+        }
+    }
+    Ok(())
+}
+
+/// The new files, and all that takes the changes back.
+pub(crate) fn made(
+    alloc: Global,
+    files: &Files,
+    changed: &[FileChange],
+    added: &[(Path, FileText)],
+) -> Result<Making, AllocError>
+    requires order { All (λ c. AreInOrder 0 c.edits) changed.now }
+    requires there { All (IsThere files.now) changed.now }
+    ensures files { IfOk result (λ making. making.files ≡ made (record { changed = changed.now; added = added.now }) files.now) }
+    ensures back { IfOk result (λ making. making.back.items ≡ (inverse (record { changed = changed.now; added = added.now }) files.now).changed) }
+    ensures lost { IfOk result (λ making. making.lost.items ≡ (inverse (record { changed = changed.now; added = added.now }) files.now).added) }
+{
+    let mut making = Making {
+        files: files.copy()?,
+        back: Vec::new(alloc),
+        lost: Vec::new(alloc),
+    };
+    take_out(&mut making.files, changed)?;
+    make_changes(alloc, &mut making, files, changed)?;
+    put_added(&mut making.files, added)?;
+    drop_added(&mut making.back, added)?;
+    Ok(making)
+}

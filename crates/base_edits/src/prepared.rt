@@ -1,0 +1,69 @@
+//! An edit set whose new files are made.
+ghost use Rattle.std.specs.Prelude.{◌≡◌, IfOk};
+ghost use Rattle.base_edits.specs.Fits.{Fits};
+ghost use Rattle.base_edits.specs.Inverse.{AreChanges, LeadsBack};
+ghost use Rattle.base_edits.specs.Prepared.{IsPrepared};
+
+use crate::change::FileChange;
+use crate::edit_set::EditSet;
+use crate::inverse::Inverse;
+use crate::making::made;
+use base_files::{FileText, Files, Path};
+use std::alloc::{AllocError, Global};
+use std::mem;
+
+/// The new files, and what leads back from them. It cannot be dropped: it ends in `commit` or in `abandon`.
+#[must_use]
+pub struct Prepared {
+    pub files: Files,
+    pub inverse: Inverse,
+}
+
+pub(crate) fn prepare_changes(
+    alloc: Global,
+    files: &Files,
+    changed: &[FileChange],
+    added: &[(Path, FileText)],
+) -> Result<Prepared, AllocError>
+    requires changes { AreChanges (record { changed = changed.now; added = added.now }) }
+    requires fits { Fits (record { changed = changed.now; added = added.now }) files.now }
+    ensures { IfOk result (IsPrepared (record { changed = changed.now; added = added.now }) files.now) }
+{
+    let making = made(alloc, files, changed, added)?;
+    let inverse = Inverse::new(making.back, making.lost);
+    Ok(Prepared {
+        files: making.files,
+        inverse,
+    })
+}
+
+/// Makes all that the commit of an edit set needs.
+pub fn prepare(alloc: Global, set: &EditSet, files: &Files) -> Result<Prepared, AllocError>
+    requires { Fits set.now files.now }
+    ensures { IfOk result (IsPrepared set.now files.now) }
+{
+    prepare_changes(alloc, files, set.changed(), set.added())
+}
+
+impl Prepared {
+    /// Puts the new files in the place of those that the set was prepared on. It takes no memory.
+    pub fn commit(self, files: &mut Files) -> Inverse
+        requires { LeadsBack self.inverse self.files files.old }
+        ensures done { files.new ≡ self.files }
+        ensures back { LeadsBack result files.new files.old }
+    {
+        let Prepared {
+            files: made,
+            inverse,
+        } = self;
+        drop(mem::replace(files, made));
+        inverse
+    }
+
+    /// Lets it go. No files change.
+    pub fn abandon(self) {
+        let Prepared { files, inverse } = self;
+        drop(files);
+        inverse.retire();
+    }
+}

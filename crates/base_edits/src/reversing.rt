@@ -1,0 +1,47 @@
+//! The edits that take edits back.
+ghost use Rattle.std.specs.Prelude.{◌≡◌, length, IfOk};
+ghost use Rattle.base_edits.specs.Edits.{AreInOrder, LieWithin, edited_text};
+ghost use Rattle.base_edits.specs.Inverse.{reversed};
+
+use crate::edit::{Edit, Edits};
+use base_files::{FileText, Span};
+use std::alloc::{AllocError, Global};
+
+fn copied(alloc: Global, bytes: &[u8]) -> Result<FileText, AllocError>
+    ensures { IfOk result (λ text. text ≡ bytes.now) }
+{
+    FileText::new(alloc, Vec::from_slice(alloc, bytes)?)
+}
+
+/// The edits of the new text that give it the old bytes back.
+pub(crate) fn reversed_edits(
+    alloc: Global,
+    text: &FileText,
+    edits: &[Edit],
+    new_text: &FileText,
+) -> Result<Edits, AllocError>
+    requires order { AreInOrder 0 edits.now }
+    requires within { LieWithin (length text.now) edits.now }
+    requires new { new_text.now ≡ edited_text edits.now text.now }
+    ensures { IfOk result (λ back. back ≡ reversed edits.now text.now) }
+{
+    let size = new_text.len();
+    let old = text.bytes();
+    let mut back = Vec::new(alloc);
+    let mut at = 0;
+    let mut new = 0;
+    for edit in edits {
+        let start = new + (edit.span.start - at);
+        let end = start + edit.text.len();
+        prove!(end <= size);
+        let replaced = &old[edit.span.start..edit.span.end];
+        let text = copied(alloc, replaced)?;
+        back.push(Edit {
+            span: Span { start, end },
+            text,
+        })?;
+        at = edit.span.end;
+        new = end;
+    }
+    Ok(Edits::new(back))
+}

@@ -1,0 +1,16 @@
+-- The path stands behind the entries before low, and not behind that at high.
+use Rattle.std.proofs.Common.{◌≡◌, ◌-◌, ◌≤◌, false, length, take, drop}
+use Rattle.base_files.specs.Workspace.{path_cmp}
+use Rattle.base_chunks.specs.Entries.{IsAfterAll, is_after}
+use Rattle.base_files.proofs.entries.place.Given as goal
+
+abbrev pub invariant-halving : goal.invariant-halving
+invariant-halving g l = record {
+  order : l.low ≤ l.high;
+  within : l.high ≤ length l.entries;
+  front : IsAfterAll path_cmp l.path (take l.low l.entries);
+  back : is_after path_cmp l.path (drop l.high l.entries) ≡ false;
+}
+
+abbrev pub decreases-halving : goal.decreases-halving
+decreases-halving g l = l.high - l.low

@@ -1,0 +1,12 @@
+-- What reading a path answers.
+use Rattle.std.specs.Prelude.{◌≡◌, ℕ, List, ⊤, Result, Ok, Err}
+use Rattle.base_files.specs.declared.refusal.Refusal.{Refusal}
+use Rattle.base_files.specs.declared.refusal.Refusal.TheVariants.{Memory, BadPath}
+use Rattle.base_files.specs.Path.{IsPath}
+
+-- reading a text as a path of at least so many segments
+abbrev pub ReadsPath : ℕ → List ℕ → Result (List ℕ) Refusal → Type 0
+ReadsPath least text (Ok path) = (path ≡ text) × IsPath least text
+ReadsPath least text (Err BadPath) = ¬ (IsPath least text)
+ReadsPath least text (Err Memory) = ⊤
+ReadsPath least text (Err refusal) = ⊥

@@ -1,0 +1,56 @@
+//! What may be wrong with a Go file.
+ghost use Rattle.std.specs.Prelude.{◌≡◌};
+ghost use Rattle.base_files.specs.FaultNames.{name_of};
+
+/// A kind of fault. Kinds are ordered as they are listed here.
+#[derive(Clone, Copy, Debug, PartialEq, Eq, PartialOrd, Ord)]
+pub enum FaultKind {
+    Encoding,
+    Number,
+    String,
+    Comment,
+    Character,
+    Syntax,
+    Nesting,
+    Package,
+    Missing,
+    Cycle,
+    Import,
+    Undeclared,
+    Unexported,
+    Repeated,
+    Unused,
+    NoNew,
+    Loop,
+    Recursive,
+    Type,
+}
+
+impl FaultKind {
+    /// How the kind is spelled in replies.
+    pub fn name(self) -> &'static str
+        ensures { result.now ≡ name_of self }
+    {
+        match self {
+            FaultKind::Encoding => "encoding",
+            FaultKind::Number => "number",
+            FaultKind::String => "string",
+            FaultKind::Comment => "comment",
+            FaultKind::Character => "character",
+            FaultKind::Syntax => "syntax",
+            FaultKind::Nesting => "nesting",
+            FaultKind::Package => "package",
+            FaultKind::Missing => "missing",
+            FaultKind::Cycle => "cycle",
+            FaultKind::Import => "import",
+            FaultKind::Undeclared => "undeclared",
+            FaultKind::Unexported => "unexported",
+            FaultKind::Repeated => "repeated",
+            FaultKind::Unused => "unused",
+            FaultKind::NoNew => "nonew",
+            FaultKind::Loop => "loop",
+            FaultKind::Recursive => "recursive",
+            FaultKind::Type => "type",
+        }
+    }
+}

@@ -1,0 +1,23 @@
+//! Texts, paths, the map of files that a workspace is, and tables by shared paths of packages.
+#![tactic(auto)]
+
+mod entries;
+mod fault_kind;
+mod file_text;
+mod files;
+mod limits;
+mod path;
+mod place;
+mod refusal;
+mod shared_path;
+mod table;
+
+pub use fault_kind::FaultKind;
+pub use file_text::FileText;
+pub use files::Files;
+pub use limits::Limits;
+pub use path::Path;
+pub use place::{Place, Span};
+pub use refusal::Refusal;
+pub use shared_path::SharedPath;
+pub use table::{PathEntry, PathTable};

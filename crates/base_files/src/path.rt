@@ -1,0 +1,187 @@
+//! Paths of files and packages.
+ghost use Rattle.std.specs.Prelude.{◌≡◌, ◌==◌, ℕ, List, IsTrue, ◌↔◌, ◌≤◌, length};
+ghost use Rattle.std.specs.List.{list_all};
+ghost use Rattle.base_files.specs.Path.{is_path_byte, is_dots, is_segment, segments, IsPath, folder};
+ghost use Rattle.base_files.specs.Packages.{is_go};
+ghost use Rattle.base_files.specs.PathRead.{ReadsPath};
+ghost use Rattle.std.proofs.Common.{rules};
+ghost use Rattle.std.specs.Cmp.{partial_order_from_own_ties};
+ghost use Rattle.std.specs.Cmp.Rules.{comparing};
+ghost use Rattle.std.specs.Cmp.Lexicographic.{pointwise, slice_cmp};
+ghost use Rattle.std.specs.Ordering.{nat_cmp, as_partial_cmp};
+
+use crate::refusal::Refusal;
+use base_chunks::{Same, Share};
+use std::alloc::{AllocError, Global};
+use std::cmp::Ordering;
+use std::marker::Model;
+use std::sync::Arc;
+
+/// A path of a file or a package, ordered by its bytes. A clone shares them.
+#[derive(Drop)]
+pub struct Path {
+    text: Arc<String, Global>,
+}
+
+impl Model for Path {
+    ghost use Rattle.std.specs.Prelude.{List, ℕ, string_bytes};
+    ghost use Rattle.std.specs.Arc.{arc_value};
+    ghost use Rattle.base_files.specs.Path.{IsPath};
+
+    ghost Value = { List ℕ };
+
+    ghost view = { λ a. string_bytes (arc_value a.text) };
+
+    ghost invariant = { λ a. IsPath 1 (string_bytes (arc_value a.text)) };
+}
+
+fn is_path_byte(byte: u8) -> bool
+    ensures { result ≡ is_path_byte byte }
+{
+    byte.is_ascii_alphanumeric() || matches!(byte, b'_' | b'-' | b'.' | b'~' | b'+')
+}
+
+fn is_dots(segment: &[u8]) -> bool
+    ensures { result ≡ is_dots segment.now }
+{
+    segment == b".".as_slice() || segment == b"..".as_slice()
+}
+
+fn all_path_bytes(bytes: &[u8]) -> bool
+    ensures { result ≡ list_all is_path_byte bytes.now }
+{
+    bytes.iter().all(|byte| is_path_byte(*byte))
+}
+
+fn is_segment(segment: &[u8]) -> bool
+    ensures { result ≡ is_segment segment.now }
+{
+    !(segment.is_empty() || is_dots(segment)) && all_path_bytes(segment)
+}
+
+fn segment_count(text: &[u8]) -> usize
+    ensures { result ≡ length (segments text.now) }
+{
+    text.iter().filter(|byte| **byte == b'/').count() + 1
+}
+
+fn all_segments(text: &[u8]) -> bool
+    ensures { result ≡ list_all is_segment (segments text.now) }
+{
+    text.split(|byte| *byte == b'/')
+        .all(|segment| is_segment(segment))
+}
+
+fn is_path(text: &[u8], least: usize) -> bool
+    ensures { IsTrue result ↔ IsPath least text.now }
+{
+    if text.len() > 255 || segment_count(text) < least {
+        return false;
+    }
+    all_segments(text)
+}
+
+fn without_last_segment(path: &[u8]) -> &[u8]
+    ensures { result.now ≡ folder path.now }
+{
+    let mut end = path.len();
+    while end > 0 && path[end - 1] != b'/' {
+        end -= 1;
+    }
+    &path[..end.saturating_sub(1)]
+}
+
+impl Path {
+    /// Reads a path that has at least so many segments.
+    pub fn read(alloc: Global, text: &str, least: usize) -> Result<Path, Refusal>
+        requires { 1 ≤ least }
+        ensures { ReadsPath least text.now result }
+    {
+        if !is_path(text.as_bytes(), least) {
+            return Err(Refusal::BadPath);
+        }
+        let text = text.to_string(alloc)?;
+        let text = Arc::new(alloc, text)?;
+        Ok(Path { text })
+    }
+
+    pub fn as_str(&self) -> &str
+        ensures text { result.now ≡ self.now }
+        ensures path { IsPath 1 self.now }
+    {
+        self.text.as_str()
+    }
+
+    /// The bytes of the path without its last segment.
+    pub fn folder(&self) -> &[u8]
+        ensures { result.now ≡ folder self.now }
+    {
+        without_last_segment(self.text.as_bytes())
+    }
+
+    /// Whether the path is that of a Go file.
+    pub fn is_go(&self) -> bool
+        ensures { result ≡ is_go self.now }
+    {
+        self.text.as_bytes().ends_with(b".go".as_slice())
+    }
+}
+
+impl Clone for Path {
+    ghost is_clone = { λ path copy. copy ≡ path };
+
+    fn clone(&self) -> Result<Path, AllocError> {
+        let text = Arc::try_clone(&self.text)?;
+        Ok(Path { text })
+    }
+}
+
+impl Share for Path {
+    fn share(&self) -> Result<Path, AllocError> {
+        self.clone()
+    }
+}
+
+impl Same for Path {
+    fn same(&self, other: &Path) -> bool {
+        *self == *other
+    }
+}
+
+impl PartialEq for Path {
+    ghost eq = { pointwise ◌==◌ };
+
+    ghost laws = { Prim.search (comparing, rules) };
+
+    fn eq(&self, other: &Path) -> bool {
+        self.text.as_bytes() == other.text.as_bytes()
+    }
+}
+
+impl Eq for Path {
+    ghost laws = { Prim.search (comparing, rules) };
+}
+
+impl PartialOrd for Path {
+    ghost partial_cmp = { as_partial_cmp (slice_cmp nat_cmp) };
+
+    ghost laws = { partial_order_from_own_ties (Prim.search (comparing, rules)) (Prim.search (comparing, rules)) };
+
+    fn partial_cmp(&self, other: &Path) -> Option<Ordering> {
+        Some(self.cmp(other))
+    }
+}
+
+impl Ord for Path {
+    ghost cmp = { slice_cmp nat_cmp };
+
+    ghost total = { Prim.search (comparing, rules) };
+
+    ghost matches_partial_cmp = { Prim.search (comparing, rules) };
+
+    ghost matches_eq = { Prim.search (comparing, rules) };
+
+    fn cmp(&self, other: &Path) -> Ordering {
+        self.text.as_bytes().cmp(other.text.as_bytes())
+    }
+}

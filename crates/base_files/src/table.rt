@@ -1,0 +1,100 @@
+//! A table by path: a list of entries that is sorted by path.
+ghost use Rattle.std.specs.Prelude.{◌≡◌, [], ◌∷◌, ◌++◌, MatchOption, None, Some, IfOk, OnOk, OnErr};
+ghost use Rattle.std.specs.Option.{option_copied};
+ghost use Rattle.std.specs.FinMap.{find, put};
+ghost use Rattle.base_files.specs.Workspace.{path_cmp};
+ghost use Rattle.base_files.specs.Entries.{IsEntry, StandsBehind};
+
+use crate::entries::{number_from, put};
+use crate::shared_path::SharedPath;
+use std::alloc::{AllocError, Global};
+use std::marker::Model;
+
+/// What stands at paths, in their order. It is seen as its entries.
+#[derive(Drop)]
+pub struct PathTable<V> {
+    entries: Vec<(SharedPath, V)>,
+}
+
+impl<V> Model for PathTable<V> {
+    ghost use Rattle.std.specs.Prelude.{IsTrue, List, ℕ};
+    ghost use Rattle.std.specs.FinMap.{is_sorted};
+    ghost use Rattle.base_files.specs.Workspace.{path_cmp};
+
+    ghost Value = { List (List ℕ × V) };
+
+    ghost view = { λ a. a.entries.items };
+
+    ghost invariant = { λ a. IsTrue (is_sorted path_cmp a.entries.items) };
+}
+
+/// An entry of a table, and its number there.
+#[derive(Drop)]
+pub struct PathEntry<'a, V> {
+    pub number: usize,
+    pub path: &'a SharedPath,
+    pub value: &'a V,
+}
+
+impl<V> PathTable<V> {
+    pub fn new(alloc: Global) -> PathTable<V>
+        ensures { result ≡ [] }
+    {
+        PathTable {
+            entries: Vec::new(alloc),
+        }
+    }
+
+    /// An empty table with room for so many entries.
+    pub fn with_capacity(alloc: Global, capacity: usize) -> Result<PathTable<V>, AllocError>
+        ensures { IfOk result (λ table. table ≡ []) }
+    {
+        let entries = Vec::with_capacity(alloc, capacity)?;
+        Ok(PathTable { entries })
+    }
+
+    /// The entry of a path. The one of that first number is looked at first: a caller that asks in the order of the paths gives
+    /// the number behind the last one found.
+    pub fn entry_from(&self, path: &[u8], first: usize) -> Option<PathEntry<'_, V>>
+        ensures { MatchOption result (find path_cmp path.now self.now ≡ None) (IsEntry path.now self.now) }
+    {
+        let number = number_from(&self.entries, path, first)?;
+        let entry = &self.entries[number];
+        Some(PathEntry {
+            number,
+            path: &entry.0,
+            value: &entry.1,
+        })
+    }
+
+    /// What stands at a path.
+    pub fn get(&self, path: &[u8]) -> Option<&V>
+        ensures { option_copied result ≡ find path_cmp path.now self.now }
+    {
+        match self.entry_from(path, self.entries.len()) {
+            None => None,
+            Some(entry) => Some(entry.value),
+        }
+    }
+}
+
+impl<V: Drop> PathTable<V> {
+    /// Sets what stands at a path. Behind the last path it is pushed.
+    pub fn put(&mut self, path: SharedPath, value: V) -> Result<(), AllocError>
+        ensures ok { OnOk result (self.new ≡ put path_cmp path value self.old) }
+        ensures err { OnErr result (self.new ≡ self.old) }
+    {
+        put(&mut self.entries, path, value)?;
+        Ok(())
+    }
+
+    /// Adds a path behind all that are there, and what stands at it. No path is compared: it is known that this one stands behind them.
+    pub fn push(&mut self, path: SharedPath, value: V) -> Result<(), AllocError>
+        requires { StandsBehind path self.old }
+        ensures ok { OnOk result (self.new ≡ self.old ++ (path, value) ∷ []) }
+        ensures err { OnErr result (self.new ≡ self.old) }
+    {
+        self.entries.push((path, value))?;
+        Ok(())
+    }
+}

@@ -1,0 +1,8 @@
+-- Of the files that were passed the folders of those were found that are not the same afterwards.
+use Rattle.std.proofs.Common.{take}
+use Rattle.workspace_graph.specs.Filling.{names}
+use Rattle.build_carry.proofs.ChangedFiles.{AreNoted}
+use Rattle.build_carry.proofs.named.changed_among.Given as goal
+
+abbrev pub invariant-loop-path : goal.invariant-loop-path
+invariant-loop-path l = AreNoted l.before l.after (names (take l.path-index l.paths)) (names l.changed.items)

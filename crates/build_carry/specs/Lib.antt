@@ -1,0 +1,6 @@
+-- The definitions of this crate.
+pub mod Carried
+pub mod Finished
+pub mod Changes
+pub mod Inputs
+pub mod Named

@@ -1,0 +1,63 @@
+//! What is known of packages, as it goes from a state to the next.
+ghost use Rattle.std.specs.Prelude.{◌<◌, IfOk, length};
+ghost use Rattle.base_files.specs.Packages.{package_paths};
+ghost use Rattle.workspace_graph.specs.Graphs.{OfPackage};
+ghost use Rattle.workspace_check.specs.Found.{KnowsVerdicts};
+ghost use Rattle.workspace_check.specs.Told.{MayTell};
+ghost use Rattle.build_carry.specs.Changes.{AreMarks};
+
+use crate::carried::keeps_texts;
+use crate::changes::Marks;
+use crate::near::number_near;
+use std::alloc::{AllocError, Global};
+use workspace_check::{Known, KnownVerdict};
+use workspace_graph::Graph;
+
+/// The verdict on a package after a change, if it is known before and the closure stays.
+fn kept_verdict(
+    before: &Graph,
+    known: &Known,
+    after: &Graph,
+    number: usize,
+    marks: &Marks,
+) -> Result<Option<KnownVerdict>, AllocError>
+    requires number { number < length (package_paths after.now) }
+    requires known { KnowsVerdicts before.now known.now }
+    requires before_marks { AreMarks before.now after.now marks.now.before.items }
+    requires after_marks { AreMarks after.now before.now marks.now.after.items }
+    ensures { IfOk result (λ found. OfPackage after.now number (λ p. MayTell after.now p found)) }
+{
+    let path = &after.package(number).path;
+    let Some(old) = number_near(before, path, number, after.len()) else {
+        return Ok(None);
+    };
+    let Some(verdict) = known.get(old) else {
+        return Ok(None);
+    };
+    if !keeps_texts(marks, old, number) {
+        return Ok(None);
+    }
+    let verdict = verdict.clone()?;
+    Ok(Some(verdict))
+}
+
+/// What is known of packages, as far as their closures keep their texts.
+pub fn verdicts_after(
+    alloc: Global,
+    before: &Graph,
+    known: &Known,
+    after: &Graph,
+    marks: &Marks,
+) -> Result<Known, AllocError>
+    requires known { KnowsVerdicts before.now known.now }
+    requires before_marks { AreMarks before.now after.now marks.now.before.items }
+    requires after_marks { AreMarks after.now before.now marks.now.after.items }
+    ensures { IfOk result (KnowsVerdicts after.now) }
+{
+    let mut carried = Known::with_capacity(alloc, after.len())?;
+    for number in 0..after.len() {
+        let verdict = kept_verdict(before, known, after, number, marks)?;
+        carried.push(verdict)?;
+    }
+    Ok(carried)
+}

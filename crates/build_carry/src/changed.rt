@@ -1,0 +1,15 @@
+//! Whether a file is there, before or after a change.
+ghost use Rattle.std.specs.Prelude.{◌≡◌, ◌↔◌, IsTrue, Some};
+ghost use Rattle.std.specs.FinMap as map;
+
+use base_files::{FileText, Files, Path};
+
+/// Whether a file is there, with this text.
+pub fn has_text(files: &Files, path: &Path, text: &FileText) -> bool
+    ensures { IsTrue result ↔ (map.get files.now path.now ≡ Some text.now) }
+{
+    match files.get(path) {
+        Some(other) => other.bytes() == text.bytes(),
+        None => false,
+    }
+}

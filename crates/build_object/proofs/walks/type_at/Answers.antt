@@ -1,0 +1,33 @@
+-- One file more, and all of them at the end.
+use Rattle.std.proofs.Common.{◌<◌, ◌≤◌, sym, arith, length, map}
+use Rattle.std.specs.List.{enumerate_from}
+use Rattle.go_ast.specs.SourceFile.{source_of}
+use Rattle.types_declared.specs.DeclaredView.{type_of}
+use Rattle.types_declared.specs.Package.{types_in, declared_types}
+use Rattle.types_declared.proofs.Appending.{next_ranked, short_ranked}
+use Rattle.build_object.proofs.Walking.{walked_next, walked_found, walked_all, nothing_there}
+use Rattle.build_object.proofs.walks.type_at.Goals as goal
+
+pub loop-file-preserved : goal.loop-file-preserved
+loop-file-preserved c =
+    let files = c.args.files.now in
+    let i = c.loop-file.file in
+    walked_next types_in (enumerate_from 0 (map source_of files)) i (i, source_of c.index-files-file.result) c.args.rank c.loop-file.rest
+    c.in-Err.left (let lt : i < length (enumerate_from 0 (map source_of files)) = omega (arith, short_ranked source_of files) in lt)
+    (next_ranked source_of files i c.index-files-file.result (omega arith) c.index-files-file.is) c.loop-file.invariant c.in-Err.ensures
+
+pub returns-in-Ok : goal.returns-in-Ok
+returns-in-Ok c =
+    let files = c.args.files.now in
+    let i = c.loop-file.file in
+    sym (walked_found types_in (enumerate_from 0 (map source_of files)) i (i, source_of c.index-files-file.result) c.args.rank c.loop-file.rest
+    (type_of c.in-Ok.found) (let lt : i < length (enumerate_from 0 (map source_of files)) = omega (arith, short_ranked source_of files) in lt)
+    (next_ranked source_of files i c.index-files-file.result (omega arith) c.index-files-file.is) c.loop-file.invariant c.in-Ok.ensures)
+
+pub returns : goal.returns
+returns c =
+    let files = c.args.files.now in
+    let i = c.loop-file.file in
+    nothing_there (declared_types (map source_of files)) c.args.rank c.loop-file.rest
+    (walked_all types_in (enumerate_from 0 (map source_of files)) i c.args.rank c.loop-file.rest
+    (let past : length (enumerate_from 0 (map source_of files)) ≤ i = omega (arith, short_ranked source_of files) in past) c.loop-file.invariant)

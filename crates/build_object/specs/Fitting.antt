@@ -1,0 +1,19 @@
+-- Code that stays within its function: each jump leads to one of its lines, and each parameter or local has one of its slots.
+use Rattle.std.specs.Prelude.{ℕ, suc, ◌≡◌, ◌<◌, ◌≤◌, ⊤, List, ◌∷◌, ◌++◌, length}
+use Rattle.build_object.specs.Lines.{Line, Local, LocalAddress, Set, Jump, JumpUnless, JumpIf, JumpBack}
+use Rattle.build_object.specs.Objects.{Function}
+
+-- a line of a function with so many slots, before and behind which so many of its lines stand
+abbrev pub FitsAt : (slots before behind : ℕ) → Line → Type 0
+FitsAt slots before behind (Local slot) = slot < slots
+FitsAt slots before behind (LocalAddress slot) = slot < slots
+FitsAt slots before behind (Set slot) = slot < slots
+FitsAt slots before behind (Jump n) = n < behind
+FitsAt slots before behind (JumpUnless n) = n < behind
+FitsAt slots before behind (JumpIf n) = n < behind
+FitsAt slots before behind (JumpBack n) = n ≤ suc before
+FitsAt slots before behind line = ⊤
+
+-- each line of a function
+abbrev pub HasFittingCode : Function → Type 0
+HasFittingCode f = (before behind : List Line) (line : Line) → f.code ≡ before ++ (line ∷ behind) → FitsAt f.slots (length before) (length behind) line

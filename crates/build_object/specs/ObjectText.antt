@@ -1,0 +1,48 @@
+-- The text of an object: of its declarations, in turn.
+use Rattle.std.specs.Prelude.{ℕ, List, [], ◌++◌, Option, Some, None, length, codes}
+use Rattle.std.specs.List.{flat_map}
+use Rattle.types_expr.specs.declared.symbol.Symbol.{Symbol}
+use Rattle.types_expr.specs.Types.{PlainType}
+use Rattle.build_object.specs.Lines.{GlobalName, FunctionName}
+use Rattle.build_object.specs.Objects.{Object, Declaration, TypeOf, Variable, FunctionOf, Definition, SameAs, Fields, Initial, IntegerValue, TextValue}
+use Rattle.build_object.specs.Text.{global_text, function_text, type_text, types_joined, type_list, bytes_text, with_number, ended, code_text}
+
+-- Declarations
+
+abbrev pub definition_text : (names : Symbol → Option GlobalName) → Definition → List ℕ
+definition_text names (SameAs t) = type_text names t
+definition_text names (Fields ts) = codes "struct{" ++ (types_joined names (codes ";") ts ++ codes "}")
+
+abbrev pub initial_text : Option Initial → List ℕ
+initial_text None = []
+initial_text (Some (IntegerValue n)) = with_number (codes " ") n
+initial_text (Some (TextValue bytes)) = codes " " ++ bytes_text bytes
+
+-- the types of the parameters and of the results
+abbrev pub signature_text : (names : Symbol → Option GlobalName) → (parameters results : List PlainType) → List ℕ
+signature_text names parameters results = codes " " ++ (type_list names parameters ++ (codes " " ++ type_list names results))
+
+abbrev pub counts_text : (slots lines : ℕ) → List ℕ
+counts_text slots lines = with_number (codes " ") slots ++ with_number (codes " ") lines
+
+-- the line of a function: its name, its parameters with the receiver first, its results, how many slots it has and how many
+-- lines of code follow
+abbrev pub header_text : (names : Symbol → Option GlobalName) → FunctionName → (parameters results : List PlainType) → (slots lines : ℕ) → List ℕ
+header_text names name parameters results slots lines =
+    codes "func " ++ (function_text name ++ (signature_text names parameters results ++ counts_text slots lines))
+
+unfoldable pub declaration_text : (names : Symbol → Option GlobalName) → Declaration → List ℕ
+declaration_text names (TypeOf name definition) = ended (codes "type " ++ (global_text name ++ (codes " " ++ definition_text names definition)))
+declaration_text names (Variable name t value) = ended (codes "var " ++ (global_text name ++ (codes " " ++ (type_text names t ++ initial_text value))))
+declaration_text names (FunctionOf f) = ended (header_text names f.name f.parameters f.results f.slots (length f.code)) ++ code_text names f.code
+
+-- Objects
+
+abbrev pub first_line : Object → List ℕ
+first_line o = ended (codes "object " ++ (o.path ++ (codes " " ++ o.name)))
+
+abbrev pub import_line : List ℕ → List ℕ
+import_line path = ended (codes "import " ++ path)
+
+abbrev pub object_text : (names : Symbol → Option GlobalName) → Object → List ℕ
+object_text names o = first_line o ++ (flat_map import_line o.imports ++ flat_map (declaration_text names) o.declarations)

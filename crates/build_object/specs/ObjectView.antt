@@ -1,0 +1,62 @@
+-- What is known where the object of a package is printed, and what the texts of its files add.
+use Rattle.std.specs.Prelude.{ℕ, ◌≡◌, ◌≤◌, List, [], ◌++◌, drop, map, length, Option, Some, None, slice_get, MatchOption}
+use Rattle.std.specs.List.{flat_map}
+use Rattle.go_ast.specs.SourceFile.{FileParts, SourceFile}
+use Rattle.types_expr.specs.declared.world.Definition.{Definition}
+use Rattle.types_expr.specs.declared.found.MemberUse.{MemberUse}
+use Rattle.types_expr.specs.WorldView.{definition_or_none, no_definition}
+use Rattle.types_expr.specs.Found.{use_of}
+use Rattle.types_expr.specs.Judge as plain
+use Rattle.types_info.specs.PackageOf.{IsPackageOf}
+use Rattle.types_declared.specs.Package.{Interface, Package, PlacedType, package_types, symbol_in}
+use Rattle.types_declared.specs.Definitions.{IsDefinition}
+use Rattle.types_info.specs.MemberUses.{AreMemberUses, AreUsesIn}
+use Rattle.build_object.specs.declared.called.CalledPackages.{CalledPackages}
+use Rattle.build_object.specs.declared.instructions.FunctionName.{FunctionName}
+use Rattle.build_object.specs.LineView.{function_of}
+use Rattle.build_object.specs.Source.{Source}
+use Rattle.build_object.specs.Sources.{IsObjectText, IsSourceOf}
+use Rattle.build_object.specs.NamesView.{AreNamesOf}
+use Rattle.build_object.specs.PackagesView.{package_in, tables_in, type_in}
+use Rattle.build_object.specs.Objects.{declared_in, names_behind_all}
+use Rattle.build_object.specs.ObjectText.{declaration_text}
+
+-- the type definitions of a package as other packages see them
+pub record AreOwnDefinitions (p : Package) (found : List Definition) : Type 0 where
+  pub own : (rank : ℕ) (d : PlacedType) → slice_get (package_types p) rank ≡ Some d →
+      IsDefinition p rank (definition_or_none (symbol_in p rank) (slice_get found rank))
+  pub beyond : (rank : ℕ) → slice_get (package_types p) rank ≡ None →
+      definition_or_none (symbol_in p rank) (slice_get found rank) ≡ no_definition (symbol_in p rank)
+
+-- the names of the packages whose files are known
+abbrev pub HaveNames : CalledPackages → (List ℕ → List SourceFile) → Type 0
+HaveNames packages files_of = (path : List ℕ) → MatchOption (package_in packages path) (files_of path ≡ [])
+    (λ names. AreNamesOf path (files_of path) names (tables_in packages path))
+
+-- the text of what a file of the package declares was added; its functions are those behind so many, and those of the files
+-- behind it are the others
+pub record PutsFile (p : Package) (file : ℕ) (members : List MemberUse) (packages : CalledPackages) (names : List FunctionName) (number others : ℕ)
+    (old new : List ℕ) : Type 0 where
+  pub file_at : SourceFile
+  pub in_file : slice_get p.files file ≡ Some file_at
+  pub source : Source
+  pub made_of : (files_of : List ℕ → List SourceFile) → HaveNames packages files_of → AreUsesIn p file (map use_of members) →
+      IsSourceOf p files_of file file_at source
+  pub text : new ≡ old ++ flat_map (declaration_text (type_in packages)) (declared_in source (map function_of (drop number names)) file_at.tree.decls)
+  pub others_are : map function_of (drop others names) ≡ names_behind_all (map function_of (drop number names)) file_at.tree.decls
+  pub within : others ≤ length names
+
+-- What is known of the package that is checked, by its path, its files, and the names and interfaces of the packages that it
+-- sees
+
+-- its own type definitions
+abbrev pub OwnDefinitionsOf : (path : List ℕ) → List FileParts → (List ℕ → Option (List ℕ)) → (List ℕ → Interface) → List Definition → Type 0
+OwnDefinitionsOf path files name_of interface_of found = (p : Package) → IsPackageOf path files name_of interface_of p → AreOwnDefinitions p found
+
+-- the text of its object, where these are its uses of members, and the files of packages have these names
+abbrev pub IsObjectTextOf : (path : List ℕ) → List FileParts → (List ℕ → Option (List ℕ)) → (List ℕ → Interface) → List (List plain.MemberUse) →
+    CalledPackages →
+    List ℕ → Type 0
+IsObjectTextOf path files name_of interface_of uses packages text =
+    (p : Package) × IsPackageOf path files name_of interface_of p ×
+    ((files_of : List ℕ → List SourceFile) → AreMemberUses p uses → HaveNames packages files_of → IsObjectText p files_of text)

@@ -1,0 +1,201 @@
+-- What an expression is to the code, and the rules by which it grows: one for each form, without recursion.
+use Rattle.std.specs.Prelude.{ℕ, suc, Bool, true, false, List, [], ◌∷◌, ◌++◌, Option, Some, None, length}
+use Rattle.go_ast.specs.declared.syntax.BinaryOp.{BinaryOp}
+use Rattle.go_ast.specs.declared.syntax.BinaryOp.TheVariants as op
+use Rattle.go_ast.specs.declared.syntax.PrefixOp.{PrefixOp}
+use Rattle.go_ast.specs.declared.syntax.PrefixOp.TheVariants as prefix
+use Rattle.types_expr.specs.declared.types.Builtin.{Builtin}
+use Rattle.types_expr.specs.declared.types.Builtin.TheVariants as builtin
+use Rattle.types_expr.specs.Types.{PlainType, Kind, Typed, Untyped, Meaning, Value, TypeName, Function, BuiltinName, Package, Results, Broken}
+use Rattle.types_expr.specs.Types.{is_pointer, points}
+use Rattle.types_expr.specs.Types.{Nil as NilKind}
+use Rattle.types_expr.specs.World.{Bound, Means, BrokenVariable, BrokenFunction, BrokenType, Member, AField, AMethod, ABrokenMethod, underlying}
+use Rattle.types_expr.specs.World.{Local as LocalName}
+use Rattle.build_object.specs.Lines.{GlobalName, FunctionName, Plain, Line, Truth, Nil, Local, Global, Field, FieldThrough, Index, Load, Negate}
+use Rattle.build_object.specs.Lines.{Not, Operate, Duplicate, Pop, JumpUnless, JumpIf, Call, CallBuiltin, LocalAddress, GlobalAddress, FieldAddress}
+use Rattle.build_object.specs.Lines.{IndexAddress, line_if_known}
+use Rattle.build_object.specs.Source.{Source}
+use Rattle.build_object.specs.Numbering.{slot_of}
+
+-- What stands there: so many values; a function, or a method whose receiver is there, with how many results it has; a type,
+-- whose call is a conversion; a predeclared function; the name of a package.
+pub data Standing : Type 0 where
+  Values : ℕ → Standing
+  Called : (received : Bool) → FunctionName → (results : ℕ) → Standing
+  Converts : Standing
+  Predeclared : Builtin → Standing
+  Qualifies : Standing
+
+-- The lines that leave the values, of a method those that leave its receiver; and the lines that leave the address of the value.
+-- The address is only asked for where the value has one; else the same lines stand for it.
+pub record Operand : Type 0 where
+  pub value : List Line
+  pub address : List Line
+  pub standing : Standing
+
+-- one value without an address; the value of a variable; what has no lines
+abbrev pub plain : List Line → Operand
+plain lines = record { value = lines; address = lines; standing = Values 1 }
+
+abbrev pub variable : List Line → List Line → Operand
+variable value address = record { value = value; address = address; standing = Values 1 }
+
+abbrev pub standing_as : Standing → Operand
+standing_as s = record { value = []; address = []; standing = s }
+
+-- Names
+
+abbrev pub local_operand : Option ℕ → Operand
+local_operand slot = variable (line_if_known Local slot) (line_if_known LocalAddress slot)
+
+abbrev pub global_operand : Option GlobalName → Operand
+global_operand name = variable (line_if_known Global name) (line_if_known GlobalAddress name)
+
+abbrev pub function_standing : Option FunctionName → (received : Bool) → (results : ℕ) → Standing
+function_standing None received results = Values 0
+function_standing (Some f) received results = Called received f results
+
+abbrev pub plain_function : Option GlobalName → Option FunctionName
+plain_function None = None
+plain_function (Some name) = Some (Plain name)
+
+-- a name that means a value of that kind
+abbrev pub value_name : Source → ℕ → Kind → Operand
+value_name s n (Typed t) = global_operand (s.global n)
+value_name s n (Untyped b) = plain (Truth (s.truth n) ∷ [])
+value_name s n NilKind = plain (Nil ∷ [])
+
+unfoldable pub named_meaning : Source → ℕ → Meaning → Operand
+named_meaning s n (Value k a) = value_name s n k
+named_meaning s n (TypeName t) = standing_as Converts
+named_meaning s n (Function f) = standing_as (function_standing (plain_function (s.global n)) false (length f.results))
+named_meaning s n (BuiltinName b) = standing_as (Predeclared b)
+named_meaning s n Package = standing_as Qualifies
+named_meaning s n (Results ts) = standing_as (Values 0)
+named_meaning s n Broken = standing_as (Values 0)
+
+unfoldable pub bound_name : Source → (slots : List ℕ) → ℕ → Bound → Operand
+bound_name s slots n (LocalName place) = local_operand (slot_of slots place)
+bound_name s slots n (Means m) = named_meaning s n m
+bound_name s slots n BrokenVariable = standing_as (Values 0)
+bound_name s slots n BrokenFunction = standing_as (Values 0)
+bound_name s slots n BrokenType = standing_as (Values 0)
+
+-- the name at a token
+abbrev pub name_operand : Source → (slots : List ℕ) → ℕ → Operand
+name_operand s slots n = bound_name s slots n (s.world.bound n)
+
+-- Operators
+
+abbrev pub prefixed : PrefixOp → List Line → Operand
+prefixed prefix.Plus x = plain x
+prefixed prefix.Minus x = plain (x ++ (Negate ∷ []))
+prefixed prefix.Not x = plain (x ++ (Not ∷ []))
+prefixed prefix.Deref x = variable (x ++ (Load ∷ [])) x
+
+-- `a && b` and `a || b` look at b only where a does not tell
+abbrev pub operated : BinaryOp → List Line → List Line → List Line
+operated op.And a b = a ++ (Duplicate ∷ JumpUnless (suc (length b)) ∷ Pop ∷ b)
+operated op.Or a b = a ++ (Duplicate ∷ JumpIf (suc (length b)) ∷ Pop ∷ b)
+operated o a b = a ++ (b ++ (Operate o ∷ []))
+
+-- Selectors
+
+-- whether it is the name of a package
+abbrev pub qualifies : Standing → Bool
+qualifies Qualifies = true
+qualifies s = false
+
+-- a name behind the name of a package; what it names stands alone
+abbrev pub unqualified : Standing → Standing
+unqualified Qualifies = Values 0
+unqualified s = s
+
+abbrev pub behind : List Line → Operand → Operand
+behind lines o = record { value = lines ++ o.value; address = lines ++ o.address; standing = unqualified o.standing }
+
+-- a field of a value, or of what a pointer points to
+abbrev pub field_operand : Operand → (through : Bool) → Option ℕ → Operand
+field_operand o true i = variable (o.value ++ line_if_known FieldThrough i) (o.value ++ line_if_known FieldAddress i)
+field_operand o false i = variable (o.value ++ line_if_known Field i) (o.address ++ line_if_known FieldAddress i)
+
+-- The receiver of a method: a value by itself or loaded through a pointer, a pointer by itself or as the address of a value.
+abbrev pub receiver_lines : Operand → (is_pointer on_pointer : Bool) → List Line
+receiver_lines o true true = o.value
+receiver_lines o true false = o.value ++ (Load ∷ [])
+receiver_lines o false true = o.address
+receiver_lines o false false = o.value
+
+abbrev pub method_operand : List Line → Option FunctionName → (results : ℕ) → Operand
+method_operand receiver name results = record { value = receiver; address = receiver; standing = function_standing name true results }
+
+-- the member of a value of type t
+unfoldable pub member_operand : Source → Operand → PlainType → Option Member → Operand
+member_operand s o t None = record { value = o.value; address = o.value; standing = Values 0 }
+member_operand s o t (Some (AField f own)) = field_operand o (points (underlying s.world t)) (s.position f)
+member_operand s o t (Some (AMethod m on_pointer signature)) =
+    method_operand (receiver_lines o (is_pointer t) on_pointer) (s.function m) (length signature.results)
+member_operand s o t (Some (ABrokenMethod m)) = record { value = o.value; address = o.value; standing = Values 0 }
+
+unfoldable pub typed_selector : Source → ℕ → Operand → Option PlainType → Operand
+typed_selector s n o None = record { value = o.value; address = o.value; standing = Values 0 }
+typed_selector s n o (Some t) = member_operand s o t (s.world.member n t)
+
+unfoldable pub selected_by : Source → (slots : List ℕ) → ℕ → Operand → Standing → Operand
+selected_by s slots n o Qualifies = behind o.value (name_operand s slots n)
+selected_by s slots n o standing = typed_selector s n o (s.before n)
+
+-- the selector of the name at a token
+abbrev pub selected : Source → (slots : List ℕ) → ℕ → Operand → Operand
+selected s slots n o = selected_by s slots n o o.standing
+
+-- Indexes and calls
+
+abbrev pub indexed : Operand → List Line → Operand
+indexed o i = variable (o.value ++ (i ++ (Index ∷ []))) (o.value ++ (i ++ (IndexAddress ∷ [])))
+
+abbrev pub builtin_results : Builtin → ℕ
+builtin_results builtin.Append = 1
+builtin_results builtin.Len = 1
+builtin_results builtin.Panic = 0
+builtin_results builtin.Print = 0
+builtin_results builtin.Println = 0
+
+-- a receiver is counted as an argument
+abbrev pub counted : (received : Bool) → ℕ → ℕ
+counted true n = suc n
+counted false n = n
+
+-- the line of a call with so many arguments of its own, and what it leaves; a conversion has none, and leaves its argument
+unfoldable pub calling : ℕ → Standing → List Line
+calling n (Called received f results) = Call f (counted received n) ∷ []
+calling n (Predeclared b) = CallBuiltin b n ∷ []
+calling n Converts = []
+calling n (Values k) = []
+calling n Qualifies = []
+
+unfoldable pub left_by_call : Standing → ℕ
+left_by_call (Called received f results) = results
+left_by_call (Predeclared b) = builtin_results b
+left_by_call Converts = 1
+left_by_call (Values k) = 0
+left_by_call Qualifies = 0
+
+abbrev pub called : Operand → ℕ → List Line → Operand
+called o n arguments = record {
+  value = o.value ++ (arguments ++ calling n o.standing);
+  address = o.value ++ (arguments ++ calling n o.standing);
+  standing = Values (left_by_call o.standing);
+}
+
+-- Chains and parentheses as expressions: how many values they leave
+
+abbrev pub value_count : Standing → ℕ
+value_count (Values n) = n
+value_count s = 0
+
+abbrev pub settled : Operand → Operand
+settled o = record { value = o.value; address = o.address; standing = Values (value_count o.standing) }
+
+abbrev pub grouped : Operand → Operand
+grouped o = record { value = o.value; address = o.address; standing = Values 1 }

@@ -1,0 +1,40 @@
+-- What the program makes code of, as the definition has it.
+use Rattle.std.specs.Prelude.{ℕ, Bool, false, List, Option, Some, None, option_map, slice_get, slice_index_or}
+use Rattle.types_expr.specs.declared.found.MemberUse.{MemberUse}
+use Rattle.types_expr.specs.Types.{PlainType}
+use Rattle.types_expr.specs.View.{type_of}
+use Rattle.types_expr.specs.WorldView.{world_of, name_in, spelling_of}
+use Rattle.build_object.specs.declared.source.Mark.{Mark}
+use Rattle.build_object.specs.declared.source.Source.{Source}
+use Rattle.build_object.specs.Source as pure
+use Rattle.build_object.specs.Lines.{GlobalName}
+use Rattle.build_object.specs.LineView.{global_of}
+use Rattle.build_object.specs.PackagesView.{function_in, position_in}
+use Rattle.build_object.specs.Numbering.{slot_of}
+use Rattle.build_object.specs.Literals.{number_of}
+
+-- the type before the use of a number
+abbrev pub type_used : List MemberUse → Option ℕ → Option PlainType
+type_used uses None = None
+type_used uses (Some number) = option_map (λ u. type_of u.before) (slice_get uses number)
+
+-- what a name is to code; nothing where nothing is known of it
+abbrev pub global_in : Option Mark → Option GlobalName
+global_in None = None
+global_in (Some m) = option_map global_of m.global
+
+abbrev pub truth_in : Option Mark → Bool
+truth_in None = false
+truth_in (Some m) = m.truth
+
+abbrev pub source_of : Source → pure.Source
+source_of s = record {
+  world = world_of s.world;
+  before = λ token. type_used s.uses.now (slot_of s.used.places.items token);
+  global = λ token. global_in (slice_get s.marks.items token);
+  truth = λ token. truth_in (slice_get s.marks.items token);
+  number = λ token. number_of (spelling_of (name_in s.world token));
+  text = λ token. option_map (λ v. v.items) (slice_index_or s.texts.items token None);
+  function = function_in s.packages.now;
+  position = position_in s.packages.now;
+}

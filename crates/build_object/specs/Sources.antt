@@ -1,0 +1,94 @@
+-- What the code of the files of a package is made of, and which object a package has.
+use Rattle.std.specs.Prelude.{ℕ, suc, ◌≡◌, ◌==◌, ◌↔◌, true, if◌then◌else◌, List, [], ◌∷◌, map, Option, Some, None, length, slice_get, codes, Contains}
+use Rattle.std.specs.List.Sorted.{IsStrictlySortedBy}
+use Rattle.base_files.specs.Workspace.{path_cmp}
+use Rattle.go_ast.specs.SourceFile.{SourceFile, spelling_of}
+use Rattle.go_scope.specs.declared.model.Role.TheVariants.{NotLexical}
+use Rattle.go_scope.specs.declared.model.Purpose.TheVariants as purpose
+use Rattle.go_scope.specs.Bindings.{IsPackageLevel}
+use Rattle.go_scope.specs.Table.{IsFoundAt}
+use Rattle.types_declared.specs.Files.{HasLiteral, package_name}
+use Rattle.types_expr.specs.declared.symbol.Symbol.{Symbol}
+use Rattle.types_expr.specs.Types.{PlainType}
+use Rattle.types_expr.specs.Judge.{MemberUse}
+use Rattle.types_stmt.specs.Declarations.{check_file}
+use Rattle.workspace_graph.specs.Packages.{ImportsPath}
+use Rattle.types_declared.specs.Package.{Package, spelled}
+use Rattle.types_declared.specs.Written.{BindsToken, IsPredeclared}
+use Rattle.types_declared.specs.Written.{ImportsPath as DeclaresImport}
+use Rattle.types_info.specs.Worlds.{IsWorldOf, is_init}
+use Rattle.build_object.specs.Lines.{GlobalName}
+use Rattle.build_object.specs.Source.{Source}
+use Rattle.build_object.specs.Literals.{number_of}
+use Rattle.build_object.specs.Names.{type_name, function_name, function_names, field_position}
+use Rattle.build_object.specs.Objects.{Object, object_of}
+use Rattle.build_object.specs.ObjectText.{object_text}
+
+-- the type in the first of some member uses that stands at a token
+abbrev pub type_before : List MemberUse → ℕ → Option PlainType
+type_before [] token = None
+type_before (u ∷ us) token = if u.place == token then Some u.before else type_before us token
+
+-- the name at a token stands behind the name of an import of that path
+pub record IsBehindImport (p : Package) (file token : ℕ) (path : List ℕ) : Type 0 where
+  pub before : ℕ
+  pub behind_dot : token ≡ suc (suc before)
+  pub identifier : ℕ
+  pub found : IsFoundAt p.layout p.size (record { file = file; index = token }) identifier
+  pub selected : p.layout.role identifier ≡ NotLexical purpose.Selected
+  pub import : ℕ
+  pub binds : BindsToken p file before import
+  pub of_path : DeclaresImport p import path
+
+-- The name at a token is bound to a declaration of the package's block, which declares it in the package of the path; or it
+-- stands behind the name of an imported package.
+pub data IsGlobalAt (p : Package) (file token : ℕ) : GlobalName → Type 0 where
+  own : {d : ℕ} → BindsToken p file token d → IsPackageLevel p.layout d → IsGlobalAt p file token (record { path = p.path; name = spelled p file token })
+  imported : {path : List ℕ} → IsBehindImport p file token path → IsGlobalAt p file token (record { path = path; name = spelled p file token })
+
+abbrev pub IsGlobal : Package → (file token : ℕ) → Option GlobalName → Type 0
+IsGlobal p file token None = (g : GlobalName) → IsGlobalAt p file token g → ⊥
+IsGlobal p file token (Some g) = IsGlobalAt p file token g
+
+-- the name at a token is bound to the predeclared `true`
+pub record IsTrueAt (p : Package) (file token : ℕ) : Type 0 where
+  pub declaration : ℕ
+  pub binds : BindsToken p file token declaration
+  pub predeclared : IsPredeclared p declaration (codes "true")
+
+-- the value of the string literal at a token; none of any other token
+abbrev pub IsTextAt : SourceFile → ℕ → Option (List ℕ) → Type 0
+IsTextAt source token None = (value : List ℕ) → HasLiteral source token value → ⊥
+IsTextAt source token (Some value) = HasLiteral source token value
+
+-- What the code of a file of a package is made of; there is one such at most. files_of: the files of the packages by their
+-- paths.
+pub record IsSourceOf (p : Package) (files_of : List ℕ → List SourceFile) (file : ℕ) (f : SourceFile) (s : Source) : Type 0 where
+  pub world : IsWorldOf p file f s.world
+  pub before : (token : ℕ) → s.before token ≡ type_before (check_file s.world (is_init f) f.tree).uses token
+  pub global : (token : ℕ) → IsGlobal p file token (s.global token)
+  pub truth : (token : ℕ) → (s.truth token ≡ true) ↔ IsTrueAt p file token
+  pub number : (token : ℕ) → s.number token ≡ number_of (spelling_of f token)
+  pub text : (token : ℕ) → IsTextAt f token (s.text token)
+  pub function : (symbol : Symbol) → s.function symbol ≡ function_name files_of symbol
+  pub position : (symbol : Symbol) → s.position symbol ≡ field_position files_of symbol
+
+-- the direct imports of a package, each once and by bytes
+pub record AreImports (files : List SourceFile) (imports : List (List ℕ)) : Type 0 where
+  pub each : (path : List ℕ) → Contains imports path ↔ ((f : SourceFile) × (Contains files f × ImportsPath f path))
+  pub sorted : IsStrictlySortedBy path_cmp imports
+
+-- The object of a package without faults. There is one at most.
+pub record IsObjectOf (p : Package) (files_of : List ℕ → List SourceFile) (o : Object) : Type 0 where
+  pub sources : List Source
+  pub all : length sources ≡ length p.files
+  pub made_of : (file : ℕ) (f : SourceFile) (s : Source) → slice_get p.files file ≡ Some f → slice_get sources file ≡ Some s → IsSourceOf p files_of file f s
+  pub imports : List (List ℕ)
+  pub are_imports : AreImports p.files imports
+  pub is_object : o ≡ object_of sources p.path (package_name p.files) imports (function_names p.path p.files) (map (λ f. f.tree) p.files)
+
+-- its text
+pub record IsObjectText (p : Package) (files_of : List ℕ → List SourceFile) (text : List ℕ) : Type 0 where
+  pub object : Object
+  pub of_package : IsObjectOf p files_of object
+  pub printed : text ≡ object_text (type_name files_of) object

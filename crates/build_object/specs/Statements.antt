@@ -1,0 +1,188 @@
+-- The code of statements. A jump is told by the lines that it passes, so that code stands for itself wherever it is put.
+use Rattle.std.specs.Prelude.{ℕ, suc, ◌+◌, List, [], ◌∷◌, ◌++◌, Option, Some, None, length}
+use Rattle.std.specs.List.{flat_map}
+use Rattle.go_ast.specs.declared.syntax.BinaryOp.{BinaryOp}
+use Rattle.go_ast.specs.declared.syntax.BinaryOp.TheVariants as op
+use Rattle.go_ast.specs.declared.syntax.StepOp.{StepOp}
+use Rattle.go_ast.specs.declared.syntax.StepOp.TheVariants as step
+use Rattle.go_ast.specs.Tree.{Item, IdentTree, Named, Underscore, TypeTree, ExprTree, Name, Blank}
+use Rattle.go_ast.specs.Tree.{SimpleTree, Alone, Step, Update, Assign, Define, LocalTree, InitTree, ForTree, forever, while, clauses}
+use Rattle.go_ast.specs.Tree.{StatementTree, Empty, Var, Simple, Inner, If, For, Break, Continue, Return, BlockTree, block, StatementTrees, no_statement}
+use Rattle.go_ast.specs.Tree.{statement, IfTree, if_tree, ElseTree, no_else, else_if, else_block}
+use Rattle.types_expr.specs.World.{Bound, Local, Means, BrokenVariable, BrokenFunction, BrokenType}
+use Rattle.types_expr.specs.Judge.{judge_type}
+use Rattle.types_declared.specs.Files.{group_items}
+use Rattle.types_stmt.specs.Simple.{binary_of}
+use Rattle.build_object.specs.Lines.{Line, line_if_known, pops}
+use Rattle.build_object.specs.Lines as line
+use Rattle.build_object.specs.Source.{Source}
+use Rattle.build_object.specs.Numbering.{slot_of}
+use Rattle.build_object.specs.Expressions.{value_lines, address_lines, values_left}
+
+-- Values, and what takes them from the last to the first
+
+abbrev pub values_of : Source → (slots : List ℕ) → List (Item ExprTree) → List Line
+values_of s slots es = flat_map (λ i. value_lines s slots i.value) es
+
+-- what is done for each of a list, the last one first
+unfoldable pub from_last : {X : Type 0} → (X → List Line) → List (Item X) → List Line
+from_last does [] = []
+from_last does (i ∷ is) = from_last does is ++ does i.value
+
+-- a local that is declared with a value; a `_` drops it
+abbrev pub set_name : (slots : List ℕ) → IdentTree → List Line
+set_name slots (Named n) = line_if_known line.Set (slot_of slots n)
+set_name slots (Underscore n) = line.Pop ∷ []
+
+-- a left side of `:=`: the local that it declares, or the one that it is bound to
+abbrev pub set_bound : (slots : List ℕ) → Bound → List Line
+set_bound slots (Local place) = line_if_known line.Set (slot_of slots place)
+set_bound slots (Means m) = []
+set_bound slots BrokenVariable = []
+set_bound slots BrokenFunction = []
+set_bound slots BrokenType = []
+
+unfoldable pub set_left : Source → (slots : List ℕ) → ExprTree → List Line
+set_left s slots (Name p) = set_bound slots (s.world.bound p)
+set_left s slots (Blank p) = line.Pop ∷ []
+set_left s slots e = []
+
+-- Simple statements
+
+-- a left side of `=`
+unfoldable pub target_lines : Source → (slots : List ℕ) → ExprTree → List Line
+target_lines s slots (Blank p) = line.BlankAddress ∷ []
+target_lines s slots e = address_lines s slots e
+
+abbrev pub targets_of : Source → (slots : List ℕ) → List (Item ExprTree) → List Line
+targets_of s slots es = flat_map (λ i. target_lines s slots i.value) es
+
+-- `x op= y`, with the lines that leave y
+abbrev pub update_lines : List Line → List Line → BinaryOp → List Line
+update_lines address y o = address ++ (line.Duplicate ∷ line.Load ∷ (y ++ (line.Operate o ∷ line.Assign 1 ∷ [])))
+
+abbrev pub step_op : StepOp → BinaryOp
+step_op step.Increment = op.Add
+step_op step.Decrement = op.Subtract
+
+unfoldable pub simple_lines : Source → (slots : List ℕ) → SimpleTree → List Line
+simple_lines s slots (Alone e) = value_lines s slots e ++ pops (values_left s slots e)
+simple_lines s slots (Step e o p) = update_lines (address_lines s slots e) (line.Integer 1 ∷ []) (step_op o)
+simple_lines s slots (Update x o p y) = update_lines (address_lines s slots x) (value_lines s slots y) (binary_of o)
+simple_lines s slots (Assign xs p ys) = targets_of s slots xs ++ (values_of s slots ys ++ (line.Assign (length xs) ∷ []))
+simple_lines s slots (Define xs p ys) = values_of s slots ys ++ from_last (set_left s slots) xs
+
+abbrev pub optional_lines : Source → (slots : List ℕ) → Option SimpleTree → List Line
+optional_lines s slots None = []
+optional_lines s slots (Some a) = simple_lines s slots a
+
+abbrev pub init_lines : Source → (slots : List ℕ) → Option InitTree → List Line
+init_lines s slots None = []
+init_lines s slots (Some i) = optional_lines s slots i.simple
+
+-- Declarations of locals: their values, or for each name a zero of its type
+
+unfoldable pub zeros : Source → Option TypeTree → List (Item IdentTree) → List Line
+zeros s None names = []
+zeros s (Some t) names = flat_map (λ i. line_if_known line.Zero (judge_type s.world t).type_of) names
+
+unfoldable pub first_values : Source → (slots : List ℕ) → LocalTree → Option (ℕ × List (Item ExprTree)) → List Line
+first_values s slots l None = zeros s l.type_use l.names
+first_values s slots l (Some v) = values_of s slots v.1
+
+unfoldable pub local_lines : Source → (slots : List ℕ) → LocalTree → List Line
+local_lines s slots l = first_values s slots l l.values ++ from_last (set_name slots) l.names
+
+-- Jumps
+
+-- how many lines stand between the end of a statement and where `continue` and `break` lead
+pub record Exits : Type 0 where
+  pub next : ℕ
+  pub out : ℕ
+
+-- the same for a statement that so many more lines stand behind
+abbrev pub further : ℕ → Exits → Exits
+further n x = record { next = n + x.next; out = n + x.out }
+
+abbrev pub no_exits : Exits
+no_exits = record { next = 0; out = 0 }
+
+-- what an `if` does by its condition: the lines of its block, and those behind `else` where there are some
+abbrev pub block_exits : Option (List Line) → Exits → Exits
+block_exits None x = x
+block_exits (Some other) x = further (suc (length other)) x
+
+abbrev pub branched : List Line → Option (List Line) → List Line
+branched body None = line.JumpUnless (length body) ∷ body
+branched body (Some other) = line.JumpUnless (suc (length body)) ∷ (body ++ (line.Jump (length other) ∷ other))
+
+-- What stands between `for` and its block: what is done first, the condition if there is one, and what is done after each turn
+
+abbrev pub for_init : Source → (slots : List ℕ) → ForTree → List Line
+for_init s slots forever = []
+for_init s slots (while e) = []
+for_init s slots (clauses init p condition q post) = optional_lines s slots init
+
+abbrev pub for_condition : ForTree → Option ExprTree
+for_condition forever = None
+for_condition (while e) = Some e
+for_condition (clauses init p condition q post) = condition
+
+abbrev pub for_post : Source → (slots : List ℕ) → ForTree → List Line
+for_post s slots forever = []
+for_post s slots (while e) = []
+for_post s slots (clauses init p condition q post) = optional_lines s slots post
+
+-- the condition of a loop, behind which so many lines of the loop stand
+abbrev pub loop_condition : Source → (slots : List ℕ) → Option ExprTree → ℕ → List Line
+loop_condition s slots None n = []
+loop_condition s slots (Some e) n = value_lines s slots e ++ (line.JumpUnless n ∷ [])
+
+-- `continue` leads to what is done after the turn, `break` behind the jump back
+abbrev pub body_exits : List Line → Exits
+body_exits post = record { next = 0; out = suc (length post) }
+
+-- what is repeated: the condition, the body, what is done after each turn, and the jump back to the condition
+abbrev pub turned_back : List Line → List Line
+turned_back lines = lines ++ (line.JumpBack (suc (length lines)) ∷ [])
+
+abbrev pub loop_lines : Source → (slots : List ℕ) → Option ExprTree → (body post : List Line) → List Line
+loop_lines s slots condition body post = turned_back (loop_condition s slots condition (suc (length (body ++ post))) ++ (body ++ post))
+
+-- Statements and blocks; results: how many the function has
+
+unfoldable mutual
+  pub statement_lines : Source → (slots : List ℕ) → (results : ℕ) → Exits → StatementTree → List Line
+  statement_lines s slots results x Empty = []
+  statement_lines s slots results x (Var p g) = flat_map (local_lines s slots) (group_items g)
+  statement_lines s slots results x (Simple a) = simple_lines s slots a
+  statement_lines s slots results x (Inner b) = block_lines s slots results x b
+  statement_lines s slots results x (If i) = if_lines s slots results x i
+  statement_lines s slots results x (For p h b) =
+      for_init s slots h ++ loop_lines s slots (for_condition h) (block_lines s slots results (body_exits (for_post s slots h)) b) (for_post s slots h)
+  statement_lines s slots results x (Break p) = line.Jump x.out ∷ []
+  statement_lines s slots results x (Continue p) = line.Jump x.next ∷ []
+  statement_lines s slots results x (Return p es) = values_of s slots es ++ (line.Return results ∷ [])
+
+  pub block_lines : Source → (slots : List ℕ) → (results : ℕ) → Exits → BlockTree → List Line
+  block_lines s slots results x (block o ss c) = statements_lines s slots results x ss
+
+  pub statements_lines : Source → (slots : List ℕ) → (results : ℕ) → Exits → StatementTrees → List Line
+  statements_lines s slots results x no_statement = []
+  statements_lines s slots results x (statement a p rest) =
+      statement_lines s slots results (further (length (statements_lines s slots results x rest)) x) a ++ statements_lines s slots results x rest
+
+  pub if_lines : Source → (slots : List ℕ) → (results : ℕ) → Exits → IfTree → List Line
+  if_lines s slots results x (if_tree p init e b otherwise) =
+      init_lines s slots init ++ (value_lines s slots e
+      ++ branched (block_lines s slots results (block_exits (else_lines s slots results x otherwise) x) b) (else_lines s slots results x otherwise))
+
+  -- none where there is no `else`
+  pub else_lines : Source → (slots : List ℕ) → (results : ℕ) → Exits → ElseTree → Option (List Line)
+  else_lines s slots results x no_else = None
+  else_lines s slots results x (else_if p i) = Some (if_lines s slots results x i)
+  else_lines s slots results x (else_block p b) = Some (block_lines s slots results x b)
+
+-- the code of a function's body
+abbrev pub body_lines : Source → (slots : List ℕ) → (results : ℕ) → BlockTree → List Line
+body_lines s slots results b = block_lines s slots results no_exits b ++ (line.End ∷ [])

@@ -1,0 +1,33 @@
+-- What is found of a file's tokens, as the program keeps it.
+use Rattle.std.specs.Prelude.{ℕ, ◌≡◌, ◌↔◌, true, List, Option, Some, None, option_map, slice_get, slice_index_or, map}
+use Rattle.std.specs.Global.{Vec}
+use Rattle.go_ast.specs.SourceFile.{SourceFile}
+use Rattle.types_expr.specs.declared.world.World.{World}
+use Rattle.types_expr.specs.declared.found.MemberUse.{MemberUse}
+use Rattle.types_declared.specs.Package.{Package}
+use Rattle.build_object.specs.declared.called.CalledPackages.{CalledPackages}
+use Rattle.build_object.specs.declared.source.Mark.{Mark}
+use Rattle.build_object.specs.declared.source.Source.{Source}
+use Rattle.build_object.specs.Sources.{IsGlobal, IsTextAt, IsTrueAt}
+use Rattle.build_object.specs.SourceView.{global_in, truth_in}
+
+-- what the name at a token is to code
+pub record IsMarkAt (p : Package) (file token : ℕ) (m : Option Mark) : Type 0 where
+  pub global : IsGlobal p file token (global_in m)
+  pub truth : (truth_in m ≡ true) ↔ IsTrueAt p file token
+
+-- by tokens, none beyond the last one
+abbrev pub AreMarks : Package → (file : ℕ) → List Mark → Type 0
+AreMarks p file marks = (token : ℕ) → IsMarkAt p file token (slice_get marks token)
+
+abbrev pub AreTexts : SourceFile → List (Option (Vec ℕ)) → Type 0
+AreTexts f texts = (token : ℕ) → IsTextAt f token (option_map (λ v. v.items) (slice_index_or texts token None))
+
+-- what the code of a file is made of, by tables
+pub record IsTabled (p : Package) (file : ℕ) (judged_by : World) (found : List MemberUse) (known : CalledPackages) (s : Source) : Type 0 where
+  pub world : s.world ≡ judged_by
+  pub uses : s.uses.now ≡ found
+  pub used : s.used.places.items ≡ map (λ u. u.place) found
+  pub marks : AreMarks p file s.marks.items
+  pub texts : (f : SourceFile) → slice_get p.files file ≡ Some f → AreTexts f s.texts.items
+  pub packages : s.packages.now ≡ known

@@ -1,0 +1,370 @@
+//! The code of expressions, made from its last line to its first.
+ghost use Rattle.std.specs.Prelude.{ℕ, suc, ◌∷◌, [], ◌≡◌, ◌==◌, ◌&&◌, ◌≤◌, ◌<◌, ◌+◌, ◌-◌, ◌^◌, IfOk, OnOk, take, length};
+ghost use Rattle.go_ast.specs.Tree.{no_link};
+ghost use Rattle.go_ast.specs.View.{expr_view, link_view, literal_view};
+ghost use Rattle.types_expr.specs.Lists.{links_in, operands_in, arguments_in, elements_in};
+ghost use Rattle.build_object.specs.LineView.{line_of, lines_in, Puts};
+ghost use Rattle.build_object.specs.Lines.{Duplicate, Pop};
+ghost use Rattle.build_object.specs.SourceView.{source_of};
+ghost use Rattle.build_object.specs.Operands as operands;
+ghost use Rattle.build_object.specs.Operands.{operated, calling, prefixed, qualifies, value_count};
+ghost use Rattle.build_object.specs.Expressions.{operand_of, operations, linked, one_link, argument_lines, literal_lines, keyed_lines, bare_lines, value_lines};
+ghost use Rattle.build_object.specs.Making.{index_lines, test_lines, lines_for, standing_of, before_link, GoesOn, GoesOnFrom};
+
+use crate::code::Code;
+use crate::instructions::Instruction;
+use crate::operands::{OperandPlace, Wanted};
+use crate::scope::SlotScope;
+use crate::types::{is_struct, written_type};
+use go_ast::syntax::{BinaryOp, PrefixOp};
+use go_ast::tree::{CompositeLit, Element, Expr, ExprItem, Link, Operand};
+use std::alloc::{AllocError, Global};
+
+/// Whether an operand that stands so is the name of a package when so many links stand behind it.
+fn is_qualifier(head: OperandPlace<'_>, links: usize) -> bool
+    ensures { result ≡ (links == 0 && qualifies (standing_of head.entry)) }
+{
+    links == 0 && head.qualifies()
+}
+
+impl<'a> SlotScope<'a> {
+    /// What an operand behind which links stand is to the code before the link of that number, as that link sees it.
+    fn standing_before(
+        self,
+        head: OperandPlace<'a>,
+        links: &[Link],
+        number: usize,
+    ) -> OperandPlace<'a>
+        requires { number ≤ length links.now }
+        ensures { (o : operands.Operand) → before_link o.standing ≡ before_link (standing_of head.entry) →
+            before_link (linked (source_of self.entry.source.now) self.entry.slots.now.places.items o (links_in (take number links.now))).standing ≡ before_link (standing_of result) }
+    {
+        if number == 0 {
+            return head;
+        }
+        let last = number - 1;
+        match &links[last] {
+            Link::Selector { name, .. } => {
+                self.selector_standing(*name, is_qualifier(head, last))
+            }
+            Link::Index { .. } => OperandPlace::Values(1),
+            Link::Call { .. } => OperandPlace::Values(1),
+        }
+    }
+
+    /// How many values the last of some links leaves.
+    fn left_by_links(self, head: OperandPlace<'a>, links: &[Link], last: usize) -> usize
+        requires { last < length links.now }
+        ensures { (o : operands.Operand) → before_link o.standing ≡ before_link (standing_of head.entry) →
+            value_count (linked (source_of self.entry.source.now) self.entry.slots.now.places.items o (links_in (take (last + 1) links.now))).standing ≡ result }
+    {
+        match &links[last] {
+            Link::Selector { name, .. } => self
+                .selector_standing(*name, is_qualifier(head, last))
+                .values(),
+            Link::Index { .. } => 1,
+            Link::Call { .. } => self.standing_before(head, links, last).left_by_call(),
+        }
+    }
+
+    /// What an expression is to the code.
+    pub fn standing(self, e: &Expr) -> OperandPlace<'a>
+        ensures { standing_of result ≡ (operand_of (source_of self.entry.source.now) self.entry.slots.now.places.items (expr_view e.now)).standing }
+    {
+        match e {
+            Expr::Name(place) => self.name_standing(*place),
+            Expr::Blank(_) => OperandPlace::Values(0),
+            Expr::Chain { first, links } => {
+                let head = self.standing(first);
+                if links.is_empty() {
+                    return OperandPlace::Values(head.values());
+                }
+                OperandPlace::Values(self.left_by_links(head, links, links.len() - 1))
+            }
+            Expr::Number(_)
+            | Expr::Text(_)
+            | Expr::Composite(_)
+            | Expr::Paren { .. }
+            | Expr::Prefix { .. }
+            | Expr::Address { .. }
+            | Expr::Binary { .. } => OperandPlace::Values(1),
+        }
+    }
+}
+
+/// Puts the line of a prefix operator, and answers what is wanted of its operand.
+#[tactic(auto, unfolding(crate::specs::LineView::line_of))]
+fn put_prefix(op: PrefixOp, want: Wanted, code: &mut Code<'_>) -> Result<(), AllocError>
+    ensures { OnOk result (GoesOnFrom (λ a. lines_for want (prefixed op a)) code.old code.new) }
+{
+    match (op, want) {
+        (PrefixOp::Plus, _) | (PrefixOp::Deref, Wanted::Address) => Ok(()),
+        (PrefixOp::Minus, _) => code.put(Instruction::Negate),
+        (PrefixOp::Not, _) => code.put(Instruction::Not),
+        (PrefixOp::Deref, Wanted::Value) => code.put(Instruction::Load),
+    }
+}
+
+/// Puts the line of a call with so many arguments of what stands so.
+#[tactic(auto, unfolding(crate::specs::LineView::line_of, crate::specs::Operands::calling, crate::specs::Making::standing_of))]
+fn put_call<'a>(
+    standing: OperandPlace<'a>,
+    count: usize,
+    code: &mut Code<'a>,
+) -> Result<(), AllocError>
+    requires { count < 2 ^ 63 }
+    ensures { OnOk result (Puts (calling count (standing_of standing.entry)) code.old code.new) }
+{
+    match standing {
+        OperandPlace::Called {
+            received,
+            function,
+            ..
+        } => {
+            let arguments = if received { count + 1 } else { count };
+            code.put(Instruction::Call {
+                function,
+                arguments,
+            })
+        }
+        OperandPlace::Predeclared(builtin) => code.put(Instruction::CallBuiltin {
+            builtin,
+            arguments: count,
+        }),
+        OperandPlace::Values(_) | OperandPlace::Converts | OperandPlace::Qualifies => Ok(()),
+    }
+}
+
+/// Puts the line of an index, by what is wanted.
+#[tactic(auto, unfolding(crate::specs::LineView::line_of))]
+fn put_index(want: Wanted, code: &mut Code<'_>) -> Result<(), AllocError>
+    ensures { OnOk result (Puts (index_lines want) code.old code.new) }
+{
+    match want {
+        Wanted::Value => code.put(Instruction::Index),
+        Wanted::Address => code.put(Instruction::IndexAddress),
+    }
+}
+
+/// The jump of `&&` or `||` over so many lines.
+#[tactic(auto, unfolding(crate::specs::LineView::line_of))]
+fn test_line<'a>(op: BinaryOp, passed: usize) -> Instruction<'a>
+    ensures { (n : ℕ) → passed ≡ suc n → test_lines op n ≡ Duplicate ∷ line_of result ∷ Pop ∷ [] }
+{
+    match op {
+        BinaryOp::Or => Instruction::JumpIf(passed),
+        _ => Instruction::JumpUnless(passed),
+    }
+}
+
+/// Puts what stands between the operands of `&&` or `||`, behind the second of which there were `end` lines.
+fn put_test(op: BinaryOp, end: usize, code: &mut Code<'_>) -> Result<(), AllocError>
+    requires { end ≤ length (lines_in code.old) }
+    ensures { OnOk result (Puts (test_lines op (length (lines_in code.old) - end)) code.old code.new) }
+{
+    code.put(Instruction::Pop)?;
+    let passed = code.len() - end;
+    code.put(test_line(op, passed))?;
+    code.put(Instruction::Duplicate)
+}
+
+/// The lines of an expression, of its value or its address as is wanted.
+#[cycle(expression)]
+pub fn operand<'a>(
+    alloc: Global,
+    scope: SlotScope<'a>,
+    e: &Expr,
+    want: Wanted,
+    code: &mut Code<'a>,
+) -> Result<(), AllocError>
+    ensures { OnOk result (Puts (lines_for want (operand_of (source_of scope.entry.source.now) scope.entry.slots.now.places.items (expr_view e.now))) code.old code.new) }
+{
+    match e {
+        Expr::Number(place) => scope.put_number(*place, code),
+        Expr::Text(place) => scope.put_text(*place, code),
+        Expr::Name(place) => scope.put_name(*place, want, code),
+        Expr::Blank(_) => Ok(()),
+        Expr::Composite(lit) => literal(alloc, scope, lit, code),
+        Expr::Paren { inner, .. } => operand(alloc, scope, inner, want, code),
+        Expr::Prefix {
+            op,
+            operand: inner,
+            ..
+        } => {
+            put_prefix(*op, want, code)?;
+            operand(alloc, scope, inner, Wanted::Value, code)
+        }
+        Expr::Address { literal: lit, .. } => {
+            code.put(Instruction::New)?;
+            literal(alloc, scope, lit, code)
+        }
+        Expr::Chain { first, links } => {
+            let head = scope.standing(first);
+            let want = chain(alloc, scope, links, head, want, code)?;
+            operand(alloc, scope, first, want, code)
+        }
+        Expr::Binary { first, rest } => {
+            operations(alloc, scope, rest, code)?;
+            operand(alloc, scope, first, Wanted::Value, code)
+        }
+    }
+}
+
+/// The links behind an operand that stands so; answers what is wanted of it.
+#[cycle(expression)]
+fn chain<'a>(
+    alloc: Global,
+    scope: SlotScope<'a>,
+    links: &[Link],
+    head: OperandPlace<'a>,
+    want: Wanted,
+    code: &mut Code<'a>,
+) -> Result<Wanted, AllocError>
+    ensures { IfOk result (λ w. GoesOn (λ o. linked (source_of scope.entry.source.now) scope.entry.slots.now.places.items o (links_in links.now)) (standing_of head.entry) want w code.old code.new) }
+{
+    let mut want = want;
+    for i in (0..links.len()).rev() {
+        let standing = scope.standing_before(head, links, i);
+        want = link(alloc, scope, &links[i], standing, want, code)?;
+    }
+    Ok(want)
+}
+
+/// One link behind an operand that stands so; answers what is wanted of it.
+#[cycle(expression)]
+fn link<'a>(
+    alloc: Global,
+    scope: SlotScope<'a>,
+    next: &Link,
+    standing: OperandPlace<'a>,
+    want: Wanted,
+    code: &mut Code<'a>,
+) -> Result<Wanted, AllocError>
+    ensures { IfOk result (λ w. GoesOn (one_link (source_of scope.entry.source.now) scope.entry.slots.now.places.items (link_view next.now no_link)) (standing_of standing.entry) want w code.old code.new) }
+{
+    match next {
+        Link::Selector { name, .. } => scope.put_selector(*name, standing.qualifies(), want, code),
+        Link::Index { index, .. } => {
+            put_index(want, code)?;
+            operand(alloc, scope, index, Wanted::Value, code)?;
+            Ok(Wanted::Value)
+        }
+        Link::Call {
+            arguments: list,
+            ..
+        } => {
+            put_call(standing, list.len(), code)?;
+            arguments(alloc, scope, list, code)?;
+            Ok(Wanted::Value)
+        }
+    }
+}
+
+/// The operators and operands behind a first operand.
+#[cycle(expression)]
+fn operations<'a>(
+    alloc: Global,
+    scope: SlotScope<'a>,
+    rest: &[Operand],
+    code: &mut Code<'a>,
+) -> Result<(), AllocError>
+    ensures { OnOk result (GoesOnFrom (λ a. operations (source_of scope.entry.source.now) scope.entry.slots.now.places.items a (operands_in rest.now)) code.old code.new) }
+{
+    for i in (0..rest.len()).rev() {
+        operation(alloc, scope, &rest[i], code)?;
+    }
+    Ok(())
+}
+
+/// One operator with the operand behind it.
+#[cycle(expression)]
+fn operation<'a>(
+    alloc: Global,
+    scope: SlotScope<'a>,
+    next: &Operand,
+    code: &mut Code<'a>,
+) -> Result<(), AllocError>
+    ensures { OnOk result (GoesOnFrom (λ a. operated next.now.op a (value_lines (source_of scope.entry.source.now) scope.entry.slots.now.places.items (expr_view next.now.value))) code.old code.new) }
+{
+    match next.op {
+        BinaryOp::And | BinaryOp::Or => {
+            let end = code.len();
+            operand(alloc, scope, &next.value, Wanted::Value, code)?;
+            put_test(next.op, end, code)
+        }
+        op => {
+            code.put(Instruction::Operate(op))?;
+            operand(alloc, scope, &next.value, Wanted::Value, code)
+        }
+    }
+}
+
+/// The arguments of a call, or other values in turn.
+#[cycle(expression)]
+pub fn arguments<'a>(
+    alloc: Global,
+    scope: SlotScope<'a>,
+    list: &[ExprItem],
+    code: &mut Code<'a>,
+) -> Result<(), AllocError>
+    ensures { OnOk result (Puts (argument_lines (source_of scope.entry.source.now) scope.entry.slots.now.places.items (arguments_in list.now)) code.old code.new) }
+{
+    for i in (0..list.len()).rev() {
+        operand(alloc, scope, &list[i].value, Wanted::Value, code)?;
+    }
+    Ok(())
+}
+
+/// A composite literal.
+#[cycle(expression)]
+fn literal<'a>(
+    alloc: Global,
+    scope: SlotScope<'a>,
+    lit: &CompositeLit,
+    code: &mut Code<'a>,
+) -> Result<(), AllocError>
+    ensures { OnOk result (Puts (literal_lines (source_of scope.entry.source.now) scope.entry.slots.now.places.items (literal_view lit.now)) code.old code.new) }
+{
+    let Some(own) = written_type(alloc, &scope.source.world, &lit.literal_type)? else {
+        return Ok(());
+    };
+    if is_struct(&scope.source.world, &own) {
+        keyed(alloc, scope, &lit.elements, code)?;
+        return code.put(Instruction::Zero(own));
+    }
+    code.put(Instruction::MakeSlice(lit.elements.len()))?;
+    bare(alloc, scope, &lit.elements, code)
+}
+
+/// The elements of a struct's literal.
+#[cycle(expression)]
+fn keyed<'a>(
+    alloc: Global,
+    scope: SlotScope<'a>,
+    list: &[Element],
+    code: &mut Code<'a>,
+) -> Result<(), AllocError>
+    ensures { OnOk result (Puts (keyed_lines (source_of scope.entry.source.now) scope.entry.slots.now.places.items (elements_in list.now)) code.old code.new) }
+{
+    for i in (0..list.len()).rev() {
+        scope.put_key(&list[i].key, code)?;
+        operand(alloc, scope, &list[i].value, Wanted::Value, code)?;
+    }
+    Ok(())
+}
+
+/// The elements of a slice's literal.
+#[cycle(expression)]
+fn bare<'a>(
+    alloc: Global,
+    scope: SlotScope<'a>,
+    list: &[Element],
+    code: &mut Code<'a>,
+) -> Result<(), AllocError>
+    ensures { OnOk result (Puts (bare_lines (source_of scope.entry.source.now) scope.entry.slots.now.places.items (elements_in list.now)) code.old code.new) }
+{
+    for i in (0..list.len()).rev() {
+        operand(alloc, scope, &list[i].value, Wanted::Value, code)?;
+    }
+    Ok(())
+}

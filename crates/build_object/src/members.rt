@@ -1,0 +1,196 @@
+//! Selectors and keys, as the code of a function uses them.
+ghost use Rattle.std.specs.Prelude.{◌≡◌, ◌++◌, ◌∷◌, [], IfOk, OnOk};
+ghost use Rattle.go_ast.specs.View.{key_view};
+ghost use Rattle.types_expr.specs.View.{type_of};
+ghost use Rattle.types_expr.specs.WorldView.{member_of};
+ghost use Rattle.build_object.specs.Lines.{line_if_known, With};
+ghost use Rattle.build_object.specs.LineView.{line_of, lines_in, Puts};
+ghost use Rattle.build_object.specs.SourceView.{source_of};
+ghost use Rattle.build_object.specs.Operands.{Operand, qualifies, field_operand, receiver_lines, member_operand, typed_selector, selected};
+ghost use Rattle.build_object.specs.Expressions.{key_position};
+ghost use Rattle.build_object.specs.Making.{field_lines, lines_for, standing_of, GoesOnBehind, GoesOnAlways};
+
+use crate::code::Code;
+use crate::instructions::Instruction;
+use crate::operands::{OperandPlace, Wanted};
+use crate::scope::SlotScope;
+use go_ast::tree::Key;
+use std::alloc::AllocError;
+use types_expr::types::GoType;
+use types_expr::world::Member;
+
+/// The line of a field that stands at a place of its struct.
+#[tactic(auto, unfolding(crate::specs::LineView::line_of))]
+fn field_line<'a>(position: usize, through: bool, want: Wanted) -> Instruction<'a>
+    ensures { line_of result ∷ [] ≡ field_lines want through (Some position) }
+{
+    match (want, through) {
+        (Wanted::Address, _) => Instruction::FieldAddress(position),
+        (Wanted::Value, true) => Instruction::FieldThrough(position),
+        (Wanted::Value, false) => Instruction::Field(position),
+    }
+}
+
+/// Puts the line of a field, and answers what is wanted of the value before it.
+fn put_field(
+    position: Option<usize>,
+    through: bool,
+    want: Wanted,
+    code: &mut Code<'_>,
+) -> Result<Wanted, AllocError>
+    ensures { IfOk result (λ w. GoesOnAlways (λ o. field_operand o through position) want w code.old code.new) }
+{
+    if let Some(position) = position {
+        code.put(field_line(position, through, want))?;
+    }
+    if through { Ok(Wanted::Value) } else { Ok(want) }
+}
+
+/// Puts the line of a receiver, and answers what is wanted of the value before the method.
+#[tactic(auto, unfolding(crate::specs::LineView::line_of))]
+fn put_receiver(
+    is_pointer: bool,
+    on_pointer: bool,
+    code: &mut Code<'_>,
+) -> Result<Wanted, AllocError>
+    ensures { IfOk result (λ w. (o : Operand) → receiver_lines o is_pointer on_pointer ++ lines_in code.old ≡ lines_for w o ++ lines_in code.new) }
+{
+    match (is_pointer, on_pointer) {
+        (true, true) | (false, false) => Ok(Wanted::Value),
+        (false, true) => Ok(Wanted::Address),
+        (true, false) => {
+            code.put(Instruction::Load)?;
+            Ok(Wanted::Value)
+        }
+    }
+}
+
+impl<'a> SlotScope<'a> {
+    /// Puts the line of a member of values of that type, and answers what is wanted of the value before it.
+    #[tactic(auto, unfolding(types_expr::specs::WorldView::member_of, crate::specs::Operands::member_operand))]
+    fn put_member(
+        self,
+        before: &GoType,
+        member: Member<'_>,
+        want: Wanted,
+        code: &mut Code<'a>,
+    ) -> Result<Wanted, AllocError>
+        ensures { IfOk result (λ w. GoesOnAlways (λ o. member_operand (source_of self.entry.source.now) o (type_of before.now) (Some (member_of member.entry))) want w code.old code.new) }
+    {
+        match member {
+            Member::Field(field) => {
+                let through = self.source.world.underlying(before).is_pointer();
+                put_field(
+                    self.source.packages.position(&field.symbol),
+                    through,
+                    want,
+                    code,
+                )
+            }
+            Member::Method(method) => match &method.signature {
+                None => Ok(Wanted::Value),
+                Some(_) => put_receiver(before.is_pointer(), method.on_pointer, code),
+            },
+        }
+    }
+
+    /// Puts the line of the name at a token behind a dot, and answers what is wanted of the value before it.
+    #[tactic(auto, unfolding(crate::specs::Operands::typed_selector, crate::specs::Operands::member_operand))]
+    fn put_typed(
+        self,
+        token: usize,
+        want: Wanted,
+        code: &mut Code<'a>,
+    ) -> Result<Wanted, AllocError>
+        ensures { IfOk result (λ w. GoesOnAlways (λ o. typed_selector (source_of self.entry.source.now) token o ((source_of self.entry.source.now).before token)) want w code.old code.new) }
+    {
+        let Some(before) = self.source.before(token) else {
+            return Ok(Wanted::Value);
+        };
+        match self.source.world.member(token, before) {
+            None => Ok(Wanted::Value),
+            Some(member) => self.put_member(before, member, want, code),
+        }
+    }
+
+    /// Puts the lines of a selector behind the name of a package or another operand, and answers what is wanted of the operand.
+    #[tactic(auto, unfolding(crate::specs::Operands::selected_by))]
+    pub fn put_selector(
+        self,
+        token: usize,
+        qualified: bool,
+        want: Wanted,
+        code: &mut Code<'a>,
+    ) -> Result<Wanted, AllocError>
+        ensures { IfOk result (λ w. GoesOnBehind (selected (source_of self.entry.source.now) self.entry.slots.now.places.items token) qualified want w code.old code.new) }
+    {
+        if !qualified {
+            return self.put_typed(token, want, code);
+        }
+        self.put_name(token, want, code)?;
+        Ok(Wanted::Value)
+    }
+
+    /// What the name at a token behind a dot is to the code.
+    #[tactic(auto, unfolding(types_expr::specs::WorldView::member_of, crate::specs::Operands::typed_selector, crate::specs::Operands::member_operand, crate::specs::Making::standing_of))]
+    fn typed_standing(self, token: usize) -> OperandPlace<'a>
+        ensures { (o : Operand) → (typed_selector (source_of self.entry.source.now) token o ((source_of self.entry.source.now).before token)).standing ≡ standing_of result }
+    {
+        let Some(before) = self.source.before(token) else {
+            return OperandPlace::Values(0);
+        };
+        match self.source.world.member(token, before) {
+            None => OperandPlace::Values(0),
+            Some(Member::Field(_)) => OperandPlace::Values(1),
+            Some(Member::Method(method)) => match &method.signature {
+                None => OperandPlace::Values(0),
+                Some(signature) => OperandPlace::of_function(
+                    self.source.packages.function(&method.symbol),
+                    true,
+                    signature.results.len(),
+                ),
+            },
+        }
+    }
+
+    /// What a selector is to the code behind the name of a package or another operand.
+    #[tactic(auto, unfolding(crate::specs::Operands::selected_by))]
+    pub fn selector_standing(self, token: usize, qualified: bool) -> OperandPlace<'a>
+        ensures { (o : Operand) → qualifies o.standing ≡ qualified →
+            (selected (source_of self.entry.source.now) self.entry.slots.now.places.items token o).standing ≡ standing_of result }
+    {
+        if qualified {
+            self.name_standing(token).unqualified()
+        } else {
+            self.typed_standing(token)
+        }
+    }
+
+    /// Where the field that a key names stands in its struct.
+    #[tactic(auto, unfolding(types_expr::specs::WorldView::member_of))]
+    fn key_position(self, key: &Option<Key>) -> Option<usize>
+        ensures { result ≡ key_position (source_of self.entry.source.now) (key_view key.now) }
+    {
+        let Some(key) = key else {
+            return None;
+        };
+        let Some(before) = self.source.before(key.name) else {
+            return None;
+        };
+        match self.source.world.member(key.name, before) {
+            Some(Member::Field(field)) => self.source.packages.position(&field.symbol),
+            _ => None,
+        }
+    }
+
+    /// Puts the line that sets the field of a key.
+    #[tactic(auto, unfolding(crate::specs::LineView::line_of))]
+    pub fn put_key(self, key: &Option<Key>, code: &mut Code<'a>) -> Result<(), AllocError>
+        ensures { OnOk result (Puts (line_if_known With (key_position (source_of self.entry.source.now) (key_view key.now))) code.old code.new) }
+    {
+        match self.key_position(key) {
+            None => Ok(()),
+            Some(position) => code.put(Instruction::With(position)),
+        }
+    }
+}

@@ -1,0 +1,195 @@
+//! What the declarations of packages are called, made from their files.
+ghost use Rattle.std.specs.Prelude.{◌≡◌, ◌<◌, ◌≤◌, ◌+◌, ◌-◌, ◌^◌, ◌++◌, length, map, IfOk, OnOk};
+ghost use Rattle.std.specs.List.{flat_map};
+ghost use Rattle.go_ast.specs.View.{list_view};
+ghost use Rattle.go_ast.specs.FileView.{body_view, field_view};
+ghost use Rattle.go_ast.specs.SourceFile.{source_of};
+ghost use Rattle.types_declared.specs.DeclaredView.{type_of, function_of as placed_function};
+ghost use Rattle.build_object.specs.LineView.{global_of, function_of};
+ghost use Rattle.build_object.specs.Names.{body_positions, function_behind, function_called, functions_behind, initializers_among, initializers_with, is_initializer, names_of_fields, positions_from, spelled_in, type_called, type_positions};
+ghost use Rattle.build_object.specs.NamesView.{AreTablesOf};
+
+use crate::instructions::{FunctionName, GlobalName};
+use crate::packages::DeclaredTables;
+use go_ast::FileTree;
+use go_ast::tree::{FieldDecl, Item, TypeBody};
+use std::alloc::{AllocError, Global};
+use types_declared::{Declared, Function, TypeDef};
+
+/// How a token of a file is spelled, by the rank of the file.
+fn spelling(files: &[FileTree], file: usize, token: usize) -> &[u8]
+    ensures { result.now ≡ spelled_in (map source_of files.now) file token }
+{
+    match files.get(file) {
+        None => &[],
+        Some(tree) => tree.spelling(token),
+    }
+}
+
+/// What a type definition is called.
+#[tactic(auto, unfolding(go_ast::specs::FileView::type_spec_view))]
+pub(crate) fn type_called<'a>(
+    path: &'a [u8],
+    files: &'a [FileTree],
+    own: TypeDef<'_>,
+) -> GlobalName<'a>
+    ensures { global_of result ≡ type_called path.now (map source_of files.now) (type_of own.entry) }
+{
+    GlobalName {
+        path,
+        name: spelling(files, own.file, own.spec.name),
+    }
+}
+
+/// Whether a function is a function `init`.
+#[tactic(auto, unfolding(go_ast::specs::FileView::func_view))]
+pub(crate) fn is_initializer(files: &[FileTree], function: Function<'_>) -> bool
+    ensures { result ≡ is_initializer (map source_of files.now) (placed_function function.entry) }
+{
+    match &function.func.receiver {
+        None => spelling(files, function.file, function.func.name) == b"init".as_slice(),
+        Some(_) => false,
+    }
+}
+
+/// What a function is called that is no `init`.
+#[tactic(auto, unfolding(go_ast::specs::FileView::func_view, go_ast::specs::FileView::receiver_view, crate::specs::LineView::function_of))]
+pub(crate) fn function_called<'a>(
+    path: &'a [u8],
+    files: &'a [FileTree],
+    function: Function<'_>,
+) -> FunctionName<'a>
+    ensures { function_of result ≡ function_called path.now (map source_of files.now) (placed_function function.entry) }
+{
+    let name = spelling(files, function.file, function.func.name);
+    match &function.func.receiver {
+        None => FunctionName::Plain(GlobalName { path, name }),
+        Some(receiver) => FunctionName::Method {
+            receiver: GlobalName {
+                path,
+                name: spelling(files, function.file, receiver.type_name),
+            },
+            name,
+        },
+    }
+}
+
+/// What a function is called behind so many functions `init`.
+#[tactic(auto, unfolding(crate::specs::LineView::function_of))]
+fn function_behind<'a>(
+    path: &'a [u8],
+    files: &'a [FileTree],
+    number: usize,
+    function: Function<'_>,
+) -> FunctionName<'a>
+    ensures { function_of result ≡ function_behind path.now (map source_of files.now) number (placed_function function.entry) }
+{
+    if is_initializer(files, function) {
+        FunctionName::Initializer { path, number }
+    } else {
+        function_called(path, files, function)
+    }
+}
+
+/// How many functions `init` there are with this function, behind so many.
+pub(crate) fn initializers_with(files: &[FileTree], number: usize, function: Function<'_>) -> usize
+    requires { number + 1 < 2 ^ 64 }
+    ensures counted { result ≡ initializers_with (map source_of files.now) number (placed_function function.entry) }
+    ensures bounded { result ≤ number + 1 }
+{
+    if is_initializer(files, function) {
+        number + 1
+    } else {
+        number
+    }
+}
+
+/// How many functions `init` are among functions.
+pub(crate) fn initializers(files: &[FileTree], functions: &[Function<'_>]) -> usize
+    ensures { result ≡ initializers_among (map source_of files.now) 0 (map placed_function functions.now) }
+{
+    let mut number = 0;
+    for i in 0..functions.len() {
+        number = initializers_with(files, number, functions[i]);
+    }
+    number
+}
+
+/// What the functions of a package are called.
+pub fn function_names<'a>(
+    alloc: Global,
+    path: &'a [u8],
+    files: &'a [FileTree],
+    functions: &[Function<'_>],
+) -> Result<Vec<FunctionName<'a>>, AllocError>
+    ensures { IfOk result (λ names. map function_of names.items ≡ functions_behind path.now (map source_of files.now) 0 (map placed_function functions.now)) }
+{
+    let mut names = Vec::new(alloc);
+    let mut initializers = 0;
+    for i in 0..functions.len() {
+        let function = functions[i];
+        names.push(function_behind(path, files, initializers, function))?;
+        initializers = initializers_with(files, initializers, function);
+    }
+    Ok(names)
+}
+
+/// Adds where fields of one type stand, the fields of whose struct begin behind so many positions.
+fn add_field(positions: &mut Vec<usize>, begin: usize, field: &FieldDecl) -> Result<(), AllocError>
+    requires { begin ≤ length positions.old.items }
+    ensures { OnOk result (positions.new.items ≡ positions.old.items ++ positions_from (length positions.old.items - begin) (field_view field.now).names) }
+{
+    for _name in &field.names {
+        let position = positions.len() - begin;
+        positions.push(position)?;
+    }
+    Ok(())
+}
+
+/// Adds where the fields of a struct stand in it.
+fn add_fields(positions: &mut Vec<usize>, fields: &[Item<FieldDecl>]) -> Result<(), AllocError>
+    ensures { OnOk result (positions.new.items ≡ positions.old.items ++ positions_from 0 (names_of_fields (list_view field_view fields.now))) }
+{
+    let begin = positions.len();
+    for field in fields {
+        add_field(positions, begin, &field.value)?;
+    }
+    Ok(())
+}
+
+/// Adds where the fields of what a type is defined as stand.
+#[tactic(auto, unfolding(go_ast::specs::FileView::body_view))]
+fn add_body(positions: &mut Vec<usize>, body: &TypeBody) -> Result<(), AllocError>
+    ensures { OnOk result (positions.new.items ≡ positions.old.items ++ body_positions (body_view body.now)) }
+{
+    match body {
+        TypeBody::Type(_) => Ok(()),
+        TypeBody::Struct { fields, .. } => add_fields(positions, fields),
+    }
+}
+
+/// Where the fields of a package's structs stand in them.
+#[tactic(auto, unfolding(go_ast::specs::FileView::type_spec_view))]
+fn field_positions(alloc: Global, types: &[TypeDef<'_>]) -> Result<Vec<usize>, AllocError>
+    ensures { IfOk result (λ positions. positions.items ≡ flat_map type_positions (map type_of types.now)) }
+{
+    let mut positions = Vec::new(alloc);
+    for own in types {
+        add_body(&mut positions, &own.spec.body)?;
+    }
+    Ok(positions)
+}
+
+impl<'a> DeclaredTables<'a> {
+    /// What a package declares, by tables. Its files are in the order of their paths.
+    pub fn of(alloc: Global, files: &'a [FileTree]) -> Result<DeclaredTables<'a>, AllocError>
+        ensures { IfOk result (AreTablesOf (map source_of files.now)) }
+    {
+        let declared = Declared::of(alloc, files)?;
+        let positions = field_positions(alloc, &declared.types)?;
+        Ok(DeclaredTables {
+            declared,
+            positions,
+        })
+    }
+}

@@ -1,0 +1,54 @@
+//! Places in a list, found again in one step.
+ghost use Rattle.std.specs.Prelude.{◌≡◌, ◌==◌, ℕ, IfOk, OnOk};
+ghost use Rattle.std.specs.BTreeMap.{get};
+ghost use Rattle.std.specs.Ordering.{nat_cmp};
+ghost use Rattle.build_object.specs.Numbering.{slot_of, first_of};
+
+use std::alloc::{AllocError, Global};
+use std::collections::BTreeMap;
+
+/// Places, each numbered by where it first stands in the list.
+#[derive(Drop)]
+pub struct NumberedUses {
+    pub places: Vec<usize>,
+    numbers: BTreeMap<usize, usize>,
+    ghost numbered: { (place : ℕ) → get nat_cmp numbers place ≡ slot_of places.items place },
+}
+
+impl NumberedUses {
+    /// These places.
+    pub fn of(alloc: Global, places: Vec<usize>) -> Result<NumberedUses, AllocError>
+        ensures { IfOk result (λ n. n.places.items ≡ places.items) }
+    {
+        let numbers = number(alloc, &places)?;
+        Ok(NumberedUses { places, numbers })
+    }
+
+    /// The number of a place.
+    pub fn get(&self, place: usize) -> Option<usize>
+        ensures { result ≡ slot_of self.now.places.items place }
+    {
+        self.numbers.get(&place).copied()
+    }
+}
+
+/// Numbers a place, unless it has a number.
+fn note(numbers: &mut BTreeMap<usize, usize>, place: usize, number: usize) -> Result<(), AllocError>
+    ensures { OnOk result ((p : ℕ) → get nat_cmp numbers.new p ≡ first_of (get nat_cmp numbers.old p) (place == p) number) }
+{
+    if !numbers.contains_key(&place) {
+        numbers.insert(place, number)?;
+    }
+    Ok(())
+}
+
+/// The numbers of places.
+fn number(alloc: Global, places: &[usize]) -> Result<BTreeMap<usize, usize>, AllocError>
+    ensures { IfOk result (λ numbers. (place : ℕ) → get nat_cmp numbers place ≡ slot_of places.now place) }
+{
+    let mut numbers = BTreeMap::new(alloc);
+    for i in 0..places.len() {
+        note(&mut numbers, places[i], i)?;
+    }
+    Ok(numbers)
+}

@@ -1,0 +1,294 @@
+//! The text of the object of a package without faults.
+ghost use Rattle.std.specs.Prelude.{◌≡◌, ◌<◌, ◌≤◌, ◌++◌, ℕ, List, IfOk, OnOk, Some, length, map, slice_get};
+ghost use Rattle.go_ast.specs.SourceFile.{SourceFile, source_of};
+ghost use Rattle.go_scope.specs.Scoped.{scoped};
+ghost use Rattle.types_declared.specs.Files.{package_name};
+ghost use Rattle.types_declared.specs.PackageNames.{IsLaidOver};
+ghost use Rattle.types_expr.specs.WorldView.{world_of, name_in, spelling_of};
+ghost use Rattle.types_info.specs.BoundsView.{AreBounds};
+ghost use Rattle.types_info.specs.PackageOf.{package_in};
+ghost use Rattle.types_info.specs.Worlds.{IsWorldOf};
+ghost use Rattle.types_declared.specs.InterfacesView.{name_in as known_name, interface_in};
+ghost use Rattle.types_info.specs.MemberUses.{AreMemberUses, uses_in};
+ghost use Rattle.types_info.specs.NamesView.{AreNames};
+ghost use Rattle.types_declared.specs.Package.{spelled};
+ghost use Rattle.types_declared.specs.PackageView.{package_of, IsIndexOf};
+ghost use Rattle.types_info.specs.Uniqueness.{IsOneWorld};
+ghost use Rattle.build_object.specs.LineView.{function_of};
+ghost use Rattle.build_object.specs.Names.{function_names};
+ghost use Rattle.build_object.specs.Objects.{Object};
+ghost use Rattle.build_object.specs.ObjectText.{first_line};
+ghost use Rattle.build_object.specs.ObjectSteps.{uses_or_none, PutsHead, PutsFiles};
+ghost use Rattle.build_object.specs.ObjectView.{AreOwnDefinitions, HaveNames, IsObjectTextOf, OwnDefinitionsOf, PutsFile};
+ghost use Rattle.build_object.specs.Sources.{IsObjectText};
+
+use crate::declarations::push_decls;
+use crate::imports::push_imports;
+use crate::names::function_names;
+use crate::origin::Origin;
+use crate::packages::CalledPackages;
+use crate::printing::{push_between, push_words};
+use crate::sources::source;
+use go_ast::FileTree;
+use go_scope::declare::declare;
+use go_scope::table::ScopeTable;
+use std::alloc::{AllocError, Global};
+use types_declared::{Index, Interfaces, Package, broken_definitions, lay_names};
+use types_expr::found::MemberUse;
+use types_expr::symbol::SharedPath;
+use types_expr::world::{Bound, Definition, Name, World};
+use types_info::{Bounds, bounds_of, file_names, one_world};
+use workspace_graph::import_paths::import_paths;
+
+/// A package without faults: its path and its files, in the order of their paths; its own type definitions, and the uses of
+/// members that checking found, by files.
+#[derive(Clone, Copy)]
+pub struct Faultless<'a> {
+    pub path: &'a SharedPath,
+    pub files: &'a [FileTree],
+    pub definitions: &'a [Definition],
+    pub members: &'a [Vec<MemberUse>],
+}
+
+/// A file, and behind how many of the functions of its package those that it declares stand.
+#[derive(Clone, Copy)]
+struct Turn {
+    file: usize,
+    number: usize,
+}
+
+/// What a file is judged by, with the type definitions of its package as other packages see them. Checking judges it by the type
+/// definitions as it found them, which types_check has and no crate below both.
+fn own_world<'w>(
+    unit: Package<'w>,
+    names: &'w [Name<'w>],
+    bounds: &'w [Bound],
+    definitions: &'w [Definition],
+    file: usize,
+) -> World<'w>
+    requires names { AreNames (package_of unit) file bounds.now names.now }
+    requires definitions { AreOwnDefinitions (package_of unit) definitions.now }
+    ensures world { (s : SourceFile) → slice_get (package_of unit.entry).files file ≡ Some s → IsWorldOf (package_of unit.entry) file s (world_of result) }
+    ensures spelling { (token : ℕ) → spelling_of (name_in result token) ≡ spelled (package_of unit.entry) file token }
+{
+    World {
+        package: unit.path,
+        names,
+        bounds,
+        own: definitions,
+        imported: unit.interfaces.definitions(),
+    }
+}
+
+/// Adds what a file declares, by its names and what they mean. The names of the functions behind its own begin at the number
+/// that is answered.
+fn push_judged<'w>(
+    alloc: Global,
+    origin: Origin<'w>,
+    spelled: &'w [Name<'w>],
+    bounds: &'w [Bound],
+    turn: Turn,
+    text: &mut Vec<u8>,
+) -> Result<usize, AllocError>
+    requires index { IsIndexOf (package_of origin.unit) origin.index.now }
+    requires names { AreNames (package_of origin.unit) turn.file bounds.now spelled.now }
+    requires definitions { AreOwnDefinitions (package_of origin.unit) origin.definitions.now }
+    requires one { IsOneWorld (package_of origin.unit) }
+    requires in_range { turn.file < length origin.unit.files.now }
+    requires within { turn.number ≤ length origin.names.now }
+    ensures { IfOk result (λ others. PutsFile (package_of origin.entry.unit) turn.file (uses_or_none (slice_get origin.entry.members.now turn.file)) origin.entry.packages.now origin.entry.names.now turn.number others text.old.items text.new.items) }
+{
+    let judged_by = own_world(origin.unit, spelled, bounds, origin.definitions, turn.file);
+    let made_of = source(alloc, origin, judged_by, turn.file)?;
+    let files = origin.unit.files;
+    let tree = files[turn.file].file();
+    push_decls(
+        alloc,
+        &made_of,
+        origin.names,
+        turn.number,
+        &tree.decls,
+        text,
+    )
+}
+
+/// Adds what a file declares.
+fn push_file(
+    alloc: Global,
+    origin: Origin<'_>,
+    bounds: &mut Bounds,
+    turn: Turn,
+    text: &mut Vec<u8>,
+) -> Result<usize, AllocError>
+    requires index { IsIndexOf (package_of origin.unit) origin.index.now }
+    requires bounds { AreBounds (package_of origin.unit) bounds.old.list.items bounds.old.of.items }
+    requires definitions { AreOwnDefinitions (package_of origin.unit) origin.definitions.now }
+    requires one { IsOneWorld (package_of origin.unit) }
+    requires in_range { turn.file < length origin.unit.files.now }
+    requires within { turn.number ≤ length origin.names.now }
+    ensures puts { IfOk result (λ others. PutsFile (package_of origin.entry.unit) turn.file (uses_or_none (slice_get origin.entry.members.now turn.file)) origin.entry.packages.now origin.entry.names.now turn.number others text.old.items text.new.items) }
+    ensures bounds { OnOk result (AreBounds (package_of origin.entry.unit) bounds.new.list.items bounds.new.of.items) }
+{
+    let spelled = file_names(alloc, origin.unit, origin.index, bounds, turn.file)?;
+    push_judged(alloc, origin, &spelled, bounds.list(), turn, text)
+}
+
+/// Adds what the files of a package declare.
+fn push_files(
+    alloc: Global,
+    origin: Origin<'_>,
+    bounds: &mut Bounds,
+    text: &mut Vec<u8>,
+) -> Result<usize, AllocError>
+    requires index { IsIndexOf (package_of origin.unit) origin.index.now }
+    requires bounds { AreBounds (package_of origin.unit) bounds.old.list.items bounds.old.of.items }
+    requires definitions { AreOwnDefinitions (package_of origin.unit) origin.definitions.now }
+    requires one { IsOneWorld (package_of origin.unit) }
+    ensures { IfOk result (λ others. PutsFiles (package_of origin.entry.unit) (length origin.entry.unit.files.now) origin.entry.members.now origin.entry.packages.now origin.entry.names.now others text.old.items text.new.items) }
+{
+    let mut others = 0;
+    for file in 0..origin.unit.files.len() {
+        let turn = Turn {
+            file,
+            number: others,
+        };
+        others = push_file(alloc, origin, bounds, turn, text)?;
+    }
+    Ok(others)
+}
+
+/// The name in the clause of a package's first file.
+#[tactic(auto, unfolding(go_ast::specs::FileView::file_view))]
+fn package_name(files: &[FileTree]) -> &[u8]
+    ensures { result.now ≡ package_name (map source_of files.now) }
+{
+    match files.first() {
+        None => &[],
+        Some(file) => file.spelling(file.file().name),
+    }
+}
+
+/// Adds the first line of an object.
+fn push_first_line(text: &mut Vec<u8>, path: &[u8], name: &[u8]) -> Result<(), AllocError>
+    ensures { OnOk result ((o : Object) → o.path ≡ path.now → o.name ≡ name.now → text.new.items ≡ text.old.items ++ first_line o) }
+{
+    push_between(text, b"object ", path, b" ")?;
+    push_words(text, name, b"\n")
+}
+
+/// Adds the first lines of an object: its own, and those of its imports.
+fn push_head(alloc: Global, unit: Package<'_>, text: &mut Vec<u8>) -> Result<(), AllocError>
+    ensures { OnOk result (PutsHead (package_of unit.entry) text.old.items text.new.items) }
+{
+    push_first_line(text, unit.path.path(), package_name(unit.files))?;
+    let paths = import_paths(alloc, unit.files)?;
+    push_imports(text, &paths)
+}
+
+/// The text of the object of a package, where it is known what its declarations mean.
+fn meant_text(alloc: Global, origin: Origin<'_>, bounds: &mut Bounds) -> Result<Vec<u8>, AllocError>
+    requires index { IsIndexOf (package_of origin.unit) origin.index.now }
+    requires bounds { AreBounds (package_of origin.unit) bounds.old.list.items bounds.old.of.items }
+    requires definitions { AreOwnDefinitions (package_of origin.unit) origin.definitions.now }
+    requires one { IsOneWorld (package_of origin.unit) }
+    requires names { map function_of origin.names.now ≡ function_names origin.unit.path.now (map source_of origin.unit.files.now) }
+    ensures { IfOk result (λ text. (files_of : List ℕ → List SourceFile) → AreMemberUses (package_of origin.entry.unit) (map uses_in origin.entry.members.now) → HaveNames origin.entry.packages.now files_of → IsObjectText (package_of origin.entry.unit) files_of text.items) }
+{
+    let mut text = Vec::new(alloc);
+    push_head(alloc, origin.unit, &mut text)?;
+    push_files(alloc, origin, bounds, &mut text)?;
+    Ok(text)
+}
+
+/// What the declarations of a package mean.
+fn all_bounds(alloc: Global, unit: Package<'_>, index: &Index<'_>) -> Result<Bounds, AllocError>
+    requires { IsIndexOf (package_of unit) index.now }
+    ensures { IfOk result (λ bounds. AreBounds (package_of unit.entry) bounds.list.items bounds.of.items) }
+{
+    let broken = broken_definitions(alloc, unit, index)?;
+    bounds_of(alloc, unit, index, &broken)
+}
+
+/// The text of the object of a package that has no fault, by what is found once in it and by what its declarations mean. What other
+/// packages export may be added to the list of meanings.
+pub fn checked_object<'a>(
+    alloc: Global,
+    unit: Package<'a>,
+    index: &'a Index<'a>,
+    bounds: &mut Bounds,
+    given: Faultless<'a>,
+    packages: &'a CalledPackages<'a>,
+) -> Result<Vec<u8>, AllocError>
+    requires index { IsIndexOf (package_of unit) index.now }
+    requires bounds { AreBounds (package_of unit) bounds.old.list.items bounds.old.of.items }
+    requires definitions { AreOwnDefinitions (package_of unit) given.definitions.now }
+    ensures { IfOk result (λ text. (files_of : List ℕ → List SourceFile) → AreMemberUses (package_of unit.entry) (map uses_in given.entry.members.now) → HaveNames packages.now files_of → IsObjectText (package_of unit.entry) files_of text.items) }
+{
+    one_world(unit);
+    let names = function_names(
+        alloc,
+        unit.path.path(),
+        unit.files,
+        &index.declared.functions,
+    )?;
+    let origin = Origin {
+        unit,
+        index,
+        definitions: given.definitions,
+        members: given.members,
+        packages,
+        names: names.as_slice(),
+    };
+    meant_text(alloc, origin, bounds)
+}
+
+/// The table of a package in which each import without a name declares the name of the imported package. `types_check` lays the same
+/// for itself, in two calls: neither crate lists the other.
+fn laid<'a>(
+    alloc: Global,
+    files: &'a [FileTree],
+    interfaces: &'a Interfaces,
+) -> Result<ScopeTable<'a>, AllocError>
+    ensures { IfOk result (λ table. IsLaidOver (map source_of files.now) (known_name interfaces.now) (scoped files.now) table) }
+{
+    let plain = declare(alloc, files)?;
+    lay_names(alloc, &plain, files, interfaces)
+}
+
+/// The text of the object of a package with that table.
+fn laid_text(
+    alloc: Global,
+    given: Faultless<'_>,
+    table: &ScopeTable<'_>,
+    interfaces: &Interfaces,
+    packages: &CalledPackages<'_>,
+) -> Result<Vec<u8>, AllocError>
+    requires { AreOwnDefinitions (package_in given.path.now (map source_of given.files.now) table.now (interface_in interfaces.now)) given.definitions.now }
+    ensures { IfOk result (λ text. (files_of : List ℕ → List SourceFile) → AreMemberUses (package_in given.entry.path.now (map source_of given.entry.files.now) table.now (interface_in interfaces.now)) (map uses_in given.entry.members.now) →
+        HaveNames packages.now files_of → IsObjectText (package_in given.entry.path.now (map source_of given.entry.files.now) table.now (interface_in interfaces.now)) files_of text.items) }
+{
+    let unit = Package {
+        path: given.path,
+        files: given.files,
+        table,
+        interfaces,
+    };
+    let index = Index::of(alloc, unit)?;
+    let mut bounds = all_bounds(alloc, unit, &index)?;
+    checked_object(alloc, unit, &index, &mut bounds, given, packages)
+}
+
+/// The text of the object of a package that has no fault, by what is known of the packages that it sees and what packages call
+/// what they declare.
+pub fn object(
+    alloc: Global,
+    given: Faultless<'_>,
+    interfaces: &Interfaces,
+    packages: &CalledPackages<'_>,
+) -> Result<Vec<u8>, AllocError>
+    requires { OwnDefinitionsOf given.path.now given.files.now (known_name interfaces.now) (interface_in interfaces.now) given.definitions.now }
+    ensures { IfOk result (λ text. IsObjectTextOf given.entry.path.now given.entry.files.now (known_name interfaces.now) (interface_in interfaces.now) (map uses_in given.entry.members.now) packages.now text.items) }
+{
+    let table = laid(alloc, given.files, interfaces)?;
+    laid_text(alloc, given, &table, interfaces, packages)
+}

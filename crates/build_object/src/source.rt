@@ -1,0 +1,87 @@
+//! What the code of a file is made of beside its tree.
+ghost use Rattle.std.specs.Prelude.{◌≡◌, option_map};
+ghost use Rattle.types_expr.specs.View.{type_of};
+ghost use Rattle.build_object.specs.LineView.{global_of};
+ghost use Rattle.go_scope.specs.Named.{name_value};
+ghost use Rattle.build_object.specs.SourceView.{source_of};
+
+use crate::instructions::GlobalName;
+use crate::numbered::NumberedUses;
+use crate::packages::CalledPackages;
+use go_scanner::integer_value;
+use types_expr::found::MemberUse;
+use types_expr::types::GoType;
+use types_expr::world::World;
+
+/// What the name at a token is to code: the declaration of a package's block that it is bound to, and whether it is the predeclared
+/// `true`.
+#[derive(Clone, Copy)]
+pub struct Mark<'a> {
+    pub global: Option<GlobalName<'a>>,
+    pub truth: bool,
+}
+
+/// What names are bound to, by their tokens; the uses of members, with the tokens at which they stand; by tokens what names are to
+/// code, and the values of string literals. And what is called how in packages.
+#[derive(Drop)]
+pub struct Source<'a> {
+    pub world: World<'a>,
+    pub uses: &'a [MemberUse],
+    pub used: NumberedUses,
+    pub marks: Vec<Mark<'a>>,
+    pub texts: Vec<Option<Vec<u8>>>,
+    pub packages: &'a CalledPackages<'a>,
+}
+
+impl<'a> Source<'a> {
+    /// The type before the name at a token.
+    pub fn before(&self, token: usize) -> Option<&GoType>
+        ensures { option_map (λ t. type_of t.now) result ≡ (source_of self.now).before token }
+    {
+        match self.used.get(token) {
+            None => None,
+            Some(number) => match self.uses.get(number) {
+                None => None,
+                Some(next) => Some(&next.before),
+            },
+        }
+    }
+
+    /// The declaration of a package's block that the name at a token is bound to.
+    pub fn global(&self, token: usize) -> Option<GlobalName<'a>>
+        ensures { option_map global_of result ≡ (source_of self.now).global token }
+    {
+        match self.marks.get(token) {
+            None => None,
+            Some(mark) => mark.global,
+        }
+    }
+
+    /// Whether the truth value at a token is the true one.
+    pub fn truth(&self, token: usize) -> bool
+        ensures { result ≡ (source_of self.now).truth token }
+    {
+        match self.marks.get(token) {
+            None => false,
+            Some(mark) => mark.truth,
+        }
+    }
+
+    /// The value of the integer literal at a token.
+    pub fn number(&self, token: usize) -> Option<u64>
+        ensures { result ≡ (source_of self.now).number token }
+    {
+        integer_value(self.world.spelling(token))
+    }
+
+    /// The value of the string literal at a token.
+    pub fn text(&self, token: usize) -> Option<&[u8]>
+        ensures { name_value result ≡ (source_of self.now).text token }
+    {
+        match self.texts.get(token) {
+            None => None,
+            Some(None) => None,
+            Some(Some(text)) => Some(text),
+        }
+    }
+}

@@ -1,0 +1,213 @@
+//! What the code of a file is made of, from the scopes of its package and what checking found.
+ghost use Rattle.std.specs.Prelude.{◌≡◌, ◌<◌, ◌↔◌, ℕ, List, Some, codes, length, map, option_map, slice_get, IfOk, IsTrue, MatchOption};
+ghost use Rattle.go_ast.specs.SourceFile.{source_of as plain_file};
+ghost use Rattle.types_declared.specs.PackageView.{package_of, IsIndexOf};
+ghost use Rattle.types_declared.specs.Written.{BindsToken, IsPredeclared};
+ghost use Rattle.types_declared.specs.Written.{ImportsPath as DeclaresImport};
+ghost use Rattle.build_object.specs.LineView.{global_of};
+ghost use Rattle.build_object.specs.ObjectSteps.{uses_or_none};
+ghost use Rattle.build_object.specs.Sources.{IsBehindImport, IsGlobal, IsTextAt};
+ghost use Rattle.build_object.specs.TablesView.{AreMarks, AreTexts, IsMarkAt, IsTabled};
+
+use crate::instructions::GlobalName;
+use crate::numbered::NumberedUses;
+use crate::origin::Origin;
+use crate::source::{Mark, Source};
+use go_ast::FileTree;
+use go_scope::model::Block;
+use std::alloc::{AllocError, Global};
+use types_declared::{Index, Package};
+use types_expr::found::MemberUse;
+use types_expr::world::World;
+use types_info::is_behind_dot;
+
+/// What the string literal at a token stands for; none where no string literal stands there.
+fn literal(alloc: Global, file: &FileTree, token: usize) -> Result<Option<Vec<u8>>, AllocError>
+    ensures { IfOk result (λ value. IsTextAt (plain_file file.now) token (option_map (λ v. v.items) value)) }
+{
+    let pieces = file.pieces();
+    if token < pieces.tokens().len() {
+        pieces.string_value(alloc, token)
+    } else {
+        Ok(None)
+    }
+}
+
+/// The values of the string literals of a file, by their tokens.
+fn texts(alloc: Global, file: &FileTree) -> Result<Vec<Option<Vec<u8>>>, AllocError>
+    ensures { IfOk result (λ texts. AreTexts (plain_file file.now) texts.items) }
+{
+    let mut texts = Vec::new(alloc);
+    for token in 0..file.pieces().tokens().len() {
+        texts.push(literal(alloc, file, token)?)?;
+    }
+    Ok(texts)
+}
+
+/// The tokens of uses of members.
+fn used(alloc: Global, uses: &[MemberUse]) -> Result<NumberedUses, AllocError>
+    ensures { IfOk result (λ used. used.places.items ≡ map (λ u. u.place) uses.now) }
+{
+    let mut places = Vec::new(alloc);
+    for next in uses {
+        places.push(next.place)?;
+    }
+    NumberedUses::of(alloc, places)
+}
+
+/// The path of the import that the name at a token is bound to.
+fn import_at<'i>(
+    unit: Package<'_>,
+    index: &'i Index<'_>,
+    file: usize,
+    token: usize,
+) -> Option<&'i [u8]>
+    requires { IsIndexOf (package_of unit) index.now }
+    ensures { MatchOption result ((d : ℕ) (path : List ℕ) → BindsToken (package_of unit.entry) file token d → DeclaresImport (package_of unit.entry) d path → ⊥)
+        (λ path. (d : ℕ) × (BindsToken (package_of unit.entry) file token d × DeclaresImport (package_of unit.entry) d path.now)) }
+{
+    match index.binding(unit, file, token) {
+        None => None,
+        Some(d) => index.path(unit, d),
+    }
+}
+
+/// The path of the import behind whose name, and a dot, the name at a token stands.
+fn qualifier<'i>(
+    unit: Package<'_>,
+    index: &'i Index<'_>,
+    file: usize,
+    token: usize,
+) -> Option<&'i [u8]>
+    requires { IsIndexOf (package_of unit) index.now }
+    ensures { MatchOption result ((path : List ℕ) → IsBehindImport (package_of unit.entry) file token path → ⊥) (λ path. IsBehindImport (package_of unit.entry) file token path.now) }
+{
+    if token < 2 {
+        return None;
+    }
+    if is_behind_dot(unit, index, file, token) {
+        import_at(unit, index, file, token - 2)
+    } else {
+        None
+    }
+}
+
+/// Whether a declaration is the predeclared `true`.
+fn is_true(unit: Package<'_>, d: usize) -> bool
+    requires { d < length unit.table.now.sites }
+    ensures { IsTrue result ↔ IsPredeclared (package_of unit.entry) d (codes "true") }
+{
+    let role = unit.table.role(d);
+    role.is_implied()
+        && role.block().same(Block::Universe)
+        && unit.table.name(d) == b"true".as_slice()
+}
+
+/// The declaration of a package's block that the name at a token is bound to, where it is bound to this declaration.
+fn own_global<'a>(unit: Package<'a>, file: usize, token: usize, d: usize) -> Option<GlobalName<'a>>
+    requires in_range { d < length unit.table.now.sites }
+    requires bound { BindsToken (package_of unit) file token d }
+    requires only { (e : ℕ) → BindsToken (package_of unit) file token e → e ≡ d }
+    ensures { IsGlobal (package_of unit.entry) file token (option_map global_of result) }
+{
+    let is_own = unit.table.role(d).block().same(Block::Package);
+    if is_own {
+        Some(GlobalName {
+            path: unit.path.path(),
+            name: unit.spelling(file, token),
+        })
+    } else {
+        None
+    }
+}
+
+/// The declaration of an imported package's block that the name at a token is bound to, where it is bound to no declaration of
+/// its own package.
+fn imported_global<'a>(
+    unit: Package<'a>,
+    index: &'a Index<'_>,
+    file: usize,
+    token: usize,
+) -> Option<GlobalName<'a>>
+    requires index { IsIndexOf (package_of unit) index.now }
+    requires unbound { (d : ℕ) → BindsToken (package_of unit) file token d → ⊥ }
+    ensures { IsGlobal (package_of unit.entry) file token (option_map global_of result) }
+{
+    match qualifier(unit, index, file, token) {
+        None => None,
+        Some(path) => Some(GlobalName {
+            path,
+            name: unit.spelling(file, token),
+        }),
+    }
+}
+
+/// What the name at a token is to code.
+fn mark_at<'a>(unit: Package<'a>, index: &'a Index<'_>, file: usize, token: usize) -> Mark<'a>
+    requires { IsIndexOf (package_of unit) index.now }
+    ensures { IsMarkAt (package_of unit.entry) file token (Some result) }
+{
+    match index.binding(unit, file, token) {
+        None => Mark {
+            global: imported_global(unit, index, file, token),
+            truth: false,
+        },
+        Some(d) => Mark {
+            global: own_global(unit, file, token, d),
+            truth: is_true(unit, d),
+        },
+    }
+}
+
+/// What the names of a file are to code, by their tokens.
+fn marks<'a>(
+    alloc: Global,
+    unit: Package<'a>,
+    index: &'a Index<'_>,
+    file: usize,
+) -> Result<Vec<Mark<'a>>, AllocError>
+    requires { IsIndexOf (package_of unit) index.now }
+    ensures { IfOk result (λ marks. AreMarks (package_of unit.entry) file marks.items) }
+{
+    let mut marks = Vec::new(alloc);
+    for token in 0..index.identifiers.width(file) {
+        marks.push(mark_at(unit, index, file, token))?;
+    }
+    Ok(marks)
+}
+
+/// The uses of members of a file.
+fn uses_at(members: &[Vec<MemberUse>], file: usize) -> &[MemberUse]
+    ensures { result.now ≡ uses_or_none (slice_get members.now file) }
+{
+    match members.get(file) {
+        None => &[],
+        Some(uses) => uses,
+    }
+}
+
+/// What the code of a file is made of.
+pub fn source<'a>(
+    alloc: Global,
+    origin: Origin<'a>,
+    world: World<'a>,
+    file: usize,
+) -> Result<Source<'a>, AllocError>
+    requires index { IsIndexOf (package_of origin.unit) origin.index.now }
+    requires in_range { file < length origin.unit.files.now }
+    ensures { IfOk result (λ s. IsTabled (package_of origin.entry.unit) file world.entry (uses_or_none (slice_get origin.entry.members.now file)) origin.entry.packages.now s) }
+{
+    let uses = uses_at(origin.members, file);
+    let files = origin.unit.files;
+    let marks = marks(alloc, origin.unit, origin.index, file)?;
+    let texts = texts(alloc, &files[file])?;
+    let used = used(alloc, uses)?;
+    Ok(Source {
+        world,
+        uses,
+        used,
+        marks,
+        texts,
+        packages: origin.packages,
+    })
+}

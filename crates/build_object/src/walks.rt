@@ -1,0 +1,243 @@
+//! What a package declares at a rank, found by going over its files: of most packages in a closure nothing is asked.
+ghost use Rattle.std.specs.Prelude.{◌≡◌, ◌<◌, length, map, option_map, slice_get, take};
+ghost use Rattle.go_ast.specs.View.{group_view, list_view};
+ghost use Rattle.go_ast.specs.FileView.{decl_view, field_view, type_spec_view};
+ghost use Rattle.go_ast.specs.SourceFile.{source_of};
+ghost use Rattle.types_declared.specs.Files.{group_items};
+ghost use Rattle.types_declared.specs.DeclaredView.{type_of, function_of as placed_function};
+ghost use Rattle.types_declared.specs.Package.{decl_functions, decl_types, declared_functions, declared_types, functions_in, placed_type, types_in};
+ghost use Rattle.build_object.specs.Names.{field_positions, initializers_among, names_of_fields, positions_from};
+ghost use Rattle.build_object.specs.Walks.{Walks, decl_positions, file_positions, spec_positions};
+ghost use Rattle.std.specs.List.{flat_map};
+
+use crate::names::initializers_with;
+use go_ast::FileTree;
+use go_ast::tree::{Decl, FieldDecl, Group, Item, TypeBody, TypeSpec};
+use types_declared::{Function, TypeDef};
+
+/// The type definition of a rank among those behind one keyword, or the rank behind them.
+#[tactic(auto, unfolding(go_ast::specs::View::group_view))]
+fn type_in_group<'a>(
+    file: usize,
+    group: &'a Group<TypeSpec>,
+    rank: usize,
+) -> Result<TypeDef<'a>, usize>
+    ensures { Walks type_of (map (placed_type file) (group_items (group_view type_spec_view group.now))) rank result }
+{
+    match group {
+        Group::Single(spec) => {
+            if rank == 0 {
+                Ok(TypeDef { file, spec })
+            } else {
+                Err(rank - 1)
+            }
+        }
+        Group::Several { items, .. } => {
+            let count = items.len();
+            if rank < count {
+                let item = &items[rank];
+                Ok(TypeDef {
+                    file,
+                    spec: &item.value,
+                })
+            } else {
+                Err(rank - count)
+            }
+        }
+    }
+}
+
+/// The type definition of a rank among those of a declaration, or the rank behind them.
+#[tactic(auto, unfolding(go_ast::specs::FileView::decl_view))]
+fn type_in_decl<'a>(file: usize, decl: &'a Decl, rank: usize) -> Result<TypeDef<'a>, usize>
+    ensures { Walks type_of (decl_types file (decl_view decl.now)) rank result }
+{
+    match decl {
+        Decl::Type { group, .. } => type_in_group(file, group, rank),
+        Decl::Var { .. } => Err(rank),
+        Decl::Func { .. } => Err(rank),
+    }
+}
+
+/// The type definition of a rank among those of a file, or the rank behind them.
+fn type_in_file<'a>(file: usize, tree: &'a FileTree, rank: usize) -> Result<TypeDef<'a>, usize>
+    ensures { Walks type_of (types_in (file, source_of tree.now)) rank result }
+{
+    let tree = tree.file();
+    let mut rest = rank;
+    for decl in &tree.decls {
+        match type_in_decl(file, decl, rest) {
+            Ok(found) => return Ok(found),
+            Err(left) => rest = left,
+        }
+    }
+    Err(rest)
+}
+
+/// The type definition of a rank, if there is one.
+pub(crate) fn type_at(files: &[FileTree], rank: usize) -> Option<TypeDef<'_>>
+    ensures { option_map type_of result ≡ slice_get (declared_types (map source_of files.now)) rank }
+{
+    let mut rest = rank;
+    for file in 0..files.len() {
+        match type_in_file(file, &files[file], rest) {
+            Ok(found) => return Some(found),
+            Err(left) => rest = left,
+        }
+    }
+    None
+}
+
+/// The function of a rank among those of a declaration, or the rank behind them.
+#[tactic(auto, unfolding(go_ast::specs::FileView::decl_view))]
+fn function_in_decl<'a>(file: usize, decl: &'a Decl, rank: usize) -> Result<Function<'a>, usize>
+    ensures { Walks placed_function (decl_functions file (decl_view decl.now)) rank result }
+{
+    match decl {
+        Decl::Func { func, .. } => {
+            if rank == 0 {
+                Ok(Function { file, func })
+            } else {
+                Err(rank - 1)
+            }
+        }
+        Decl::Var { .. } => Err(rank),
+        Decl::Type { .. } => Err(rank),
+    }
+}
+
+/// The function of a rank among those of a file, or the rank behind them.
+fn function_in_file<'a>(file: usize, tree: &'a FileTree, rank: usize) -> Result<Function<'a>, usize>
+    ensures { Walks placed_function (functions_in (file, source_of tree.now)) rank result }
+{
+    let tree = tree.file();
+    let mut rest = rank;
+    for decl in &tree.decls {
+        match function_in_decl(file, decl, rest) {
+            Ok(found) => return Ok(found),
+            Err(left) => rest = left,
+        }
+    }
+    Err(rest)
+}
+
+/// The function of a rank, if there is one.
+pub(crate) fn function_at(files: &[FileTree], rank: usize) -> Option<Function<'_>>
+    ensures { option_map placed_function result ≡ slice_get (declared_functions (map source_of files.now)) rank }
+{
+    let mut rest = rank;
+    for file in 0..files.len() {
+        match function_in_file(file, &files[file], rest) {
+            Ok(found) => return Some(found),
+            Err(left) => rest = left,
+        }
+    }
+    None
+}
+
+/// How many functions `init` are among those below a rank. No call is of such a function, so that each is looked for anew.
+pub(crate) fn initializers_below(files: &[FileTree], rank: usize) -> usize
+    requires { rank < length (declared_functions (map source_of files.now)) }
+    ensures { result ≡ initializers_among (map source_of files.now) 0 (take rank (declared_functions (map source_of files.now))) }
+{
+    let mut number = 0;
+    for below in 0..rank {
+        match function_at(files, below) {
+            None => {}
+            Some(function) => number = initializers_with(files, number, function),
+        }
+    }
+    number
+}
+
+/// Where the field of a rank stands in the struct of fields, or the rank behind them.
+fn position_in_fields(fields: &[Item<FieldDecl>], rank: usize) -> Result<usize, usize>
+    ensures { Walks (λ n. n) (positions_from 0 (names_of_fields (list_view field_view fields.now))) rank result }
+{
+    let mut rest = rank;
+    for field in fields {
+        let count = field.value.names.len();
+        if rest < count {
+            return Ok(rank);
+        }
+        rest -= count;
+    }
+    Err(rest)
+}
+
+/// Where the field of a rank stands in its struct, among those of a type definition, or the rank behind them.
+#[tactic(auto, unfolding(go_ast::specs::FileView::body_view, go_ast::specs::FileView::type_spec_view))]
+fn position_in_spec(spec: &TypeSpec, rank: usize) -> Result<usize, usize>
+    ensures { Walks (λ n. n) (spec_positions (type_spec_view spec.now)) rank result }
+{
+    match &spec.body {
+        TypeBody::Type(_) => Err(rank),
+        TypeBody::Struct { fields, .. } => position_in_fields(fields, rank),
+    }
+}
+
+/// Where the field of a rank stands in its struct, among those behind one keyword, or the rank behind them.
+#[tactic(auto, unfolding(go_ast::specs::View::group_view))]
+fn position_in_group(group: &Group<TypeSpec>, rank: usize) -> Result<usize, usize>
+    ensures { Walks (λ n. n) (flat_map spec_positions (group_items (group_view type_spec_view group.now))) rank result }
+{
+    match group {
+        Group::Single(spec) => position_in_spec(spec, rank),
+        Group::Several { items, .. } => position_in_items(items, rank),
+    }
+}
+
+/// Where the field of a rank stands in its struct, among those of some type definitions, or the rank behind them.
+fn position_in_items(items: &[Item<TypeSpec>], rank: usize) -> Result<usize, usize>
+    ensures { Walks (λ n. n) (flat_map (λ i. spec_positions (type_spec_view i.value)) items.now) rank result }
+{
+    let mut rest = rank;
+    for item in items {
+        match position_in_spec(&item.value, rest) {
+            Ok(found) => return Ok(found),
+            Err(left) => rest = left,
+        }
+    }
+    Err(rest)
+}
+
+/// Where the field of a rank stands in its struct, among those of a declaration, or the rank behind them.
+#[tactic(auto, unfolding(go_ast::specs::FileView::decl_view))]
+fn position_in_decl(decl: &Decl, rank: usize) -> Result<usize, usize>
+    ensures { Walks (λ n. n) (decl_positions (decl_view decl.now)) rank result }
+{
+    match decl {
+        Decl::Type { group, .. } => position_in_group(group, rank),
+        Decl::Var { .. } => Err(rank),
+        Decl::Func { .. } => Err(rank),
+    }
+}
+
+/// Where the field of a rank stands in its struct, among those of a file, or the rank behind them.
+fn position_in_file(tree: &FileTree, rank: usize) -> Result<usize, usize>
+    ensures { Walks (λ n. n) (file_positions (source_of tree.now)) rank result }
+{
+    let tree = tree.file();
+    let mut rest = rank;
+    for decl in &tree.decls {
+        match position_in_decl(decl, rest) {
+            Ok(found) => return Ok(found),
+            Err(left) => rest = left,
+        }
+    }
+    Err(rest)
+}
+
+/// Where the field of a rank stands in its struct, if there is one.
+pub(crate) fn position_at(files: &[FileTree], rank: usize) -> Option<usize>
+    ensures { result ≡ slice_get (field_positions (map source_of files.now)) rank }
+{
+    let mut rest = rank;
+    for tree in files {
+        match position_in_file(tree, rest) {
+            Ok(found) => return Some(found),
+            Err(left) => rest = left,
+        }
+    }
+    None
+}

@@ -1,0 +1,37 @@
+-- The answers to the goals of `known_text::known_text`.
+use Rattle.std.proofs.Common.{◌≡◌, [], sym, subst, ◌∙◌}
+use Rattle.std.specs.Prelude.{Option, option_copied}
+use Rattle.std.proofs.lemmas.Option.{none-some}
+use Rattle.types_expr.specs.declared.interfaces.Interface.{Interface}
+use Rattle.types_declared.specs.declared.interfaces.Interfaces.{Interfaces}
+use Rattle.workspace_check.specs.declared.finding.Finding.{Finding}
+use Rattle.workspace_check.proofs.Gathering.{known_right}
+use Rattle.workspace_check.proofs.Members.{vec_empty}
+use Rattle.build_unit.specs.Compiling.{IsFaultlessSeeing}
+use Rattle.build_unit.proofs.Faultless.{seen_faultless}
+use Rattle.build_unit.proofs.known_text.known_text.Goals as goal
+
+pub returns-then-not-is_empty : goal.returns-then-not-is_empty
+returns-then-not-is_empty c = λ text is. absurd (none-some text is)
+
+pub object_of-requires-clause-found : goal.object_of-requires-clause-found
+object_of-requires-clause-found c =
+    let w = c.args.at.graph.now in
+    let p = c.args.path.now in
+    let one = c.args.verdict.now in
+    let all = c.args.progress.now.all in
+    let f = c.finding-finding.result.now in
+    let right = c.requires.right in
+    let below = known_right w p all right.right (right.below p c.requires.at.has_path) in
+    let empty = subst (λ (g : Finding). g.faults.items ≡ []) c.finding-finding.ensures
+    (vec_empty f.faults c.is_empty.result c.is_empty.ensures c.if-not-is_empty.false) in
+    let base : IsFaultlessSeeing w all.interfaces one.known p one.finding.members.items =
+    seen_faultless w p all.interfaces one.known one.finding below c.requires.told c.requires.verdict.right c.requires.verdict.finding empty in
+    let members : IsFaultlessSeeing w all.interfaces one.known p f.members.items =
+    subst (λ (g : Finding). IsFaultlessSeeing w all.interfaces one.known p g.members.items) (sym c.finding-finding.ensures) base in
+    let listed : IsFaultlessSeeing w all.interfaces one.known p c.deref.result.now =
+    subst (IsFaultlessSeeing w all.interfaces one.known p) (sym c.deref.ensures.value) members in
+    let own = option_copied c.get-own.result in
+    let told : IsFaultlessSeeing w all.interfaces own p c.deref.result.now =
+    subst (λ (k : Option Interface). IsFaultlessSeeing w all.interfaces k p c.deref.result.now) (sym (c.get-own.ensures ∙ c.known.ensures)) listed in
+    subst (λ (i : Interfaces). IsFaultlessSeeing w i own p c.deref.result.now) (sym c.interfaces-seen.ensures) told

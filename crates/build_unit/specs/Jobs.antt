@@ -1,0 +1,46 @@
+-- Jobs, and those of them that are out.
+use Rattle.std.specs.Prelude.{◌≡◌, ℕ, ◌+◌, List, [], ◌∷◌, ◌++◌, Some, slice_get, remove, Result, Ok, Err}
+use Rattle.std.specs.List.{Contains}
+use Rattle.std.specs.declared.alloc.AllocError.{AllocError}
+use Rattle.base_files.specs.Workspace.{Workspace}
+use Rattle.build_unit.specs.declared.job.JobRecord.{JobRecord}
+use Rattle.build_unit.specs.declared.out.JobLabel.{JobLabel}
+
+-- the ticket of the next Job, and the labels of the Jobs that are out, in the order of their tickets
+pub record JobsOut : Type 0 where
+  pub ticket : ℕ
+  pub jobs : List JobLabel
+
+-- a Job is known by its ticket, its state's number, its visit and its package
+abbrev pub label_of : JobRecord → JobLabel
+label_of job = record { ticket = job.ticket; number = job.number; visit = job.visit; «package» = job.package }
+
+-- a Job counts as one that is out where one of the same label is
+abbrev pub IsOut : JobsOut → JobRecord → Type 0
+IsOut out job = Contains out.jobs (label_of job)
+
+-- a Job of that package is out that was taken in that visit
+abbrev pub IsTaken : JobsOut → ℕ → List ℕ → Type 0
+IsTaken out visit path = (label : JobLabel) × Contains out.jobs label × (label.visit ≡ visit) × (label.package ≡ path)
+
+abbrev pub with_job : JobsOut → JobLabel → JobsOut
+with_job out label = record { ticket = out.ticket + 1; jobs = out.jobs ++ label ∷ [] }
+
+-- one of the Jobs that were out, which has this label, is out no more
+pub record Loses (old : JobsOut) (label : JobLabel) (new : JobsOut) : Type 0 where
+  pub place : ℕ
+  pub at : slice_get old.jobs place ≡ Some label
+  pub others : new ≡ record { ticket = old.ticket; jobs = remove old.jobs place }
+
+abbrev pub job_of : JobsOut → (number visit : ℕ) → List ℕ → Workspace → JobRecord
+job_of out number visit path inputs = record { ticket = out.ticket; number = number; visit = visit; «package» = path; inputs = inputs }
+
+-- a Job is handed out with the next ticket, or memory was wanting
+abbrev pub HandsOut : JobsOut → (number visit : ℕ) → List ℕ → Workspace → Result JobRecord AllocError → JobsOut → Type 0
+HandsOut old number visit path inputs (Ok job) new = (job ≡ job_of old number visit path inputs) × (new ≡ with_job old (label_of job))
+HandsOut old number visit path inputs (Err refused) new = new ≡ old
+
+-- a Job that is out is taken back, another comes back
+abbrev pub TakesBack : JobsOut → JobRecord → Result JobRecord JobRecord → JobsOut → Type 0
+TakesBack old job (Ok back) new = (back ≡ job) × Loses old (label_of job) new
+TakesBack old job (Err back) new = (back ≡ job) × (IsOut old job → ⊥) × (new ≡ old)

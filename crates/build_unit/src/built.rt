@@ -1,0 +1,100 @@
+//! What comes of a Job: the unit of its package, and what was found of packages beside.
+ghost use Rattle.std.specs.Prelude.{◌≡◌, IfOk};
+ghost use Rattle.workspace_check.specs.Found.{AreVerdictsOf};
+ghost use Rattle.build_unit.specs.Builds.{IsBuiltOf};
+ghost use Rattle.build_unit.specs.Units.{IsUnitIn};
+
+use crate::compiling::Made;
+use crate::inputs::PackageInputs;
+use crate::job::Job;
+use crate::unit::Unit;
+use std::alloc::{AllocError, Global};
+use std::marker::Model;
+use types_expr::symbol::SharedPath;
+use workspace_check::KnownVerdict;
+
+/// The unit of a package, with the inputs that it was built from, and the number of the state that they are of; and what was found of
+/// packages of the inputs when it was built.
+#[derive(Drop)]
+pub struct Built {
+    number: u64,
+    package: SharedPath,
+    inputs: PackageInputs,
+    unit: Unit,
+    found: Vec<KnownVerdict>,
+}
+
+impl Model for Built {
+    ghost use Rattle.std.specs.Coded.{codes};
+    ghost use Rattle.workspace_check.specs.Found.{AreVerdictsOf};
+    ghost use Rattle.build_unit.specs.BuiltUnits.{BuiltUnit};
+    ghost use Rattle.build_unit.specs.Codes.{unit_code, workspace_code};
+    ghost use Rattle.build_unit.specs.Units.{IsUnitIn};
+
+    ghost Value = { BuiltUnit };
+
+    ghost coded = { Prim.hlevel (codes, unit_code, workspace_code) };
+
+    ghost view = { λ a. record { number = a.number; «package» = a.package; inputs = a.inputs; unit = a.unit } };
+
+    ghost invariant = { λ a. IsUnitIn a.inputs a.package a.unit × AreVerdictsOf a.inputs a.found.items };
+}
+
+impl Built {
+    /// The number of the state that the inputs are of.
+    pub fn number(&self) -> u64
+        ensures { result ≡ self.now.number }
+    {
+        self.number
+    }
+
+    pub fn package(&self) -> &SharedPath
+        ensures { result.now ≡ self.now.package }
+    {
+        &self.package
+    }
+
+    pub fn inputs(&self) -> &PackageInputs
+        ensures { result.now ≡ self.now.inputs }
+    {
+        &self.inputs
+    }
+
+    /// The unit of the package in the inputs, if it is one of their packages.
+    pub fn unit(&self) -> &Unit
+        ensures { result.now ≡ self.now.unit }
+    {
+        &self.unit
+    }
+
+    /// The verdicts on packages of the inputs that were found where it was built: those that the Job did not bring.
+    pub fn found(&self) -> &[KnownVerdict]
+        ensures { AreVerdictsOf self.now.inputs result.now }
+    {
+        &self.found
+    }
+
+    /// Whatever was built is the unit of the package in the inputs.
+    pub fn is_right(&self)
+        ensures { IsUnitIn self.now.inputs self.now.package self.now.unit }
+    {
+        let _unit = &self.unit;
+    }
+}
+
+/// Builds what a Job is of. Of the packages of its inputs only the one that is built and those are checked of which it brings
+/// nothing. Of a path that is no package of the Job's inputs something is answered too, of which nothing is said.
+pub fn build(alloc: Global, job: &Job) -> Result<Built, AllocError>
+    ensures { IfOk result (IsBuiltOf job.now) }
+{
+    let package = job.package().clone()?;
+    let inputs = job.inputs().clone()?;
+    let Made { unit, found } = inputs.made(alloc, &package)?;
+    Ok(Built {
+        number: job.number(),
+        package,
+        inputs,
+        unit,
+        found,
+    })
+}

@@ -1,0 +1,199 @@
+//! The unit of a package.
+ghost use Rattle.std.specs.Prelude.{◌≡◌, ℕ, [], Some, slice_get, IfOk};
+ghost use Rattle.base_files.specs.Packages.{package_paths};
+ghost use Rattle.base_files.specs.Workspace.{Workspace};
+ghost use Rattle.types_expr.specs.WorldView.{known_at};
+ghost use Rattle.types_declared.specs.InterfacesView.{interface_in};
+ghost use Rattle.workspace_check.specs.Found.{IsFoundBy, KnowsVerdicts};
+ghost use Rattle.workspace_check.specs.Told.{known_by, AreWhole};
+ghost use Rattle.build_unit.specs.Compiling.{HasJust, HoldsFaults, IsFaultless, IsMade, IsMadeIn, IsPackageAt, MayBeText};
+ghost use Rattle.build_unit.specs.Units.{IsCompiled, IsUnitOf};
+
+use crate::checked_text::text_first;
+use crate::known_text::object_of;
+use crate::package_at::PackageAt;
+use crate::unit::{Compiled, Unit};
+use base_files::FileText;
+use std::alloc::{AllocError, Global};
+use types_declared::{Interfaces, KnownInterface};
+use types_expr::found::MemberUse;
+use types_expr::symbol::SharedPath;
+use workspace_check::{FileFault, Finding, FoundPackage, Known, KnownVerdict, Progress, seen};
+use workspace_graph::Graph;
+
+/// What is known of the interface of one package alone: of all others nothing is told.
+fn interface_of(
+    alloc: Global,
+    path: &SharedPath,
+    known: &KnownInterface,
+) -> Result<Interfaces, AllocError>
+    ensures { IfOk result (HasJust path.now known.now) }
+{
+    let mut one = Interfaces::new(alloc);
+    let path = path.clone()?;
+    one.share_known(path, known)?;
+    Ok(one)
+}
+
+/// The unit of a package that has this object, with what others see of it.
+fn done_unit(
+    alloc: Global,
+    path: &SharedPath,
+    all: &Interfaces,
+    object: FileText,
+) -> Result<Unit, AllocError>
+    ensures { IfOk result (λ unit. (w : Workspace) → IsCompiled w path.now (interface_in all.now path.now) object → IsUnitOf w path.now unit) }
+{
+    let known = all.known(path.path())?;
+    let interface = interface_of(alloc, path, &known)?;
+    Unit::new(alloc, Compiled::Done { interface, object })
+}
+
+/// The unit of a package without faults, of which no object was printed.
+fn faultless_unit(
+    alloc: Global,
+    at: PackageAt<'_>,
+    path: &SharedPath,
+    all: &Interfaces,
+    members: &[Vec<MemberUse>],
+) -> Result<Unit, AllocError>
+    requires at { IsPackageAt at path.now }
+    requires whole { AreWhole all.now }
+    requires found { IsFaultless at.graph.now (known_by all.now) (known_at all.now.definitions path.now) path.now members.now }
+    ensures { IfOk result (IsUnitOf at.entry.graph.now path.now) }
+{
+    let interfaces = seen(alloc, at.graph, at.number, all)?;
+    let own = all.definitions().interface(path.path());
+    let object = object_of(alloc, at, path, &interfaces, own, members)?;
+    done_unit(alloc, path, all, object)
+}
+
+/// The unit of a package with these faults.
+fn faulty_unit(alloc: Global, faults: Vec<FileFault>) -> Result<Unit, AllocError>
+    requires { faults.items ≡ [] → ⊥ }
+    ensures { IfOk result (HoldsFaults faults.items) }
+{
+    let mut others = faults;
+    let first = others.remove(0);
+    Unit::new(alloc, Compiled::Faults { first, others })
+}
+
+/// A copy of faults.
+fn copied(alloc: Global, faults: &[FileFault]) -> Result<Vec<FileFault>, AllocError>
+    ensures { IfOk result (λ copies. copies.items ≡ faults.now) }
+{
+    let mut copies = Vec::new(alloc);
+    for fault in faults {
+        copies.push(fault.clone()?)?;
+    }
+    Ok(copies)
+}
+
+/// A unit, and what was found of packages where it was made.
+#[derive(Drop)]
+pub(crate) struct Made {
+    pub(crate) unit: Unit,
+    pub(crate) found: Vec<KnownVerdict>,
+}
+
+/// The unit of a package with copies of these faults.
+fn copied_unit(alloc: Global, faults: &[FileFault]) -> Result<Unit, AllocError>
+    requires { faults.now ≡ [] → ⊥ }
+    ensures { IfOk result (HoldsFaults faults.now) }
+{
+    let faults = copied(alloc, faults)?;
+    faulty_unit(alloc, faults)
+}
+
+/// The unit of a package, by what was found in it and in those that it builds on, and by the text of its object if that was printed.
+fn unit_by(
+    alloc: Global,
+    at: PackageAt<'_>,
+    path: &SharedPath,
+    finding: &Finding,
+    all: &Interfaces,
+    text: Option<FileText>,
+) -> Result<Unit, AllocError>
+    requires at { IsPackageAt at path.now }
+    requires found { IsFoundBy at.graph.now path.now all.now finding.now }
+    requires text { MayBeText at.graph.now path.now text }
+    ensures { IfOk result (IsUnitOf at.entry.graph.now path.now) }
+{
+    if !finding.faults.is_empty() {
+        return copied_unit(alloc, &finding.faults);
+    }
+    match text {
+        Some(object) => done_unit(alloc, path, all, object),
+        None => faultless_unit(alloc, at, path, all, &finding.members),
+    }
+}
+
+/// The unit of a package. What is known of packages is not found again, and what is found where the package is checked serves to print
+/// its object.
+pub(crate) fn unit_of(
+    alloc: Global,
+    at: PackageAt<'_>,
+    path: &SharedPath,
+) -> Result<Made, AllocError>
+    requires { IsPackageAt at path.now }
+    ensures { IfOk result (IsMade at.entry.graph.now path.now) }
+{
+    let mut progress = Progress::before(alloc, at.graph, at.number, at.closure, at.known)?;
+    let text = text_first(alloc, at, path, &mut progress)?;
+    let FoundPackage {
+        finding,
+        interfaces,
+        found,
+    } = progress.finish(alloc, at.graph, at.number, at.known)?;
+    let unit = unit_by(alloc, at, path, finding.get(), &interfaces, text)?;
+    Ok(Made { unit, found })
+}
+
+/// What stands for the unit of a path that is no package.
+fn no_unit(alloc: Global) -> Result<Made, AllocError>
+    ensures { IfOk result (λ made. made.found.items ≡ []) }
+{
+    let interface = Interfaces::new(alloc);
+    let object = FileText::new(alloc, Vec::new(alloc))?;
+    let unit = Unit::new(alloc, Compiled::Done { interface, object })?;
+    let found = Vec::new(alloc);
+    Ok(Made { unit, found })
+}
+
+/// The unit of the package of a number, with its closure that is searched for.
+fn unit_at(
+    alloc: Global,
+    graph: &Graph,
+    number: usize,
+    path: &SharedPath,
+    known: &Known,
+) -> Result<Made, AllocError>
+    requires at { slice_get (package_paths graph.now) number ≡ Some path.now }
+    requires known { KnowsVerdicts graph.now known.now }
+    ensures { IfOk result (IsMade graph.now path.now) }
+{
+    let closure = graph.closure(alloc, number)?;
+    let at = PackageAt {
+        graph,
+        number,
+        closure: closure.as_slice(),
+        known,
+    };
+    unit_of(alloc, at, path)
+}
+
+/// The unit of a package, if it is one of a graph, where some is known of packages.
+pub(crate) fn unit_in(
+    alloc: Global,
+    graph: &Graph,
+    path: &SharedPath,
+    known: &Known,
+) -> Result<Made, AllocError>
+    requires { KnowsVerdicts graph.now known.now }
+    ensures { IfOk result (IsMadeIn graph.now path.now) }
+{
+    match graph.number_of(path.path()) {
+        Some(number) => unit_at(alloc, graph, number, path, known),
+        None => no_unit(alloc),
+    }
+}

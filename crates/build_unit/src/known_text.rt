@@ -1,0 +1,81 @@
+//! A package in which it is known what is found: its object is printed by that, where it has no fault.
+ghost use Rattle.std.specs.Prelude.{◌≡◌, ℕ, option_copied, slice_get, IfOk};
+ghost use Rattle.types_expr.specs.WorldView.{definitions_listed, ranked};
+ghost use Rattle.types_declared.specs.InterfacesView.{interface_known};
+ghost use Rattle.workspace_check.specs.Steps.{IsSeenIn, IsUnderway};
+ghost use Rattle.workspace_check.specs.Told.{TellsVerdict};
+ghost use Rattle.build_unit.specs.Compiling.{IsFaultlessSeeing, IsPackageAt, MayBeText};
+ghost use Rattle.build_unit.specs.Units.{IsCompiled};
+
+use crate::naming::names_below;
+use crate::package_at::PackageAt;
+use base_files::FileText;
+use build_object::objects::{Faultless, object};
+use std::alloc::{AllocError, Global};
+use types_declared::{Interface, Interfaces};
+use types_expr::found::MemberUse;
+use types_expr::symbol::SharedPath;
+use types_expr::world::Definition;
+use workspace_check::{KnownVerdict, Progress};
+
+/// The type definitions of a package, by their ranks.
+fn definitions_of(own: Option<&Interface>) -> &[Definition]
+    ensures { (rank : ℕ) → slice_get result.now rank ≡ ranked (definitions_listed (option_copied own.entry)) rank }
+{
+    match own {
+        None => &[],
+        Some(interface) => interface.definitions.as_slice(),
+    }
+}
+
+/// The text of the object of a package without faults, by interfaces that tell just what it sees of others, and by what is known of
+/// its own interface.
+pub(crate) fn object_of(
+    alloc: Global,
+    at: PackageAt<'_>,
+    path: &SharedPath,
+    seen: &Interfaces,
+    own: Option<&Interface>,
+    members: &[Vec<MemberUse>],
+) -> Result<FileText, AllocError>
+    requires at { IsPackageAt at path.now }
+    requires found { IsFaultlessSeeing at.graph.now seen.now (option_copied own) path.now members.now }
+    ensures { IfOk result (λ text. IsCompiled at.entry.graph.now path.now (interface_known path.now (option_copied own.entry)) text) }
+{
+    let files = at.graph.package(at.number);
+    let packages = names_below(alloc, at)?;
+    let definitions = definitions_of(own);
+    let trees = files.trees.as_slice();
+    let given = Faultless {
+        path,
+        files: trees,
+        definitions,
+        members,
+    };
+    let text = object(alloc, given, seen, &packages)?;
+    FileText::new(alloc, text)
+}
+
+/// The text of the object of a package, if it has no fault by what is known of it. What it sees of others was gathered.
+pub(crate) fn known_text(
+    alloc: Global,
+    at: PackageAt<'_>,
+    path: &SharedPath,
+    verdict: &KnownVerdict,
+    progress: &Progress,
+) -> Result<Option<FileText>, AllocError>
+    requires at { IsPackageAt at path.now }
+    requires verdict { TellsVerdict at.graph.now path.now verdict.now }
+    requires right { IsUnderway at.graph.now at.number progress.now }
+    requires told { IsSeenIn at.graph.now path.now progress.now.all.interfaces }
+    ensures { IfOk result (MayBeText at.entry.graph.now path.now) }
+{
+    let finding = verdict.finding();
+    if !finding.faults.is_empty() {
+        return Ok(None);
+    }
+    let seen = progress.interfaces();
+    let own = verdict.known().get();
+    let text = object_of(alloc, at, path, seen, own, &finding.members)?;
+    Ok(Some(text))
+}

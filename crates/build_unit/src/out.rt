@@ -1,0 +1,146 @@
+//! The Jobs that are out: handed out, and not back yet.
+ghost use Rattle.std.specs.Prelude.{◌≡◌, ◌↔◌, ◌<◌, [], IsTrue, MatchOption, Some, length, slice_get};
+ghost use Rattle.build_unit.specs.Jobs.{HandsOut, IsOut, IsTaken, TakesBack, label_of};
+
+use crate::inputs::PackageInputs;
+use crate::job::{Job, JobRecord};
+use std::alloc::{AllocError, Global};
+use std::marker::Model;
+use types_expr::symbol::SharedPath;
+
+/// What a Job is known by.
+#[derive(Drop)]
+pub struct JobLabel {
+    pub ticket: u64,
+    pub number: u64,
+    pub visit: u64,
+    pub package: SharedPath,
+}
+
+impl JobLabel {
+    /// Whether it is the label of a Job.
+    fn is_of(&self, job: &Job) -> bool
+        ensures { IsTrue result ↔ (self.now ≡ label_of job.now) }
+    {
+        self.ticket == job.ticket()
+            && self.number == job.number()
+            && self.visit == job.visit()
+            && self.package.path() == job.package().path()
+    }
+
+    /// Whether it is that of a Job of a package that was taken in a visit.
+    fn is_of_visit(&self, visit: u64, path: &[u8]) -> bool
+        ensures { IsTrue result ↔ ((self.now.visit ≡ visit) × (self.now.package ≡ path.now)) }
+    {
+        self.visit == visit && self.package.path() == path
+    }
+}
+
+/// Hands Jobs out, and takes them back.
+#[derive(Drop)]
+pub struct Out {
+    next: u64,
+    labels: Vec<JobLabel>,
+}
+
+impl Model for Out {
+    ghost use Rattle.build_unit.specs.Jobs.{JobsOut};
+
+    ghost Value = { JobsOut };
+
+    ghost view = { λ a. record { ticket = a.next; jobs = a.labels.items } };
+}
+
+impl Out {
+    /// No Job is out yet.
+    pub fn new(alloc: Global) -> Out
+        ensures { result ≡ record { ticket = 0; jobs = [] } }
+    {
+        Out {
+            next: 0,
+            labels: Vec::new(alloc),
+        }
+    }
+
+    /// How many Jobs are out.
+    pub fn len(&self) -> usize
+        ensures { result ≡ length self.now.jobs }
+    {
+        self.labels.len()
+    }
+
+    /// The place of a Job among those that are out.
+    fn place_of(&self, job: &Job) -> Option<usize>
+        ensures { MatchOption result (IsOut self.now job.now → ⊥) (λ place. slice_get self.now.jobs place ≡ Some (label_of job.now)) }
+    {
+        for place in 0..self.labels.len() {
+            if self.labels[place].is_of(job) {
+                return Some(place);
+            }
+        }
+        None
+    }
+
+    /// Whether a Job is out.
+    pub fn is_out(&self, job: &Job) -> bool
+        ensures { IsTrue result ↔ IsOut self.now job.now }
+    {
+        self.place_of(job).is_some()
+    }
+
+    /// Whether a Job of a package is out that was taken in a visit.
+    pub fn is_taken(&self, visit: u64, path: &[u8]) -> bool
+        ensures { IsTrue result ↔ IsTaken self.now visit path.now }
+    {
+        for label in &self.labels {
+            if label.is_of_visit(visit, path) {
+                return true;
+            }
+        }
+        false
+    }
+
+    /// Hands out a Job with the next ticket. It is for the caller to see that the path is that of a package of the inputs: of any other
+    /// nothing is said of what is built.
+    pub fn hand_out(
+        &mut self,
+        number: u64,
+        visit: u64,
+        path: SharedPath,
+        inputs: PackageInputs,
+    ) -> Result<Job, AllocError>
+        requires { self.old.ticket < u64.MAX }
+        ensures { HandsOut self.old number visit path inputs result self.new }
+    {
+        let ticket = self.next;
+        let label = JobLabel {
+            ticket,
+            number,
+            visit,
+            package: path.clone()?,
+        };
+        self.labels.push(label)?;
+        self.next += 1;
+        let record = JobRecord {
+            ticket,
+            number,
+            visit,
+            package: path,
+            inputs,
+        };
+        Ok(Job::new(record))
+    }
+
+    /// Takes a Job back that is out. It takes no memory.
+    pub fn take_back(&mut self, job: Job) -> Result<JobRecord, Job>
+        ensures { TakesBack self.old job result self.new }
+    {
+        match self.place_of(&job) {
+            Some(place) => {
+                drop(self.labels.remove(place));
+                Ok(job.retire())
+            }
+            None => Err(job),
+        }
+    }
+}

@@ -1,0 +1,423 @@
+-- The grammar, as rules for the parts of a text.
+use Rattle.std.specs.Prelude.{◌||◌, ℕ, Bool, true, false, List, [], ◌∷◌, Option, Some, None, cond, nat_eq}
+use Rattle.go_ast.specs.declared.syntax.Kind.{Kind}
+use Rattle.go_ast.specs.declared.syntax.Kind.TheVariants.{Name, Blank, Number, Text, LeftParen, RightParen, LeftBracket, RightBracket, LeftBrace}
+use Rattle.go_ast.specs.declared.syntax.Kind.TheVariants.{RightBrace, Comma, Dot, Colon, Semicolon, Plus, Minus, Star, Slash, Percent, Equal, NotEqual}
+use Rattle.go_ast.specs.declared.syntax.Kind.TheVariants.{Less, LessEqual, Greater, GreaterEqual, AndAnd, OrOr, Not, Ampersand, Assign, Define, AddAssign}
+use Rattle.go_ast.specs.declared.syntax.Kind.TheVariants.{SubAssign, MulAssign, DivAssign, RemAssign, Increment, Decrement, If, Else, For, Break, Continue}
+use Rattle.go_ast.specs.declared.syntax.Kind.TheVariants.{Return, Var, Package, Import, Func, TypeWord, Struct, Other}
+use Rattle.go_ast.specs.declared.syntax.BinaryOp.{BinaryOp}
+use Rattle.go_ast.specs.declared.syntax.BinaryOp.TheVariants as binary
+use Rattle.go_ast.specs.declared.syntax.PrefixOp.{PrefixOp}
+use Rattle.go_ast.specs.declared.syntax.PrefixOp.TheVariants as prefix
+
+-- a kind of token, as a number
+abbrev pub number_of : Kind → ℕ
+number_of Name = 0
+number_of Blank = 1
+number_of Number = 2
+number_of Text = 3
+number_of LeftParen = 4
+number_of RightParen = 5
+number_of LeftBracket = 6
+number_of RightBracket = 7
+number_of LeftBrace = 8
+number_of RightBrace = 9
+number_of Comma = 10
+number_of Dot = 11
+number_of Colon = 12
+number_of Semicolon = 13
+number_of Plus = 14
+number_of Minus = 15
+number_of Star = 16
+number_of Slash = 17
+number_of Percent = 18
+number_of Equal = 19
+number_of NotEqual = 20
+number_of Less = 21
+number_of LessEqual = 22
+number_of Greater = 23
+number_of GreaterEqual = 24
+number_of AndAnd = 25
+number_of OrOr = 26
+number_of Not = 27
+number_of Ampersand = 28
+number_of Assign = 29
+number_of Define = 30
+number_of AddAssign = 31
+number_of SubAssign = 32
+number_of MulAssign = 33
+number_of DivAssign = 34
+number_of RemAssign = 35
+number_of Increment = 36
+number_of Decrement = 37
+number_of If = 38
+number_of Else = 39
+number_of For = 40
+number_of Break = 41
+number_of Continue = 42
+number_of Return = 43
+number_of Var = 44
+number_of Package = 45
+number_of Import = 46
+number_of Func = 47
+number_of TypeWord = 48
+number_of Struct = 49
+number_of Other = 50
+
+-- the binary operator that a token is
+abbrev pub binary_of : Kind → Option BinaryOp
+binary_of Star = Some binary.Multiply
+binary_of Slash = Some binary.Divide
+binary_of Percent = Some binary.Remainder
+binary_of Plus = Some binary.Add
+binary_of Minus = Some binary.Subtract
+binary_of Equal = Some binary.Equal
+binary_of NotEqual = Some binary.NotEqual
+binary_of Less = Some binary.Less
+binary_of LessEqual = Some binary.LessEqual
+binary_of Greater = Some binary.Greater
+binary_of GreaterEqual = Some binary.GreaterEqual
+binary_of AndAnd = Some binary.And
+binary_of OrOr = Some binary.Or
+binary_of _ = None
+
+-- the prefix operator that a token is
+abbrev pub prefix_of : Kind → Option PrefixOp
+prefix_of Plus = Some prefix.Plus
+prefix_of Minus = Some prefix.Minus
+prefix_of Not = Some prefix.Not
+prefix_of Star = Some prefix.Deref
+prefix_of _ = None
+
+abbrev pub is_some : {A : Type 0} → Option A → Bool
+is_some None = false
+is_some (Some x) = true
+
+-- What a group in parentheses may be of.
+pub data Item : Type 0 where
+  ImportItem : Item
+  GlobalItem : Item
+  TypeItem : Item
+  LocalItem : Item
+
+-- Where a simple statement stands: by itself, at the head of an `if` or a `for`, or last in the head of a `for`,
+-- where it declares nothing.
+pub data Setting : Type 0 where
+  Plain : Setting
+  Head : Setting
+  Post : Setting
+
+abbrev pub in_head : Setting → Bool
+in_head Plain = false
+in_head Head = true
+in_head Post = true
+
+-- The parts of a text. The flag of an expression says that it stands between `if` or `for` and its block, outside
+-- any brackets, where no literal begins with a name.
+pub data Part : Type 0 where
+  File : Part
+  Imports : Part
+  Tops : Part
+  GroupOf : Item → Part
+  Items : Item → Part
+  MoreItems : Item → Part
+  Single : Item → Part
+  MoreNames : Part
+  GlobalValues : Part
+  MoreLiterals : Part
+  TypeBody : Part
+  Fields : Part
+  MoreFields : Part
+  MoreIdents : Part
+  LocalRest : Part
+  LocalValues : Part
+  FuncHead : Part
+  ReceiverStar : Part
+  ReceiverEnd : Part
+  Signature : Part
+  Params : Part
+  MoreParams : Part
+  Result : Part
+  Types : Part
+  MoreTypes : Part
+  Block : Part
+  MoreStatements : Part
+  Statement : Part
+  ReturnValues : Part
+  Expressions : Bool → Part
+  MoreExpressions : Bool → Part
+  SimpleRest : Setting → Part
+  IfHead : Part
+  IfAfter : Part
+  IfBody : Part
+  ElsePart : Part
+  ElseBody : Part
+  ForHead : Part
+  ForAfter : Part
+  ForRest : Part
+  ForCondition : Part
+  ForPost : Part
+  TypeUse : Part
+  AfterTypeName : Part
+  Expression : Bool → Part
+  Binaries : Bool → Part
+  Unary : Bool → Part
+  Operand : Bool → Part
+  AfterName : Bool → Part
+  AfterSelector : Bool → Part
+  Links : Bool → Part
+  Arguments : Part
+  MoreArguments : Part
+  Address : Bool → Part
+  AfterLiteralName : Part
+  Elements : Part
+  ElementList : Part
+  MoreElements : Part
+  Element : Part
+  AfterKey : Part
+
+-- What a rule is made of: a token of a class, such a token that opens a level, the end of that level, a part.
+pub data Symbol : Type 0 where
+  One : (Kind → Bool) → Symbol
+  Opening : (Kind → Bool) → Symbol
+  Close : Symbol
+  A : Part → Symbol
+
+abbrev pub is : Kind → Kind → Bool
+is k j = nat_eq (number_of k) (number_of j)
+
+abbrev pub is_binary : Kind → Bool
+is_binary k = is_some (binary_of k)
+
+abbrev pub is_prefix : Kind → Bool
+is_prefix k = is_some (prefix_of k)
+
+abbrev pub is_leaf : Kind → Bool
+is_leaf Blank = true
+is_leaf Number = true
+is_leaf Text = true
+is_leaf _ = false
+
+abbrev pub one_of : List Kind → Kind → Bool
+one_of [] k = false
+one_of (j ∷ js) k = is j k || one_of js k
+
+abbrev pub is_ident : Kind → Bool
+is_ident = one_of (Name ∷ Blank ∷ [])
+
+abbrev pub is_literal : Kind → Bool
+is_literal = one_of (Number ∷ Text ∷ [])
+
+abbrev pub is_step : Kind → Bool
+is_step = one_of (Increment ∷ Decrement ∷ [])
+
+abbrev pub is_update : Kind → Bool
+is_update = one_of (AddAssign ∷ SubAssign ∷ MulAssign ∷ DivAssign ∷ RemAssign ∷ [])
+
+-- what a list of expressions may be assigned by
+abbrev pub sets : Setting → Kind → Bool
+sets Plain = one_of (Assign ∷ Define ∷ [])
+sets Head = one_of (Assign ∷ Define ∷ [])
+sets Post = is Assign
+
+abbrev pub begins_type : Kind → Bool
+begins_type = one_of (Name ∷ Star ∷ LeftBracket ∷ [])
+
+abbrev pub begins_operand : Kind → Bool
+begins_operand k = is_prefix k || (is_leaf k || one_of (Ampersand ∷ LeftParen ∷ LeftBracket ∷ []) k)
+
+abbrev pub begins_expression : Kind → Bool
+begins_expression k = is Name k || begins_operand k
+
+abbrev pub unless : Bool → (Kind → Bool) → Kind → Bool
+unless h c k = cond (c k) (cond h false true) false
+
+-- A rule of a part. One that begins with a test is selected where the next token passes it, and none before it is.
+pub data Rule : Type 0 where
+  Begins : (Kind → Bool) → List Symbol → Rule
+  Otherwise : List Symbol → Rule
+
+abbrev pub selector : Part → Rule
+selector then = Begins (is Dot) (One (is Dot) ∷ One (is Name) ∷ A then ∷ [])
+
+abbrev pub index : Part → Rule
+index then = Begins (is LeftBracket) (Opening (is LeftBracket) ∷ A (Expression false) ∷ One (is RightBracket) ∷ Close ∷ A then ∷ [])
+
+abbrev pub call : Part → Rule
+call then = Begins (is LeftParen) (Opening (is LeftParen) ∷ A Arguments ∷ Close ∷ A then ∷ [])
+
+-- a literal whose type's name has been read, where one may stand
+abbrev pub or_literal : Bool → List Rule → List Rule
+or_literal h others = cond h others (Begins (is LeftBrace) (A Elements ∷ A (Links h) ∷ []) ∷ others)
+
+abbrev pub slice_type : List Symbol → List Symbol
+slice_type then = Opening (is LeftBracket) ∷ One (is RightBracket) ∷ A TypeUse ∷ Close ∷ then
+
+abbrev pub nothing : Rule
+nothing = Otherwise []
+
+abbrev pub rules : Part → List Rule
+rules File = Otherwise (One (is Package) ∷ One (is Name) ∷ One (is Semicolon) ∷ A Imports ∷ []) ∷ []
+rules Imports =
+    Begins (is Import) (One (is Import) ∷ A (GroupOf ImportItem) ∷ One (is Semicolon) ∷ A Imports ∷ []) ∷
+    Otherwise (A Tops ∷ []) ∷ []
+rules Tops =
+    Begins (is Var) (One (is Var) ∷ A (GroupOf GlobalItem) ∷ One (is Semicolon) ∷ A Tops ∷ []) ∷
+    Begins (is TypeWord) (One (is TypeWord) ∷ A (GroupOf TypeItem) ∷ One (is Semicolon) ∷ A Tops ∷ []) ∷
+    Begins (is Func) (One (is Func) ∷ A FuncHead ∷ One (is Semicolon) ∷ A Tops ∷ []) ∷
+    nothing ∷ []
+rules (GroupOf i) =
+    Begins (is LeftParen) (Opening (is LeftParen) ∷ A (Items i) ∷ Close ∷ []) ∷
+    Otherwise (A (Single i) ∷ []) ∷ []
+rules (Items i) =
+    Begins (is RightParen) (One (is RightParen) ∷ []) ∷
+    Otherwise (A (Single i) ∷ A (MoreItems i) ∷ []) ∷ []
+rules (MoreItems i) =
+    Begins (is Semicolon) (One (is Semicolon) ∷ A (Items i) ∷ []) ∷
+    Otherwise (One (is RightParen) ∷ []) ∷ []
+rules (Single ImportItem) =
+    Begins (is Name) (One (is Name) ∷ One (is Text) ∷ []) ∷
+    Otherwise (One (is Text) ∷ []) ∷ []
+rules (Single GlobalItem) = Otherwise (One (is Name) ∷ A MoreNames ∷ A TypeUse ∷ A GlobalValues ∷ []) ∷ []
+rules (Single TypeItem) = Otherwise (One (is Name) ∷ A TypeBody ∷ []) ∷ []
+rules (Single LocalItem) = Otherwise (One is_ident ∷ A MoreIdents ∷ A LocalRest ∷ []) ∷ []
+rules MoreNames = Begins (is Comma) (One (is Comma) ∷ One (is Name) ∷ A MoreNames ∷ []) ∷ nothing ∷ []
+rules GlobalValues = Begins (is Assign) (One (is Assign) ∷ One is_literal ∷ A MoreLiterals ∷ []) ∷ nothing ∷ []
+rules MoreLiterals = Begins (is Comma) (One (is Comma) ∷ One is_literal ∷ A MoreLiterals ∷ []) ∷ nothing ∷ []
+rules TypeBody =
+    Begins (is Struct) (One (is Struct) ∷ Opening (is LeftBrace) ∷ A Fields ∷ Close ∷ []) ∷
+    Otherwise (A TypeUse ∷ []) ∷ []
+rules Fields =
+    Begins (is RightBrace) (One (is RightBrace) ∷ []) ∷
+    Otherwise (One (is Name) ∷ A MoreNames ∷ A TypeUse ∷ A MoreFields ∷ []) ∷ []
+rules MoreFields =
+    Begins (is Semicolon) (One (is Semicolon) ∷ A Fields ∷ []) ∷
+    Otherwise (One (is RightBrace) ∷ []) ∷ []
+rules MoreIdents = Begins (is Comma) (One (is Comma) ∷ One is_ident ∷ A MoreIdents ∷ []) ∷ nothing ∷ []
+rules LocalRest =
+    Begins (is Assign) (One (is Assign) ∷ A (Expressions false) ∷ []) ∷
+    Otherwise (A TypeUse ∷ A LocalValues ∷ []) ∷ []
+rules LocalValues = Begins (is Assign) (One (is Assign) ∷ A (Expressions false) ∷ []) ∷ nothing ∷ []
+rules FuncHead =
+    Begins (is LeftParen) (Opening (is LeftParen) ∷ One is_ident ∷ A ReceiverStar ∷ One (is Name) ∷ A ReceiverEnd ∷ Close ∷ One (is Name) ∷ A Signature ∷ []) ∷
+    Otherwise (One (is Name) ∷ A Signature ∷ []) ∷ []
+rules ReceiverStar = Begins (is Star) (One (is Star) ∷ []) ∷ nothing ∷ []
+rules ReceiverEnd =
+    Begins (is Comma) (One (is Comma) ∷ One (is RightParen) ∷ []) ∷
+    Otherwise (One (is RightParen) ∷ []) ∷ []
+rules Signature = Otherwise (Opening (is LeftParen) ∷ A Params ∷ Close ∷ A Result ∷ A Block ∷ []) ∷ []
+rules Params =
+    Begins (is RightParen) (One (is RightParen) ∷ []) ∷
+    Otherwise (One is_ident ∷ A MoreIdents ∷ A TypeUse ∷ A MoreParams ∷ []) ∷ []
+rules MoreParams =
+    Begins (is Comma) (One (is Comma) ∷ A Params ∷ []) ∷
+    Otherwise (One (is RightParen) ∷ []) ∷ []
+rules Result =
+    Begins (is LeftParen) (Opening (is LeftParen) ∷ A Types ∷ Close ∷ []) ∷
+    Begins begins_type (A TypeUse ∷ []) ∷
+    nothing ∷ []
+rules Types =
+    Begins (is RightParen) (One (is RightParen) ∷ []) ∷
+    Otherwise (A TypeUse ∷ A MoreTypes ∷ []) ∷ []
+rules MoreTypes =
+    Begins (is Comma) (One (is Comma) ∷ A Types ∷ []) ∷
+    Otherwise (One (is RightParen) ∷ []) ∷ []
+rules Block = Otherwise (Opening (is LeftBrace) ∷ A Statement ∷ A MoreStatements ∷ One (is RightBrace) ∷ Close ∷ []) ∷ []
+rules MoreStatements = Begins (is Semicolon) (One (is Semicolon) ∷ A Statement ∷ A MoreStatements ∷ []) ∷ nothing ∷ []
+rules Statement =
+    Begins (is Var) (One (is Var) ∷ A (GroupOf LocalItem) ∷ []) ∷
+    Begins (is LeftBrace) (A Block ∷ []) ∷
+    Begins (is If) (One (is If) ∷ A IfHead ∷ []) ∷
+    Begins (is For) (One (is For) ∷ A ForHead ∷ []) ∷
+    Begins (is Break) (One (is Break) ∷ []) ∷
+    Begins (is Continue) (One (is Continue) ∷ []) ∷
+    Begins (is Return) (One (is Return) ∷ A ReturnValues ∷ []) ∷
+    Begins begins_expression (A (Expression false) ∷ A (SimpleRest Plain) ∷ []) ∷
+    nothing ∷ []
+rules ReturnValues = Begins begins_expression (A (Expressions false) ∷ []) ∷ nothing ∷ []
+rules (Expressions h) = Otherwise (A (Expression h) ∷ A (MoreExpressions h) ∷ []) ∷ []
+rules (MoreExpressions h) = Begins (is Comma) (One (is Comma) ∷ A (Expression h) ∷ A (MoreExpressions h) ∷ []) ∷ nothing ∷ []
+rules (SimpleRest s) =
+    Begins is_step (One is_step ∷ []) ∷
+    Begins is_update (One is_update ∷ A (Expression (in_head s)) ∷ []) ∷
+    Begins (sets s) (One (sets s) ∷ A (Expressions (in_head s)) ∷ []) ∷
+    Begins (is Comma) (One (is Comma) ∷ A (Expressions (in_head s)) ∷ One (sets s) ∷ A (Expressions (in_head s)) ∷ []) ∷
+    nothing ∷ []
+rules IfHead =
+    Begins (is Semicolon) (One (is Semicolon) ∷ A (Expression true) ∷ A IfBody ∷ []) ∷
+    Otherwise (A (Expression true) ∷ A IfAfter ∷ []) ∷ []
+rules IfAfter =
+    Begins (is LeftBrace) (A IfBody ∷ []) ∷
+    Otherwise (A (SimpleRest Head) ∷ One (is Semicolon) ∷ A (Expression true) ∷ A IfBody ∷ []) ∷ []
+rules IfBody = Otherwise (A Block ∷ A ElsePart ∷ []) ∷ []
+rules ElsePart = Begins (is Else) (One (is Else) ∷ A ElseBody ∷ []) ∷ nothing ∷ []
+rules ElseBody =
+    Begins (is If) (Opening (is If) ∷ A IfHead ∷ Close ∷ []) ∷
+    Otherwise (A Block ∷ []) ∷ []
+rules ForHead =
+    Begins (is LeftBrace) (A Block ∷ []) ∷
+    Begins (is Semicolon) (A ForRest ∷ []) ∷
+    Otherwise (A (Expression true) ∷ A ForAfter ∷ []) ∷ []
+rules ForAfter =
+    Begins (is LeftBrace) (A Block ∷ []) ∷
+    Otherwise (A (SimpleRest Head) ∷ A ForRest ∷ []) ∷ []
+rules ForRest = Otherwise (One (is Semicolon) ∷ A ForCondition ∷ One (is Semicolon) ∷ A ForPost ∷ A Block ∷ []) ∷ []
+rules ForCondition = Begins begins_expression (A (Expression true) ∷ []) ∷ nothing ∷ []
+rules ForPost = Begins begins_expression (A (Expression true) ∷ A (SimpleRest Post) ∷ []) ∷ nothing ∷ []
+rules TypeUse =
+    Begins (is Star) (Opening (is Star) ∷ A TypeUse ∷ Close ∷ []) ∷
+    Begins (is LeftBracket) (slice_type []) ∷
+    Otherwise (One (is Name) ∷ A AfterTypeName ∷ []) ∷ []
+rules AfterTypeName =
+    Begins (is Dot) (One (is Dot) ∷ One (is Name) ∷ []) ∷
+    nothing ∷ []
+rules (Expression h) =
+    Otherwise (A (Unary h) ∷ A (Binaries h) ∷ []) ∷ []
+rules (Binaries h) =
+    Begins is_binary (One is_binary ∷ A (Unary h) ∷ A (Binaries h) ∷ []) ∷
+    nothing ∷ []
+rules (Unary h) =
+    Begins (is Name) (One (is Name) ∷ A (AfterName h) ∷ []) ∷
+    Otherwise (A (Operand h) ∷ []) ∷ []
+rules (Operand h) =
+    Begins is_prefix (Opening is_prefix ∷ A (Unary h) ∷ Close ∷ []) ∷
+    Begins (is Ampersand) (Opening (is Ampersand) ∷ A (Address h) ∷ Close ∷ []) ∷
+    Begins is_leaf (One is_leaf ∷ A (Links h) ∷ []) ∷
+    Begins (is LeftParen) (Opening (is LeftParen) ∷ A (Expression false) ∷ One (is RightParen) ∷ Close ∷ A (Links h) ∷ []) ∷
+    Otherwise (slice_type (A Elements ∷ A (Links h) ∷ [])) ∷ []
+rules (AfterName h) =
+    or_literal h (selector (AfterSelector h) ∷ index (Links h) ∷ call (Links h) ∷ nothing ∷ [])
+rules (AfterSelector h) =
+    or_literal h (selector (Links h) ∷ index (Links h) ∷ call (Links h) ∷ nothing ∷ [])
+rules (Links h) =
+    selector (Links h) ∷ index (Links h) ∷ call (Links h) ∷
+    nothing ∷ []
+rules Arguments =
+    Begins (is RightParen) (One (is RightParen) ∷ []) ∷
+    Otherwise (A (Expression false) ∷ A MoreArguments ∷ []) ∷ []
+rules MoreArguments =
+    Begins (is Comma) (One (is Comma) ∷ A Arguments ∷ []) ∷
+    Otherwise (One (is RightParen) ∷ []) ∷ []
+rules (Address true) =
+    Otherwise (slice_type (A Elements ∷ [])) ∷ []
+rules (Address false) =
+    Begins (is Name) (One (is Name) ∷ A AfterLiteralName ∷ []) ∷
+    Otherwise (slice_type (A Elements ∷ [])) ∷ []
+rules AfterLiteralName =
+    Begins (is Dot) (One (is Dot) ∷ One (is Name) ∷ A Elements ∷ []) ∷
+    Otherwise (A Elements ∷ []) ∷ []
+rules Elements =
+    Otherwise (Opening (is LeftBrace) ∷ A ElementList ∷ Close ∷ []) ∷ []
+rules ElementList =
+    Begins (is RightBrace) (One (is RightBrace) ∷ []) ∷
+    Otherwise (A Element ∷ A MoreElements ∷ []) ∷ []
+rules MoreElements =
+    Begins (is Comma) (One (is Comma) ∷ A ElementList ∷ []) ∷
+    Otherwise (One (is RightBrace) ∷ []) ∷ []
+rules Element =
+    Begins (is Name) (One (is Name) ∷ A AfterKey ∷ []) ∷
+    Otherwise (A (Operand false) ∷ A (Binaries false) ∷ []) ∷ []
+rules AfterKey =
+    Begins (is Colon) (One (is Colon) ∷ A (Expression false) ∷ []) ∷
+    Otherwise (A (AfterName false) ∷ A (Binaries false) ∷ []) ∷ []

@@ -1,0 +1,196 @@
+-- Syntax trees: what a file says, with the place of each of its tokens. A place is a token's index among the file's tokens.
+use Rattle.std.specs.Prelude.{ℕ, List, Option}
+use Rattle.go_ast.specs.declared.syntax.BinaryOp.{BinaryOp}
+use Rattle.go_ast.specs.declared.syntax.PrefixOp.{PrefixOp}
+use Rattle.go_ast.specs.declared.syntax.StepOp.{StepOp}
+use Rattle.go_ast.specs.declared.syntax.UpdateOp.{UpdateOp}
+
+-- an item of a list, and the separator behind it where there is one
+pub record Item (X : Type 0) : Type 0 where
+  pub value : X
+  pub separator : Option ℕ
+
+-- one, or in parentheses any number of them
+pub data Group (X : Type 0) : Type 0 where
+  single : X → Group X
+  several : ℕ → List (Item X) → ℕ → Group X
+
+-- an identifier: a name, or `_`
+pub data IdentTree : Type 0 where
+  Named : ℕ → IdentTree
+  Underscore : ℕ → IdentTree
+
+-- a literal of one token
+pub data BasicTree : Type 0 where
+  Integer : ℕ → BasicTree
+  String : ℕ → BasicTree
+
+-- a type: `T`, `p.T`, `*T`, `[]T`
+pub data TypeTree : Type 0 where
+  Local : ℕ → TypeTree
+  Imported : ℕ → ℕ → ℕ → TypeTree
+  Pointer : ℕ → TypeTree → TypeTree
+  Slice : ℕ → ℕ → TypeTree → TypeTree
+
+-- A chain is an operand with its selectors, indexes and calls, and a binary an operand with the operators of one
+-- precedence behind it, and their operands.
+mutual
+  pub data ExprTree : Type 0 where
+    Number : ℕ → ExprTree
+    Text : ℕ → ExprTree
+    Name : ℕ → ExprTree
+    Blank : ℕ → ExprTree
+    Composite : LiteralTree → ExprTree
+    Paren : ℕ → ExprTree → ℕ → ExprTree
+    Prefix : PrefixOp → ℕ → ExprTree → ExprTree
+    Address : ℕ → LiteralTree → ExprTree
+    Chain : ExprTree → LinkTrees → ExprTree
+    Binary : ExprTree → OperandTrees → ExprTree
+
+  pub data OperandTrees : Type 0 where
+    no_operand : OperandTrees
+    operand : BinaryOp → ℕ → ExprTree → OperandTrees → OperandTrees
+
+  pub data LinkTrees : Type 0 where
+    no_link : LinkTrees
+    selector : ℕ → ℕ → LinkTrees → LinkTrees
+    index : ℕ → ExprTree → ℕ → LinkTrees → LinkTrees
+    call : ℕ → ArgumentTrees → ℕ → LinkTrees → LinkTrees
+
+  pub data ArgumentTrees : Type 0 where
+    no_argument : ArgumentTrees
+    argument : ExprTree → Option ℕ → ArgumentTrees → ArgumentTrees
+
+  -- the type, the brace, the elements, the brace
+  pub data LiteralTree : Type 0 where
+    literal : TypeTree → ℕ → ElementTrees → ℕ → LiteralTree
+
+  -- the key with its colon, where there is one; the value; the comma behind it
+  pub data ElementTrees : Type 0 where
+    no_element : ElementTrees
+    element : Option (ℕ × ℕ) → ExprTree → Option ℕ → ElementTrees → ElementTrees
+
+-- a simple statement: `x`, `x++`, `x += y`, `x, y = z`, `x, y := z`
+pub data SimpleTree : Type 0 where
+  Alone : ExprTree → SimpleTree
+  Step : ExprTree → StepOp → ℕ → SimpleTree
+  Update : ExprTree → UpdateOp → ℕ → ExprTree → SimpleTree
+  Assign : List (Item ExprTree) → ℕ → List (Item ExprTree) → SimpleTree
+  Define : List (Item ExprTree) → ℕ → List (Item ExprTree) → SimpleTree
+
+-- `a, b T = x, y`: the names, the type, and `=` with the values
+pub record LocalTree : Type 0 where
+  pub names : List (Item IdentTree)
+  pub type_use : Option TypeTree
+  pub values : Option (ℕ × List (Item ExprTree))
+
+-- what stands before the condition of an `if`, with its semicolon
+pub record InitTree : Type 0 where
+  pub simple : Option SimpleTree
+  pub semicolon : ℕ
+
+-- what stands between `for` and its block
+pub data ForTree : Type 0 where
+  forever : ForTree
+  while : ExprTree → ForTree
+  clauses : Option SimpleTree → ℕ → Option ExprTree → ℕ → Option SimpleTree → ForTree
+
+mutual
+  pub data StatementTree : Type 0 where
+    Empty : StatementTree
+    Var : ℕ → Group LocalTree → StatementTree
+    Simple : SimpleTree → StatementTree
+    Inner : BlockTree → StatementTree
+    If : IfTree → StatementTree
+    For : ℕ → ForTree → BlockTree → StatementTree
+    Break : ℕ → StatementTree
+    Continue : ℕ → StatementTree
+    Return : ℕ → List (Item ExprTree) → StatementTree
+
+  -- the brace, the statements, the brace; `{}` has one empty statement
+  pub data BlockTree : Type 0 where
+    block : ℕ → StatementTrees → ℕ → BlockTree
+
+  pub data StatementTrees : Type 0 where
+    no_statement : StatementTrees
+    statement : StatementTree → Option ℕ → StatementTrees → StatementTrees
+
+  pub data IfTree : Type 0 where
+    if_tree : ℕ → Option InitTree → ExprTree → BlockTree → ElseTree → IfTree
+
+  pub data ElseTree : Type 0 where
+    no_else : ElseTree
+    else_if : ℕ → IfTree → ElseTree
+    else_block : ℕ → BlockTree → ElseTree
+
+-- `name "path"`
+pub record ImportTree : Type 0 where
+  pub name : Option ℕ
+  pub path : ℕ
+
+-- `a, b T = 1, 2`
+pub record GlobalTree : Type 0 where
+  pub names : List (Item ℕ)
+  pub type_use : TypeTree
+  pub values : Option (ℕ × List (Item BasicTree))
+
+-- fields of a struct: `a, b T`
+pub record FieldTree : Type 0 where
+  pub names : List (Item ℕ)
+  pub type_use : TypeTree
+
+-- what a name is defined as: a type, or `struct`, the brace, the fields, the brace
+pub data BodyTree : Type 0 where
+  Other : TypeTree → BodyTree
+  Struct : ℕ → ℕ → List (Item FieldTree) → ℕ → BodyTree
+
+pub record TypeSpecTree : Type 0 where
+  pub name : ℕ
+  pub body : BodyTree
+
+-- `(x *T)`
+pub record ReceiverTree : Type 0 where
+  pub lparen : ℕ
+  pub name : IdentTree
+  pub star : Option ℕ
+  pub type_name : ℕ
+  pub comma : Option ℕ
+  pub rparen : ℕ
+
+-- parameters: `a, b T`
+pub record ParamTree : Type 0 where
+  pub names : List (Item IdentTree)
+  pub type_use : TypeTree
+
+pub data ResultTree : Type 0 where
+  no_result : ResultTree
+  one_result : TypeTree → ResultTree
+  results : ℕ → List (Item TypeTree) → ℕ → ResultTree
+
+pub record FuncTree : Type 0 where
+  pub receiver : Option ReceiverTree
+  pub name : ℕ
+  pub lparen : ℕ
+  pub params : List (Item ParamTree)
+  pub rparen : ℕ
+  pub result : ResultTree
+  pub body : BlockTree
+
+-- `import`, what it imports, and the semicolon
+pub record ImportsTree : Type 0 where
+  pub keyword : ℕ
+  pub imports : Group ImportTree
+  pub semicolon : ℕ
+
+-- a declaration of a file: its keyword, what it declares, and the semicolon
+pub data DeclTree : Type 0 where
+  VarDecl : ℕ → Group GlobalTree → ℕ → DeclTree
+  TypeDecl : ℕ → Group TypeSpecTree → ℕ → DeclTree
+  FuncDecl : ℕ → FuncTree → ℕ → DeclTree
+
+pub record FileTree : Type 0 where
+  pub keyword : ℕ
+  pub name : ℕ
+  pub semicolon : ℕ
+  pub imports : List ImportsTree
+  pub decls : List DeclTree

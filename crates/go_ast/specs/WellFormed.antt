@@ -1,0 +1,259 @@
+-- The syntax tree of a token list: it writes these tokens out, its operators are grouped by precedence, and each of its
+-- parts is as the grammar has it.
+use Rattle.std.specs.Prelude.{ℕ, ◌≡◌, ◌≢◌, ◌<◌, ◌⊎◌, Bool, true, false, List, [], ◌∷◌, Option, Some, None, IsSome}
+use Rattle.std.specs.List.{All}
+use Rattle.go_ast.specs.declared.syntax.Token.{Token}
+use Rattle.go_ast.specs.declared.syntax.BinaryOp.{BinaryOp}
+use Rattle.go_ast.specs.declared.syntax.BinaryOp.TheVariants as binary
+use Rattle.go_ast.specs.Tree.{Item, Group, single, several, TypeTree, Pointer, Slice, ExprTree, Number, Text, Name, Blank, Composite, Paren, Prefix}
+use Rattle.go_ast.specs.Tree.{Address, Chain, Binary, OperandTrees, no_operand, operand, LinkTrees, no_link, selector, index, call, ArgumentTrees}
+use Rattle.go_ast.specs.Tree.{no_argument, argument, LiteralTree, literal, ElementTrees, no_element, element, SimpleTree, Alone, Step, Update, Assign}
+use Rattle.go_ast.specs.Tree.{Define, LocalTree, InitTree, ForTree, forever, while, clauses, StatementTree, Empty, Var, Simple, Inner, If, For, Break}
+use Rattle.go_ast.specs.Tree.{Continue, Return, BlockTree, block, StatementTrees, no_statement, statement, IfTree, if_tree, ElseTree, no_else, else_if}
+use Rattle.go_ast.specs.Tree.{else_block, GlobalTree, FieldTree, BodyTree, Other, Struct, TypeSpecTree, ParamTree, ResultTree, no_result, one_result}
+use Rattle.go_ast.specs.Tree.{results, FuncTree, ImportsTree, DeclTree, VarDecl, TypeDecl, FuncDecl, FileTree}
+use Rattle.go_ast.specs.Flatten.{flatten}
+
+-- lists
+
+abbrev pub IsNonEmpty : {X : Type 0} → List X → Type 0
+IsNonEmpty [] = ⊥
+IsNonEmpty (x ∷ xs) = Unit {0}
+
+-- only the last item may lack its separator
+abbrev pub IsSeparated : {X : Type 0} → List (Item X) → Type 0
+IsSeparated [] = Unit {0}
+IsSeparated (x ∷ xs) = (x.separator ≡ None → xs ≡ []) × IsSeparated xs
+
+-- each item but the last has its separator, and the last has none
+abbrev pub IsJoined : {X : Type 0} → List (Item X) → Type 0
+IsJoined [] = Unit {0}
+IsJoined (x ∷ []) = x.separator ≡ None
+IsJoined (x ∷ (y ∷ ys)) = IsSome x.separator × IsJoined (y ∷ ys)
+
+-- at least one item, joined by separators, each of that sort
+pub record IsList {X : Type 0} (P : X → Type 0) (xs : List (Item X)) : Type 0 where
+  pub some : IsNonEmpty xs
+  pub joined : IsJoined xs
+  pub each : All (λ x. P x.value) xs
+
+-- any number of items, of which only the last may lack its separator
+pub record IsOpenList {X : Type 0} (P : X → Type 0) (xs : List (Item X)) : Type 0 where
+  pub separated : IsSeparated xs
+  pub each : All (λ x. P x.value) xs
+
+abbrev pub IsGroup : {X : Type 0} → (X → Type 0) → Group X → Type 0
+IsGroup P (single x) = P x
+IsGroup P (several o xs c) = IsOpenList P xs
+
+-- where it is there, it is of that sort
+abbrev pub Perhaps : {X : Type 0} → (X → Type 0) → Option X → Type 0
+Perhaps P None = Unit {0}
+Perhaps P (Some x) = P x
+
+abbrev pub Any : {X : Type 0} → X → Type 0
+Any x = Unit {0}
+
+-- expressions
+
+-- how strongly an operator binds
+abbrev pub strength : BinaryOp → ℕ
+strength binary.Multiply = 5
+strength binary.Divide = 5
+strength binary.Remainder = 5
+strength binary.Add = 4
+strength binary.Subtract = 4
+strength binary.Equal = 3
+strength binary.NotEqual = 3
+strength binary.Less = 3
+strength binary.LessEqual = 3
+strength binary.Greater = 3
+strength binary.GreaterEqual = 3
+strength binary.And = 2
+strength binary.Or = 1
+
+-- a binary as its operators, and any other tree stronger than all operators
+abbrev pub strength_of : ExprTree → ℕ
+strength_of (Binary e no_operand) = 0
+strength_of (Binary e (operand op p f os)) = strength op
+strength_of _ = 6
+
+-- whether selectors, indexes and calls may stand behind it as they are, in one chain
+abbrev pub is_operand : ExprTree → Bool
+is_operand (Prefix op p e) = false
+is_operand (Address p l) = false
+is_operand (Chain e ls) = false
+is_operand (Binary e os) = false
+is_operand _ = true
+
+abbrev pub is_binary_tree : ExprTree → Bool
+is_binary_tree (Binary e os) = true
+is_binary_tree _ = false
+
+-- the types that a literal may be of
+abbrev pub IsLiteralType : TypeTree → Type 0
+IsLiteralType (Pointer s t) = ⊥
+IsLiteralType _ = Unit {0}
+
+unfoldable mutual
+  -- A chain is an operand and all links behind it, a binary an operand and all operators of one precedence behind it.
+  pub IsExpr : ExprTree → Type 0
+  IsExpr (Number n) = Unit {0}
+  IsExpr (Text n) = Unit {0}
+  IsExpr (Name n) = Unit {0}
+  IsExpr (Blank n) = Unit {0}
+  IsExpr (Composite l) = IsLiteral l
+  IsExpr (Paren o e c) = IsExpr e
+  IsExpr (Prefix op p e) = (is_binary_tree e ≡ false) × IsExpr e
+  IsExpr (Address p l) = IsLiteral l
+  IsExpr (Chain e ls) = (is_operand e ≡ true) × (ls ≢ no_link) × IsExpr e × AreLinks ls
+  IsExpr (Binary e no_operand) = ⊥
+  IsExpr (Binary e (operand op p f os)) = (strength op < strength_of e) × IsExpr e × AreOperands (strength op) (operand op p f os)
+
+  -- operators of that strength, each with an operand that binds more strongly
+  pub AreOperands : ℕ → OperandTrees → Type 0
+  AreOperands k no_operand = Unit {0}
+  AreOperands k (operand op p e os) = (strength op ≡ k) × (k < strength_of e) × IsExpr e × AreOperands k os
+
+  pub AreLinks : LinkTrees → Type 0
+  AreLinks no_link = Unit {0}
+  AreLinks (selector d n ls) = AreLinks ls
+  AreLinks (index o e c ls) = IsExpr e × AreLinks ls
+  AreLinks (call o xs c ls) = AreArguments xs × AreLinks ls
+
+  -- only the last may lack its comma
+  pub AreArguments : ArgumentTrees → Type 0
+  AreArguments no_argument = Unit {0}
+  AreArguments (argument e comma rest) = (comma ≡ None → rest ≡ no_argument) × IsExpr e × AreArguments rest
+
+  pub IsLiteral : LiteralTree → Type 0
+  IsLiteral (literal t o es c) = IsLiteralType t × AreElements es
+
+  pub AreElements : ElementTrees → Type 0
+  AreElements no_element = Unit {0}
+  AreElements (element key e comma rest) = (comma ≡ None → rest ≡ no_element) × IsExpr e × AreElements rest
+
+-- no literal that begins with a name, outside any brackets
+abbrev pub IsUnnamed : LiteralTree → Type 0
+IsUnnamed (literal (Slice o c t) b es d) = Unit {0}
+IsUnnamed (literal _ b es d) = ⊥
+
+unfoldable mutual
+  pub HasNoNamedLiteral : ExprTree → Type 0
+  HasNoNamedLiteral (Composite l) = IsUnnamed l
+  HasNoNamedLiteral (Prefix op p e) = HasNoNamedLiteral e
+  HasNoNamedLiteral (Address p l) = IsUnnamed l
+  HasNoNamedLiteral (Chain e ls) = HasNoNamedLiteral e
+  HasNoNamedLiteral (Binary e os) = HasNoNamedLiteral e × HaveNoNamedLiteral os
+  HasNoNamedLiteral _ = Unit {0}
+
+  pub HaveNoNamedLiteral : OperandTrees → Type 0
+  HaveNoNamedLiteral no_operand = Unit {0}
+  HaveNoNamedLiteral (operand op p e os) = HasNoNamedLiteral e × HaveNoNamedLiteral os
+
+-- an expression, in the header of an `if` or a `for` (h) or elsewhere
+pub record IsExprIn (h : Bool) (e : ExprTree) : Type 0 where
+  pub grouped : IsExpr e
+  pub unnamed : h ≡ true → HasNoNamedLiteral e
+
+-- statements
+
+abbrev pub IsSimple : Bool → SimpleTree → Type 0
+IsSimple h (Alone e) = IsExprIn h e
+IsSimple h (Step e op p) = IsExprIn h e
+IsSimple h (Update e op p f) = IsExprIn h e × IsExprIn h f
+IsSimple h (Assign es p fs) = IsList (IsExprIn h) es × IsList (IsExprIn h) fs
+IsSimple h (Define es p fs) = IsList (IsExprIn h) es × IsList (IsExprIn h) fs
+
+-- what may stand last in the header of a `for`: it declares nothing
+abbrev pub IsPost : SimpleTree → Type 0
+IsPost (Define es p fs) = ⊥
+IsPost s = IsSimple true s
+
+abbrev pub IsInit : InitTree → Type 0
+IsInit i = Perhaps (IsSimple true) i.simple
+
+abbrev pub IsFor : ForTree → Type 0
+IsFor forever = Unit {0}
+IsFor (while e) = IsExprIn true e
+IsFor (clauses init s condition t post) = Perhaps (IsSimple true) init × Perhaps (IsExprIn true) condition × Perhaps IsPost post
+
+-- a type, values, or both
+pub record IsLocal (l : LocalTree) : Type 0 where
+  pub names : IsList Any l.names
+  pub told : l.type_use ≡ None → l.values ≢ None
+  pub values : Perhaps (λ v. IsList (IsExprIn false) v.1) l.values
+
+unfoldable mutual
+  pub IsStatement : StatementTree → Type 0
+  IsStatement Empty = Unit {0}
+  IsStatement (Var p g) = IsGroup IsLocal g
+  IsStatement (Simple s) = IsSimple false s
+  IsStatement (Inner b) = IsBlock b
+  IsStatement (If i) = IsIf i
+  IsStatement (For p f b) = IsFor f × IsBlock b
+  IsStatement (Break p) = Unit {0}
+  IsStatement (Continue p) = Unit {0}
+  IsStatement (Return p es) = (es ≡ []) ⊎ IsList (IsExprIn false) es
+
+  pub IsBlock : BlockTree → Type 0
+  IsBlock (block o ss c) = (ss ≢ no_statement) × AreStatements ss
+
+  -- each but the last has its semicolon, and the last has none
+  pub AreStatements : StatementTrees → Type 0
+  AreStatements no_statement = Unit {0}
+  AreStatements (statement s None rest) = IsStatement s × (rest ≡ no_statement)
+  AreStatements (statement s (Some p) rest) = IsStatement s × (rest ≢ no_statement) × AreStatements rest
+
+  pub IsIf : IfTree → Type 0
+  IsIf (if_tree p init e b rest) = Perhaps IsInit init × IsExprIn true e × IsBlock b × IsElse rest
+
+  pub IsElse : ElseTree → Type 0
+  IsElse no_else = Unit {0}
+  IsElse (else_if p i) = IsIf i
+  IsElse (else_block p b) = IsBlock b
+
+-- declarations
+
+pub record IsGlobal (g : GlobalTree) : Type 0 where
+  pub names : IsList Any g.names
+  pub values : Perhaps (λ v. IsList Any v.1) g.values
+
+abbrev pub IsField : FieldTree → Type 0
+IsField f = IsList Any f.names
+
+abbrev pub IsBody : BodyTree → Type 0
+IsBody (Other t) = Unit {0}
+IsBody (Struct s o fs c) = IsOpenList IsField fs
+
+abbrev pub IsTypeSpec : TypeSpecTree → Type 0
+IsTypeSpec t = IsBody t.body
+
+abbrev pub IsParam : ParamTree → Type 0
+IsParam p = IsList Any p.names
+
+abbrev pub IsResult : ResultTree → Type 0
+IsResult no_result = Unit {0}
+IsResult (one_result t) = Unit {0}
+IsResult (results o ts c) = IsOpenList Any ts
+
+pub record IsFunc (f : FuncTree) : Type 0 where
+  pub params : IsOpenList IsParam f.params
+  pub result : IsResult f.result
+  pub body : IsBlock f.body
+
+abbrev pub IsImports : ImportsTree → Type 0
+IsImports i = IsGroup Any i.imports
+
+abbrev pub IsDecl : DeclTree → Type 0
+IsDecl (VarDecl k g s) = IsGroup IsGlobal g
+IsDecl (TypeDecl k g s) = IsGroup IsTypeSpec g
+IsDecl (FuncDecl k f s) = IsFunc f
+
+pub record IsFile (f : FileTree) : Type 0 where
+  pub imports : All IsImports f.imports
+  pub decls : All IsDecl f.decls
+
+pub record IsTreeOf (f : FileTree) (tokens : List Token) : Type 0 where
+  pub written : flatten f ≡ tokens
+  pub well_formed : IsFile f

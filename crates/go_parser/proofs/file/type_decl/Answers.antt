@@ -1,0 +1,28 @@
+-- The answers to the goals of `file::type_decl`.
+use Rattle.std.proofs.Common.{sym}
+use Rattle.go_parser.specs.Machine.{first, later}
+use Rattle.go_parser.proofs.MachineSteps.{exits, fails_first, fails_later, fails_rule, leads_as, leads_here, leads_rule, leads_then}
+use Rattle.go_parser.proofs.FormedParts.{type_decl_formed}
+use Rattle.go_parser.proofs.SpelledStatements.{type_decl_spelled}
+use Rattle.go_parser.proofs.file.type_decl.Goals as goal
+
+pub returns-in_err-at-clause-exact : goal.returns-in_err-at-clause-exact
+returns-in_err-at-clause-exact c = exits _ _ _ _ c.in_err-at.field-0.0 c.from_residual.result c.from_residual.ensures.1
+    (fails_rule (later c.requires.var (first c.requires.type_word)) (fails_first c.in_err-at.ensures))
+
+pub returns-in_err-group-clause-exact : goal.returns-in_err-group-clause-exact
+returns-in_err-group-clause-exact c = exits _ _ _ _ c.in_err-group.field-0.0 c.from_residual-in_err-group.result c.from_residual-in_err-group.ensures.1
+    (fails_rule (later c.requires.var (first c.requires.type_word)) (fails_later c.in_ok-at.ensures (fails_first c.in_err-group.ensures.exact)))
+
+pub returns-in_err-semicolon-clause-exact : goal.returns-in_err-semicolon-clause-exact
+returns-in_err-semicolon-clause-exact c = exits _ _ _ _ c.in_err-semicolon.field-0.0 c.from_residual-in_err-semicolon.result
+    c.from_residual-in_err-semicolon.ensures.1
+    (fails_rule (later c.requires.var (first c.requires.type_word))
+    (fails_later c.in_ok-at.ensures (fails_later c.in_ok-group.ensures.exact (fails_first c.in_err-semicolon.ensures))))
+
+pub returns-clause-exact : goal.returns-clause-exact
+returns-clause-exact c = leads_as (leads_rule (later c.requires.var (first c.requires.type_word))
+    (leads_then c.in_ok-at.ensures (leads_then c.in_ok-group.ensures.exact (leads_then c.in_ok-semicolon.ensures leads_here)))) (sym (type_decl_spelled _ _ _))
+
+pub returns-clause-formed : goal.returns-clause-formed
+returns-clause-formed c = type_decl_formed _ _ _ c.in_ok-group.ensures.formed

@@ -1,0 +1,39 @@
+-- What the parser keeps of a list whose items it reads one by one.
+use Rattle.std.specs.Prelude.{ℕ, ◌≡◌, ◌≢◌, ◌⊎◌, Bool, true, false, List, [], ◌∷◌, Option, None, IsSome}
+use Rattle.std.specs.List.{All}
+use Rattle.go_ast.specs.Tree.{Item, ExprTree, SimpleTree}
+use Rattle.go_ast.specs.declared.tree.TypeExpr.{TypeExpr}
+use Rattle.go_ast.specs.declared.tree.Values.{Values}
+use Rattle.go_parser.specs.declared.words.Setting.{Setting}
+use Rattle.go_parser.specs.declared.words.Setting.TheVariants as setting
+use Rattle.go_ast.specs.View.{option_view, type_view}
+use Rattle.go_ast.specs.FileView.{values_view}
+use Rattle.go_ast.specs.WellFormed.{IsList, IsExprIn, IsSimple, IsPost, Perhaps}
+use Rattle.go_parser.specs.Grouping.{Each}
+
+-- at least one; each but the last has its separator, and the last has none
+abbrev pub IsJoinedBy : {X : Type 0} → (X → Option ℕ) → List X → Type 0
+IsJoinedBy f [] = ⊥
+IsJoinedBy f (x ∷ []) = f x ≡ None
+IsJoinedBy f (x ∷ (y ∷ ys)) = IsSome (f x) × IsJoinedBy f (y ∷ ys)
+
+-- the items so far, each of that sort: where more must follow each has its separator, and where none may the last has none
+pub record IsListed {X Y : Type 0} (P : Y → Type 0) (item : X → Item Y) (more : Bool) (xs : List X) : Type 0 where
+  pub each : All (λ x. P (item x).value) xs
+  pub complete : more ≡ true → Each (λ x. IsSome (item x).separator) xs
+  pub joined : more ≡ false → IsJoinedBy (λ x. (item x).separator) xs
+
+-- a simple statement that may stand there
+abbrev pub IsSimpleIn : Setting → SimpleTree → Type 0
+IsSimpleIn setting.Plain s = IsSimple false s
+IsSimpleIn setting.Head s = IsSimple true s
+IsSimpleIn setting.Post s = IsPost s
+
+-- a type, well-formed values, or both
+pub record IsToldBy (type_use : Option TypeExpr) (values : Option Values) : Type 0 where
+  pub told : option_view type_view type_use ≡ None → option_view values_view values ≢ None
+  pub formed : Perhaps (λ v. IsList (IsExprIn false) v.1) (option_view values_view values)
+
+-- the values behind a `return`
+abbrev pub AreReturned : List (Item ExprTree) → Type 0
+AreReturned es = (es ≡ []) ⊎ IsList (IsExprIn false) es

@@ -1,0 +1,45 @@
+-- The predictive machine of the grammar. Its stack is what has still to come, and it knows how many levels
+-- are open.
+use Rattle.std.specs.Prelude.{ℕ, suc, ◌≡◌, Bool, true, false, List, [], ◌∷◌, ◌++◌, ◌≤◌, ◌<◌, length}
+use Rattle.go_ast.specs.declared.syntax.Kind.{Kind}
+use Rattle.go_ast.specs.declared.syntax.Token.{Token}
+use Rattle.go_ast.specs.declared.syntax.TokenFaultKind.{TokenFaultKind}
+use Rattle.go_ast.specs.declared.syntax.TokenFaultKind.TheVariants.{Syntax, Nesting}
+use Rattle.go_ast.specs.Grammar.{Symbol, One, Opening, Close, A, Part, Rule, Begins, Otherwise, rules}
+use Rattle.go_ast.specs.Verdict.{limit}
+
+-- whether the first token is of a class; where there is none it is of no class
+abbrev pub at : (Kind → Bool) → List Token → Bool
+at c [] = false
+at c (t ∷ ts) = c t.kind
+
+-- the rule that the next token selects
+pub data Selects : List Rule → List Token → List Symbol → Type 0 where
+  first : {c : Kind → Bool} {then : List Symbol} {rs : List Rule} {ts : List Token} →
+      at c ts ≡ true → Selects (Begins c then ∷ rs) ts then
+  later : {c : Kind → Bool} {other then : List Symbol} {rs : List Rule} {ts : List Token} →
+      at c ts ≡ false → Selects rs ts then → Selects (Begins c other ∷ rs) ts then
+  last : {then : List Symbol} {rs : List Rule} {ts : List Token} → Selects (Otherwise then ∷ rs) ts then
+
+-- How a run ends: all tokens taken, or a fault with that many tokens left, the one at fault among them.
+pub data Outcome : Type 0 where
+  Accepted : Outcome
+  Stopped : TokenFaultKind → ℕ → Outcome
+
+-- by the levels that are open, what has still to come, and the tokens left
+pub data Run : ℕ → List Symbol → List Token → Outcome → Type 0 where
+  accept : {d : ℕ} → Run d [] [] Accepted
+  take : {d : ℕ} {c : Kind → Bool} {t : Token} {ss : List Symbol} {ts : List Token} {o : Outcome} →
+      c t.kind ≡ true → Run d ss ts o → Run d (One c ∷ ss) (t ∷ ts) o
+  opens : {d : ℕ} {c : Kind → Bool} {t : Token} {ss : List Symbol} {ts : List Token} {o : Outcome} →
+      c t.kind ≡ true → d < limit → Run (suc d) ss ts o → Run d (Opening c ∷ ss) (t ∷ ts) o
+  too_deep : {d : ℕ} {c : Kind → Bool} {t : Token} {ss : List Symbol} {ts : List Token} →
+      c t.kind ≡ true → limit ≤ d → Run d (Opening c ∷ ss) (t ∷ ts) (Stopped Nesting (suc (length ts)))
+  closes : {d : ℕ} {ss : List Symbol} {ts : List Token} {o : Outcome} → Run d ss ts o → Run (suc d) (Close ∷ ss) ts o
+  expand : {d : ℕ} {p : Part} {then ss : List Symbol} {ts : List Token} {o : Outcome} →
+      Selects (rules p) ts then → Run d (then ++ ss) ts o → Run d (A p ∷ ss) ts o
+  refused : {d : ℕ} {c : Kind → Bool} {ss : List Symbol} {ts : List Token} →
+      at c ts ≡ false → Run d (One c ∷ ss) ts (Stopped Syntax (length ts))
+  refused_opening : {d : ℕ} {c : Kind → Bool} {ss : List Symbol} {ts : List Token} →
+      at c ts ≡ false → Run d (Opening c ∷ ss) ts (Stopped Syntax (length ts))
+  left_over : {d : ℕ} {t : Token} {ts : List Token} → Run d [] (t ∷ ts) (Stopped Syntax (suc (length ts)))

@@ -1,0 +1,101 @@
+//! A file's tree, read from its text.
+ghost use Rattle.std.specs.Prelude.{◌≡◌, IfOk, IfErr, IsTrue};
+ghost use Rattle.go_parser.specs.Parsed.{IsTextRefusedFor};
+ghost use Rattle.go_ast.specs.Faults.{IsSound};
+ghost use Rattle.go_ast.specs.Kinds.{kinds_of};
+
+use crate::kinds::kinds_of;
+use crate::parser::{Tree, parse};
+use crate::refusal::ParseRefusal;
+use base_files::{FileText, Path};
+use go_ast::FileTree;
+use go_scanner::{Pieces, ScanRefusal, scan};
+use std::alloc::{AllocError, Global};
+
+/// Cuts a text.
+fn cut(alloc: Global, text: &FileText) -> Result<Pieces, ParseRefusal>
+    ensures text { IfOk result (λ pieces. pieces.text ≡ text.now) }
+    ensures refused { IfErr result (IsTextRefusedFor text.now) }
+{
+    match scan(alloc, text) {
+        Ok(pieces) => Ok(pieces),
+        Err(ScanRefusal::Fault(fault)) => Err(ParseRefusal::Fault(fault)),
+        Err(ScanRefusal::Memory) => Err(ParseRefusal::Memory),
+    }
+}
+
+/// Reads the tokens of a text that is cut.
+fn read(alloc: Global, path: &Path, pieces: Pieces) -> Result<FileTree, ParseRefusal>
+    ensures path { IfOk result (λ file. file.path ≡ path.now) }
+    ensures text { IfOk result (λ file. file.cut.text ≡ pieces.text) }
+    ensures sound { IfOk result (λ file. IsSound pieces.text) }
+    ensures refused { IfErr result (IsTextRefusedFor pieces.text) }
+{
+    let _ = pieces.file();
+    let Tree { file, tokens: _ } = parse(alloc, &pieces)?;
+    let path = path.clone()?;
+    let file = FileTree::new(alloc, path, pieces, file)?;
+    Ok(file)
+}
+
+/// Reads a Go file. A fault of its pieces comes before one of its tokens.
+pub fn parse_file(alloc: Global, path: &Path, text: &FileText) -> Result<FileTree, ParseRefusal>
+    ensures path { IfOk result (λ file. file.path ≡ path.now) }
+    ensures text { IfOk result (λ file. file.cut.text ≡ text.now) }
+    ensures sound { IfOk result (λ file. IsSound text.now) }
+    ensures refused { IfErr result (IsTextRefusedFor text.now) }
+{
+    let pieces = cut(alloc, text)?;
+    read(alloc, path, pieces)
+}
+
+/// Whether the tokens of two cuts are of the same kinds.
+fn have_same_kinds(alloc: Global, before: &Pieces, after: &Pieces) -> Result<bool, AllocError>
+    ensures { IfOk result (λ same. IsTrue same → kinds_of before.now ≡ kinds_of after.now) }
+{
+    if before.tokens().len() != after.tokens().len() {
+        return Ok(false);
+    }
+    let before = kinds_of(alloc, before)?;
+    let after = kinds_of(alloc, after)?;
+    Ok(before == after)
+}
+
+/// A file that shares the tree of one whose tokens are of the same kinds.
+fn shared(
+    alloc: Global,
+    path: &Path,
+    pieces: Pieces,
+    like: &FileTree,
+) -> Result<FileTree, AllocError>
+    requires { kinds_of like.now.cut ≡ kinds_of pieces }
+    ensures path { IfOk result (λ file. file.path ≡ path.now) }
+    ensures text { IfOk result (λ file. file.cut.text ≡ pieces.text) }
+    ensures sound { IfOk result (λ file. IsSound pieces.text) }
+{
+    let _ = pieces.file();
+    let _ = like.file();
+    let path = path.clone()?;
+    like.with_cut(alloc, path, pieces)
+}
+
+/// Reads a Go file as `parse_file` does. Where its tokens are of the same kinds as those of a file that is at hand, such as this one before
+/// names or literals in it changed, it is not parsed: the two share the tree.
+pub fn parse_file_like(
+    alloc: Global,
+    path: &Path,
+    text: &FileText,
+    like: &FileTree,
+) -> Result<FileTree, ParseRefusal>
+    ensures path { IfOk result (λ file. file.path ≡ path.now) }
+    ensures text { IfOk result (λ file. file.cut.text ≡ text.now) }
+    ensures sound { IfOk result (λ file. IsSound text.now) }
+    ensures refused { IfErr result (IsTextRefusedFor text.now) }
+{
+    let pieces = cut(alloc, text)?;
+    if have_same_kinds(alloc, like.pieces(), &pieces)? {
+        let file = shared(alloc, path, pieces, like)?;
+        return Ok(file);
+    }
+    read(alloc, path, pieces)
+}

@@ -1,0 +1,30 @@
+//! Laws of the grammar: where its predictive machine stops, and that a token list has at most one syntax tree.
+
+ghost use Rattle.std.specs.Prelude.{ℕ, ◌≡◌, ◌≤◌, List, [], ◌∷◌};
+ghost use Rattle.std.specs.List.{All};
+ghost use Rattle.go_ast.specs.declared.syntax.Token.{Token};
+ghost use Rattle.go_ast.specs.declared.syntax.TokenFaultKind.TheVariants.{Syntax, Nesting};
+ghost use Rattle.go_ast.specs.Grammar.{A, File};
+ghost use Rattle.go_parser.specs.Machine.{Run, Stopped, Accepted};
+ghost use Rattle.go_ast.specs.Language.{Derives, FirstFault, DeepFault, levels};
+ghost use Rattle.go_ast.specs.Tree.{FileTree};
+ghost use Rattle.go_ast.specs.WellFormed.{IsTreeOf};
+
+/// What the machine takes whole is a file, in which no token opens a level over the limit; where it stops for syntax is the first token such that no file begins
+/// with the tokens up to and including it.
+pub fn machine_is_exact()
+    ensures taken { (ts : List Token) → Run 0 (A File ∷ []) ts Accepted → Derives (A File ∷ []) ts }
+    ensures shallow { (ts : List Token) → Run 0 (A File ∷ []) ts Accepted → (x : Derives (A File ∷ []) ts) → All (λ l. l ≤ 200) (levels 0 x) }
+    ensures stopped { (ts : List Token) → (left : ℕ) → Run 0 (A File ∷ []) ts (Stopped Syntax left) → FirstFault (A File ∷ []) 200 0 ts left }
+    ensures nested { (ts : List Token) → (left : ℕ) → Run 0 (A File ∷ []) ts (Stopped Nesting left) → DeepFault (A File ∷ []) 200 0 ts left }
+{}
+
+/// A token list that has a syntax tree is a file by the grammar.
+pub fn tree_is_derived()
+    ensures { (tree : FileTree) → (ts : List Token) → IsTreeOf tree ts → Derives (A File ∷ []) ts }
+{}
+
+/// A token list has at most one syntax tree.
+pub fn one_tree()
+    ensures { (tree other : FileTree) → (ts : List Token) → IsTreeOf tree ts → IsTreeOf other ts → tree ≡ other }
+{}

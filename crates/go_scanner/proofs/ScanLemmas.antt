@@ -1,0 +1,62 @@
+-- What is known while a text is scanned, and how it goes on by a piece.
+use Rattle.std.proofs.Common.{◌≡◌, ℕ, ◌+◌, ◌≤◌, Bool, true, false, nat_eq, List, [], ◌∷◌, ◌++◌, length, drop, Option, Some, None, refl, ap, sym, ◌∙◌}
+use Rattle.std.proofs.Common.{append_assoc, append-nil}
+use Rattle.std.specs.List.{starts_with}
+use Rattle.go_scanner.specs.declared.piece.Class.{Class}
+use Rattle.go_scanner.specs.declared.piece.Piece.{Piece}
+use Rattle.go_scanner.specs.Cuts.{CutsUpTo, IsWellEncoded, mark_of, mark_len, byte_order_mark}
+use Rattle.go_scanner.specs.CutText.{IsCutText}
+use Rattle.go_scanner.specs.Pieces.{Stands}
+use Rattle.go_scanner.specs.Tokens.{tokens_of, tokens_due, semicolon, GoesOn}
+use Rattle.go_scanner.proofs.CutLemmas.{CutsUpTo-push}
+use Rattle.go_scanner.proofs.TokenLemmas.{end_due, end_plain}
+
+-- pieces cut the text up to a place, and the tokens found and the semicolon that is due are those of the pieces, whatever follows
+pub record Scanned (text : List ℕ) (pieces found : List Piece) (due : Option ℕ) (at : ℕ) : Type 0 where
+  pub fits : at ≤ length text
+  pub cut : CutsUpTo text pieces at
+  pub so_far : (rest : List Piece) → found ++ tokens_due text due rest ≡ tokens_of text (pieces ++ rest)
+
+mark_has_no_token : (b : Bool) (text : List ℕ) (rest : List Piece) → starts_with nat_eq text byte_order_mark ≡ b →
+    tokens_of text rest ≡ tokens_of text (mark_of text ++ rest)
+unfolding tokens_of
+mark_has_no_token true text rest is = rw is refl
+mark_has_no_token false text rest is = rw is refl
+
+-- at the beginning
+pub scanned_mark : (text : List ℕ) (pieces : List Piece) (at : ℕ) → pieces ≡ mark_of text → at ≡ mark_len text → at ≤ length text →
+    Scanned text pieces [] None at
+scanned_mark text pieces at pieces_are at_is fits = record {
+  fits = fits;
+  cut = ([], pieces_are ∙ sym (append-nil (mark_of text)), sym at_is);
+  so_far = λ rest. mark_has_no_token _ text rest refl ∙ ap (λ (ps : List Piece). tokens_of text (ps ++ rest)) (sym pieces_are);
+}
+
+-- a piece goes behind those before
+pub scanned_more : (text : List ℕ) (pieces found more : List Piece) (due next : Option ℕ) (at size : ℕ) (class : Class) (rest : List ℕ)
+    → Scanned text pieces found due at → rest ≡ drop at text → Stands rest class size → at + size ≤ length text
+    → GoesOn text found due (record { class = class; span = record { start = at; end = at + size } }) more next
+    → Scanned text (pieces ++ (record { class = class; span = record { start = at; end = at + size } }) ∷ []) more next (at + size)
+scanned_more text pieces found more due next at size class rest before rest_is stands fits goes =
+    let p : Piece = record { class = class; span = record { start = at; end = at + size } } in
+    record {
+      fits = fits;
+      cut = CutsUpTo-push text pieces at class size rest before.cut rest_is stands;
+      so_far = λ others. goes others ∙ before.so_far (p ∷ others) ∙ ap (tokens_of text) (sym (append_assoc pieces (p ∷ []) others));
+    }
+
+whole : (text : List ℕ) (pieces found : List Piece) (due : Option ℕ) (at : ℕ) (tokens : List Piece) → IsWellEncoded text →
+    Scanned text pieces found due at → at ≡ length text → found ++ tokens_due text due [] ≡ tokens → IsCutText text pieces tokens
+whole text pieces found due at tokens encoded before all tokens_are = record {
+  cut = record { encoded = encoded; cut = rw (← all) before.cut };
+  tokens_are = sym tokens_are ∙ before.so_far [] ∙ ap (tokens_of text) (append-nil pieces);
+}
+
+-- at the end, with a semicolon due or none
+pub whole_due : (text : List ℕ) (pieces found : List Piece) (end at : ℕ) → IsWellEncoded text → Scanned text pieces found (Some end) at → at ≡ length text →
+    IsCutText text pieces (found ++ semicolon end ∷ [])
+whole_due text pieces found end at encoded before all = whole text pieces found (Some end) at _ encoded before all (end_due text found end)
+
+pub whole_plain : (text : List ℕ) (pieces found : List Piece) (at : ℕ) → IsWellEncoded text → Scanned text pieces found None at → at ≡ length text →
+    IsCutText text pieces found
+whole_plain text pieces found at encoded before all = whole text pieces found None at _ encoded before all (end_plain text found)

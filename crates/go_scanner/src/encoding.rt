@@ -1,0 +1,27 @@
+//! Whether a text is UTF-8 without a zero byte.
+ghost use Rattle.std.specs.Prelude.{MatchOption};
+ghost use Rattle.go_scanner.specs.Cuts.{IsValidLen, IsWellEncoded, IsIllEncodedAt};
+
+use memchr::memchr;
+
+/// The length of the longest front that is UTF-8.
+fn valid_len(text: &[u8]) -> usize
+    ensures { IsValidLen text.now result }
+{
+    match str::from_utf8(text) {
+        Ok(_) => text.len(),
+        Err(error) => error.valid_up_to(),
+    }
+}
+
+/// The place of the first byte that is ill encoded.
+pub fn encoding_fault(text: &[u8]) -> Option<usize>
+    ensures { MatchOption result (IsWellEncoded text.now) (λ n. IsIllEncodedAt text.now n) }
+{
+    let valid = valid_len(text);
+    match memchr(0, &text[..valid]) {
+        Some(zero) => Some(zero),
+        None if valid < text.len() => Some(valid),
+        None => None,
+    }
+}

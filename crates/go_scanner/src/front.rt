@@ -1,0 +1,147 @@
+//! The piece at the front of some bytes.
+ghost use Rattle.std.specs.Prelude.{◌≡◌, ◌<◌, length, MatchBool, slice_index, true};
+ghost use Rattle.std.specs.Char.{is_digit};
+ghost use Rattle.bstr.specs.Find.{OccursAt};
+ghost use Rattle.bstr.specs.Utf8.{decoded};
+ghost use Rattle.go_scanner.specs.Families.{IsFront, starts_word, begins_with_letter, MayBeOperator};
+ghost use Rattle.go_scanner.specs.Pieces.{spoils_number, IsFraction};
+ghost use Rattle.go_scanner.specs.Trivia.{is_blank, line_opening, comment_opening};
+
+use crate::characters::{continues_name, is_letter};
+use crate::integers::{integer_len, integer_value};
+use crate::keywords::keyword_of;
+use crate::operators::operator_at;
+use crate::piece::Class;
+use crate::refusal::TextFault;
+use crate::strings::{raw_string, string};
+use crate::trivia::{general_comment_len, line_comment_len};
+use crate::words::name_run;
+use base_files::FaultKind;
+use bstr::decode_utf8;
+
+fn fault(kind: FaultKind) -> Result<(Class, usize), TextFault>
+    ensures { result ≡ Err (record { offset = 0; kind = kind }) }
+{
+    Err(TextFault { offset: 0, kind })
+}
+
+fn begins_with_letter(bytes: &[u8]) -> bool
+    ensures { result ≡ begins_with_letter bytes.now }
+{
+    match decode_utf8(bytes).0 {
+        Some(first) => is_letter(first),
+        None => false,
+    }
+}
+
+/// Whether a number is spoiled by what follows it.
+fn spoils_number(bytes: &[u8]) -> bool
+    ensures { result ≡ spoils_number (decoded bytes.now).char }
+{
+    match decode_utf8(bytes).0 {
+        Some(first) => first == '.' || continues_name(first),
+        None => false,
+    }
+}
+
+fn blank(bytes: &[u8]) -> Result<(Class, usize), TextFault>
+    requires some { 0 < length bytes.now }
+    requires first { is_blank (slice_index bytes.now 0) ≡ true }
+    ensures { IsFront bytes.now result }
+{
+    Ok((Class::Blank, 1))
+}
+
+fn newline(bytes: &[u8]) -> Result<(Class, usize), TextFault>
+    requires some { 0 < length bytes.now }
+    requires first { slice_index bytes.now 0 ≡ 10 }
+    ensures { IsFront bytes.now result }
+{
+    Ok((Class::Newline, 1))
+}
+
+/// A name or a keyword.
+fn word(bytes: &[u8]) -> Result<(Class, usize), TextFault>
+    requires some { 0 < length bytes.now }
+    requires first { starts_word (slice_index bytes.now 0) ≡ true }
+    ensures { IsFront bytes.now result }
+{
+    if !begins_with_letter(bytes) {
+        return fault(FaultKind::Character);
+    }
+    let size = name_run(bytes);
+    match keyword_of(&bytes[..size]) {
+        Some(keyword) => Ok((Class::Keyword(keyword), size)),
+        None => Ok((Class::Name, size)),
+    }
+}
+
+fn number(bytes: &[u8]) -> Result<(Class, usize), TextFault>
+    requires some { 0 < length bytes.now }
+    requires first { is_digit (slice_index bytes.now 0) 10 ≡ true }
+    ensures { IsFront bytes.now result }
+{
+    let size = integer_len(bytes);
+    if spoils_number(&bytes[size..]) {
+        return fault(FaultKind::Number);
+    }
+    match integer_value(&bytes[..size]) {
+        Some(_) => Ok((Class::Integer, size)),
+        None => fault(FaultKind::Number),
+    }
+}
+
+fn line_comment(bytes: &[u8]) -> Result<(Class, usize), TextFault>
+    requires { OccursAt bytes.now line_opening 0 }
+    ensures { IsFront bytes.now result }
+{
+    Ok((Class::LineComment, line_comment_len(bytes)))
+}
+
+fn general_comment(bytes: &[u8]) -> Result<(Class, usize), TextFault>
+    requires { OccursAt bytes.now comment_opening 0 }
+    ensures { IsFront bytes.now result }
+{
+    match general_comment_len(bytes) {
+        Some(size) => Ok((Class::GeneralComment, size)),
+        None => fault(FaultKind::Comment),
+    }
+}
+
+/// Whether a point and a digit are at the front.
+fn is_fraction(bytes: &[u8]) -> bool
+    ensures { MatchBool result (IsFraction bytes.now) (IsFraction bytes.now → ⊥) }
+{
+    bytes.len() > 1 && bytes[0] == b'.' && char::from(bytes[1]).is_digit(10)
+}
+
+fn operator(bytes: &[u8]) -> Result<(Class, usize), TextFault>
+    requires { MayBeOperator bytes.now }
+    ensures { IsFront bytes.now result }
+{
+    if is_fraction(bytes) {
+        return fault(FaultKind::Number);
+    }
+    match operator_at(bytes) {
+        Some(operator) => Ok((Class::Operator(operator), operator.spelling().len())),
+        None => fault(FaultKind::Character),
+    }
+}
+
+/// The piece at the front of some bytes and how many bytes it has, or the rule that is broken there.
+pub fn front(bytes: &[u8]) -> Result<(Class, usize), TextFault>
+    requires { 0 < length bytes.now }
+    ensures { IsFront bytes.now result }
+{
+    match bytes {
+        [b' ' | b'\t' | b'\r', ..] => blank(bytes),
+        [b'\n', ..] => newline(bytes),
+        [b'/', b'/', ..] => line_comment(bytes),
+        [b'/', b'*', ..] => general_comment(bytes),
+        [b'0'..=b'9', ..] => number(bytes),
+        [b'"', ..] => string(bytes),
+        [b'`', ..] => raw_string(bytes),
+        [b'A'..=b'Z' | b'a'..=b'z' | b'_' | 0x80..=0xFF, ..] => word(bytes),
+        _ => operator(bytes),
+    }
+}

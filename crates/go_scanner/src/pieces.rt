@@ -1,0 +1,102 @@
+//! A file with its pieces and tokens.
+ghost use Rattle.std.specs.Prelude.{◌≡◌, ◌<◌, ◌≤◌, ◌-◌, length, take, drop, IfOk};
+ghost use Rattle.go_scanner.specs.Cuts.{IsCut, bytes_of};
+ghost use Rattle.go_scanner.specs.TokenValues.{HasTokenValue};
+ghost use Rattle.go_scanner.specs.Spans.{IsTokenText, AreInOrder};
+ghost use Rattle.go_scanner.specs.CutText.{IsCutText, token_at, tokens_in};
+
+use crate::piece::{Class, Piece};
+use crate::string_values::string_value;
+use crate::trail::Trail;
+use base_files::{FileText, Span};
+use std::alloc::{AllocError, Global};
+use std::marker::Model;
+
+/// The cut of a file: its tokens, inserted semicolons among them. Its pieces, blanks and comments among them, follow from
+/// its bytes, so only proofs see them.
+#[derive(Drop)]
+pub struct Pieces {
+    file: FileText,
+    pieces: Trail<Piece>,
+    tokens: Vec<Piece>,
+}
+
+impl Model for Pieces {
+    ghost use Rattle.go_scanner.specs.CutText.{CutText, IsCutText};
+
+    ghost Value = { CutText };
+
+    ghost view = { λ a. record { text = a.file; pieces = a.pieces.items } };
+
+    ghost invariant = { λ a. IsCutText a.file a.pieces.items a.tokens.items };
+}
+
+fn part(text: &[u8], span: Span) -> &[u8]
+    requires order { span.start ≤ span.end }
+    requires fits { span.end ≤ length text.now }
+    ensures { result.now ≡ take (span.end - span.start) (drop span.start text.now) }
+{
+    &text[span.start..span.end]
+}
+
+impl Pieces {
+    /// The pieces and tokens that are known to be those of a file.
+    pub(crate) fn new(file: FileText, pieces: Trail<Piece>, tokens: Vec<Piece>) -> Pieces
+        requires { IsCutText file pieces.items tokens.items }
+        ensures { result ≡ record { text = file; pieces = pieces.items } }
+    {
+        Pieces {
+            file,
+            pieces,
+            tokens,
+        }
+    }
+
+    /// The file that was cut.
+    pub fn file(&self) -> &FileText
+        ensures text { result.now ≡ self.now.text }
+        ensures cut { IsCut self.now.text self.now.pieces }
+    {
+        &self.file
+    }
+
+    /// The tokens. An inserted semicolon is empty, and stands at the end of the token before it.
+    pub fn tokens(&self) -> &[Piece]
+        ensures tokens { result.now ≡ tokens_in self.now }
+        ensures order { AreInOrder self.now.text (tokens_in self.now) }
+    {
+        &self.tokens
+    }
+
+    /// The bytes of a token, by its number from 0.
+    pub fn span(&self, token: usize) -> Span
+        requires { token < length (tokens_in self.now) }
+        ensures { result ≡ (token_at self.now token).span }
+    {
+        self.tokens[token].span
+    }
+
+    /// How a token is spelled, by its number from 0. An inserted semicolon is empty.
+    pub fn text(&self, token: usize) -> &[u8]
+        requires { token < length (tokens_in self.now) }
+        ensures bytes { result.now ≡ bytes_of self.now.text (token_at self.now token) }
+        ensures class { IsTokenText (token_at self.now token).class result.now }
+    {
+        let span = self.tokens[token].span;
+        part(self.file.bytes(), span)
+    }
+
+    /// What a token stands for if it is a string literal, by its number from 0.
+    pub fn string_value(&self, alloc: Global, token: usize) -> Result<Option<Vec<u8>>, AllocError>
+        requires { token < length (tokens_in self.now) }
+        ensures { IfOk result (HasTokenValue (token_at self.now token).class (bytes_of self.now.text (token_at self.now token))) }
+    {
+        match self.tokens[token].class {
+            Class::InterpretedString | Class::RawString => {
+                let value = string_value(alloc, self.text(token))?;
+                Ok(Some(value))
+            }
+            _ => Ok(None),
+        }
+    }
+}

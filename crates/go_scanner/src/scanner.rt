@@ -1,0 +1,79 @@
+//! The scanner.
+ghost use Rattle.std.specs.Prelude.{◌≡◌, ◌≤◌, IfOk, IfErr, length};
+ghost use Rattle.go_scanner.specs.Cuts.{IsCut, mark_len, mark_of};
+ghost use Rattle.go_scanner.specs.CutText.{IsCutText};
+ghost use Rattle.go_scanner.specs.Refusals.{RefusedRightly};
+
+use crate::encoding::encoding_fault;
+use crate::front::front;
+use crate::piece::{Class, Piece};
+use crate::pieces::Pieces;
+use crate::refusal::{ScanRefusal, TextFault};
+use crate::tokens::{add_piece, semicolon};
+use crate::trail::Trail;
+use base_files::{FaultKind, FileText, Span};
+use std::alloc::Global;
+
+/// U+FEFF at the beginning of a text, if it is there, and how many bytes it takes.
+fn mark(text: &[u8]) -> (Trail<Piece>, usize)
+    ensures pieces { result.0.items ≡ mark_of text.now }
+    ensures size { result.1 ≡ mark_len text.now }
+    ensures fits { result.1 ≤ length text.now }
+{
+    let nothing = Trail::new();
+    if !text.starts_with(b"\xEF\xBB\xBF") {
+        return (nothing, 0);
+    }
+    let mark = Piece {
+        class: Class::ByteOrderMark,
+        span: Span { start: 0, end: 3 },
+    };
+    (nothing.and(&mark), 3)
+}
+
+/// The pieces and tokens of the cut of a text, or the first fault in it.
+fn cut(alloc: Global, text: &[u8]) -> Result<(Trail<Piece>, Vec<Piece>), ScanRefusal>
+    ensures cut { IfOk result (λ found. IsCutText text.now found.0.items found.1.items) }
+    ensures refused { IfErr result (RefusedRightly text.now) }
+{
+    if let Some(offset) = encoding_fault(text) {
+        let kind = FaultKind::Encoding;
+        return Err(ScanRefusal::Fault(TextFault { offset, kind }));
+    }
+    let mut tokens = Vec::new(alloc);
+    let mut due = None;
+    let (mut pieces, mut at) = mark(text);
+    while at < text.len() {
+        match front(&text[at..]) {
+            Ok((class, size)) => {
+                let end = at + size;
+                let span = Span { start: at, end };
+                let piece = Piece { class, span };
+                due = add_piece(&mut tokens, due, text, &piece)?;
+                pieces = pieces.and(&piece);
+                at = end;
+            }
+            Err(TextFault { offset, kind }) => {
+                let offset = at + offset;
+                return Err(ScanRefusal::Fault(TextFault { offset, kind }));
+            }
+        }
+    }
+    match due {
+        Some(end) => {
+            tokens.push(semicolon(end))?;
+            Ok((pieces, tokens))
+        }
+        None => Ok((pieces, tokens)),
+    }
+}
+
+/// Cuts a Go file, or answers the first fault in it. The pieces share the file's bytes.
+pub fn scan(alloc: Global, file: &FileText) -> Result<Pieces, ScanRefusal>
+    ensures cut { IfOk result (λ pieces. (pieces.text ≡ file.now) × IsCut pieces.text pieces.pieces) }
+    ensures refused { IfErr result (RefusedRightly file.now) }
+{
+    let (pieces, tokens) = cut(alloc, file.bytes())?;
+    let file = file.clone()?;
+    Ok(Pieces::new(file, pieces, tokens))
+}

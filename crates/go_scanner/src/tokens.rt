@@ -1,0 +1,103 @@
+//! The tokens of a cut, piece by piece.
+ghost use Rattle.std.specs.Prelude.{◌≡◌, ◌==◌, ◌≤◌, length, IfOk};
+ghost use Rattle.std.specs.List.{list_any};
+ghost use Rattle.go_scanner.specs.Tokens.{is_trivia, ends_statement, ends_line, GoesOn};
+
+use crate::keywords::Keyword;
+use crate::operators::Operator;
+use crate::piece::{Class, Piece};
+use base_files::Span;
+use std::alloc::AllocError;
+
+fn is_trivia(class: Class) -> bool
+    ensures { result ≡ is_trivia class }
+{
+    matches!(
+        class,
+        Class::ByteOrderMark
+            | Class::Blank
+            | Class::Newline
+            | Class::LineComment
+            | Class::GeneralComment
+    )
+}
+
+/// Whether a semicolon stands behind such a token where it is the last of its line.
+fn ends_statement(class: Class) -> bool
+    ensures { result ≡ ends_statement class }
+{
+    match class {
+        Class::Name | Class::Integer | Class::InterpretedString | Class::RawString => true,
+        Class::Keyword(keyword) => matches!(
+            keyword,
+            Keyword::Break | Keyword::Continue | Keyword::Fallthrough | Keyword::Return
+        ),
+        Class::Operator(operator) => matches!(
+            operator,
+            Operator::Increment
+                | Operator::Decrement
+                | Operator::RightParen
+                | Operator::RightBracket
+                | Operator::RightBrace
+        ),
+        _ => false,
+    }
+}
+
+fn has_newline(bytes: &[u8]) -> bool
+    ensures { result ≡ list_any (λ b. b == 10) bytes.now }
+{
+    bytes.iter().any(|byte| *byte == b'\n')
+}
+
+fn ends_line(text: &[u8], piece: &Piece) -> bool
+    requires order { piece.now.span.start ≤ piece.now.span.end }
+    requires fits { piece.now.span.end ≤ length text.now }
+    ensures { result ≡ ends_line text.now piece.now }
+{
+    match piece.class {
+        Class::Newline => true,
+        Class::GeneralComment => has_newline(&text[piece.span.start..piece.span.end]),
+        _ => false,
+    }
+}
+
+pub fn semicolon(at: usize) -> Piece
+    ensures { result ≡ record { class = Class.Operator Operator.Semicolon; span = record { start = at; end = at } } }
+{
+    Piece {
+        class: Class::Operator(Operator::Semicolon),
+        span: Span { start: at, end: at },
+    }
+}
+
+/// Goes over one piece: adds its token, and the semicolon that is due where the line ends. The answer is where a
+/// semicolon is due next, if the line ends.
+pub fn add_piece(
+    found: &mut Vec<Piece>,
+    due: Option<usize>,
+    text: &[u8],
+    piece: &Piece,
+) -> Result<Option<usize>, AllocError>
+    requires order { piece.now.span.start ≤ piece.now.span.end }
+    requires fits { piece.now.span.end ≤ length text.now }
+    ensures { IfOk result (λ next. GoesOn text.now found.old.items due piece.now found.new.items next) }
+{
+    if !is_trivia(piece.class) {
+        found.push(*piece)?;
+        if ends_statement(piece.class) {
+            return Ok(Some(piece.span.end));
+        }
+        return Ok(None);
+    }
+    if !ends_line(text, piece) {
+        return Ok(due);
+    }
+    match due {
+        Some(at) => {
+            found.push(semicolon(at))?;
+            Ok(None)
+        }
+        None => Ok(None),
+    }
+}

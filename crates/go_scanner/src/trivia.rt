@@ -1,0 +1,29 @@
+//! Comments.
+ghost use Rattle.std.specs.Prelude.{MatchOption};
+ghost use Rattle.bstr.specs.Find.{OccursAt};
+ghost use Rattle.go_scanner.specs.Pieces.{IsLongest};
+ghost use Rattle.go_scanner.specs.Trivia.{line_opening, comment_opening, IsLineComment, IsGeneralComment, IsOpenComment};
+
+use memchr::{memchr, memmem};
+
+/// How many bytes the line comment at the front has.
+pub fn line_comment_len(bytes: &[u8]) -> usize
+    requires { OccursAt bytes.now line_opening 0 }
+    ensures { IsLongest IsLineComment bytes.now result }
+{
+    match memchr(b'\n', bytes) {
+        Some(newline) => newline,
+        None => bytes.len(),
+    }
+}
+
+/// How many bytes the general comment at the front has, if it ends.
+pub fn general_comment_len(bytes: &[u8]) -> Option<usize>
+    requires { OccursAt bytes.now comment_opening 0 }
+    ensures { MatchOption result (IsOpenComment bytes.now) (λ n. IsLongest IsGeneralComment bytes.now n) }
+{
+    match memmem::find(&bytes[2..], b"*/") {
+        Some(body) => Some(body + 4),
+        None => None,
+    }
+}

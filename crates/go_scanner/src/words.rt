@@ -1,0 +1,41 @@
+//! Names and keywords.
+ghost use Rattle.std.specs.Prelude.{◌≡◌};
+ghost use Rattle.go_scanner.specs.Characters.{is_ascii_word};
+ghost use Rattle.go_scanner.specs.Words.{IsNameRun, NameRunSoFar};
+
+use crate::characters::continues_name;
+use crate::integers::is_digit;
+use bstr::decode_utf8;
+
+/// Whether a byte is a letter or digit of ASCII, or `_`.
+fn is_ascii_word(byte: u8) -> bool
+    ensures { result ≡ is_ascii_word byte }
+{
+    is_digit(byte, 36) || byte == b'_'
+}
+
+/// How many bytes at the front are letters and digits of ASCII, and `_`.
+fn ascii_run(bytes: &[u8]) -> usize
+    ensures { NameRunSoFar bytes.now result }
+{
+    let mut n = 0;
+    while n < bytes.len() && is_ascii_word(bytes[n]) {
+        n += 1;
+    }
+    n
+}
+
+/// How many bytes at the front are characters that may stand in a name.
+pub fn name_run(bytes: &[u8]) -> usize
+    ensures { IsNameRun bytes.now result }
+{
+    let mut n = ascii_run(bytes);
+    while n < bytes.len() {
+        let (found, size) = decode_utf8(&bytes[n..]);
+        match found {
+            Some(c) if continues_name(c) => n += size,
+            _ => return n,
+        }
+    }
+    n
+}

@@ -1,0 +1,252 @@
+-- Identifiers in which imports without a name declare in their files: what stands at each number, and that the layout
+-- stays well-formed.
+use Rattle.std.proofs.Common.{ℕ, ◌≡◌, ◌+◌, ◌<◌, ◌≤◌, ◌⊎◌, inl, inr, List, [], ◌∷◌, ◌++◌, length, take, get_or, map, Option, Some, None, Bool, true, false}
+use Rattle.std.proofs.Common.{ap, sym, ◌∙◌, refl, subst, arith, zero, suc}
+use Rattle.std.specs.Prelude.{slice_get}
+use Rattle.std.proofs.Math.ListN.{get_or-map}
+use Rattle.std.proofs.lemmas.List.{length-map, map-append}
+use Rattle.go_scope.specs.declared.model.Block.TheVariants.{File, Inner}
+use Rattle.go_scope.specs.declared.model.Identifier.{Identifier}
+use Rattle.go_scope.specs.declared.model.Position.{Position}
+use Rattle.go_scope.specs.declared.model.Role.{Role}
+use Rattle.go_scope.specs.declared.model.Role.TheVariants.{Use, Declaring, LeftName, Implied, NotLexical}
+use Rattle.go_scope.specs.Bindings.{Layout, MayDeclare, IsLeftName, block_of, start_of, may_declare, is_left_name}
+use Rattle.go_scope.specs.FileSites.{SpelledFile, package_sites}
+use Rattle.go_scope.specs.Found.{site_of}
+use Rattle.go_scope.specs.Named.{is_unnamed_import, named_where, named_site, named_sites}
+use Rattle.go_scope.specs.Site.{Site, found_site, sites_layout}
+use Rattle.go_scope.specs.Table.{layout_of}
+use Rattle.go_scope.specs.Trees.{AreNumbered}
+use Rattle.go_scope.specs.WellFormed.{WellFormed, AreImportsLevel, FollowBlocks, IsUpTo, FollowPlaces, IsLaidOut, IsIn}
+use Rattle.go_scope.proofs.Declared.{layout-sites}
+use Rattle.go_scope.proofs.PackagePlaces.{package_follows_places}
+use Rattle.go_scope.proofs.PackageRegions.{From, may_at, each_at, not_may, package_agrees, package_well_formed, package_follows_blocks}
+
+-- one more identifier
+pub named_next : (names : ℕ → Option (List ℕ)) (xs : List Site) (u : ℕ) (d : Site) → u < length xs →
+    named_sites names (take u xs) ++ (named_site (names u) (get_or xs u d) ∷ []) ≡ named_sites names (take (suc u) xs)
+unfolding named_sites
+named_next names [] u d lt = absurd (omega arith)
+named_next names (x ∷ xs) zero d lt = refl
+named_next names (x ∷ xs) (suc u) d lt = ap (λ z. named_site (names 0) x ∷ z) (named_next (λ k. names (suc k)) xs u d (omega arith))
+
+-- an identifier stays, or declares in a file from its beginning
+abbrev RoleStays : Role → Role → Type 0
+RoleStays new old = (new ≡ old) ⊎ ((f : ℕ) × (new ≡ Declaring (File f) 0))
+
+site_stays : (b : Bool) (name : Option (List ℕ)) (x : Site) → RoleStays (named_where b name x).role x.role
+site_stays true (Some name) x = inr (x.place.file, refl)
+site_stays true None x = inl refl
+site_stays false name x = inl refl
+
+role_stays : (names : ℕ → Option (List ℕ)) (xs : List Site) (d : ℕ) →
+    RoleStays (found_site (slice_get (named_sites names xs) d)).role (found_site (slice_get xs d)).role
+unfolding named_sites
+role_stays names [] d = inl refl
+role_stays names (x ∷ xs) zero = site_stays (is_unnamed_import x.role) (names 0) x
+role_stays names (x ∷ xs) (suc d) = role_stays (λ u. names (suc u)) xs d
+
+stays_in_place : (b : Bool) (name : Option (List ℕ)) (x : Site) → (named_where b name x).place ≡ x.place
+stays_in_place true (Some name) x = refl
+stays_in_place true None x = refl
+stays_in_place false name x = refl
+
+pub place_stays : (names : ℕ → Option (List ℕ)) (xs : List Site) (d : ℕ) →
+    (found_site (slice_get (named_sites names xs) d)).place ≡ (found_site (slice_get xs d)).place
+unfolding named_sites
+place_stays names [] d = refl
+place_stays names (x ∷ xs) zero = stays_in_place (is_unnamed_import x.role) (names 0) x
+place_stays names (x ∷ xs) (suc d) = place_stays (λ u. names (suc u)) xs d
+
+file_not_inner : (h f a b : ℕ) → File h ≡ Inner f a b → ⊥
+file_not_inner h f a b e = cc
+
+not_left : (h : ℕ) → is_left_name (Declaring (File h) 0) ≡ true → ⊥
+not_left h e = cc
+
+module _ (k l : Layout) (n : ℕ) (finite : (d : ℕ) → MayDeclare k d → d < n) (roles : (d : ℕ) → RoleStays (k.role d) (l.role d))
+    (places : (d : ℕ) → k.place d ≡ l.place d)
+    (w : WellFormed l) (level : AreImportsLevel l) where
+  inner_stays : (d f a b : ℕ) → IsIn k d (Inner f a b) → k.role d ≡ l.role d
+  inner_stays d f a b i = elim (roles d) [ inl e ↦ e | inr h ↦ absurd (file_not_inner h.0 f a b (sym (ap block_of h.1) ∙ i)) ]
+
+  left_stays : (d : ℕ) → IsLeftName k d → k.role d ≡ l.role d
+  left_stays d left = elim (roles d) [ inl e ↦ e | inr h ↦ absurd (not_left h.0 (sym (ap is_left_name h.1) ∙ left)) ]
+
+  may : (d : ℕ) → k.role d ≡ l.role d → MayDeclare k d → MayDeclare l d
+  may d e m = sym (ap may_declare e) ∙ m
+
+  within : (d f a b : ℕ) → k.role d ≡ l.role d → IsIn k d (Inner f a b) → IsIn l d (Inner f a b)
+  within d f a b e i = sym (ap block_of e) ∙ i
+
+  left : (d : ℕ) → k.role d ≡ l.role d → IsLeftName k d → IsLeftName l d
+  left d e m = sym (ap is_left_name e) ∙ m
+
+  pub imports_stay_level : AreImportsLevel k
+  imports_stay_level d f i = elim (roles d) [ inl e ↦ ap start_of e ∙ level d f (sym (ap block_of e) ∙ i) | inr h ↦ ap start_of h.1 ]
+
+  pub stays_well_formed : WellFormed k
+  stays_well_formed = record {
+    size = n;
+    finite = finite;
+    starts = λ d f a b m i.
+        let e = inner_stays d f a b i in
+        let P : Role → Type 0 = λ r. (a ≤ start_of r) × (start_of r ≤ b) in
+        subst P (sym e) (w.starts d f a b (may d e m) (within d f a b e i));
+    blocks = λ d g f a b a' b' md mg i j.
+        let e = inner_stays d f a b i in
+        let h = inner_stays g f a' b' j in
+        w.blocks d g f a b a' b' (may d e md) (may g h mg) (within d f a b e i) (within g f a' b' h j);
+    begins_outside = λ d g f a b a' b' md mg i j lt le.
+        let e = inner_stays d f a b i in
+        let h = inner_stays g f a' b' j in
+        let P : Role → Type 0 = λ r. (start_of r < a) ⊎ (b ≤ start_of r) in
+        subst P (sym h) (w.begins_outside d g f a b a' b' (may d e md) (may g h mg) (within d f a b e i) (within g f a' b' h j) lt le);
+    in_order = λ d g md mg same lt. elim (roles d) [
+      | inr h ↦ (let z : start_of (k.role d) ≡ 0 = ap start_of h.1 in omega arith)
+      | inl e ↦ elim (roles g) [
+        | inr h ↦ (let z : start_of (k.role d) ≡ 0 = imports_stay_level d h.0 (same ∙ ap block_of h.1) in omega arith)
+        | inl h ↦ (
+            let less : start_of (l.role d) ≤ start_of (l.role g) = w.in_order d g (may d e md) (may g h mg) (sym (ap block_of e) ∙ same ∙ ap block_of h) lt in
+            let x : start_of (k.role d) ≡ start_of (l.role d) = ap start_of e in
+            let y : start_of (k.role g) ≡ start_of (l.role g) = ap start_of h in
+            omega arith)
+      ]
+    ];
+    left_inner = λ x m.
+        let e = left_stays x m in
+        let z = w.left_inner x (left x e m) in
+        let P : Position → Type 0 = λ p. (p.file ≡ z.0) × (z.1 ≤ p.index) in
+        let at = subst P (sym (places x)) (z.4, z.5) in
+        (z.0, z.1, z.2, ap block_of e ∙ z.3, at.0, at.1);
+    left_before = λ x m.
+        let e = left_stays x m in
+        let less : (l.place x).index < start_of (l.role x) = w.left_before x (left x e m) in
+        let p : (k.place x).index ≡ (l.place x).index = ap (λ q. q.index) (places x) in
+        let s : start_of (k.role x) ≡ start_of (l.role x) = ap start_of e in
+        omega arith;
+    left_directly = λ x z f a b a' b' m mz i j lt le.
+        let e = left_stays x m in
+        let h = inner_stays z f a' b' j in
+        let P : Position → Type 0 = λ p. (p.index < a') ⊎ (b' ≤ p.index) in
+        subst P (sym (places x)) (w.left_directly x z f a b a' b' (left x e m) (may z h mz) (within x f a b e i) (within z f a' b' h j) lt le);
+  }
+
+  pub follow_blocks_still : FollowBlocks l → FollowBlocks k
+  follow_blocks_still o = record {
+    before = λ d g f a b a' b' lt md mg i j out within_it.
+        let e = inner_stays d f a b i in
+        let h = inner_stays g f a' b' j in
+        let P : Role → Type 0 = λ r. start_of r < a' in
+        subst P (sym e) (o.before d g f a b a' b' lt (may d e md) (may g h mg) (within d f a b e i) (within g f a' b' h j) out within_it);
+    behind = λ d g f a b a' b' lt md mg i j out within_it.
+        let e = inner_stays d f a b i in
+        let h = inner_stays g f a' b' j in
+        let P : Role → Type 0 = λ r. b ≤ start_of r in
+        subst P (sym h) (o.behind d g f a b a' b' lt (may d e md) (may g h mg) (within d f a b e i) (within g f a' b' h j) out within_it);
+  }
+
+  pub follow_places_still : (size : ℕ) → FollowPlaces l size → FollowPlaces k size
+  follow_places_still size o = record {
+    rising = λ u v less lt.
+        let P : Position → Type 0 = λ p. IsUpTo p (k.place v) in
+        let Q : Position → Type 0 = λ p. IsUpTo (l.place u) p in
+        subst P (sym (places u)) (subst Q (sym (places v)) (o.rising u v less lt));
+    before_scope = λ d f a b md i.
+        let e = inner_stays d f a b i in
+        let P : Position → Type 0 = λ p. (p.file ≡ f) × (p.index < start_of (k.role d)) in
+        let R : Role → Type 0 = λ r. ((l.place d).file ≡ f) × ((l.place d).index < start_of r) in
+        subst P (sym (places d)) (subst R (sym e) (o.before_scope d f a b (may d e md) (within d f a b e i)));
+  }
+
+pub named_length : (names : ℕ → Option (List ℕ)) (xs : List Site) → length (named_sites names xs) ≡ length xs
+unfolding named_sites
+named_length names [] = refl
+named_length names (x ∷ xs) = let h : length (named_sites (λ k. names (suc k)) xs) ≡ length xs = named_length (λ k. names (suc k)) xs in omega arith
+
+pub named_well_formed : (names : ℕ → Option (List ℕ)) (xs : List Site) → WellFormed (sites_layout xs) → AreImportsLevel (sites_layout xs) →
+    WellFormed (sites_layout (named_sites names xs))
+named_well_formed names xs w level =
+    stays_well_formed (sites_layout (named_sites names xs)) (sites_layout xs) (length (named_sites names xs)) (may_at (named_sites names xs))
+    (role_stays names xs) (place_stays names xs) w level
+
+pub named_level : (names : ℕ → Option (List ℕ)) (xs : List Site) → WellFormed (sites_layout xs) → AreImportsLevel (sites_layout xs) →
+    AreImportsLevel (sites_layout (named_sites names xs))
+named_level names xs w level =
+    imports_stay_level (sites_layout (named_sites names xs)) (sites_layout xs) (length (named_sites names xs)) (may_at (named_sites names xs))
+    (role_stays names xs) (place_stays names xs) w level
+
+pub named_laid_out : (names : ℕ → Option (List ℕ)) (xs : List Site) → IsLaidOut (sites_layout xs) (length xs) →
+    IsLaidOut (sites_layout (named_sites names xs)) (length (named_sites names xs))
+named_laid_out names xs h =
+    let k = sites_layout (named_sites names xs) in
+    let l = sites_layout xs in
+    let n = length (named_sites names xs) in
+    let P : ℕ → Type 0 = λ size. FollowPlaces k size in
+    record {
+      well_formed = named_well_formed names xs h.well_formed h.imports;
+      imports = named_level names xs h.well_formed h.imports;
+      ordered = follow_blocks_still k l n (may_at (named_sites names xs)) (role_stays names xs) (place_stays names xs) h.well_formed h.imports h.ordered;
+      placed = subst P (sym (named_length names xs))
+          (follow_places_still k l n (may_at (named_sites names xs)) (role_stays names xs) (place_stays names xs) h.well_formed h.imports (length xs) h.placed);
+    }
+
+level_role : (r : Role) (f : ℕ) → (may_declare r ≡ true → (start_of r ≡ 0) ⊎ (block_of r ≡ File f → ⊥)) → block_of r ≡ File f → start_of r ≡ 0
+level_role Use f h e = refl
+level_role (NotLexical p) f h e = refl
+level_role (Declaring b s) f h e = elim (h refl) [ inl z ↦ z | inr n ↦ absurd (n e) ]
+level_role (LeftName b s) f h e = elim (h refl) [ inl z ↦ z | inr n ↦ absurd (n e) ]
+level_role (Implied b s) f h e = elim (h refl) [ inl z ↦ z | inr n ↦ absurd (n e) ]
+
+level_site : (x : Site) (f : ℕ) → From 0 x → block_of x.role ≡ File f → start_of x.role ≡ 0
+level_site x f h = level_role x.role f (λ m. elim (h m) [
+  | inl flat ↦ inl flat.start
+  | inr s ↦ inr (λ e. file_not_inner f s.0 s.1.1.from s.1.1.to (sym e ∙ s.1.1.block))
+])
+
+-- the imports of a package that have a name are seen from the beginning of their files
+pub package_level : (files : List SpelledFile) → AreNumbered files → AreImportsLevel (sites_layout (package_sites files))
+package_level files w d f i = level_site (found_site (slice_get (package_sites files) d)) f
+    (each_at (From 0) (λ m. not_may m) (package_sites files) (package_agrees files w).0 d) i
+
+-- one more identifier of the program's list
+pub found_next : (names : ℕ → Option (List ℕ)) (xs old new : List Identifier) (u : ℕ) (d x : Identifier) (name : Option (List ℕ)) → u < length xs →
+    new ≡ old ++ (x ∷ []) →
+    name ≡ names u → site_of x ≡ named_site name (site_of (get_or xs u d)) → map site_of old ≡ named_sites names (take u (map site_of xs)) →
+    map site_of new ≡ named_sites names (take (u + 1) (map site_of xs))
+found_next names xs old new u d x name lt e en one h =
+    let sites = map site_of xs in
+    let lm : u < length sites = rw length-map lt in
+    ap (map site_of) e ∙ map-append site_of old (x ∷ []) ∙ ap (λ z. z ++ (site_of x ∷ [])) h ∙
+    ap (λ z. named_sites names (take u sites) ++ (z ∷ []))
+    (one ∙ ap (λ n. named_site n (site_of (get_or xs u d))) en ∙ ap (named_site (names u)) (sym (get_or-map site_of xs u d))) ∙
+    named_next names sites u (site_of d) lm ∙ ap (λ k. named_sites names (take k sites)) (let s : suc u ≡ u + 1 = omega arith in s)
+
+pub found_none : (names : ℕ → Option (List ℕ)) (none : List Identifier) (xs : List Site) → none ≡ [] → map site_of none ≡ named_sites names (take 0 xs)
+unfolding named_sites
+found_none names none xs e = ap (map site_of) e
+
+-- a list of identifiers is laid out as its sites are
+pub list_laid_out : (xs : List Identifier) (zs : List Site) → map site_of xs ≡ zs → IsLaidOut (sites_layout zs) (length zs) →
+    IsLaidOut (layout_of xs) (length xs)
+list_laid_out xs zs e h =
+    let S : List Site → Type 0 = λ ys. IsLaidOut (sites_layout ys) (length ys) in
+    let L : Layout → Type 0 = λ l. IsLaidOut l (length (map site_of xs)) in
+    let N : ℕ → Type 0 = λ n. IsLaidOut (layout_of xs) n in
+    subst N (length-map xs site_of) (subst L (sym (layout-sites xs)) (subst S (sym e) h))
+
+pub named_list_laid_out : (names : ℕ → Option (List ℕ)) (xs : List Identifier) (ys : List Site) → map site_of xs ≡ named_sites names ys →
+    IsLaidOut (sites_layout ys) (length ys) → IsLaidOut (layout_of xs) (length xs)
+named_list_laid_out names xs ys e h = list_laid_out xs (named_sites names ys) e (named_laid_out names ys h)
+
+package_laid_out : (files : List SpelledFile) → AreNumbered files → IsLaidOut (sites_layout (package_sites files)) (length (package_sites files))
+package_laid_out files w = record {
+  well_formed = package_well_formed files w;
+  imports = package_level files w;
+  ordered = package_follows_blocks files w;
+  placed = package_follows_places files w;
+}
+
+pub declared_laid_out : (xs : List Identifier) (files : List SpelledFile) → map site_of xs ≡ package_sites files → AreNumbered files →
+    IsLaidOut (layout_of xs) (length xs)
+declared_laid_out xs files e w = list_laid_out xs (package_sites files) e (package_laid_out files w)

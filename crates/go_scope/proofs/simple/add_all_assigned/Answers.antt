@@ -1,0 +1,18 @@
+-- The answers to the goals of `simple::add_all_assigned`.
+use Rattle.std.proofs.Common.{arith}
+use Rattle.go_scope.specs.Found.{source_of}
+use Rattle.go_scope.specs.StatementSites.{assigned_sites}
+use Rattle.go_scope.proofs.Adding.{adds_as, each_step, each_all}
+use Rattle.go_scope.proofs.StatementParts.{assigned_part, flat_map-map}
+use Rattle.go_ast.specs.View.{expr_item_view}
+use Rattle.go_scope.proofs.simple.add_all_assigned.Goals as goal
+
+pub returns : goal.returns
+returns c =
+    adds_as (each_all (assigned_part (source_of c.args.source.now)) c.args.lefts.now c.loop-item.item-index (omega arith) c.loop-item.invariant)
+    (flat_map-map (λ x. assigned_sites (source_of c.args.source.now) x.value) expr_item_view c.args.lefts.now)
+
+pub loop-item-preserved : goal.loop-item-preserved
+loop-item-preserved c =
+    each_step (assigned_part (source_of c.args.source.now)) c.args.lefts.now c.loop-item.item-index c.item-item.result (omega arith) c.item-item.is
+    c.loop-item.invariant c.in_ok-add_assigned.ensures

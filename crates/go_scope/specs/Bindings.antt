@@ -1,0 +1,119 @@
+-- Which identifiers of a package declare, and to which declaration each is bound.
+use Rattle.std.specs.Prelude.{ℕ, ◌≡◌, ◌<◌, ◌⊎◌, List, Bool, true, false}
+use Rattle.go_scope.specs.declared.model.Role.{Role}
+use Rattle.go_scope.specs.declared.model.Role.TheVariants.{Use, Declaring, LeftName, Implied, NotLexical}
+use Rattle.go_scope.specs.declared.model.Position.{Position}
+use Rattle.go_scope.specs.declared.model.Block.{Block}
+use Rattle.go_scope.specs.declared.model.Block.TheVariants.{Universe, Package, File}
+use Rattle.go_scope.specs.declared.model.Scope.{Scope}
+use Rattle.go_scope.specs.Scopes.{scope_in, Holds, IsInside}
+
+abbrev pub may_declare : Role → Bool
+may_declare (Declaring block start) = true
+may_declare (LeftName block start) = true
+may_declare (Implied block start) = true
+may_declare Use = false
+may_declare (NotLexical p) = false
+
+abbrev pub is_left_name : Role → Bool
+is_left_name (LeftName block start) = true
+is_left_name (Declaring block start) = false
+is_left_name (Implied block start) = false
+is_left_name Use = false
+is_left_name (NotLexical p) = false
+
+abbrev pub is_use : Role → Bool
+is_use Use = true
+is_use (Declaring block start) = false
+is_use (LeftName block start) = false
+is_use (Implied block start) = false
+is_use (NotLexical p) = false
+
+abbrev pub is_implied : Role → Bool
+is_implied (Implied block start) = true
+is_implied (Declaring block start) = false
+is_implied (LeftName block start) = false
+is_implied Use = false
+is_implied (NotLexical p) = false
+
+abbrev pub block_of : Role → Block
+block_of (Declaring block start) = block
+block_of (LeftName block start) = block
+block_of (Implied block start) = block
+block_of Use = Universe
+block_of (NotLexical p) = Universe
+
+abbrev pub start_of : Role → ℕ
+start_of (Declaring block start) = start
+start_of (LeftName block start) = start
+start_of (Implied block start) = start
+start_of Use = 0
+start_of (NotLexical p) = 0
+
+abbrev pub scope_of : Role → Scope
+scope_of r = scope_in (block_of r) (start_of r)
+
+-- A package's identifiers and implied declarations, numbered by path and offset, without their names. Beyond the last
+-- the role is that of a `_`.
+pub record Layout : Type 0 where
+  pub role : ℕ → Role
+  pub place : ℕ → Position
+
+-- the names of a layout's identifiers
+abbrev pub Names : Type 0
+Names = ℕ → List ℕ
+
+abbrev pub MayDeclare : Layout → ℕ → Type 0
+MayDeclare l d = may_declare (l.role d) ≡ true
+
+abbrev pub IsLeftName : Layout → ℕ → Type 0
+IsLeftName l d = is_left_name (l.role d) ≡ true
+
+abbrev pub IsIdentifier : Layout → ℕ → Type 0
+IsIdentifier l d = is_implied (l.role d) ≡ false
+
+abbrev pub SameBlock : Layout → ℕ → ℕ → Type 0
+SameBlock l d e = block_of (l.role d) ≡ block_of (l.role e)
+
+-- d's scope holds the place of u
+abbrev pub InScope : Layout → ℕ → ℕ → Type 0
+InScope l d u = Holds (scope_of (l.role d)) (l.place u)
+
+-- A left name of `:=` declares unless it lies in the scope of a declaration of that name in the same block.
+pub record Declares (l : Layout) (names : Names) (d : ℕ) : Type 0 where
+  pub may : MayDeclare l d
+  pub is_new : IsLeftName l d → (e : ℕ) → MayDeclare l e → SameBlock l e d → names e ≡ names d → InScope l e d → ⊥
+
+abbrev pub IsPackageLevel : Layout → ℕ → Type 0
+IsPackageLevel l d = block_of (l.role d) ≡ Package
+
+abbrev pub IsImport : Layout → ℕ → Type 0
+IsImport l d = (f : ℕ) × (block_of (l.role d) ≡ File f)
+
+-- where e has d's name, d does not count: e comes first in the same block, or d is an import and e of the package's block
+abbrev pub Displaces : Layout → ℕ → ℕ → Type 0
+Displaces l e d = (SameBlock l e d × (e < d)) ⊎ (IsPackageLevel l e × IsImport l d)
+
+pub record Counts (l : Layout) (names : Names) (d : ℕ) : Type 0 where
+  pub declares : Declares l names d
+  pub first : (e : ℕ) → Declares l names e → names e ≡ names d → Displaces l e d → ⊥
+
+-- no declaration is repeated
+abbrev pub AllCount : Layout → Names → Type 0
+AllCount l names = (d : ℕ) → Declares l names d → Counts l names d
+
+-- a name at the place of u is bound to d: d counts, its scope holds the place, and no other such declaration has a scope inside d's
+pub record BindsAt (l : Layout) (names : Names) (name : List ℕ) (u d : ℕ) : Type 0 where
+  pub counts : Counts l names d
+  pub named : names d ≡ name
+  pub in_scope : InScope l d u
+  pub innermost : (e : ℕ) → Counts l names e → names e ≡ name → InScope l e u → IsInside (scope_of (l.role e)) (scope_of (l.role d)) → e ≡ d
+
+-- a lexical use: also a left name of `:=` that does not declare
+abbrev pub IsUse : Layout → Names → ℕ → Type 0
+IsUse l names u = (is_use (l.role u) ≡ true) ⊎ (IsLeftName l u × (Declares l names u → ⊥))
+
+-- a use is bound by its name, a declaring identifier to its own declaration if that counts
+pub data IsBoundTo (l : Layout) (names : Names) (u d : ℕ) : Type 0 where
+  use_bound : IsUse l names u → BindsAt l names (names u) u d → IsBoundTo l names u d
+  own : u ≡ d → Counts l names d → IsBoundTo l names u d

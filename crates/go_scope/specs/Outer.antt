@@ -1,0 +1,26 @@
+-- The blocks that are no inner ones, and what each of them declares.
+use Rattle.std.specs.Prelude.{ℕ, Option, Some, None, [], ◌∷◌}
+use Rattle.indexmap.specs.IndexMap.{IndexMap, get}
+use Rattle.go_scope.specs.declared.model.Block.{Block}
+use Rattle.go_scope.specs.declared.model.Block.TheVariants.{Universe, Package, File, Inner}
+use Rattle.go_scope.specs.declared.outer.OuterBlock.{OuterBlock}
+use Rattle.go_scope.specs.declared.outer.OuterBlock.TheVariants as outer
+use Rattle.go_scope.specs.declared.outer.OuterName.{OuterName}
+use Rattle.go_scope.specs.contracts.outer.OuterNamePartialEq.TheImpl as equal
+use Rattle.go_scope.specs.Bindings.{Layout, Names}
+use Rattle.go_scope.specs.Leading.{IsFirstIn}
+
+abbrev pub outer_of : Block → Option OuterBlock
+outer_of Universe = Some outer.Universe
+outer_of Package = Some outer.Package
+outer_of (File file) = Some (outer.File file)
+outer_of (Inner file from to) = None
+
+abbrev pub block_in : OuterBlock → Block
+block_in outer.Universe = Universe
+block_in outer.Package = Package
+block_in (outer.File file) = File file
+
+-- of each name in each such block the first of so many identifiers that declares it there; a name is written as its number alone
+abbrev pub AreOuter : {S : Type 0} → Layout → Names → ℕ → IndexMap OuterName ℕ S → Type 0
+AreOuter l names n found = (key : OuterName) → IsFirstIn l names (key.name ∷ []) (block_in key.block) n (get equal.ghosts.eq found key)

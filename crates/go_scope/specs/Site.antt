@@ -1,0 +1,32 @@
+-- Identifiers with their places and roles, and the layout and names that a list of them has.
+use Rattle.std.specs.Prelude.{ℕ, List, [], Option, Some, None, slice_get}
+use Rattle.go_scope.specs.declared.model.Position.{Position}
+use Rattle.go_scope.specs.declared.model.Role.{Role}
+use Rattle.go_scope.specs.declared.model.Role.TheVariants.{NotLexical}
+use Rattle.go_scope.specs.declared.model.Purpose.TheVariants.{Blank}
+use Rattle.go_scope.specs.Bindings.{Layout, Names}
+
+pub record Site : Type 0 where
+  pub place : Position
+  pub name : List ℕ
+  pub role : Role
+
+-- a file of a package: its rank by path, and the bytes of each of its tokens
+pub record Source : Type 0 where
+  pub rank : ℕ
+  pub spell : ℕ → List ℕ
+
+-- the identifier at a token
+abbrev pub site : Source → ℕ → Role → Site
+site s i role = record { place = record { file = s.rank; index = i }; name = s.spell i; role = role }
+
+-- beyond the last one, a `_`
+abbrev pub found_site : Option Site → Site
+found_site None = record { place = record { file = 0; index = 0 }; name = []; role = NotLexical Blank }
+found_site (Some x) = x
+
+abbrev pub sites_layout : List Site → Layout
+sites_layout xs = record { role = λ i. (found_site (slice_get xs i)).role; place = λ i. (found_site (slice_get xs i)).place }
+
+abbrev pub sites_names : List Site → Names
+sites_names xs = λ i. (found_site (slice_get xs i)).name

@@ -1,0 +1,121 @@
+//! Which declarations count, and to which an identifier is bound.
+ghost use Rattle.std.specs.Prelude.{◌≡◌, ◌<◌, ◌↔◌, ◌⊎◌, ◌∷◌, [], true, length, IsTrue};
+ghost use Rattle.go_scope.specs.Bindings.{Counts, IsUse, is_use, is_left_name, is_implied, scope_of};
+ghost use Rattle.go_scope.specs.Known.{AreDeclared, IsBinding};
+ghost use Rattle.go_scope.specs.Leading.{Leads, GivesWay, IsInPackage};
+ghost use Rattle.go_scope.specs.WellFormed.{IsLaidOut};
+ghost use Rattle.go_scope.specs.Numbering.{told};
+ghost use Rattle.go_scope.specs.Open.{AreLinks};
+ghost use Rattle.go_scope.specs.Table.{layout_of};
+
+use crate::declaring::DeclaredIn;
+use crate::links::Links;
+use crate::model::{Block, Identifier, Role, Scope};
+use crate::nearest::binding;
+use crate::numbering::number_at;
+use crate::outer::{OuterBlock, first_outside};
+use crate::resolve::role_at;
+
+impl Role {
+    pub(crate) fn is_use(self) -> bool
+        ensures { result ≡ is_use self }
+    {
+        match self {
+            Role::Use => true,
+            Role::Declaring(_, _)
+            | Role::LeftName(_, _)
+            | Role::Implied(_, _)
+            | Role::NotLexical(_) => false,
+        }
+    }
+
+    /// Whether an identifier of this role is a lexical use, if it is known whether it declares.
+    pub(crate) fn is_use_unless(self, declares: bool) -> bool
+        ensures { IsTrue result ↔ (is_use self ≡ true) ⊎ ((is_left_name self ≡ true) × (IsTrue declares → ⊥)) }
+    {
+        self.is_use() || (self.is_left_name() && !declares)
+    }
+
+    pub fn is_implied(self) -> bool
+        ensures { result ≡ is_implied self }
+    {
+        match self {
+            Role::Implied(_, _) => true,
+            Role::Use | Role::Declaring(_, _) | Role::LeftName(_, _) | Role::NotLexical(_) => false,
+        }
+    }
+
+    pub fn scope(self) -> Scope
+        ensures { result ≡ scope_of self }
+    {
+        Scope::in_block(self.block(), self.start())
+    }
+}
+
+/// Whether a declaration comes first of its name in its block.
+fn leads(identifiers: &[Identifier], names: &[usize], declared: &DeclaredIn, d: usize) -> bool
+    requires in_range { d < length identifiers.now }
+    requires declared { AreDeclared identifiers.now names.now declared.now }
+    ensures { IsTrue result ↔ Leads (layout_of identifiers.now) (told names.now) d }
+{
+    declared.leading[d]
+}
+
+/// Whether d is an import, and its name is declared in the package's block.
+fn gives_way(identifiers: &[Identifier], names: &[usize], links: &Links, d: usize) -> bool
+    requires in_range { d < length identifiers.now }
+    requires linked { AreLinks identifiers.now names.now (length identifiers.now) links.now }
+    ensures { IsTrue result ↔ GivesWay (layout_of identifiers.now) (told names.now) d }
+{
+    match role_at(identifiers, d).block() {
+        Block::File(_) => is_package_level(identifiers, names, links, number_at(names, d)),
+        _ => false,
+    }
+}
+
+/// Whether a name is declared in the package's block.
+fn is_package_level(identifiers: &[Identifier], names: &[usize], links: &Links, name: usize) -> bool
+    requires { AreLinks identifiers.now names.now (length identifiers.now) links.now }
+    ensures { IsTrue result ↔ IsInPackage (layout_of identifiers.now) (told names.now) (name ∷ []) }
+{
+    first_outside(&links.outer, name, OuterBlock::Package).is_some()
+}
+
+/// Whether an identifier is a declaration that counts.
+fn counts(identifiers: &[Identifier], names: &[usize], declared: &DeclaredIn, d: usize) -> bool
+    requires in_range { d < length identifiers.now }
+    requires declared { AreDeclared identifiers.now names.now declared.now }
+    ensures { IsTrue result ↔ Counts (layout_of identifiers.now) (told names.now) d }
+{
+    leads(identifiers, names, declared, d) && !gives_way(identifiers, names, &declared.links, d)
+}
+
+/// Whether an identifier is a lexical use.
+fn is_use(identifiers: &[Identifier], names: &[usize], declared: &DeclaredIn, d: usize) -> bool
+    requires in_range { d < length identifiers.now }
+    requires declared { AreDeclared identifiers.now names.now declared.now }
+    ensures { IsTrue result ↔ IsUse (layout_of identifiers.now) (told names.now) d }
+{
+    role_at(identifiers, d).is_use_unless(declared.declaring[d])
+}
+
+/// The declaration to which an identifier is bound.
+pub(crate) fn bound_to(
+    identifiers: &[Identifier],
+    names: &[usize],
+    declared: &DeclaredIn,
+    d: usize,
+) -> Option<usize>
+    requires in_range { d < length identifiers.now }
+    requires laid_out { IsLaidOut (layout_of identifiers.now) (length identifiers.now) }
+    requires declared { AreDeclared identifiers.now names.now declared.now }
+    ensures { IsBinding (layout_of identifiers.now) (told names.now) d result }
+{
+    if is_use(identifiers, names, declared, d) {
+        binding(identifiers, names, &declared.links, d)
+    } else if declared.declaring[d] && counts(identifiers, names, declared, d) {
+        Some(d)
+    } else {
+        None
+    }
+}

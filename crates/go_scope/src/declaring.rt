@@ -1,0 +1,172 @@
+//! Which identifiers of a package declare, found once for each, in their order.
+ghost use Rattle.std.specs.Prelude.{ℕ, List, ◌≡◌, ◌<◌, ◌+◌, ◌↔◌, length, IsTrue, IfOk, OnOk};
+ghost use Rattle.std.specs.Option.{ForSome};
+ghost use Rattle.go_scope.specs.Bindings.{Declares, MayDeclare};
+ghost use Rattle.go_scope.specs.Known.{AreDeclared, AreFirst};
+ghost use Rattle.go_scope.specs.Leading.{HoldsAt, IsLeader, Leads};
+ghost use Rattle.go_scope.specs.Numbering.{told, AreBelow};
+ghost use Rattle.go_scope.specs.Open.{AreLinks};
+ghost use Rattle.go_scope.specs.Table.{layout_of};
+ghost use Rattle.go_scope.specs.WellFormed.{IsLaidOut, WellFormed};
+
+use crate::inner_blocks::first_inside;
+use crate::links::Links;
+use crate::model::Identifier;
+use crate::numbering::number_at;
+use crate::outer::first_outside;
+use crate::resolve::{in_scope, role_at};
+use std::alloc::{AllocError, Global};
+
+/// The links of identifiers, whether each declares, and whether it comes first of its name in its block.
+#[derive(Drop)]
+pub struct DeclaredIn {
+    pub links: Links,
+    pub declaring: Vec<bool>,
+    pub leading: Vec<bool>,
+}
+
+/// Whether an identifier declares, and whether it comes first of its name in its block.
+#[derive(Clone, Copy)]
+struct Standing {
+    declares: bool,
+    leads: bool,
+}
+
+/// The first declaration of the next identifier's name in its block.
+fn leader(identifiers: &[Identifier], names: &[usize], links: &Links, d: usize) -> Option<usize>
+    requires in_range { d < length identifiers.now }
+    requires laid_out { IsLaidOut (layout_of identifiers.now) (length identifiers.now) }
+    requires numbered { AreBelow (length identifiers.now) names.now }
+    requires may_declare { MayDeclare (layout_of identifiers.now) d }
+    requires linked { AreLinks identifiers.now names.now d links.now }
+    ensures { IsLeader (layout_of identifiers.now) (told names.now) d result }
+{
+    match role_at(identifiers, d).block().outer() {
+        None => first_inside(identifiers, names, links, d),
+        Some(block) => first_outside(&links.outer, number_at(names, d), block),
+    }
+}
+
+/// Whether the scope of a declaration, where there is one, holds the place of u.
+fn holds(identifiers: &[Identifier], d: Option<usize>, u: usize) -> bool
+    requires first { ForSome d (λ e. e < length identifiers.now) }
+    requires second { u < length identifiers.now }
+    ensures { IsTrue result ↔ HoldsAt (layout_of identifiers.now) d u }
+{
+    match d {
+        None => false,
+        Some(e) => in_scope(identifiers, e, u),
+    }
+}
+
+/// Whether an identifier that may declare does so, behind the first declaration of its name in its block.
+fn declares(identifiers: &[Identifier], names: &[usize], leader: Option<usize>, d: usize) -> bool
+    requires in_range { d < length identifiers.now }
+    requires well_formed { WellFormed (layout_of identifiers.now) }
+    requires may_declare { MayDeclare (layout_of identifiers.now) d }
+    requires leader { IsLeader (layout_of identifiers.now) (told names.now) d leader }
+    ensures { IsTrue result ↔ Declares (layout_of identifiers.now) (told names.now) d }
+{
+    !role_at(identifiers, d).is_left_name() || !holds(identifiers, leader, d)
+}
+
+/// What an identifier that may declare does, behind the first declaration of its name in its block.
+fn standing_behind(
+    identifiers: &[Identifier],
+    names: &[usize],
+    leader: Option<usize>,
+    d: usize,
+) -> Standing
+    requires in_range { d < length identifiers.now }
+    requires well_formed { WellFormed (layout_of identifiers.now) }
+    requires may_declare { MayDeclare (layout_of identifiers.now) d }
+    requires leader { IsLeader (layout_of identifiers.now) (told names.now) d leader }
+    ensures declares { IsTrue result.declares ↔ Declares (layout_of identifiers.now) (told names.now) d }
+    ensures leads { IsTrue result.leads ↔ Leads (layout_of identifiers.now) (told names.now) d }
+{
+    let declares = declares(identifiers, names, leader, d);
+    match leader {
+        None => Standing {
+            declares,
+            leads: declares,
+        },
+        Some(_) => Standing {
+            declares,
+            leads: false,
+        },
+    }
+}
+
+/// What the next identifier does.
+fn standing_of(identifiers: &[Identifier], names: &[usize], links: &Links, d: usize) -> Standing
+    requires in_range { d < length identifiers.now }
+    requires laid_out { IsLaidOut (layout_of identifiers.now) (length identifiers.now) }
+    requires numbered { AreBelow (length identifiers.now) names.now }
+    requires linked { AreLinks identifiers.now names.now d links.now }
+    ensures declares { IsTrue result.declares ↔ Declares (layout_of identifiers.now) (told names.now) d }
+    ensures leads { IsTrue result.leads ↔ Leads (layout_of identifiers.now) (told names.now) d }
+{
+    if role_at(identifiers, d).may_declare() {
+        let leader = leader(identifiers, names, links, d);
+        standing_behind(identifiers, names, leader, d)
+    } else {
+        Standing {
+            declares: false,
+            leads: false,
+        }
+    }
+}
+
+impl DeclaredIn {
+    /// Nothing of the identifiers yet, with room for all of them.
+    fn new(alloc: Global, identifiers: &[Identifier]) -> Result<DeclaredIn, AllocError>
+        ensures { IfOk result (λ declared. (numbers : List ℕ) → AreFirst identifiers.now numbers 0 declared) }
+    {
+        let links = Links::new(alloc, identifiers)?;
+        let declaring = Vec::with_capacity(alloc, identifiers.len())?;
+        let leading = Vec::with_capacity(alloc, identifiers.len())?;
+        Ok(DeclaredIn {
+            links,
+            declaring,
+            leading,
+        })
+    }
+
+    /// Adds the next identifier.
+    fn add(
+        &mut self,
+        identifiers: &[Identifier],
+        names: &[usize],
+        d: usize,
+    ) -> Result<(), AllocError>
+        requires in_range { d < length identifiers.now }
+        requires laid_out { IsLaidOut (layout_of identifiers.now) (length identifiers.now) }
+        requires numbered { AreBelow (length identifiers.now) names.now }
+        requires first { AreFirst identifiers.now names.now d self.old }
+        ensures { OnOk result (AreFirst identifiers.now names.now (d + 1) self.new) }
+    {
+        self.links.close(identifiers, names, d);
+        let standing = standing_of(identifiers, names, &self.links, d);
+        self.links.link(identifiers, names, d, standing.leads)?;
+        self.declaring.push(standing.declares)?;
+        self.leading.push(standing.leads)?;
+        Ok(())
+    }
+}
+
+/// Which of the identifiers declare, whose names have those numbers.
+pub(crate) fn declared_of(
+    alloc: Global,
+    identifiers: &[Identifier],
+    names: &[usize],
+) -> Result<DeclaredIn, AllocError>
+    requires laid_out { IsLaidOut (layout_of identifiers.now) (length identifiers.now) }
+    requires numbered { AreBelow (length identifiers.now) names.now }
+    ensures { IfOk result (λ declared. AreDeclared identifiers.now names.now declared) }
+{
+    let mut declared = DeclaredIn::new(alloc, identifiers)?;
+    for d in 0..identifiers.len() {
+        declared.add(identifiers, names, d)?;
+    }
+    Ok(declared)
+}

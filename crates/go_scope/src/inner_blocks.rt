@@ -1,0 +1,118 @@
+//! The declarations of one name in inner blocks, from the last to the first: which of them an identifier has to do with.
+ghost use Rattle.std.specs.Prelude.{◌≡◌, ◌<◌, ◌↔◌, ◌∷◌, [], length, IsTrue};
+ghost use Rattle.go_scope.specs.Bindings.{MayDeclare, block_of};
+ghost use Rattle.go_scope.specs.declared.model.Block.TheVariants.{Package};
+ghost use Rattle.go_scope.specs.Leading.{IsLeader};
+ghost use Rattle.go_scope.specs.Numbering.{number_at, told, AreBelow};
+ghost use Rattle.go_scope.specs.Open.{AreLinks, EndsBehind, IsLastOpen, IsSeenInside};
+ghost use Rattle.go_scope.specs.Scopes.{Nests};
+ghost use Rattle.go_scope.specs.Table.{IsNearest, layout_of};
+ghost use Rattle.go_scope.specs.WellFormed.{IsLaidOut};
+
+use crate::links::Links;
+use crate::model::{Block, Identifier, Position};
+use crate::numbering::number_at;
+use crate::resolve::{in_scope, place_at, role_at};
+
+impl Block {
+    /// Whether the block ends behind a place of its file, where it is an inner one.
+    fn ends_behind(self, place: Position) -> bool
+        ensures { IsTrue result ↔ EndsBehind self place }
+    {
+        match self {
+            Block::Inner(file, _, to) => place.file == file && place.index < to,
+            Block::Universe | Block::Package | Block::File(_) => true,
+        }
+    }
+}
+
+/// Whether the block of d has not ended at the place of u, which stands behind d.
+fn lasts(identifiers: &[Identifier], d: usize, u: usize) -> bool
+    requires first { d < length identifiers.now }
+    requires second { u < length identifiers.now }
+    ensures { let l = layout_of identifiers.now in IsTrue result ↔ EndsBehind (block_of (l.role d)) (l.place u) }
+{
+    role_at(identifiers, d)
+        .block()
+        .ends_behind(place_at(identifiers, u))
+}
+
+/// The last declaration of the next identifier's name in an inner block that has not ended. What has ended is behind it.
+pub(crate) fn still_open(
+    identifiers: &[Identifier],
+    names: &[usize],
+    links: &Links,
+    u: usize,
+) -> Option<usize>
+    requires in_range { u < length identifiers.now }
+    requires laid_out { IsLaidOut (layout_of identifiers.now) (length identifiers.now) }
+    requires numbered { AreBelow (length identifiers.now) names.now }
+    requires linked { AreLinks identifiers.now names.now u links.now }
+    ensures { IsLastOpen (layout_of identifiers.now) (length identifiers.now) (told names.now) (told names.now u) u result }
+{
+    let mut at = links.last[number_at(names, u)];
+    while let Some(d) = at {
+        if lasts(identifiers, d, u) {
+            return Some(d);
+        }
+        at = links.around[d];
+    }
+    None
+}
+
+/// The first declaration of the next identifier's name in its block, an inner one. Before a declaration of a block round it there
+/// is none.
+pub(crate) fn first_inside(
+    identifiers: &[Identifier],
+    names: &[usize],
+    links: &Links,
+    d: usize,
+) -> Option<usize>
+    requires in_range { d < length identifiers.now }
+    requires laid_out { IsLaidOut (layout_of identifiers.now) (length identifiers.now) }
+    requires numbered { AreBelow (length identifiers.now) names.now }
+    requires may_declare { MayDeclare (layout_of identifiers.now) d }
+    requires inner { Nests (block_of ((layout_of identifiers.now).role d)) Package }
+    requires linked { AreLinks identifiers.now names.now d links.now }
+    ensures { IsLeader (layout_of identifiers.now) (told names.now) d result }
+{
+    let own = role_at(identifiers, d).block();
+    let mut at = links.last[number_at(names, d)];
+    while let Some(e) = at {
+        let found = role_at(identifiers, e).block();
+        if found.same(own) {
+            return Some(e);
+        }
+        at = if own.nests(found) {
+            None
+        } else {
+            links.around[e]
+        };
+    }
+    None
+}
+
+/// The nearest declaration of the next identifier's name, of those in inner blocks whose scopes hold it: the last one, since the
+/// blocks of earlier ones lie round it.
+pub(crate) fn nearest_inside(
+    identifiers: &[Identifier],
+    names: &[usize],
+    links: &Links,
+    u: usize,
+) -> Option<usize>
+    requires in_range { u < length identifiers.now }
+    requires laid_out { IsLaidOut (layout_of identifiers.now) (length identifiers.now) }
+    requires numbered { AreBelow (length identifiers.now) names.now }
+    requires linked { AreLinks identifiers.now names.now u links.now }
+    ensures { let l = layout_of identifiers.now in
+        IsNearest l (IsSeenInside l (told names.now) (told names.now u) u) result }
+{
+    let mut at = links.last[number_at(names, u)];
+    while let Some(d) = at {
+        if in_scope(identifiers, d, u) {
+            return Some(d);
+        }
+        at = links.around[d];
+    }
+    None
+}

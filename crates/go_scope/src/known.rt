@@ -1,0 +1,91 @@
+//! What a table keeps of its identifiers: which of them declare, to which declaration each is bound, and which one stands at a
+//! token.
+ghost use Rattle.std.specs.Prelude.{◌<◌, length, IfOk};
+ghost use Rattle.go_scope.specs.ByToken.{number_at};
+ghost use Rattle.go_scope.specs.Known.{AreBindings, AreBound, AreDeclared, AreKnown};
+ghost use Rattle.go_scope.specs.Numbering.{told, AreBelow};
+ghost use Rattle.go_scope.specs.Table.{layout_of, names_of};
+ghost use Rattle.go_scope.specs.WellFormed.{IsLaidOut};
+
+use crate::by_token::{ByToken, identifiers_by_token};
+use crate::counting::bound_to;
+use crate::declaring::{DeclaredIn, declared_of};
+use crate::identifiers::Identifiers;
+use crate::model::Identifier;
+use crate::numbering::numbers_of;
+use crate::table::DeclId;
+use std::alloc::{AllocError, Global};
+
+/// Whether each identifier declares; the declaration to which each is bound; and at each token the identifier that stands there.
+#[derive(Drop)]
+pub struct KnownTable {
+    pub declaring: Vec<bool>,
+    pub bindings: Vec<Option<DeclId>>,
+    pub numbers: ByToken,
+}
+
+/// Whether each identifier declares, and the declaration to which it is bound.
+#[derive(Drop)]
+struct BoundRow {
+    declaring: Vec<bool>,
+    bindings: Vec<Option<DeclId>>,
+}
+
+/// The declaration to which each identifier is bound.
+fn bindings_of(
+    alloc: Global,
+    identifiers: &[Identifier],
+    names: &[usize],
+    declared: &DeclaredIn,
+) -> Result<Vec<Option<DeclId>>, AllocError>
+    requires laid_out { IsLaidOut (layout_of identifiers.now) (length identifiers.now) }
+    requires declared { AreDeclared identifiers.now names.now declared.now }
+    ensures { IfOk result (λ found. AreBindings (layout_of identifiers.now) (told names.now) (length identifiers.now) found.items) }
+{
+    let mut found = Vec::with_capacity(alloc, identifiers.len())?;
+    for u in 0..identifiers.len() {
+        found.push(bound_to(identifiers, names, declared, u))?;
+    }
+    Ok(found)
+}
+
+/// Which identifiers declare, and to what each is bound, where their names are told by numbers.
+fn told_bound(
+    alloc: Global,
+    identifiers: &[Identifier],
+    names: &[usize],
+) -> Result<BoundRow, AllocError>
+    requires laid_out { IsLaidOut (layout_of identifiers.now) (length identifiers.now) }
+    requires numbered { AreBelow (length identifiers.now) names.now }
+    ensures { IfOk result (λ bound. AreBound (layout_of identifiers.now) (told names.now) (length identifiers.now) bound.declaring.items bound.bindings.items) }
+{
+    let declared = declared_of(alloc, identifiers, names)?;
+    let bindings = bindings_of(alloc, identifiers, names, &declared)?;
+    Ok(BoundRow {
+        declaring: declared.declaring,
+        bindings,
+    })
+}
+
+/// Which identifiers declare, and to what each is bound.
+fn bound_of(alloc: Global, identifiers: &[Identifier]) -> Result<BoundRow, AllocError>
+    requires { IsLaidOut (layout_of identifiers.now) (length identifiers.now) }
+    ensures { IfOk result (λ bound. AreBound (layout_of identifiers.now) (names_of identifiers.now) (length identifiers.now) bound.declaring.items bound.bindings.items) }
+{
+    let names = numbers_of(alloc, identifiers)?;
+    told_bound(alloc, identifiers, &names)
+}
+
+/// What is kept of a package's identifiers.
+pub(crate) fn known_of(alloc: Global, identifiers: &Identifiers) -> Result<KnownTable, AllocError>
+    ensures { IfOk result (λ known. AreKnown identifiers.now known.declaring.items known.bindings.items (number_at known.numbers)) }
+{
+    identifiers.are_laid_out();
+    let bound = bound_of(alloc, identifiers.as_slice())?;
+    let numbers = identifiers_by_token(alloc, identifiers)?;
+    Ok(KnownTable {
+        declaring: bound.declaring,
+        bindings: bound.bindings,
+        numbers,
+    })
+}

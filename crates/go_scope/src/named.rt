@@ -1,0 +1,91 @@
+//! The table in which an import without a name declares the name of the package that it imports.
+ghost use Rattle.std.specs.Prelude.{◌≡◌, ◌<◌, map, IfOk};
+ghost use Rattle.go_scope.specs.Found.{site_of};
+ghost use Rattle.go_scope.specs.Named.{is_unnamed_import, name_value, name_given, named, named_site, named_sites};
+
+use crate::identifiers::Identifiers;
+use crate::known::known_of;
+use crate::model::{Block, Identifier, Purpose, Role};
+use crate::table::ScopeTable;
+use std::alloc::{AllocError, Global};
+
+impl Role {
+    /// Whether this is the literal of an import without a name.
+    pub fn is_unnamed_import(self) -> bool
+        ensures { result ≡ is_unnamed_import self }
+    {
+        match self {
+            Role::NotLexical(Purpose::UnnamedImport) => true,
+            _ => false,
+        }
+    }
+}
+
+/// The name that is known for a number.
+fn name_given<'a>(names: &[Option<&'a [u8]>], u: usize) -> Option<&'a [u8]>
+    ensures { name_value result ≡ name_given names.now u }
+{
+    match names.get(u) {
+        None => None,
+        Some(name) => *name,
+    }
+}
+
+/// An identifier, with the name of the package where it is the literal of an import without a name.
+fn named_identifier<'a>(identifier: &Identifier<'a>, name: Option<&'a [u8]>) -> Identifier<'a>
+    ensures { site_of result ≡ named_site (name_value name.entry) (site_of identifier.now) }
+{
+    let place = identifier.place;
+    match name {
+        Some(name) if identifier.role.is_unnamed_import() => Identifier {
+            place,
+            name,
+            role: Role::Declaring(Block::File(place.file), 0),
+        },
+        _ => Identifier {
+            place,
+            name: identifier.name,
+            role: identifier.role,
+        },
+    }
+}
+
+/// The identifiers of a package, with the package names that are known by number.
+fn named_identifiers<'a>(
+    alloc: Global,
+    identifiers: &[Identifier<'a>],
+    names: &[Option<&'a [u8]>],
+) -> Result<Vec<Identifier<'a>>, AllocError>
+    ensures { IfOk result (λ found. map site_of found.items ≡ named_sites (name_given names.now) (map site_of identifiers.now)) }
+{
+    let mut found = Vec::with_capacity(alloc, identifiers.len())?;
+    for u in 0..identifiers.len() {
+        found.push(named_identifier(&identifiers[u], name_given(names, u)))?;
+    }
+    Ok(found)
+}
+
+/// The table of a package's identifiers, with what is found of them once.
+fn known_table<'a>(
+    alloc: Global,
+    identifiers: Identifiers<'a>,
+) -> Result<ScopeTable<'a>, AllocError>
+    ensures { IfOk result (λ table. table ≡ identifiers.entry) }
+{
+    let known = known_of(alloc, &identifiers)?;
+    Ok(ScopeTable::new(identifiers, known))
+}
+
+/// The table in which an import without a name declares in its file, at its literal, the name that is known of the package
+/// that it imports. The names are given by the numbers of the literals; of those without one nothing is known.
+pub fn name_imports<'a>(
+    alloc: Global,
+    plain: &Identifiers<'a>,
+    names: &[Option<&'a [u8]>],
+) -> Result<ScopeTable<'a>, AllocError>
+    ensures { IfOk result (λ laid. laid ≡ named (name_given names.now) plain.now) }
+{
+    plain.are_laid_out();
+    let list = named_identifiers(alloc, plain.as_slice(), names)?;
+    known_table(alloc, Identifiers::new(plain.files(), list))
+}

@@ -1,0 +1,54 @@
+//! The declaration to which a use is bound.
+ghost use Rattle.std.specs.Prelude.{ℕ, ◌≡◌, ◌<◌, length, MatchOption};
+ghost use Rattle.go_scope.specs.Bindings.{BindsAt};
+ghost use Rattle.go_scope.specs.Leading.{Leads};
+ghost use Rattle.go_scope.specs.Numbering.{told};
+ghost use Rattle.go_scope.specs.Open.{AreLinks, IsSeenInside};
+ghost use Rattle.go_scope.specs.Table.{IsCandidate, IsNearest, layout_of};
+ghost use Rattle.go_scope.specs.WellFormed.{IsLaidOut};
+
+use crate::links::Links;
+use crate::model::Identifier;
+use crate::numbering::number_at;
+use crate::outer::{OuterBlock, first_outside};
+use crate::resolve::place_at;
+
+/// The declaration to which the name of u is bound at the place of u: the nearest one in an inner block, or one of no inner block.
+pub(crate) fn binding(
+    identifiers: &[Identifier],
+    names: &[usize],
+    links: &Links,
+    u: usize,
+) -> Option<usize>
+    requires in_range { u < length identifiers.now }
+    requires laid_out { IsLaidOut (layout_of identifiers.now) (length identifiers.now) }
+    requires follows { Leads (layout_of identifiers.now) (told names.now) u → ⊥ }
+    requires linked { AreLinks identifiers.now names.now (length identifiers.now) links.now }
+    ensures { let l = layout_of identifiers.now in
+        let named = told names.now in
+        MatchOption result ((d : ℕ) → BindsAt l named (named u) u d → ⊥) (λ d. BindsAt l named (named u) u d) }
+{
+    match links.around[u] {
+        Some(d) => Some(d),
+        None => outside(identifiers, names, links, u),
+    }
+}
+
+/// The nearest declaration of the name of u whose scope holds u, where no inner block declares one: in the package's block, in the
+/// file's, or a predeclared name.
+fn outside(identifiers: &[Identifier], names: &[usize], links: &Links, u: usize) -> Option<usize>
+    requires in_range { u < length identifiers.now }
+    requires linked { AreLinks identifiers.now names.now (length identifiers.now) links.now }
+    requires none_inside { let l = layout_of identifiers.now in (d : ℕ) → IsSeenInside l (told names.now) (told names.now u) u d → ⊥ }
+    ensures { let l = layout_of identifiers.now in IsNearest l (IsCandidate l (told names.now) (told names.now u) u) result }
+{
+    let name = number_at(names, u);
+    let file = place_at(identifiers, u).file;
+    match first_outside(&links.outer, name, OuterBlock::Package) {
+        Some(d) => Some(d),
+        None => match first_outside(&links.outer, name, OuterBlock::File(file)) {
+            Some(d) => Some(d),
+            None => first_outside(&links.outer, name, OuterBlock::Universe),
+        },
+    }
+}

@@ -1,0 +1,98 @@
+//! Numbers that stand for the names of identifiers: found once for each, so that no look-up after that goes over the bytes of
+//! a name.
+ghost use Rattle.std.specs.Prelude.{◌≡◌, ◌<◌, ◌≤◌, ◌+◌, length, IfOk, OnOk};
+ghost use Rattle.go_scope.specs.Numbering.{is_lexical, number_at, AreBelow, AreFirsts, HasName, IsLexical, TellApart};
+ghost use Rattle.go_scope.specs.Table.{layout_of, names_of, IsFirstOf};
+
+use crate::model::{Identifier, Role};
+use crate::resolve::{name_at, role_at};
+use crate::room::name_room;
+use indexmap::IndexMap;
+use std::alloc::{AllocError, Global};
+
+/// How a name is spelled.
+#[derive(Clone, Copy, PartialEq, Eq, Hash)]
+pub struct Spelled<'a> {
+    pub bytes: &'a [u8],
+}
+
+impl Role {
+    /// Whether the name of an identifier of this role is looked up: it is used, or it may declare.
+    fn is_lexical(self) -> bool
+        ensures { result ≡ is_lexical self }
+    {
+        match self {
+            Role::Use | Role::Declaring(_, _) | Role::LeftName(_, _) | Role::Implied(_, _) => true,
+            Role::NotLexical(_) => false,
+        }
+    }
+}
+
+/// The number of the next name that is looked up: that of the first identifier that has it.
+fn first_of<'a>(
+    firsts: &mut IndexMap<Spelled<'a>, usize>,
+    identifiers: &[Identifier<'a>],
+    u: usize,
+) -> Result<usize, AllocError>
+    requires in_range { u < length identifiers.now }
+    requires lexical { IsLexical (layout_of identifiers.now) u }
+    requires firsts { AreFirsts (layout_of identifiers.now) (names_of identifiers.now) u firsts.old }
+    ensures firsts { OnOk result (AreFirsts (layout_of identifiers.now) (names_of identifiers.now) (u + 1) firsts.new) }
+    ensures number { IfOk result (λ n. IsFirstOf (HasName (layout_of identifiers.now) (names_of identifiers.now) (names_of identifiers.now u)) (u + 1) n) }
+{
+    let bytes = name_at(identifiers, u);
+    let name = Spelled { bytes };
+    match firsts.get(&name).copied() {
+        Some(first) => Ok(first),
+        None => {
+            firsts.insert(name, u)?;
+            Ok(u)
+        }
+    }
+}
+
+/// The number of the next name; any number where it is not looked up.
+fn next_number<'a>(
+    firsts: &mut IndexMap<Spelled<'a>, usize>,
+    identifiers: &[Identifier<'a>],
+    u: usize,
+) -> Result<usize, AllocError>
+    requires in_range { u < length identifiers.now }
+    requires firsts { AreFirsts (layout_of identifiers.now) (names_of identifiers.now) u firsts.old }
+    ensures firsts { OnOk result (AreFirsts (layout_of identifiers.now) (names_of identifiers.now) (u + 1) firsts.new) }
+    ensures number { IfOk result (λ n. IsLexical (layout_of identifiers.now) u →
+        IsFirstOf (HasName (layout_of identifiers.now) (names_of identifiers.now) (names_of identifiers.now u)) (u + 1) n) }
+    ensures below { IfOk result (λ n. n ≤ u) }
+{
+    if role_at(identifiers, u).is_lexical() {
+        first_of(firsts, identifiers, u)
+    } else {
+        Ok(0)
+    }
+}
+
+/// A number for each name, so that two names that are looked up have one number exactly if they are the same.
+pub(crate) fn numbers_of(
+    alloc: Global,
+    identifiers: &[Identifier],
+) -> Result<Vec<usize>, AllocError>
+    ensures apart { IfOk result (λ numbers. TellApart (layout_of identifiers.now) (names_of identifiers.now) (length identifiers.now) numbers.items) }
+    ensures below { IfOk result (λ numbers. AreBelow (length identifiers.now) numbers.items) }
+{
+    let mut firsts = IndexMap::with_capacity(alloc, name_room(identifiers))?;
+    let mut numbers = Vec::with_capacity(alloc, identifiers.len())?;
+    for u in 0..identifiers.len() {
+        numbers.push(next_number(&mut firsts, identifiers, u)?)?;
+    }
+    Ok(numbers)
+}
+
+/// The number of an identifier's name.
+pub(crate) fn number_at(numbers: &[usize], d: usize) -> usize
+    ensures { result ≡ number_at numbers.now d }
+{
+    match numbers.get(d) {
+        None => 0,
+        Some(number) => *number,
+    }
+}

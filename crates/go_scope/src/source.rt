@@ -1,0 +1,43 @@
+//! A file whose identifiers are taken, and the list to which they are added.
+ghost use Rattle.std.specs.Prelude.{◌≡◌, ◌∷◌, [], OnOk};
+ghost use Rattle.go_scope.specs.Site.{site};
+
+use crate::model::{Identifier, Position, Role};
+use go_ast::FileTree;
+use std::alloc::AllocError;
+
+/// A file of a package, with its rank among the package's paths.
+#[derive(Clone, Copy)]
+pub struct RankedFile<'a> {
+    pub rank: usize,
+    pub tree: &'a FileTree,
+}
+
+impl<'a> RankedFile<'a> {
+    ghost use Rattle.go_scope.specs.Found.{source_of, Adds};
+
+    /// The bytes of a token, or none if there is no such token.
+    pub(crate) fn spelling(&self, token: usize) -> &'a [u8]
+        ensures { result.now ≡ (source_of self.now).spell token }
+    {
+        self.tree.spelling(token)
+    }
+
+    /// Adds the identifier at a token.
+    pub(crate) fn add(
+        &self,
+        found: &mut Vec<Identifier<'a>>,
+        token: usize,
+        role: Role,
+    ) -> Result<(), AllocError>
+        ensures { OnOk result (Adds found.old.items found.new.items (site (source_of self.now) token role ∷ [])) }
+    {
+        let name = self.spelling(token);
+        let place = Position {
+            file: self.rank,
+            index: token,
+        };
+        found.push(Identifier { place, name, role })?;
+        Ok(())
+    }
+}

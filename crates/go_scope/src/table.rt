@@ -1,0 +1,172 @@
+//! The table of a package's identifiers, scopes and bindings.
+ghost use Rattle.std.specs.Prelude.{ℕ, ◌≡◌, ◌<◌, ◌↔◌, length, IsTrue, MatchOption};
+ghost use Rattle.go_scope.specs.Bindings.{Declares, Counts, IsUse, scope_of};
+ghost use Rattle.go_scope.specs.ByToken.{number_at};
+ghost use Rattle.go_scope.specs.Known.{AreKnown};
+ghost use Rattle.go_scope.specs.Scoped.{layout_in, names_in, IsBoundIn, BeginsAt};
+ghost use Rattle.go_scope.specs.Table.{StandsAt, IsFirstOf, IsFoundAt};
+ghost use Rattle.go_scope.specs.WellFormed.{WellFormed};
+
+use crate::identifiers::Identifiers;
+use crate::known::KnownTable;
+use crate::model::{Position, Role, Scope};
+use base_files::Place;
+use go_ast::FileTree;
+use std::marker::Model;
+
+/// A declaration: the number of its identifier in the table. The predeclared names have the first eleven numbers.
+pub type DeclId = usize;
+
+/// The identifiers of a package, and to what each is bound, which is found once.
+#[derive(Drop)]
+pub struct ScopeTable<'a> {
+    identifiers: Identifiers<'a>,
+    known: KnownTable,
+}
+
+impl<'a> Model for ScopeTable<'a> {
+    ghost use Rattle.std.specs.Coded.{codes};
+    ghost use Rattle.go_ast.specs.contracts.tree.File as e;
+    ghost use Rattle.go_scope.specs.Scoped.{ScopedPackage};
+    ghost use Rattle.go_scope.specs.ByToken.{number_at};
+    ghost use Rattle.go_scope.specs.Known.{AreKnown};
+
+    ghost Value = { ScopedPackage };
+
+    ghost coded = { Prim.hlevel (codes, e.the_row.coded) };
+
+    ghost view = { λ t. t.identifiers };
+
+    ghost invariant = { λ t. AreKnown t.identifiers t.known.declaring.items t.known.bindings.items (number_at t.known.numbers) };
+}
+
+impl<'a> ScopeTable<'a> {
+    /// The table of a package's identifiers, with what is known of them.
+    pub(crate) fn new(identifiers: Identifiers<'a>, known: KnownTable) -> ScopeTable<'a>
+        requires { AreKnown identifiers known.declaring.items known.bindings.items (number_at known.numbers) }
+        ensures { result ≡ identifiers.entry }
+    {
+        ScopeTable { identifiers, known }
+    }
+
+    /// The files of the package, in the order of their paths.
+    pub fn files(&self) -> &'a [FileTree]
+        ensures { result.now ≡ self.now.files }
+    {
+        self.identifiers.files()
+    }
+
+    /// The layout of a table is well formed, since it is that of a package's trees.
+    pub fn is_well_formed(&self)
+        ensures { WellFormed (layout_in self.now) }
+    {
+        self.identifiers.is_well_formed();
+    }
+
+    /// How many identifiers there are, the predeclared names among them.
+    pub fn len(&self) -> usize
+        ensures { result ≡ length self.now.sites }
+    {
+        self.identifiers.len()
+    }
+
+    /// What an identifier is there for.
+    pub fn role(&self, u: usize) -> Role
+        requires { u < length self.now.sites }
+        ensures { result ≡ (layout_in self.now).role u }
+    {
+        self.identifiers.role(u)
+    }
+
+    /// Where an identifier stands.
+    pub fn place(&self, u: usize) -> Position
+        requires { u < length self.now.sites }
+        ensures { result ≡ (layout_in self.now).place u }
+    {
+        self.identifiers.place(u)
+    }
+
+    /// How an identifier is spelled, in UTF-8.
+    pub fn name(&self, u: usize) -> &'a [u8]
+        requires { u < length self.now.sites }
+        ensures { result.now ≡ names_in self.now u }
+    {
+        self.identifiers.name(u)
+    }
+
+    /// Whether an identifier is a lexical use: also a left name of `:=` that does not declare.
+    pub fn is_use(&self, u: usize) -> bool
+        requires { u < length self.now.sites }
+        ensures { IsTrue result ↔ IsUse (layout_in self.now) (names_in self.now) u }
+    {
+        self.role(u).is_use_unless(self.declares(u))
+    }
+
+    /// Whether an identifier declares.
+    pub fn declares(&self, u: usize) -> bool
+        requires { u < length self.now.sites }
+        ensures { IsTrue result ↔ Declares (layout_in self.now) (names_in self.now) u }
+    {
+        self.known.declaring[u]
+    }
+
+    /// The identifiers alone.
+    pub fn identifiers(&self) -> &Identifiers<'a>
+        ensures { result.now ≡ self.now }
+    {
+        &self.identifiers
+    }
+
+    /// The identifier at a token, or the literal of an import.
+    pub fn identifier_at(&self, place: Position) -> Option<usize>
+        ensures { MatchOption result ((u : ℕ) → u < length self.now.sites → StandsAt (layout_in self.now) place u → ⊥)
+            (λ u. IsFoundAt (layout_in self.now) (length self.now.sites) place u) }
+    {
+        self.known.numbers.get(place)
+    }
+
+    /// The identifier that begins at a place, or the literal of an import.
+    pub fn identifier_beginning_at(&self, place: &Place) -> Option<usize>
+        ensures { MatchOption result ((u : ℕ) → u < length self.now.sites → BeginsAt self.now place.now.path place.now.offset u → ⊥)
+            (λ u. IsFirstOf (BeginsAt self.now place.now.path place.now.offset) (length self.now.sites) u) }
+    {
+        self.identifiers.first_beginning_at(place)
+    }
+
+    /// The declaration to which an identifier is bound.
+    pub fn binding(&self, u: usize) -> Option<DeclId>
+        requires { u < length self.now.sites }
+        ensures { MatchOption result ((d : ℕ) → IsBoundIn self.now u d → ⊥) (λ d. IsBoundIn self.now u d) }
+    {
+        self.known.bindings[u]
+    }
+
+    /// The declaration to which the identifier that begins at a place is bound.
+    pub fn resolve(&self, place: &Place) -> Option<DeclId>
+        ensures { let found = IsFirstOf (BeginsAt self.now place.now.path place.now.offset) (length self.now.sites) in
+            MatchOption result ((u d : ℕ) → found u → IsBoundIn self.now u d → ⊥) (λ d. (u : ℕ) × (found u × IsBoundIn self.now u d)) }
+    {
+        match self.identifier_beginning_at(place) {
+            None => None,
+            Some(u) => self.binding(u),
+        }
+    }
+
+    /// The scope of a declaration.
+    pub fn scope_of(&self, declaration: DeclId) -> Scope
+        requires { declaration < length self.now.sites }
+        ensures { result ≡ scope_of ((layout_in self.now).role declaration) }
+    {
+        self.role(declaration).scope()
+    }
+
+    /// Whether a declaration does not count, beside another of its name.
+    pub fn is_repeated(&self, declaration: DeclId) -> bool
+        requires { declaration < length self.now.sites }
+        ensures { let l = layout_in self.now in
+            let names = names_in self.now in
+            IsTrue result ↔ (Declares l names declaration × (Counts l names declaration → ⊥)) }
+    {
+        self.declares(declaration) && self.binding(declaration).is_none()
+    }
+}

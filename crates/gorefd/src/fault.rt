@@ -1,0 +1,33 @@
+//! Why the program ends before its input does.
+use server_session::SessionFault;
+use std::alloc::AllocError;
+use thiserror::Error;
+
+#[derive(Debug, Drop, Error)]
+pub enum ProgramFault {
+    #[error("memory fault")]
+    Memory,
+    #[error("read fault")]
+    Read,
+    #[error("write fault")]
+    Write,
+    #[error("turns fault")]
+    Turns,
+}
+
+impl From<AllocError> for ProgramFault {
+    fn from(_: AllocError) -> ProgramFault {
+        ProgramFault::Memory
+    }
+}
+
+impl From<SessionFault> for ProgramFault {
+    fn from(fault: SessionFault) -> ProgramFault {
+        match fault {
+            SessionFault::Memory => ProgramFault::Memory,
+            SessionFault::Read => ProgramFault::Read,
+            SessionFault::Write => ProgramFault::Write,
+            SessionFault::Turns => ProgramFault::Turns,
+        }
+    }
+}

@@ -1,3 +1,0 @@
--- The lemmas of this crate.
-pub mod Values
-pub mod Known

@@ -1,7 +1,0 @@
--- In pairs.
-use Rattle.gr_alike.specs.Known.{known_definition}
-use Rattle.gr_alike.proofs.Values.{by_values}
-use Rattle.gr_alike.proofs.definitions.are_definitions_alike.Goals as goal
-
-pub returns : goal.returns
-returns c = by_values known_definition c.args.one.now c.args.other.now c.are_lists_alike.result c.are_lists_alike.ensures

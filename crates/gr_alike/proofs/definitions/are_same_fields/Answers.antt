@@ -1,7 +1,0 @@
--- In pairs, by their names.
-use Rattle.gr_expr.specs.WorldView.{field_of}
-use Rattle.gr_alike.proofs.Values.{by_entries}
-use Rattle.gr_alike.proofs.definitions.are_same_fields.Goals as goal
-
-pub returns : goal.returns
-returns c = by_entries field_of c.args.one.now.entries c.args.other.now.entries c.are_maps_alike.result c.are_maps_alike.ensures

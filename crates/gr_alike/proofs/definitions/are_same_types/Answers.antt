@@ -1,7 +1,0 @@
--- In pairs.
-use Rattle.gr_expr.specs.View.{type_of}
-use Rattle.gr_alike.proofs.Values.{by_values}
-use Rattle.gr_alike.proofs.definitions.are_same_types.Goals as goal
-
-pub returns : goal.returns
-returns c = by_values type_of c.args.one.now c.args.other.now c.are_lists_alike.result c.are_lists_alike.ensures

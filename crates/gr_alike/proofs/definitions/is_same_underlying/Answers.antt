@@ -1,7 +1,0 @@
--- The test of underlying types.
-use Rattle.gr_expr.specs.WorldView.{underlying_of}
-use Rattle.gr_alike.proofs.Values.{underlying_by_test}
-use Rattle.gr_alike.proofs.definitions.is_same_underlying.Goals as goal
-
-pub returns : goal.returns
-returns c = underlying_by_test (underlying_of c.args.one.now) (underlying_of c.args.other.now) c.has_same_shape.result c.has_same_shape.ensures

@@ -1,8 +1,0 @@
--- The maps are alike where what is left of them is.
-use Rattle.std.specs.Prelude.{◌↔◌}
-use Rattle.std.specs.List.{AllZip}
-use Rattle.gr_alike.specs.Alike.{AreNamedAlike}
-use Rattle.gr_alike.proofs.parts.are_maps_alike.Given as goal
-
-abbrev pub invariant-loop-name : goal.invariant-loop-name
-invariant-loop-name g l = AllZip (AreNamedAlike g.T.Alike.alike) l.name-iterator l.others ↔ AllZip (AreNamedAlike g.T.Alike.alike) l.one.entries l.other.entries

@@ -1,8 +1,0 @@
--- The invariants of the loops of `holding::identifier_at`.
-use Rattle.std.proofs.Common.{ℕ, ◌<◌}
-use Rattle.gr_declared.specs.PackageView.{package_of}
-use Rattle.gr_bound.specs.Identifiers.{HoldsByte}
-use Rattle.gr_asked.proofs.holding.identifier_at.Given as goal
-
-abbrev pub invariant-loop-u : goal.invariant-loop-u
-invariant-loop-u l = (v : ℕ) → v < l.u → HoldsByte (package_of l.unit) l.path l.offset v → ⊥

@@ -1,7 +1,0 @@
--- The answers to the goals of `laws::one_declaration_by_name`.
-use Rattle.gr_verdict.proofs.OnePackage.{files_in_order}
-use Rattle.gr_asked.proofs.BoundNamedMembers.{one_by_name}
-use Rattle.gr_asked.proofs.unique.one_declaration_by_name.Goals as goal
-
-pub returns : goal.returns
-returns c = λ w known p is u d e a b. one_by_name p (files_in_order w known p.path p is.is_checked) u d e a b

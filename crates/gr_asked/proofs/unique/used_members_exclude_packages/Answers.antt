@@ -1,7 +1,0 @@
--- The answers to the goals of `laws::used_members_exclude_packages`.
-use Rattle.gr_bound.specs.Uses.{IsPackage}
-use Rattle.gr_asked.proofs.BoundUsedMembers.{member_not_package}
-use Rattle.gr_asked.proofs.unique.used_members_exclude_packages.Goals as goal
-
-pub returns : goal.returns
-returns c = λ w known p is u d e stands a b. member_not_package w known p.path p is.is_checked (IsPackage w known) u d e stands a b

@@ -1,8 +1,0 @@
--- It is a fact of each book that its content is the replay of its journal.
-use Rattle.std.proofs.Common.{subst}
-use Rattle.gr_machine.specs.Machine.{Machine, content}
-use Rattle.gr_machine.specs.Run.{IsReplay}
-use Rattle.gr_book.proofs.book.Book.journal.Goals as goal
-
-pub returns-clause-replay : goal.returns-clause-replay
-returns-clause-replay c = subst (λ (x : Machine). ∥ IsReplay x.limits x.journal (content x) ∥₁) c.self.view_is c.self.invariant.5

@@ -1,9 +1,0 @@
--- The content is the same, and so it is the replay of the journal still.
-use Rattle.std.proofs.Common.{sym, subst, vec_capacity}
-use Rattle.gr_machine.specs.Machine.{Content}
-use Rattle.gr_machine.proofs.Legal.{BookHolds}
-use Rattle.gr_book.proofs.book.Book.learn.Goals as goal
-
-pub invariant_of-self : goal.invariant_of-self
-invariant_of-self c =
-    subst (λ (x : Content). BookHolds x c.self.inside.journal.items (vec_capacity c.self.inside.journal)) (sym c.learn.ensures) c.self.invariant

@@ -1,7 +1,0 @@
--- The invariants of the loops of `exports::numbers`.
-use Rattle.gr_declared.specs.PackageView.{package_of}
-use Rattle.gr_bound.specs.Exports.{number_named, AreNumbersBelow}
-use Rattle.gr_bound.proofs.exports.numbers.Given as goal
-
-abbrev pub invariant-loop-d : goal.invariant-loop-d
-invariant-loop-d l = AreNumbersBelow (package_of l.unit) l.d (number_named l.numbers)

@@ -1,6 +1,0 @@
--- The answers to the goals of `faults::refuse_faults`.
-use Rattle.gr_bound.proofs.Refusing.{first_refused}
-use Rattle.gr_bound.proofs.faults.refuse_faults.Goals as goal
-
-pub returns-else-are_sound : goal.returns-else-are_sound
-returns-else-are_sound c = first_refused c.args.graph.now c.args.found.now c.requires c.refuse_first.result c.refuse_first.ensures

@@ -1,8 +1,0 @@
--- The invariants of the loops of `own_names::field_places`.
-use Rattle.gr_declared.specs.PackageView.{package_of}
-use Rattle.gr_bound.specs.Binding.{IsFieldAt}
-use Rattle.gr_bound.proofs.NamedPlaces.{PlacesBelow}
-use Rattle.gr_bound.proofs.own_names.field_places.Given as goal
-
-abbrev pub invariant-loop-rank : goal.invariant-loop-rank
-invariant-loop-rank l = PlacesBelow (IsFieldAt (package_of l.unit)) l.rank l.places.items

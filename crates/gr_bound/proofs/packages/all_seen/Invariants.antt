@@ -1,7 +1,0 @@
--- The packages that were passed.
-use Rattle.gr_bound.specs.Packages.{HoldsOfEach, IsSeenBy}
-use Rattle.gr_bound.specs.Workspaces.{known_in}
-use Rattle.gr_bound.proofs.packages.all_seen.Given as goal
-
-abbrev pub invariant-loop-number : goal.invariant-loop-number
-invariant-loop-number l = HoldsOfEach (IsSeenBy l.graph (known_in l.found)) l.number l.all.items

@@ -1,7 +1,0 @@
--- The packages that were passed.
-use Rattle.gr_bound.specs.Packages.{HoldsOfEach, IsTableOf}
-use Rattle.gr_bound.specs.Workspaces.{known_in}
-use Rattle.gr_bound.proofs.packages.all_tables.Given as goal
-
-abbrev pub invariant-loop-number : goal.invariant-loop-number
-invariant-loop-number l = HoldsOfEach (IsTableOf l.graph (known_in l.found) l.all) l.number l.tables.items

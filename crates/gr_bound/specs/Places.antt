@@ -1,9 +1,0 @@
--- The order of places.
-use Rattle.std.specs.Ordering.{nat_cmp, ordering_then}
-use Rattle.std.specs.declared.cmp.Ordering.{Ordering}
-use Rattle.gr_text.specs.Workspace.{path_cmp}
-use Rattle.gr_text.specs.declared.place.Place.{Place}
-
--- by the bytes of the path, and then by offset
-abbrev pub place_cmp : Place → Place → Ordering
-place_cmp a b = ordering_then (path_cmp a.path b.path) (nat_cmp a.offset b.offset)

@@ -1,9 +1,0 @@
-//! Places in the order of their paths' bytes and of their offsets.
-use gr_text::Path;
-
-/// A place that is ordered by its path, and then by its offset.
-#[derive(Drop, PartialEq, Eq, PartialOrd, Ord)]
-pub struct Spot {
-    pub path: Path,
-    pub offset: usize,
-}

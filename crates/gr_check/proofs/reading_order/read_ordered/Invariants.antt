@@ -1,8 +1,0 @@
--- The invariants of the loops of `reading_order::read_ordered`.
-use Rattle.std.proofs.Common.{take}
-use Rattle.gr_check.specs.ReadSoFar.{IsReadSoFar}
-use Rattle.gr_check.proofs.reading_order.read_ordered.Given as goal
-
--- the marked ones of those that were passed were read
-abbrev pub invariant-loop-number : goal.invariant-loop-number
-invariant-loop-number l = IsReadSoFar l.wanted (take l.number-index l.order) l.so_far

@@ -1,9 +1,0 @@
--- The definitions of this crate.
-pub mod Preserved
-pub mod Among
-pub mod ReadSoFar
-pub mod Planned
-pub mod Answers
-pub mod Marked
-pub mod Affected
-pub mod Marking

@@ -1,7 +1,0 @@
--- The iterator shows what it has left.
-use Rattle.std.specs.Map.Iter.{deref}
-use Rattle.gr_chunks.proofs.Stepping.{shows_in_order}
-use Rattle.gr_chunks.proofs.list.SharedList.iter.Goals as goal
-
-pub returns-clause-runs : goal.returns-clause-runs
-returns-clause-runs g c = shows_in_order deref

@@ -1,8 +1,0 @@
--- The answers to the goals of `built::Built::is_right`.
-use Rattle.std.proofs.Common.{subst}
-use Rattle.gr_compile.specs.BuiltUnits.{BuiltUnit}
-use Rattle.gr_compile.specs.Units.{IsUnitIn}
-use Rattle.gr_compile.proofs.built.Built.is_right.Goals as goal
-
-pub returns : goal.returns
-returns c = subst (λ (b : BuiltUnit). IsUnitIn b.inputs b.package b.unit) c.self.view_is c.self.invariant.0

@@ -1,6 +1,0 @@
--- The invariants of the loops of `naming::tables_of`.
-use Rattle.gr_compile.specs.Naming.{AreTablesBy}
-use Rattle.gr_compile.proofs.naming.tables_of.Given as goal
-
-abbrev pub invariant-loop-other : goal.invariant-loop-other
-invariant-loop-other l = AreTablesBy l.names l.tables

@@ -1,5 +1,0 @@
--- The lemmas of this crate.
-pub mod Settled
-pub mod Entered
-pub mod Comes
-pub mod Numbers

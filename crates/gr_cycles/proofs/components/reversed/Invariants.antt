@@ -1,9 +1,0 @@
--- The invariants of the loops of `components::reversed`.
-use Rattle.gr_cycles.specs.Cycles.{IsTurned}
-use Rattle.gr_cycles.proofs.components.reversed.Given as goal
-
-abbrev pub invariant-loop-from : goal.invariant-loop-from
-invariant-loop-from l = IsTurned l.links l.back.items
-
-abbrev pub invariant-loop-to : goal.invariant-loop-to
-invariant-loop-to l = IsTurned l.links l.back.items

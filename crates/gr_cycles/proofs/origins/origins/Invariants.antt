@@ -1,6 +1,0 @@
--- The invariants of the loops of `origins::origins`.
-use Rattle.gr_cycles.specs.Cycles.{AreOrigins}
-use Rattle.gr_cycles.proofs.origins.origins.Given as goal
-
-abbrev pub invariant-loop-link : goal.invariant-loop-link
-invariant-loop-link l = AreOrigins l.links l.origins.items

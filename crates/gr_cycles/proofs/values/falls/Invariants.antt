@@ -1,6 +1,0 @@
--- The invariants of the loops of `values::falls`.
-use Rattle.gr_cycles.proofs.Reaching.{FallsBelow}
-use Rattle.gr_cycles.proofs.values.falls.Given as goal
-
-abbrev pub invariant-loop-number : goal.invariant-loop-number
-invariant-loop-number l = FallsBelow l.links l.values l.number

@@ -1,7 +1,0 @@
--- The invariants of the loops of `broken::mentions`.
-use Rattle.gr_declared.specs.PackageView.{package_of}
-use Rattle.gr_declared.proofs.Breaking.{MentionsBelow}
-use Rattle.gr_declared.proofs.broken.mentions.Given as goal
-
-abbrev pub invariant-loop-rank : goal.invariant-loop-rank
-invariant-loop-rank l = MentionsBelow (package_of l.unit) l.links.items l.rank

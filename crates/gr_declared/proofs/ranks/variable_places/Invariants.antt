@@ -1,8 +1,0 @@
--- The invariants of the loops of `ranks::variable_places`.
-use Rattle.std.proofs.Common.{◌≡◌, map, take}
-use Rattle.gr_declared.specs.Package.{variable_place}
-use Rattle.gr_declared.specs.DeclaredView.{variable_of}
-use Rattle.gr_declared.proofs.ranks.variable_places.Given as goal
-
-abbrev pub invariant-loop-variable : goal.invariant-loop-variable
-invariant-loop-variable l = l.places.items ≡ map variable_place (map variable_of (take l.variable-index l.variables))

@@ -1,7 +1,0 @@
--- The files of a change that is admitted are seen.
-use Rattle.std.proofs.Common.{sym, subst}
-use Rattle.gr_text.specs.Workspace.{Workspace}
-use Rattle.gr_desk.proofs.acting.commit_learning.Goals as goal
-
-pub learn-requires-clause-seen : goal.learn-requires-clause-seen
-learn-requires-clause-seen g c = subst (λ (w : Workspace). g.D.Desk.sees c.commit.new.self w) (sym c.requires.files) c.in-Ok.ensures.sees

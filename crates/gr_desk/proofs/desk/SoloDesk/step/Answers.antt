@@ -1,7 +1,0 @@
--- Which replies a book gives.
-use Rattle.gr_machine.proofs.Replies.{may_reply}
-use Rattle.gr_desk.proofs.desk.SoloDesk.step.Goals as goal
-
-pub returns-clause-kind : goal.returns-clause-kind
-returns-clause-kind g c =
-    may_reply c.self.inside.book (g.Q.Question.event c.args.question) (g.Q.Question.reply c.step.result) c.step.new.self c.step.ensures

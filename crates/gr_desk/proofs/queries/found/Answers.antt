@@ -1,8 +1,0 @@
--- What a view knows is right of its files.
-use Rattle.std.proofs.Common.{sym, subst}
-use Rattle.gr_text.specs.Workspace.{Workspace}
-use Rattle.gr_verdict.specs.Found.{KnowsVerdicts}
-use Rattle.gr_desk.proofs.queries.found.Goals as goal
-
-pub verdicts-requires : goal.verdicts-requires
-verdicts-requires c = subst (λ (w : Workspace). KnowsVerdicts w c.known.result.now) (sym c.files.ensures) c.known.ensures

@@ -1,9 +1,0 @@
--- What stands behind an offset of the new text.
-use Rattle.gr_edit.proofs.MovedPlaces.{keeps_bytes, puts_bytes}
-use Rattle.gr_edit.proofs.laws.edits_keep_other_bytes.Goals as goal
-
-pub returns-clause-kept : goal.returns-clause-kept
-returns-clause-kept c = keeps_bytes
-
-pub returns-clause-put : goal.returns-clause-put
-returns-clause-put c = puts_bytes

@@ -1,7 +1,0 @@
--- What putting the rest gives.
-use Rattle.std.proofs.Common.{◌≡◌, drop}
-use Rattle.gr_edit.specs.Made.{with_files}
-use Rattle.gr_edit.proofs.making.put_added.Given as goal
-
-abbrev pub invariant-loop-path : goal.invariant-loop-path
-invariant-loop-path l = with_files (drop l.path-index l.added) l.files ≡ with_files l.added l.fn.files

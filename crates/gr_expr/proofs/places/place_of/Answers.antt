@@ -1,6 +1,0 @@
--- The answers to the goals of `places::place_of`.
-use Rattle.gr_expr.proofs.Trees.{chain_stands}
-use Rattle.gr_expr.proofs.places.place_of.Goals as goal
-
-pub returns-in-Chain : goal.returns-in-Chain
-returns-in-Chain c = cc (chain_stands c.in-Chain.first c.in-Chain.links)

@@ -1,5 +1,0 @@
--- The lemmas of this crate.
-pub mod Listings
-pub mod Each
-pub mod Ranked
-pub mod Stages

@@ -1,6 +1,0 @@
--- The answer to the goal of `bare_imports::imports_without_a_name_may_gain_one`.
-use Rattle.gr_gained.proofs.Finding.{gains}
-use Rattle.gr_gained.proofs.bare_imports.imports_without_a_name_may_gain_one.Goals as goal
-
-pub returns : goal.returns
-returns c = gains

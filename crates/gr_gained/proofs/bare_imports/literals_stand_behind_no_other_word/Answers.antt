@@ -1,6 +1,0 @@
--- The answer to the goal of `bare_imports::literals_stand_behind_no_other_word`.
-use Rattle.gr_gained.proofs.Apart.{literal_apart}
-use Rattle.gr_gained.proofs.bare_imports.literals_stand_behind_no_other_word.Goals as goal
-
-pub returns : goal.returns
-returns c = literal_apart

@@ -1,6 +1,0 @@
--- The answer to the goal of `gained::imports_gain_other_names_without_conflicts`.
-use Rattle.gr_gained.proofs.Renamed.{renamed_kept}
-use Rattle.gr_gained.proofs.gained.imports_gain_other_names_without_conflicts.Goals as goal
-
-pub returns : goal.returns
-returns c = renamed_kept

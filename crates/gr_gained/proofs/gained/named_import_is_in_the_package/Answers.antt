@@ -1,6 +1,0 @@
--- The answer to the goal of `gained::named_import_is_in_the_package`.
-use Rattle.gr_gained.proofs.Packages.{package_gains}
-use Rattle.gr_gained.proofs.gained.named_import_is_in_the_package.Goals as goal
-
-pub returns : goal.returns
-returns c = package_gains

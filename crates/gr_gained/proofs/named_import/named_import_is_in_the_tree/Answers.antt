@@ -1,6 +1,0 @@
--- The answer to the goal of `named_import::named_import_is_in_the_tree`.
-use Rattle.gr_gained.proofs.NamedTree.{gained_tree}
-use Rattle.gr_gained.proofs.named_import.named_import_is_in_the_tree.Goals as goal
-
-pub returns : goal.returns
-returns c = gained_tree

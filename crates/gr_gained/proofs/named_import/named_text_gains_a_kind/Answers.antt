@@ -1,6 +1,0 @@
--- The answer to the goal of `named_import::named_text_gains_a_kind`.
-use Rattle.gr_gained.proofs.Gaining.{gained_kinds}
-use Rattle.gr_gained.proofs.named_import.named_text_gains_a_kind.Goals as goal
-
-pub returns : goal.returns
-returns c = gained_kinds

@@ -1,6 +1,0 @@
--- The answers to the goals of `quoted::folder_of_path_is_path`.
-use Rattle.gr_gained.proofs.Folders.{folder_is_path}
-use Rattle.gr_gained.proofs.quoted.folder_of_path_is_path.Goals as goal
-
-pub returns : goal.returns
-returns c = folder_is_path

@@ -1,6 +1,0 @@
--- The answers to the goals of `quoted::quoted_path_stands`.
-use Rattle.gr_gained.proofs.Cutting.{quoted_stands}
-use Rattle.gr_gained.proofs.quoted.quoted_path_stands.Goals as goal
-
-pub returns : goal.returns
-returns c = quoted_stands

@@ -1,6 +1,0 @@
--- The answers to the goals of `recut::replaced_name_is_cut`.
-use Rattle.gr_gained.proofs.Single.{replaced_name}
-use Rattle.gr_gained.proofs.recut.replaced_name_is_cut.Goals as goal
-
-pub returns : goal.returns
-returns c = replaced_name

@@ -1,6 +1,0 @@
--- The answer to the goal of `renumbered_sites::identifiers_of_other_files_stay`.
-use Rattle.gr_gained.proofs.Staying.{file_stays}
-use Rattle.gr_gained.proofs.renumbered_sites.identifiers_of_other_files_stay.Goals as goal
-
-pub returns : goal.returns
-returns c = file_stays

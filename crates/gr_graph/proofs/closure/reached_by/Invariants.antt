@@ -1,6 +1,0 @@
--- What the marked ones of the packages that were passed reach is marked.
-use Rattle.gr_graph.specs.Search.{AreReached}
-use Rattle.gr_graph.proofs.closure.reached_by.Given as goal
-
-abbrev pub invariant-loop-start : goal.invariant-loop-start
-invariant-loop-start l = AreReached l.links l.starts l.start l.marks.items

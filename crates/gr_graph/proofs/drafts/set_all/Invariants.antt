@@ -1,8 +1,0 @@
--- What is at the paths that were passed is set.
-use Rattle.std.proofs.Common.{take}
-use Rattle.gr_graph.specs.Drafts.{SetsFiles}
-use Rattle.gr_graph.specs.Filling.{names}
-use Rattle.gr_graph.proofs.drafts.set_all.Given as goal
-
-abbrev pub invariant-loop-path : goal.invariant-loop-path
-invariant-loop-path l = SetsFiles l.files (names (take l.path-index l.paths)) l.initial.drafts.items l.drafts.items

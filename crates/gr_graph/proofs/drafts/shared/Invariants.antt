@@ -1,7 +1,0 @@
--- The packages of the drafts that were passed.
-use Rattle.std.proofs.Common.{◌≡◌}
-use Rattle.gr_graph.specs.Drafts.{packages_of}
-use Rattle.gr_graph.proofs.drafts.shared.Given as goal
-
-abbrev pub invariant-loop-draft : goal.invariant-loop-draft
-invariant-loop-draft l = l.packages.items ≡ packages_of l.yielded

@@ -1,7 +1,0 @@
--- The packages that were passed and import the path.
-use Rattle.gr_graph.specs.Growth.{ImportsAt}
-use Rattle.gr_graph.specs.Imports.{HoldsBelow}
-use Rattle.gr_graph.proofs.grown.importing.Given as goal
-
-abbrev pub invariant-loop-number : goal.invariant-loop-number
-invariant-loop-number l = HoldsBelow (ImportsAt l.grown.packages.now l.path) l.number l.list.items

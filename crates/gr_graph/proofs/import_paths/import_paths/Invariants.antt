@@ -1,7 +1,0 @@
--- The paths that the files that were passed import.
-use Rattle.std.proofs.Common.{take}
-use Rattle.gr_graph.specs.ImportPaths.{HoldsPaths, SomeImport}
-use Rattle.gr_graph.proofs.import_paths.import_paths.Given as goal
-
-abbrev pub invariant-loop-file : goal.invariant-loop-file
-invariant-loop-file l = HoldsPaths (SomeImport (take l.file-index l.files)) l.paths.keys

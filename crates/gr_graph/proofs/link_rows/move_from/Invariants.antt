@@ -1,7 +1,0 @@
--- The bounds that were passed were moved.
-use Rattle.std.proofs.Common.{◌+◌, ◌-◌}
-use Rattle.gr_graph.proofs.InPlace.{AreReplacedBy}
-use Rattle.gr_graph.proofs.link_rows.move_from.Given as goal
-
-abbrev pub invariant-loop-index : goal.invariant-loop-index
-invariant-loop-index l = AreReplacedBy (λ end. end - l.down + l.up) l.begin l.index l.initial.bounds.items l.bounds.items

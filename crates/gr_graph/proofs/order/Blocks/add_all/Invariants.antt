@@ -1,6 +1,0 @@
--- What was told so far.
-use Rattle.gr_graph.specs.Orders.{AreTold}
-use Rattle.gr_graph.proofs.order.Blocks.add_all.Given as goal
-
-abbrev pub invariant-loop-root : goal.invariant-loop-root
-invariant-loop-root l = AreTold l.imports l.self

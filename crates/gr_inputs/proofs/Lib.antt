@@ -1,5 +1,0 @@
--- The lemmas of this crate.
-pub mod LearnedVerdicts
-pub mod ParsedFiles
-pub mod SameInputs
-pub mod ChangedFiles

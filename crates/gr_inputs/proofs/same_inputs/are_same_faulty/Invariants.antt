@@ -1,7 +1,0 @@
--- The files that were passed are the same.
-use Rattle.std.proofs.Common.{◌≡◌, take, map}
-use Rattle.gr_inputs.specs.Inputs.{faulty_file}
-use Rattle.gr_inputs.proofs.same_inputs.are_same_faulty.Given as goal
-
-abbrev pub invariant-loop-place : goal.invariant-loop-place
-invariant-loop-place l = map faulty_file (take l.place l.faulty) ≡ map faulty_file (take l.place l.others)

@@ -1,7 +1,0 @@
--- The files that were passed are the same.
-use Rattle.std.proofs.Common.{◌≡◌, take, map}
-use Rattle.gr_verdict.specs.Earlier.{tree_file}
-use Rattle.gr_inputs.proofs.same_inputs.are_same_trees.Given as goal
-
-abbrev pub invariant-loop-place : goal.invariant-loop-place
-invariant-loop-place l = map tree_file (take l.place l.trees) ≡ map tree_file (take l.place l.others)

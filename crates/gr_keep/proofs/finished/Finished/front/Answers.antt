@@ -1,7 +1,0 @@
--- It is the number that is kept.
-use Rattle.std.proofs.Common.{subst}
-use Rattle.gr_keep.specs.Finished.{Table, AreFinishedBelow}
-use Rattle.gr_keep.proofs.finished.Finished.front.Goals as goal
-
-pub returns : goal.returns
-returns c = subst (λ (t : Table). AreFinishedBelow t c.self.inside.front) c.self.view_is c.self.invariant.0

@@ -1,8 +1,0 @@
--- It is what was found of the units.
-use Rattle.std.proofs.Common.{subst}
-use Rattle.std.specs.Prelude.{◌↔◌, IsTrue}
-use Rattle.gr_keep.specs.Finished.{Table, HasNone}
-use Rattle.gr_keep.proofs.finished.Finished.is_empty.Goals as goal
-
-pub returns : goal.returns
-returns c = subst (λ (t : Table). IsTrue c.self.inside.is_empty ↔ HasNone t) c.self.view_is c.self.invariant.1

@@ -1,7 +1,0 @@
--- Each package that was passed is finished, and those before.
-use Rattle.std.proofs.Common.{◌≤◌}
-use Rattle.gr_keep.specs.Finished.{AreFinishedBelow}
-use Rattle.gr_keep.proofs.finished.front_from.Given as goal
-
-abbrev pub invariant-loop-number : goal.invariant-loop-number
-invariant-loop-number l = record { least : l.least ≤ l.number; below : AreFinishedBelow l.units l.number }

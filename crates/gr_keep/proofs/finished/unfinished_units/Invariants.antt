@@ -1,7 +1,0 @@
--- The places so far, none of which has a unit.
-use Rattle.std.proofs.Common.{◌≡◌, ◌≤◌, length}
-use Rattle.gr_keep.specs.Finished.{HasNone}
-use Rattle.gr_keep.proofs.finished.unfinished_units.Given as goal
-
-abbrev pub invariant-loop-number : goal.invariant-loop-number
-invariant-loop-number l = record { size : length l.all ≡ l._number; least : l._number ≤ l.count; none : HasNone l.all }

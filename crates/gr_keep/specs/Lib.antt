@@ -1,4 +1,0 @@
--- The definitions of this crate.
-pub mod Carried
-pub mod Finished
-pub mod Changes

@@ -1,4 +1,0 @@
--- The definitions of this crate.
-pub mod Aligned
-pub mod BoundToOne
-pub mod Steps

@@ -1,7 +1,0 @@
--- The lemmas of this crate.
-pub mod LineSoFar
-pub mod Words
-pub mod Places
-pub mod LineWords
-pub mod Filled
-pub mod Unique

@@ -1,8 +1,0 @@
--- The answers to the goals of `parse::parse_u32`.
-use Rattle.gr_line.proofs.Words.{u32_of}
-use Rattle.gr_line.proofs.parse.parse_u32.Goals as goal
-
-pub returns : goal.returns
-returns c =
-    rw c.ok.ensures.value
-    (u32_of c.args.text.now c.in_ok-parse_u64.field-0 c.try_from.result c.in_ok-parse_u64.ensures.0 c.in_ok-parse_u64.ensures.1 c.try_from.ensures)

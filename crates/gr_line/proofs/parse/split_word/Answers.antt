@@ -1,6 +1,0 @@
--- The answers to the goals of `parse::split_word`.
-use Rattle.gr_line.proofs.Words.{SplitsWord-from_split}
-use Rattle.gr_line.proofs.parse.split_word.Goals as goal
-
-pub returns : goal.returns
-returns c = SplitsWord-from_split c.args.text.now c.split_once.result c.split_once.ensures.cases

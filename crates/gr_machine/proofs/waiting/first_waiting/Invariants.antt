@@ -1,8 +1,0 @@
--- None of the packages that were passed waits.
-use Rattle.std.proofs.Common.{◌≡◌, ℕ, ◌<◌, List, Some, slice_get}
-use Rattle.gr_text.specs.Packages.{package_paths}
-use Rattle.gr_machine.specs.Waiting.{IsWaiting}
-use Rattle.gr_machine.proofs.waiting.first_waiting.Given as goal
-
-abbrev pub invariant-loop-number : goal.invariant-loop-number
-invariant-loop-number l = (i : ℕ) (q : List ℕ) → i < l.number → slice_get (package_paths l.state.files) i ≡ Some q → IsWaiting l.state l.out l.visit q → ⊥

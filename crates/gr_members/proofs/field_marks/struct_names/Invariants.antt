@@ -1,8 +1,0 @@
--- The invariants of the loops of `field_marks::struct_names`.
-use Rattle.gr_members.specs.FieldsView.{IsFieldNamed}
-use Rattle.gr_members.specs.MemberNames.{is_noted, AreNamesBelow}
-use Rattle.gr_declared.specs.PackageView.{package_of}
-use Rattle.gr_members.proofs.field_marks.struct_names.Given as goal
-
-abbrev pub invariant-loop-field : goal.invariant-loop-field
-invariant-loop-field l = AreNamesBelow (IsFieldNamed (package_of l.unit)) l.field-index (is_noted l.names)

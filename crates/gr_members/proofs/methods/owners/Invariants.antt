@@ -1,7 +1,0 @@
--- The invariants of the loops of `methods::owners`.
-use Rattle.gr_declared.specs.PackageView.{package_of}
-use Rattle.gr_members.proofs.Owning.{OwnersBelow}
-use Rattle.gr_members.proofs.methods.owners.Given as goal
-
-abbrev pub invariant-loop-rank : goal.invariant-loop-rank
-invariant-loop-rank l = OwnersBelow (package_of l.unit) l.owners.items l.rank

@@ -1,7 +1,0 @@
--- The invariants of the loops of `underlying::fill`.
-use Rattle.gr_declared.specs.PackageView.{package_of}
-use Rattle.gr_members.proofs.Filling.{AreFilled}
-use Rattle.gr_members.proofs.underlying.fill.Given as goal
-
-abbrev pub invariant-loop-rank : goal.invariant-loop-rank
-invariant-loop-rank l = AreFilled (package_of l.unit) l.order l.rank-index l.found.items

@@ -1,9 +1,0 @@
--- The definitions of this crate.
-pub mod Members
-pub mod FieldsView
-pub mod MemberNames
-pub mod MethodsView
-pub mod Recursion
-pub mod MembersView
-pub mod Found
-pub mod Steps

@@ -1,8 +1,0 @@
--- The lemmas of this crate.
-pub mod Structs
-pub mod FieldsAfter
-pub mod Firsts
-pub mod Noting
-pub mod Naming
-pub mod AllMembers
-pub mod FirstNames

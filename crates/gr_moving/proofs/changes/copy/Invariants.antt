@@ -1,6 +1,0 @@
--- What the loop of `changes::copy` keeps: the edits that were passed were copied.
-use Rattle.std.proofs.Common.{◌≡◌, take}
-use Rattle.gr_moving.proofs.changes.copy.Given as goal
-
-abbrev pub invariant-loop-edit : goal.invariant-loop-edit
-invariant-loop-edit l = l.copies.items ≡ take l.edit-index l.edits

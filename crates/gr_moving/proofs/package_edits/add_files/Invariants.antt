@@ -1,8 +1,0 @@
--- What the loop of `package_edits::add_files` keeps: the files that were passed have got their edits.
-use Rattle.gr_declared.specs.PackageView.{package_of}
-use Rattle.gr_moving.specs.Steps.{AddsEdits, AreEditsIn}
-use Rattle.gr_moving.proofs.EditMaps.{IsFileBelow}
-use Rattle.gr_moving.proofs.package_edits.add_files.Given as goal
-
-abbrev pub invariant-loop-rank : goal.invariant-loop-rank
-invariant-loop-rank l = AddsEdits l.initial.edits l.edits (AreEditsIn (package_of l.unit) l.moved) (IsFileBelow (package_of l.unit) l.rank)

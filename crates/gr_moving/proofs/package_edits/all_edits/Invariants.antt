@@ -1,7 +1,0 @@
--- What the loop of `package_edits::all_edits` keeps: the edits of the packages that were passed are known.
-use Rattle.gr_bound.specs.Workspaces.{known_in}
-use Rattle.gr_moving.specs.Steps.{KnowsEdits}
-use Rattle.gr_moving.proofs.package_edits.all_edits.Given as goal
-
-abbrev pub invariant-loop-number : goal.invariant-loop-number
-invariant-loop-number l = KnowsEdits l.graph (known_in l.found) l.moved l.number l.edits

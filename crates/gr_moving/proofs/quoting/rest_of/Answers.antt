@@ -1,6 +1,0 @@
--- The answers to the goals of `quoting::rest_of`.
-use Rattle.gr_moving.proofs.PathParts.{rest_found}
-use Rattle.gr_moving.proofs.quoting.rest_of.Goals as goal
-
-pub returns : goal.returns
-returns c = rest_found c.args.front.now c.args.text.now c.strip_prefix.result c.strip_prefix.ensures.cases

@@ -1,9 +1,0 @@
--- The invariants of the loops of `declarations::field_types`.
-use Rattle.std.proofs.Common.{◌≡◌, ◌++◌, drop, map}
-use Rattle.gr_expr.specs.View.{type_of}
-use Rattle.gr_expr.specs.WorldView.{world_of}
-use Rattle.gr_object.proofs.TypeParts.{for_struct}
-use Rattle.gr_object.proofs.declarations.field_types.Given as goal
-
-abbrev pub invariant-loop-field : goal.invariant-loop-field
-invariant-loop-field l = map type_of l.types.items ++ for_struct (world_of l.world) (drop l.field-index l.fields) ≡ for_struct (world_of l.world) l.fields

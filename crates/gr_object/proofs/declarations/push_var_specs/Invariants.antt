@@ -1,7 +1,0 @@
--- The invariants of the loops of `declarations::push_var_specs`.
-use Rattle.std.proofs.Common.{◌≡◌, ◌++◌, drop}
-use Rattle.gr_object.proofs.TextParts.{var_specs_text}
-use Rattle.gr_object.proofs.declarations.push_var_specs.Given as goal
-
-abbrev pub invariant-loop-item : goal.invariant-loop-item
-invariant-loop-item l = l.text.items ++ var_specs_text l.source (drop l.item-index l.item-items) ≡ l.initial.text.items ++ var_specs_text l.source l.item-items

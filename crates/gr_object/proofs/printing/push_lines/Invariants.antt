@@ -1,9 +1,0 @@
--- The invariants of the loops of `printing::push_lines`.
-use Rattle.std.proofs.Common.{◌≡◌, ◌++◌, drop, map, reverse}
-use Rattle.gr_object.specs.LineView.{line_of}
-use Rattle.gr_object.specs.PackagesView.{type_in}
-use Rattle.gr_object.specs.Text.{code_text}
-use Rattle.gr_object.proofs.printing.push_lines.Given as goal
-
-abbrev pub invariant-loop-i : goal.invariant-loop-i
-invariant-loop-i l = l.text.items ≡ l.initial.text.items ++ code_text (type_in l.packages) (reverse (map line_of (drop l.i l.lines)))

@@ -1,9 +1,0 @@
--- The invariants of the loops of `slots::add_all_defined`.
-use Rattle.std.proofs.Common.{◌≡◌, ◌++◌, drop}
-use Rattle.gr_expr.specs.WorldView.{world_of}
-use Rattle.gr_object.proofs.Parts.{defined_places}
-use Rattle.gr_object.proofs.slots.add_all_defined.Given as goal
-
-abbrev pub invariant-loop-item : goal.invariant-loop-item
-invariant-loop-item l = l.places.items ++ defined_places (world_of l.world) (drop l.item-index l.left) ≡ l.initial.places.items ++ defined_places
-    (world_of l.world) l.left

@@ -1,9 +1,0 @@
--- What was passed is declared before the rank.
-use Rattle.std.proofs.Common.{◌≡◌, ◌+◌, length, map, take}
-use Rattle.std.specs.List.{flat_map, enumerate_from}
-use Rattle.gr_tree.specs.SourceFile.{source_of}
-use Rattle.gr_declared.specs.Package.{functions_in}
-use Rattle.gr_object.proofs.walks.function_at.Given as goal
-
-abbrev pub invariant-loop-file : goal.invariant-loop-file
-invariant-loop-file l = l.rank ≡ length (flat_map functions_in (take l.file (enumerate_from 0 (map source_of l.files)))) + l.rest

@@ -1,9 +1,0 @@
--- What was passed stands before the rank.
-use Rattle.std.proofs.Common.{◌≡◌, ◌+◌, length, take}
-use Rattle.std.specs.List.{flat_map}
-use Rattle.gr_tree.specs.SourceFile.{source_of}
-use Rattle.gr_object.specs.Walks.{file_positions}
-use Rattle.gr_object.proofs.walks.position_at.Given as goal
-
-abbrev pub invariant-loop-tree : goal.invariant-loop-tree
-invariant-loop-tree l = l.rank ≡ length (flat_map (λ t. file_positions (source_of t)) (take l.tree-index l.files)) + l.rest

@@ -1,9 +1,0 @@
--- What was passed stands before the rank.
-use Rattle.std.proofs.Common.{◌≡◌, ◌+◌, length, take}
-use Rattle.std.specs.List.{flat_map}
-use Rattle.gr_tree.specs.FileView.{decl_view}
-use Rattle.gr_object.specs.Walks.{decl_positions}
-use Rattle.gr_object.proofs.walks.position_in_file.Given as goal
-
-abbrev pub invariant-loop-decl : goal.invariant-loop-decl
-invariant-loop-decl l = l.rank ≡ length (flat_map (λ d. decl_positions (decl_view d)) (take l.decl-index l.decl-items)) + l.rest

@@ -1,6 +1,0 @@
--- The answers to the goals of `laws::bytes_lie_in_one_identifier`.
-use Rattle.gr_order.proofs.HeldBytes.{one_holds}
-use Rattle.gr_order.proofs.laws.bytes_lie_in_one_identifier.Goals as goal
-
-pub returns : goal.returns
-returns c = λ files cut own l size ordered path offset u v lu lv h k. one_holds files cut own l size ordered path offset u v lu lv h k

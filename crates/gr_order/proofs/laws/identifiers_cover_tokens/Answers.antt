@@ -1,6 +1,0 @@
--- The answers to the goals of `laws::identifiers_cover_tokens`.
-use Rattle.gr_order.proofs.Places.{place_has_one, one_has_place}
-use Rattle.gr_order.proofs.laws.identifiers_cover_tokens.Goals as goal
-
-pub returns : goal.returns
-returns c = λ files w at. (place_has_one files w at, one_has_place files w at)

@@ -1,6 +1,0 @@
--- The answers to the goals of `laws::package_files_have_own_paths`.
-use Rattle.gr_order.proofs.OwnPaths.{package_sources, own_paths}
-use Rattle.gr_order.proofs.laws.package_files_have_own_paths.Goals as goal
-
-pub returns : goal.returns
-returns c = record { sources = (λ w path ts parsed. package_sources w path ts parsed); paths = (λ w path ts parsed. own_paths w path ts parsed) }

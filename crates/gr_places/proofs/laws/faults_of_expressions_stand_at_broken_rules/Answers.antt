@@ -1,6 +1,0 @@
--- The answers to the goals of `laws::faults_of_expressions_stand_at_broken_rules`.
-use Rattle.gr_places.proofs.Conclusions.{expression_places}
-use Rattle.gr_places.proofs.laws.faults_of_expressions_stand_at_broken_rules.Goals as goal
-
-pub returns : goal.returns
-returns c = λ w locals e p. expression_places w locals e p

@@ -1,6 +1,0 @@
--- The answers to the goals of `laws::files_that_break_no_rule_are_typed`.
-use Rattle.gr_places.proofs.Conclusions.{unbroken_typed}
-use Rattle.gr_places.proofs.laws.files_that_break_no_rule_are_typed.Goals as goal
-
-pub returns : goal.returns
-returns c = λ w is_init f n. unbroken_typed w is_init f n

@@ -1,6 +1,0 @@
--- The answers to the goals of `laws::typed_files_break_no_rule`.
-use Rattle.gr_places.proofs.Conclusions.{typed_breaks_none}
-use Rattle.gr_places.proofs.laws.typed_files_break_no_rule.Goals as goal
-
-pub returns : goal.returns
-returns c = λ w is_init f p t b. typed_breaks_none w is_init f p t b

@@ -1,7 +1,0 @@
--- The packages so far are finished.
-use Rattle.std.proofs.Common.{◌<◌, ℕ}
-use Rattle.gr_pool.specs.Call.{HasUnit}
-use Rattle.gr_pool.proofs.built.is_built.Given as goal
-
-abbrev pub invariant-loop-number : goal.invariant-loop-number
-invariant-loop-number l = (k : ℕ) → k < l.number → HasUnit l.view.finished k

@@ -1,7 +1,0 @@
--- The book that is handed back is the one that was locked.
-use Rattle.std.proofs.Common.{sym, subst}
-use Rattle.gr_pool.specs.Steps.{IsReplayed}
-use Rattle.gr_pool.proofs.shared.Shared.settle.Goals as goal
-
-pub returns-clause-legal : goal.returns-clause-legal
-returns-clause-legal g c = subst IsReplayed (sym c.settle.ensures.book) c.settle.ensures.legal

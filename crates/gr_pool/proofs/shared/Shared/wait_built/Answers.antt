@@ -1,7 +1,0 @@
--- One look more.
-use Rattle.gr_pool.proofs.CallLaws.{looks_on}
-use Rattle.gr_pool.proofs.shared.Shared.wait_built.Goals as goal
-
-pub loop-preserved : goal.loop-preserved
-loop-preserved g c =
-    looks_on c.args.seat.now c.loop.seat c.in_ok-view.view c.look.new.seat c.loop.invariant (rw c.in_ok-view.was at c.look.ensures)

@@ -1,9 +1,0 @@
--- The Job is delivered, or given back.
-use Rattle.std.proofs.Common.{inl, inr}
-use Rattle.gr_pool.proofs.working.hand_in.Goals as goal
-
-pub returns-in-Ok : goal.returns-in-Ok
-returns-in-Ok g c = inl c.deliver.ensures
-
-pub returns-in-Err : goal.returns-in-Err
-returns-in-Err g c = inr c.give_back.ensures

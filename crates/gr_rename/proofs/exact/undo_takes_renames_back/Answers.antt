@@ -1,6 +1,0 @@
--- The answers to the goals of `exact::undo_takes_renames_back`.
-use Rattle.gr_rename.proofs.Renaming.{undo_takes_back}
-use Rattle.gr_rename.proofs.exact.undo_takes_renames_back.Goals as goal
-
-pub returns : goal.returns
-returns c = undo_takes_back

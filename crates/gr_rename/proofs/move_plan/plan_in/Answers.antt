@@ -1,6 +1,0 @@
--- The answers to the goals of `plan::plan_in`.
-use Rattle.gr_rename.proofs.MovePlanned.{faults_refused}
-use Rattle.gr_rename.proofs.move_plan.plan_in.Goals as goal
-
-pub returns-in-Err-clause-planned : goal.returns-in-Err-clause-planned
-returns-in-Err-clause-planned c = faults_refused c.args.snapshot.now c.args.from.now c.args.to.now c.args.found.now.findings c.in-Err.refusal c.in-Err.ensures

@@ -1,8 +1,0 @@
--- The lemmas of this crate.
-pub mod Literals
-pub mod TreeSearch
-pub mod Sources
-pub mod RenamedPaths
-pub mod Changing
-pub mod Searching
-pub mod Editing

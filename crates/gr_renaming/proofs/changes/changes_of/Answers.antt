@@ -1,9 +1,0 @@
--- The answers to the goals of `changes::changes_of`.
-use Rattle.std.proofs.Common.{ℕ, List, sym, subst}
-use Rattle.std.specs.Prelude.{Contains, ◌↔◌}
-use Rattle.gr_renaming.specs.Changes.{IsPathOf}
-use Rattle.gr_renaming.proofs.changes.changes_of.Goals as goal
-
-pub changes_in-requires-clause-each : goal.changes_in-requires-clause-each
-changes_in-requires-clause-each c =
-    subst (λ (ps : List (List ℕ)). (q : List ℕ) → Contains ps q ↔ IsPathOf c.args.renamed.now q) (sym c.as_slice.ensures.value) c.in_ok-paths.ensures.each

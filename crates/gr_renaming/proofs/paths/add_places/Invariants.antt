@@ -1,8 +1,0 @@
--- What the loop of `paths::add_places` keeps.
-use Rattle.std.proofs.Common.{take}
-use Rattle.gr_bound.specs.Bindings.{AddsAll}
-use Rattle.gr_renaming.specs.Changes.{IsPathOfPlace}
-use Rattle.gr_renaming.proofs.paths.add_places.Given as goal
-
-abbrev pub invariant-loop-place : goal.invariant-loop-place
-invariant-loop-place l = AddsAll l.initial.paths.items l.paths.items (IsPathOfPlace (take l.place-index l.places))

@@ -1,6 +1,0 @@
--- The definitions of this crate.
-pub mod Literals
-pub mod RenameEdits
-pub mod Changes
-pub mod Replacements
-pub mod FileEdits

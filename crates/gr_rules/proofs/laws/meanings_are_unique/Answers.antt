@@ -1,6 +1,0 @@
--- The answers to the goals of `laws::meanings_are_unique`.
-use Rattle.gr_rules.proofs.Conclusions.{one_meaning}
-use Rattle.gr_rules.proofs.laws.meanings_are_unique.Goals as goal
-
-pub returns : goal.returns
-returns c = λ w locals e m n h k. one_meaning w locals e m n h k

@@ -1,6 +1,0 @@
--- The answers to the goals of `encoding::valid_len`.
-use Rattle.gr_scan.proofs.EncodingLemmas.{valid_from}
-use Rattle.gr_scan.proofs.encoding.valid_len.Goals as goal
-
-pub returns-in-Err : goal.returns-in-Err
-returns-in-Err c = rw c.valid_up_to.ensures (valid_from c.args.text.now _ c.in-Err.ensures.cases.1)

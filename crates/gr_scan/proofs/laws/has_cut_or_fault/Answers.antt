@@ -1,6 +1,0 @@
--- The answers to the goals of `laws::has_cut_or_fault`.
-use Rattle.gr_scan.proofs.ExistsLemmas.{has_cut_or_fault}
-use Rattle.gr_scan.proofs.laws.has_cut_or_fault.Goals as goal
-
-pub returns : goal.returns
-returns c = has_cut_or_fault

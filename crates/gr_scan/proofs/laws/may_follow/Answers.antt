@@ -1,6 +1,0 @@
--- The answers to the goals of `laws::may_follow`.
-use Rattle.gr_scan.proofs.ContextLemmas.{may_follow}
-use Rattle.gr_scan.proofs.laws.may_follow.Goals as goal
-
-pub returns : goal.returns
-returns c = may_follow

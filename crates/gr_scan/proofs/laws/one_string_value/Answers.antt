@@ -1,6 +1,0 @@
--- The answers to the goals of `laws::one_string_value`.
-use Rattle.gr_scan.proofs.StringValueLemmas.{one_string_value}
-use Rattle.gr_scan.proofs.laws.one_string_value.Goals as goal
-
-pub returns : goal.returns
-returns c = one_string_value

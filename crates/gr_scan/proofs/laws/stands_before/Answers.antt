@@ -1,6 +1,0 @@
--- The answers to the goals of `laws::stands_before`.
-use Rattle.gr_scan.proofs.ContextLemmas.{stands_before}
-use Rattle.gr_scan.proofs.laws.stands_before.Goals as goal
-
-pub returns : goal.returns
-returns c = stands_before

@@ -1,7 +1,0 @@
--- The answers to the goals of `operators::operator_at`.
-use Rattle.gr_scan.proofs.NarrowLemmas.{operator_among}
-use Rattle.gr_scan.proofs.operators.operator_at.Goals as goal
-
-pub returns : goal.returns
-returns c = operator_among c.args.bytes.now c.starting_with.result.now c.first_byte.result c.first_among.result c.first_byte.ensures c.starting_with.ensures
-    c.first_among.ensures

@@ -1,9 +1,0 @@
--- The invariants of the loops of `declarations::add_var_specs`.
-use Rattle.std.proofs.Common.{take}
-use Rattle.std.specs.List.{flat_map}
-use Rattle.gr_scope.specs.Found.{source_of, Adds}
-use Rattle.gr_scope.proofs.FileParts.{global_spec_part}
-use Rattle.gr_scope.proofs.declarations.add_var_specs.Given as goal
-
-abbrev pub invariant-loop-item : goal.invariant-loop-item
-invariant-loop-item l = Adds l.initial.found.items l.found.items (flat_map (global_spec_part (source_of l.source)) (take l.item-index l.item-items))

@@ -1,7 +1,0 @@
--- The answers to the goals of `laws::bindings_are_unique`.
-use Rattle.gr_scope.proofs.Nests.{nests}
-use Rattle.gr_scope.proofs.Uniqueness.{bound_once}
-use Rattle.gr_scope.proofs.laws.bindings_are_unique.Goals as goal
-
-pub returns : goal.returns
-returns c = λ l w names u d e x y. bound_once l (nests l w) names u d e x y

@@ -1,6 +1,0 @@
--- The answers to the goals of `balance::results_are_balanced`.
-use Rattle.gr_settled.proofs.FunctionsBalanced.{results_balanced}
-use Rattle.gr_settled.proofs.balance.results_are_balanced.Goals as goal
-
-pub returns : goal.returns
-returns c = λ arity s slots locals e ts m f answers h. results_balanced arity s slots locals e ts m f answers h

@@ -1,6 +1,0 @@
--- The answers to the goals of `decided::bindings_are_decided`.
-use Rattle.gr_settled.proofs.Lexical.{binding}
-use Rattle.gr_settled.proofs.decided.bindings_are_decided.Goals as goal
-
-pub returns : goal.returns
-returns c = λ l names w u. binding l names w u

@@ -1,6 +1,0 @@
--- The answers to the goals of `decided::names_are_decided`.
-use Rattle.gr_settled.proofs.Meanings.{name}
-use Rattle.gr_settled.proofs.decided.names_are_decided.Goals as goal
-
-pub returns : goal.returns
-returns c = λ p w strings broken file token. name p w strings broken file token

@@ -1,6 +1,0 @@
--- The answers to the goals of `known::names_of_packages_are_known`.
-use Rattle.gr_settled.proofs.GlobalsKnown.{global_known}
-use Rattle.gr_settled.proofs.known.names_of_packages_are_known.Goals as goal
-
-pub returns : goal.returns
-returns c = λ p files_of file f s is n m e c. global_known p files_of file f s is n m e c

@@ -1,6 +1,0 @@
--- The answers to the goals of `settled::functions_have_arities`.
-use Rattle.gr_settled.proofs.Arity.{arities_are}
-use Rattle.gr_settled.proofs.settled.functions_have_arities.Goals as goal
-
-pub returns : goal.returns
-returns c = λ w sound known right. arities_are w sound known right

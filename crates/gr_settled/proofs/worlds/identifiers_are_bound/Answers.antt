@@ -1,6 +1,0 @@
--- The answers to the goals of `worlds::identifiers_are_bound`.
-use Rattle.gr_settled.proofs.Bound.{identifier_bound}
-use Rattle.gr_settled.proofs.worlds.identifiers_are_bound.Goals as goal
-
-pub returns : goal.returns
-returns c = λ w sound known right p is u stands e. identifier_bound w sound known right p is u stands e

@@ -1,6 +1,0 @@
--- The answers to the goals of `worlds::no_identifier_is_unbound`.
-use Rattle.gr_settled.proofs.AllBound.{none_unbound}
-use Rattle.gr_settled.proofs.worlds.no_identifier_is_unbound.Goals as goal
-
-pub returns : goal.returns
-returns c = λ w sound known right p is u stands e unbound. none_unbound w sound known right p is u stands unbound e

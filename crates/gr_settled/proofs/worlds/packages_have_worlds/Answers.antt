@@ -1,6 +1,0 @@
--- The answers to the goals of `worlds::packages_have_worlds`.
-use Rattle.gr_settled.proofs.PackageWorlds.{have_all_worlds}
-use Rattle.gr_settled.proofs.worlds.packages_have_worlds.Goals as goal
-
-pub returns : goal.returns
-returns c = λ w sound known right. have_all_worlds w sound known right

@@ -1,5 +1,0 @@
--- The definitions of this crate.
-pub mod Corresponding
-pub mod Sound
-pub mod Held
-pub mod Becoming

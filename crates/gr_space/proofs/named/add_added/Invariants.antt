@@ -1,8 +1,0 @@
--- The paths of the files that were passed were added.
-use Rattle.std.proofs.Common.{take}
-use Rattle.gr_graph.specs.Filling.{names}
-use Rattle.gr_space.specs.Named.{AddsPaths, IsOfAdded}
-use Rattle.gr_space.proofs.named.add_added.Given as goal
-
-abbrev pub invariant-loop-file : goal.invariant-loop-file
-invariant-loop-file l = AddsPaths (IsOfAdded (take l.file-index l.added)) (names l.initial.paths.items) (names l.paths.items)

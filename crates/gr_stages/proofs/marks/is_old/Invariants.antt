@@ -1,9 +1,0 @@
--- The invariants of the loops of `marks::is_old`.
-use Rattle.std.proofs.Common.{take}
-use Rattle.gr_tree.specs.View.{exprs_view}
-use Rattle.gr_imports.specs.Laid.{laid_in}
-use Rattle.gr_stages.specs.Marks.{SomeDeclares}
-use Rattle.gr_stages.proofs.marks.is_old.Given as goal
-
-abbrev pub invariant-loop-item : goal.invariant-loop-item
-invariant-loop-item l = SomeDeclares (laid_in l.scope.table.now) l.scope.rank (exprs_view (take l.item-index l.left)) → ⊥

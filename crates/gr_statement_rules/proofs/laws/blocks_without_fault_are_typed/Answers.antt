@@ -1,6 +1,0 @@
--- The answers to the goals of `laws::blocks_without_fault_are_typed`.
-use Rattle.gr_statement_rules.proofs.Conclusions.{settled_block}
-use Rattle.gr_statement_rules.proofs.laws.blocks_without_fault_are_typed.Goals as goal
-
-pub returns : goal.returns
-returns c = λ w results s x h. settled_block w results s x h

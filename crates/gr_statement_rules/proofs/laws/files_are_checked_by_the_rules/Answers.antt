@@ -1,6 +1,0 @@
--- The answers to the goals of `laws::files_are_checked_by_the_rules`.
-use Rattle.gr_statement_rules.proofs.Conclusions.{file_law}
-use Rattle.gr_statement_rules.proofs.laws.files_are_checked_by_the_rules.Goals as goal
-
-pub returns : goal.returns
-returns c = λ w b f n. file_law w b f n

@@ -1,6 +1,0 @@
--- The answers to the goals of `laws::functions_without_fault_are_typed`.
-use Rattle.gr_statement_rules.proofs.Conclusions.{settled_function}
-use Rattle.gr_statement_rules.proofs.laws.functions_without_fault_are_typed.Goals as goal
-
-pub returns : goal.returns
-returns c = λ w b s f h. settled_function w b s f h

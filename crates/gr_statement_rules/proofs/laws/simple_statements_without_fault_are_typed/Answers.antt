@@ -1,6 +1,0 @@
--- The answers to the goals of `laws::simple_statements_without_fault_are_typed`.
-use Rattle.gr_statement_rules.proofs.Conclusions.{settled_simple}
-use Rattle.gr_statement_rules.proofs.laws.simple_statements_without_fault_are_typed.Goals as goal
-
-pub returns : goal.returns
-returns c = λ w s a h. settled_simple w s a h

@@ -1,6 +1,0 @@
--- The answers to the goals of `laws::typed_blocks_are_not_excused`.
-use Rattle.gr_statement_rules.proofs.Excluding.{block_not}
-use Rattle.gr_statement_rules.proofs.laws.typed_blocks_are_not_excused.Goals as goal
-
-pub returns : goal.returns
-returns c = λ w results before after x r e. block_not w results r e

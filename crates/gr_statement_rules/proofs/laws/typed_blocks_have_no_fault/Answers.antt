@@ -1,6 +1,0 @@
--- The answers to the goals of `laws::typed_blocks_have_no_fault`.
-use Rattle.gr_statement_rules.proofs.Conclusions.{block_law}
-use Rattle.gr_statement_rules.proofs.laws.typed_blocks_have_no_fault.Goals as goal
-
-pub returns : goal.returns
-returns c = λ w results s x after h r. block_law w results s x after h r

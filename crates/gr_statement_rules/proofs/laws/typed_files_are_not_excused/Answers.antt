@@ -1,6 +1,0 @@
--- The answers to the goals of `laws::typed_files_are_not_excused`.
-use Rattle.gr_statement_rules.proofs.Excluding.{file_not}
-use Rattle.gr_statement_rules.proofs.laws.typed_files_are_not_excused.Goals as goal
-
-pub returns : goal.returns
-returns c = λ w is_init f r e. file_not w is_init f r e

@@ -1,6 +1,0 @@
--- The answers to the goals of `laws::typed_files_are_those_without_fault_or_excuse`.
-use Rattle.gr_statement_rules.proofs.Conclusions.{typed_files}
-use Rattle.gr_statement_rules.proofs.laws.typed_files_are_those_without_fault_or_excuse.Goals as goal
-
-pub returns : goal.returns
-returns c = λ w is_init f. typed_files w is_init f

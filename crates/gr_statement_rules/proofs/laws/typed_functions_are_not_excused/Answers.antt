@@ -1,6 +1,0 @@
--- The answers to the goals of `laws::typed_functions_are_not_excused`.
-use Rattle.gr_statement_rules.proofs.Excluding.{function_not}
-use Rattle.gr_statement_rules.proofs.laws.typed_functions_are_not_excused.Goals as goal
-
-pub returns : goal.returns
-returns c = λ w is_init before after f r e. function_not w is_init r e

@@ -1,6 +1,0 @@
--- The answers to the goals of `laws::typed_simple_statements_are_not_excused`.
-use Rattle.gr_statement_rules.proofs.Exclusive.{simple_not}
-use Rattle.gr_statement_rules.proofs.laws.typed_simple_statements_are_not_excused.Goals as goal
-
-pub returns : goal.returns
-returns c = λ w before after a h x. simple_not w h x

@@ -1,6 +1,0 @@
--- The answers to the goals of `laws::typed_statements_have_one_outcome`.
-use Rattle.gr_statement_rules.proofs.Conclusions.{one_outcome}
-use Rattle.gr_statement_rules.proofs.laws.typed_statements_have_one_outcome.Goals as goal
-
-pub returns : goal.returns
-returns c = λ w results before after other x h k. one_outcome w results before after other x h k

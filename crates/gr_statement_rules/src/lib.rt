@@ -1,4 +1,0 @@
-//! The typing rules of statements and declarations, and that files are checked by them.
-#![tactic(auto)]
-
-pub mod laws;

@@ -1,8 +1,0 @@
--- The answers to the goals of `checked::Checked::check_global`.
-use Rattle.std.proofs.lemmas.Result.{on_ok_weaker}
-use Rattle.gr_expr.specs.Found.{locals_of}
-use Rattle.gr_stmt.proofs.Making.{noted}
-use Rattle.gr_stmt.proofs.checked.CheckedBody.check_global.Goals as goal
-
-pub returns : goal.returns
-returns c = on_ok_weaker c.note_global_faults.result (noted (locals_of c.args.self.now.locals)) c.note_global_faults.ensures

@@ -1,9 +1,0 @@
--- The invariants of the loops of `declarations::literal_values`.
-use Rattle.std.proofs.Common.{◌≡◌, take, map}
-use Rattle.gr_tree.specs.FileView.{basic_view}
-use Rattle.gr_expr.specs.Found.{argued_of}
-use Rattle.gr_stmt.specs.Declarations.{literal_value}
-use Rattle.gr_stmt.proofs.declarations.literal_values.Given as goal
-
-abbrev pub invariant-loop-item : goal.invariant-loop-item
-invariant-loop-item l = map argued_of l.values.items ≡ map (λ i. literal_value (basic_view i.value)) (take l.item-index l.literals)

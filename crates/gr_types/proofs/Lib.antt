@@ -1,7 +1,0 @@
--- The lemmas of this crate.
-pub mod Building
-pub mod TypeFaultParts
-pub mod OneLaid
-pub mod Staging
-pub mod WholeCheck
-pub mod ExportParts

@@ -1,6 +1,0 @@
--- The answers to the goals of `checking::packages_are_unique`.
-use Rattle.gr_types.proofs.OneLaid.{one_package}
-use Rattle.gr_types.proofs.checking.packages_are_unique.Goals as goal
-
-pub returns : goal.returns
-returns c = λ path files name_of interface_of p q h k. one_package path files name_of interface_of p q h k

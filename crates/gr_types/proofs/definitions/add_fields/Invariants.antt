@@ -1,7 +1,0 @@
--- The invariants of the loops of `definitions::add_fields`.
-use Rattle.gr_declared.specs.PackageView.{package_of}
-use Rattle.gr_types.specs.Building.{HaveMembersBelow}
-use Rattle.gr_types.proofs.definitions.add_fields.Given as goal
-
-abbrev pub invariant-loop-rank : goal.invariant-loop-rank
-invariant-loop-rank l = HaveMembersBelow (package_of l.of.unit) l.rank 0 l.definitions.items

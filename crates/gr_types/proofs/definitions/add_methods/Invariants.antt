@@ -1,9 +1,0 @@
--- The invariants of the loops of `definitions::add_methods`.
-use Rattle.std.proofs.Common.{length}
-use Rattle.gr_declared.specs.Definitions.{package_fields}
-use Rattle.gr_declared.specs.PackageView.{package_of}
-use Rattle.gr_types.specs.Building.{HaveMembersBelow}
-use Rattle.gr_types.proofs.definitions.add_methods.Given as goal
-
-abbrev pub invariant-loop-rank : goal.invariant-loop-rank
-invariant-loop-rank l = HaveMembersBelow (package_of l.of.unit) (length (package_fields (package_of l.of.unit))) l.rank l.definitions.items

@@ -1,7 +1,0 @@
--- The answers to the goals of `definitions::definitions`.
-use Rattle.gr_declared.specs.PackageView.{package_of}
-use Rattle.gr_types.proofs.Building.{have_definitions}
-use Rattle.gr_types.proofs.definitions.definitions.Goals as goal
-
-pub returns : goal.returns
-returns c = have_definitions (package_of c.args.unit) c.add_methods.new.definitions.items c.in_ok-add_methods.ensures

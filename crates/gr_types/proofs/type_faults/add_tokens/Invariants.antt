@@ -1,8 +1,0 @@
--- The invariants of the loops of `type_faults::add_tokens`.
-use Rattle.std.proofs.Common.{take}
-use Rattle.gr_fault.specs.Listing.{Adds}
-use Rattle.gr_types.specs.TypesView.{IsAtToken}
-use Rattle.gr_types.proofs.type_faults.add_tokens.Given as goal
-
-abbrev pub invariant-loop-token : goal.invariant-loop-token
-invariant-loop-token l = Adds l.initial.found.items l.found.items (IsAtToken l.file (take l.token-index l.tokens))

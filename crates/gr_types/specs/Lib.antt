@@ -1,6 +1,0 @@
--- The definitions of this crate.
-pub mod Interfaces
-pub mod Faults
-pub mod TypesView
-pub mod Check
-pub mod Building

@@ -1,5 +1,0 @@
--- The answers to the goals of `earlier::EarlierClone::clone`.
-use Rattle.gr_verdict.proofs.earlier.EarlierClone.clone.Goals as goal
-
-pub invariant_of-result : goal.invariant_of-result
-invariant_of-result c = rw c.in_ok-parts.ensures c.self.invariant

@@ -1,6 +1,0 @@
--- The invariants of the loops of `fault_list::add_all`.
-use Rattle.std.proofs.Common.{◌≡◌, ◌++◌, take}
-use Rattle.gr_verdict.proofs.fault_list.add_all.Given as goal
-
-abbrev pub invariant-loop-fault : goal.invariant-loop-fault
-invariant-loop-fault l = l.found.items ≡ l.initial.found.items ++ take l.fault-index l.faults

@@ -1,5 +1,0 @@
--- The answers to the goals of `gathered::Gathered::finding_there`.
-use Rattle.gr_verdict.proofs.gathered.Gathered.finding_there.Goals as goal
-
-pub unreachable-requires : goal.unreachable-requires
-unreachable-requires c = c.in-None.ensures c.requires.0 c.requires.1

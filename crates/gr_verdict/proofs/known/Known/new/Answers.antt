@@ -1,7 +1,0 @@
--- The answers to the goals of `known::Known::new`.
-use Rattle.std.specs.Prelude.{None}
-use Rattle.gr_verdict.proofs.Telling.{nothing_known}
-use Rattle.gr_verdict.proofs.known.Known.new.Goals as goal
-
-pub returns-clause-right : goal.returns-clause-right
-returns-clause-right c = λ w. nothing_known (record { verdicts = c.new.result; earlier = None }) c.new.ensures.items w

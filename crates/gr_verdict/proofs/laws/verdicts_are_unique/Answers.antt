@@ -1,6 +1,0 @@
--- The answers to the goals of `laws::verdicts_are_unique`.
-use Rattle.gr_verdict.proofs.OneVerdict.{one_verdict}
-use Rattle.gr_verdict.proofs.laws.verdicts_are_unique.Goals as goal
-
-pub returns : goal.returns
-returns c = λ w p v u a b. one_verdict w p v u a b

@@ -1,6 +1,0 @@
--- The invariants of the loops of `order::sizes`.
-use Rattle.gr_verdict.specs.Steps.{AreSizes}
-use Rattle.gr_verdict.proofs.order.sizes.Given as goal
-
-abbrev pub invariant-loop-number : goal.invariant-loop-number
-invariant-loop-number l = AreSizes l.graph l.number l.sizes.items

@@ -1,9 +1,0 @@
--- The answers to the goals of `laws::runs_the_machine`.
-use Rattle.gr_wire.proofs.Runs.{exchange_runs, cut_runs}
-use Rattle.gr_wire.proofs.laws.runs_the_machine.Goals as goal
-
-pub returns-clause-whole : goal.returns-clause-whole
-returns-clause-whole c = exchange_runs
-
-pub returns-clause-cut : goal.returns-clause-cut
-returns-clause-cut c = cut_runs

@@ -1,0 +1,19 @@
+-- The states move so, whatever the limits and whichever Jobs are out; and there are as many as before.
+use Rattle.std.proofs.Common.{◌<◌, ◌+◌, ◌^◌, arith, sym, subst}
+use Rattle.history_book.specs.Histories.{content_of}
+use Rattle.history_machine.specs.Machine.{Content}
+use Rattle.history_machine.specs.Step.{AnswersOrLacks, done}
+use Rattle.history_machine.specs.declared.event.Event.TheVariants.{Undo}
+use Rattle.history_book.proofs.content.Content.undo.Goals as goal
+
+pub undo-requires : goal.undo-requires
+undo-requires c = subst (λ (m : Content). m.visit + 1 < 2 ^ 64) (sym c.self.view_is) c.requires.visit
+
+pub invariant_of-self : goal.invariant_of-self
+invariant_of-self c = omega (arith, c.undo.ensures.count, c.self.invariant)
+
+pub returns : goal.returns
+returns c =
+    let new = content_of c.undo.new.self c.self.inside.limits c.self.inside.out in
+    subst (λ (m : Content). AnswersOrLacks m (Undo c.args.basis) (done c.undo.result) new) c.self.view_is
+    (c.undo.ensures.moves c.self.inside.limits c.self.inside.out)

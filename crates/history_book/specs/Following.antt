@@ -1,0 +1,11 @@
+-- The state that follows another by a change of its files.
+use Rattle.std.specs.Prelude.{◌≡◌, ℕ}
+use Rattle.build_carry.specs.Carried.{IsCarried}
+use Rattle.history_machine.specs.State.{State}
+use Rattle.workspace_snapshot.specs.declared.change.Change.{Change}
+
+-- it has this number, the files of the change, and the units that the change carries over
+pub record IsStateAfter (old : State) (number : ℕ) (change : Change) (new : State) : Type 0 where
+  pub numbered : new.number ≡ number
+  pub has_files : new.files ≡ change.files
+  pub carried : IsCarried old.files old.finished change.files new.finished

@@ -1,0 +1,34 @@
+-- What the machine is of which a history is the states.
+use Rattle.std.specs.Prelude.{◌≡◌}
+use Rattle.base_files.specs.declared.limits.Limits.{Limits}
+use Rattle.build_unit.specs.Jobs.{JobsOut}
+use Rattle.history_machine.specs.declared.event.Event.{Event}
+use Rattle.history_machine.specs.declared.event.Reply.{Reply}
+use Rattle.history_machine.specs.Machine.{Content, changed}
+use Rattle.history_machine.specs.State.{State}
+use Rattle.history_machine.specs.Step.{AnswersOrLacks}
+use Rattle.history_book.specs.declared.history.History.{History}
+
+-- with these limits and Jobs out
+abbrev pub content_of : History → Limits → JobsOut → Content
+content_of h limits out = record {
+  limits = limits;
+  earlier = h.earlier.items;
+  current = h.current;
+  later = h.later.items;
+  next = h.next;
+  visit = h.visit;
+  out = out;
+}
+
+-- the event is answered so, whatever the limits and whichever Jobs are out
+abbrev pub Moves : History → Event → Reply → History → Type 0
+Moves old event reply new = (limits : Limits) (out : JobsOut) → AnswersOrLacks (content_of old limits out) event reply (content_of new limits out)
+
+-- whichever Jobs are out, the state is the current one, and no redo leaves it
+abbrev pub IsChanged : Limits → History → State → History → Type 0
+IsChanged limits old next new = (out : JobsOut) → content_of new limits out ≡ changed (content_of old limits out) next.files next.finished
+
+-- the states are the same
+abbrev pub IsSame : History → History → Type 0
+IsSame old new = (limits : Limits) (out : JobsOut) → content_of new limits out ≡ content_of old limits out

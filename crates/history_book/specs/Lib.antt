@@ -1,0 +1,10 @@
+-- The definitions of this crate.
+pub mod Outcomes
+pub mod Needed
+pub mod Handed
+pub mod Following
+pub mod Entered
+pub mod Current
+pub mod Histories
+pub mod Fresh
+pub mod Questions

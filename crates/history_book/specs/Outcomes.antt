@@ -1,0 +1,41 @@
+-- What a delivery comes to.
+use Rattle.std.specs.Prelude.{◌≡◌, ⊤, length}
+use Rattle.base_files.specs.Packages.{package_paths}
+use Rattle.workspace_check.specs.Found.{KnowsVerdicts}
+use Rattle.build_unit.specs.declared.built.Built.{Built}
+use Rattle.build_unit.specs.declared.job.JobRecord.{JobRecord}
+use Rattle.build_carry.specs.Finished.{Gains}
+use Rattle.history_machine.specs.State.{State}
+use Rattle.history_machine.specs.Deliveries.{IsFresh, IsRightlyBuilt, HasUnit}
+use Rattle.base_files.specs.declared.refusal.Refusal.TheVariants.{Stale, Already}
+use Rattle.history_machine.specs.Machine.{with_finished}
+use Rattle.history_machine.specs.declared.event.Reply.{Reply}
+use Rattle.history_machine.specs.declared.event.Reply.TheVariants.{Done, Refused}
+use Rattle.history_book.specs.declared.deliveries.Outcome.{Outcome}
+use Rattle.history_book.specs.declared.deliveries.Outcome.TheVariants.{Late, Known, Entered}
+
+abbrev pub ComesTo : State → JobRecord → Built → Outcome → Type 0
+ComesTo state job built Late = ¬ (IsFresh state job built)
+ComesTo state job built Known = IsFresh state job built × HasUnit state job.package
+ComesTo state job built (Entered finished known) =
+    IsFresh state job built × ¬ (HasUnit state job.package) × Gains state.files state.finished job.package built.unit finished
+    × (length finished ≡ length (package_paths state.files)) × IsRightlyBuilt built × KnowsVerdicts state.files known
+
+-- where the inputs of what was built are those of its package: this is finished, or it is finished now
+abbrev pub FinishesIn : State → Built → Outcome → Type 0
+FinishesIn state built Late = ⊥
+FinishesIn state built Known = HasUnit state built.package
+FinishesIn state built (Entered finished known) =
+    ¬ (HasUnit state built.package) × Gains state.files state.finished built.package built.unit finished
+    × (length finished ≡ length (package_paths state.files)) × IsRightlyBuilt built × KnowsVerdicts state.files known
+
+-- a table that is entered is one of the state's packages, and what is known then is right
+abbrev pub HasTable : State → Outcome → Type 0
+HasTable state (Entered finished known) = (length finished ≡ length (package_paths state.files)) × KnowsVerdicts state.files known
+HasTable state outcome = ⊤
+
+-- the reply to a delivery, and the state after it
+abbrev pub Settles : State → Outcome → Reply → State → Type 0
+Settles old Late reply new = (reply ≡ Refused (Stale old.number)) × (new ≡ old)
+Settles old Known reply new = (reply ≡ Refused Already) × (new ≡ old)
+Settles old (Entered finished known) reply new = (reply ≡ Done old.number) × (new ≡ with_finished old finished)

@@ -1,0 +1,34 @@
+-- The events that questions are, and the replies that their answers are.
+use Rattle.std.specs.Prelude.{ℕ, Option, Some, None, Result, Ok, Err}
+use Rattle.base_files.specs.declared.refusal.Refusal.{Refusal}
+use Rattle.base_edits.specs.EditSet.{FileChanges}
+use Rattle.history_book.specs.declared.changing.Changing.{Changing}
+use Rattle.history_book.specs.declared.changing.Changing.TheVariants as changing
+use Rattle.history_machine.specs.declared.entry.Line.{Line}
+use Rattle.history_machine.specs.declared.event.Event.{Event}
+use Rattle.history_machine.specs.declared.event.Event.TheVariants.{Commit, Undo, Redo, Deliver, GiveBack}
+use Rattle.history_machine.specs.declared.event.Reply.{Reply}
+use Rattle.history_machine.specs.declared.event.Reply.TheVariants.{Logged, Refused}
+use Rattle.history_book.specs.declared.handing.HandingIn.{HandingIn}
+use Rattle.history_book.specs.declared.handing.HandingIn.TheVariants as handing
+
+-- a change of the workspace
+abbrev pub changing_event : Changing → Event
+changing_event (changing.Commit basis change) = Commit basis change
+changing_event (changing.Undo basis) = Undo basis
+changing_event (changing.Redo basis) = Redo basis
+
+-- a Job that is handed in
+abbrev pub handing_event : HandingIn → Event
+handing_event (handing.Deliver job built) = Deliver job built
+handing_event (handing.GiveBack job) = GiveBack job
+
+-- the number of the current state, and the line of an entry, if there is one
+abbrev pub logged : Result (ℕ × Option Line) Refusal → Reply
+logged (Ok shown) = Logged shown.0 shown.1
+logged (Err refusal) = Refused refusal
+
+-- the edits of a change that was admitted
+abbrev pub edits_made : Result (ℕ × FileChanges) Refusal → Option FileChanges
+edits_made (Ok made) = Some made.1
+edits_made (Err refusal) = None

@@ -1,0 +1,131 @@
+//! The questions that change no state: a look, a line of the journal, and a Take.
+ghost use Rattle.std.specs.Prelude.{◌≡◌};
+ghost use Rattle.history_machine.specs.Journal.{line_at};
+ghost use Rattle.history_book.specs.Questions.{logged};
+ghost use Rattle.history_machine.specs.Step.{looked, taken};
+ghost use Rattle.history_machine.specs.declared.event.Event.TheVariants.{Log, Look, Take};
+
+use crate::told::refusal_told;
+use crate::{Answered, Asked, Content, Question};
+use base_files::Refusal;
+use build_unit::Job;
+use history_machine::{Entry, EntryKind, Line, Told, View};
+
+/// A look at the current state.
+#[derive(Clone, Copy)]
+pub struct Looking;
+
+/// Asks for the line of the entry of this number. The answer is the number of the current state, and the line, if there is one.
+#[derive(Clone, Copy)]
+pub struct Logging(pub u64);
+
+/// Asks for a Job of the first package that waits to be built.
+#[derive(Clone, Copy)]
+pub struct Taking;
+
+/// What is shown of the entry of a number.
+fn line_at(journal: &[Entry], number: u64) -> Option<Line>
+    ensures { result ≡ line_at journal.now number }
+{
+    match journal.get(number as usize) {
+        Some(entry) => Some(entry.line),
+        None => None,
+    }
+}
+
+impl Question for Looking {
+    type Answer = Result<View, Refusal>;
+
+    ghost event = { λ _. Look };
+
+    ghost reply = { looked };
+
+    fn kind(&self) -> EntryKind {
+        EntryKind::Look
+    }
+
+    fn asked(&self, content: &Content) -> Asked {
+        Asked::alone(EntryKind::Look, content.number())
+    }
+
+    fn ask(self, content: &mut Content, _journal: &[Entry]) -> Answered<Result<View, Refusal>> {
+        match content.look() {
+            Ok(view) => {
+                let out = Some(Told::Done(view.snapshot.number()));
+                Answered::new(Ok(view), out, None)
+            }
+            Err(refusal) => {
+                let out = refusal_told(&refusal);
+                Answered::new(Err(refusal), out, None)
+            }
+        }
+    }
+
+    fn refuse(self, refusal: Refusal) -> Result<View, Refusal> {
+        Err(refusal)
+    }
+}
+
+impl Question for Logging {
+    type Answer = Result<(u64, Option<Line>), Refusal>;
+
+    ghost event = { λ asked. Log asked.0 };
+
+    ghost reply = { logged };
+
+    fn kind(&self) -> EntryKind {
+        EntryKind::Log
+    }
+
+    fn asked(&self, content: &Content) -> Asked {
+        Asked::alone(EntryKind::Log, content.number())
+    }
+
+    fn ask(
+        self,
+        content: &mut Content,
+        journal: &[Entry],
+    ) -> Answered<Result<(u64, Option<Line>), Refusal>> {
+        let number = content.number();
+        let shown = (number, line_at(journal, self.0));
+        Answered::new(Ok(shown), Some(Told::Done(number)), Some(self.0))
+    }
+
+    fn refuse(self, refusal: Refusal) -> Result<(u64, Option<Line>), Refusal> {
+        Err(refusal)
+    }
+}
+
+impl Question for Taking {
+    type Answer = Result<Job, Refusal>;
+
+    ghost event = { λ _. Take };
+
+    ghost reply = { taken };
+
+    fn kind(&self) -> EntryKind {
+        EntryKind::Take
+    }
+
+    fn asked(&self, content: &Content) -> Asked {
+        Asked::alone(EntryKind::Take, content.number())
+    }
+
+    fn ask(self, content: &mut Content, _journal: &[Entry]) -> Answered<Result<Job, Refusal>> {
+        match content.take() {
+            Ok(job) => {
+                let out = Some(Told::Done(job.number()));
+                let subject = Some(job.ticket());
+                Answered::new(Ok(job), out, subject)
+            }
+            Err(refusal) => {
+                let out = refusal_told(&refusal);
+                Answered::new(Err(refusal), out, None)
+            }
+        }
+    }
+
+    fn refuse(self, refusal: Refusal) -> Result<Job, Refusal> {
+        Err(refusal)
+    }
+}

@@ -1,0 +1,189 @@
+//! The book: the states of a workspace with the Jobs that are out, and the journal of the events that move among them.
+ghost use Rattle.std.specs.Prelude.{◌≡◌, ◌+◌, ◌≤◌, ◌↔◌, IfOk, IsTrue, OnErr, OnOk, length, vec_capacity};
+ghost use Rattle.workspace_check.specs.Found.{KnowsVerdicts};
+ghost use Rattle.history_machine.specs.Machine.{content, opening};
+ghost use Rattle.history_machine.specs.Kept.{StepKept};
+ghost use Rattle.history_machine.specs.Run.{IsReplay};
+ghost use Rattle.history_machine.specs.Step.{Step, done, entries_due};
+ghost use Rattle.history_machine.specs.declared.event.Event.TheVariants.{Commit, Deliver};
+ghost use Rattle.history_book.specs.Current.{BringsCurrent};
+ghost use Rattle.history_book.specs.Handed.{handed};
+
+use crate::changing::enter_on_current;
+use crate::handing::{asked_of, enter_delivery};
+use crate::{Asked, Content, Handed, Question, answer};
+use base_files::{Limits, Refusal};
+use build_unit::{Built, Job};
+use history_machine::{Entry, EntryKind};
+use std::alloc::{AllocError, Global};
+use std::marker::Model;
+use workspace_check::Known;
+use workspace_graph::Graph;
+use workspace_snapshot::MadeChange;
+
+/// The states of a workspace, with a cursor on the current one, the Jobs that are out, and the journal. Its contracts speak of it
+/// as a machine of events. It is ended by `close`.
+#[must_use]
+pub struct Book {
+    content: Content,
+    journal: Vec<Entry>,
+}
+
+/// It is a fact of each book that its content is the replay of its journal.
+impl Model for Book {
+    ghost use Rattle.std.specs.Prelude.{◌+◌, ◌≤◌, length, vec_capacity};
+    ghost use Rattle.history_machine.specs.Codes.{entry_code};
+    ghost use Rattle.history_machine.specs.Machine.{Machine, with_journal};
+    ghost use Rattle.history_machine.specs.Run.{IsReplay};
+    ghost use Rattle.std.specs.Coded.{codes};
+    ghost use Rattle.build_unit.specs.Codes.{unit_code, workspace_code};
+
+    ghost Value = { Machine };
+
+    ghost coded = { Prim.hlevel (codes, unit_code, workspace_code, entry_code) };
+
+    ghost view = { λ a. with_journal a.content a.journal.items };
+
+    ghost invariant = { λ a.
+        (a.content.next ≤ length a.journal.items + 1)
+        × (a.content.visit ≤ length a.journal.items)
+        × (a.content.out.ticket ≤ length a.journal.items)
+        × (length a.journal.items + length a.content.out.jobs ≤ a.content.limits.journal)
+        × (length a.journal.items + length a.content.out.jobs ≤ vec_capacity a.journal)
+        × ∥ IsReplay a.content.limits a.journal.items a.content ∥₁ };
+}
+
+/// Makes room for the entry of an event, and for those of the Jobs out then. For a Job that is out the room is there.
+fn make_room(journal: &mut Vec<Entry>, content: &Content, asked: &Asked) -> Result<(), AllocError>
+    requires { length content.now.out.jobs ≤ 1000000 }
+    ensures items { journal.new.items ≡ journal.old.items }
+    ensures grows { vec_capacity journal.old ≤ vec_capacity journal.new }
+    ensures ok { OnOk result ((IsTrue asked.now.is_out → ⊥) → length journal.new.items + length content.now.out.jobs + 2 ≤ vec_capacity journal.new) }
+    ensures err { OnErr result (IsTrue asked.now.is_out → ⊥) }
+{
+    if asked.is_out {
+        return Ok(());
+    }
+    journal.reserve(content.jobs() + 2)
+}
+
+impl Book {
+    /// A history of one state, which has the number 0 and no files.
+    pub fn new(alloc: Global, limits: Limits) -> Result<Book, AllocError>
+        ensures { IfOk result (λ book. book ≡ opening limits) }
+    {
+        let content = Content::new(alloc, limits)?;
+        Ok(Book {
+            content,
+            journal: Vec::new(alloc),
+        })
+    }
+
+    /// The entries of the events, each with its reply, the first first.
+    pub fn journal(&self) -> &[Entry]
+        ensures journal { result.now ≡ self.now.journal }
+        ensures replay { ∥ IsReplay self.now.limits self.now.journal (content self.now) ∥₁ }
+    {
+        self.journal.as_slice()
+    }
+
+    /// How many entries the journal has, with those that are kept for the Jobs out.
+    fn entries_due(&self) -> u64
+        ensures { result ≡ entries_due self.now }
+    {
+        self.journal.len() as u64 + self.content.out.len() as u64
+    }
+
+    /// Whether the journal has room for so many entries beside those that are due.
+    fn has_room(&self, needed: u64) -> bool
+        ensures { IsTrue result ↔ (entries_due self.now + needed ≤ self.now.limits.journal) }
+    {
+        self.content.limits.journal - self.entries_due() >= needed
+    }
+
+    /// One step of the machine, with a copy of the entry that it added. Room is made before anything changes, so a refusal for want of
+    /// memory, or of room in the journal, leaves the book as it was, and keeps no entry. The copy of the entry of a Job that is given
+    /// back takes no memory.
+    pub fn step_kept<Q: Question>(&mut self, question: Q) -> (Q::Answer, Option<Entry>)
+        ensures { StepKept self.old (Q.event question) (Q.reply result.0) result.1 self.new }
+    {
+        let asked = question.asked(&self.content);
+        if !self.has_room(asked.entries_needed()) {
+            return (question.refuse(Refusal::JournalFull), None);
+        }
+        match make_room(&mut self.journal, &self.content, &asked) {
+            Ok(()) => answer(&mut self.content, &mut self.journal, asked, question),
+            Err(_) => (question.refuse(Refusal::Memory), None),
+        }
+    }
+
+    /// One step of the machine. Room is made before anything changes, so a refusal for want of memory, or of room in the
+    /// journal, leaves the book as it was, and keeps no entry.
+    pub fn step<Q: Question>(&mut self, question: Q) -> Q::Answer
+        ensures { Step self.old (Q.event question) (Q.reply result) self.new }
+    {
+        let (answer, kept) = self.step_kept(question);
+        drop(kept);
+        answer
+    }
+
+    /// The step that a `Changing::Commit` is, for a change whose base is known to have the current files: the basis alone is compared with
+    /// what is current, and no text.
+    pub fn commit_on_current(&mut self, basis: u64, change: MadeChange) -> Result<u64, Refusal>
+        requires { change.base ≡ self.old.current.files }
+        ensures { Step self.old (Commit basis change) (done result) self.new }
+    {
+        let asked = Asked::alone(EntryKind::Commit, basis);
+        if !self.has_room(asked.entries_needed()) {
+            return Err(Refusal::JournalFull);
+        }
+        match make_room(&mut self.journal, &self.content, &asked) {
+            Err(_) => Err(Refusal::Memory),
+            Ok(()) => enter_on_current(&mut self.content, &mut self.journal, basis, change),
+        }
+    }
+
+    /// The step that a `HandingIn::Deliver` is, for a Job and what was built that are known to bring the inputs of the package in the
+    /// current files: their numbers and packages are compared with what is current, and no text.
+    pub fn deliver_on_current(&mut self, job: Job, built: Built) -> Handed
+        requires { BringsCurrent self.old.current.files job built }
+        ensures { Step self.old (Deliver job built) (handed result) self.new }
+    {
+        let asked = asked_of(EntryKind::Deliver, &job, &self.content);
+        if !self.has_room(asked.entries_needed()) {
+            return Handed::Back(Refusal::JournalFull, job, Some(built));
+        }
+        match make_room(&mut self.journal, &self.content, &asked) {
+            Err(_) => Handed::Back(Refusal::Memory, job, Some(built)),
+            Ok(()) => enter_delivery(&mut self.content, &mut self.journal, job, built),
+        }
+    }
+
+    /// Takes in what was found in packages of these files, if they are those of the current state. It is no event: it decides how
+    /// long something takes, and the machine stays as it is.
+    pub fn learn(&mut self, files: &Graph, known: Known)
+        requires { KnowsVerdicts files.now known }
+        ensures { self.new ≡ self.old }
+    {
+        self.content.learn(files, known);
+    }
+
+    /// The same of files that are known to be those of the current state: they are not compared.
+    pub fn learn_current(&mut self, known: Known)
+        requires { KnowsVerdicts self.old.current.files known }
+        ensures { self.new ≡ self.old }
+    {
+        self.content.learn_current(known);
+    }
+
+    /// Ends the history, and tells how many entries its journal had.
+    pub fn close(self) -> u64
+        ensures { result ≡ length self.journal }
+    {
+        let Book { content, journal } = self;
+        content.close();
+        let entries = journal.len() as u64;
+        drop(journal);
+        entries
+    }
+}

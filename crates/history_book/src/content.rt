@@ -1,0 +1,289 @@
+//! The states of a workspace with the Jobs that are out, and what events make of them.
+ghost use Rattle.std.specs.Prelude.{◌≡◌, ◌↔◌, IfOk, IsTrue, length};
+ghost use Rattle.workspace_check.specs.Found.{KnowsVerdicts};
+ghost use Rattle.build_unit.specs.Jobs.{IsOut};
+ghost use Rattle.history_machine.specs.Machine.{HasNumbers, content, opening};
+ghost use Rattle.history_book.specs.Current.{BringsCurrent};
+ghost use Rattle.history_book.specs.Handed.{handed};
+ghost use Rattle.history_book.specs.Outcomes.{ComesTo};
+ghost use Rattle.history_machine.specs.Step.{AnswersOrLacks, committed, done, looked, taken};
+ghost use Rattle.history_machine.specs.declared.event.Event.TheVariants.{Commit, Deliver, GiveBack, Look, Redo, Take, Undo};
+
+use crate::deliveries::{Outcome, outcome_of, outcome_on_current};
+use crate::following::state_after;
+use crate::handed::{Handed, take_in};
+use crate::history::History;
+use base_files::{Limits, Refusal};
+use build_carry::Finished;
+use build_unit::{Built, Job, Out, PackageInputs, SharedPath};
+use history_machine::{MadeEdits, State, View, first_waiting};
+use std::alloc::{AllocError, Global};
+use std::marker::Model;
+use workspace_check::{Known, SharedKnown};
+use workspace_graph::Graph;
+use workspace_snapshot::MadeChange;
+
+/// The states of a workspace, with a cursor on the current one, and the Jobs that are out.
+pub struct Content {
+    pub(crate) alloc: Global,
+    pub limits: Limits,
+    pub(crate) history: History,
+    pub out: Out,
+}
+
+impl Model for Content {
+    ghost use Rattle.std.specs.Prelude.{◌+◌, ◌≤◌, length};
+    ghost use Rattle.history_book.specs.Histories.{content_of};
+    ghost use Rattle.history_machine.specs.Machine.{Content};
+    ghost use Rattle.std.specs.Coded.{codes};
+    ghost use Rattle.build_unit.specs.Codes.{unit_code, workspace_code};
+
+    ghost Value = { Content };
+
+    ghost coded = { Prim.hlevel (codes, unit_code, workspace_code) };
+
+    ghost view = { λ a. content_of a.history a.limits a.out };
+
+    ghost invariant = { λ a. length a.history.earlier.items + length a.history.later.items ≤ a.limits.undo_depth };
+}
+
+/// Whether a change was planned on some files.
+fn is_based(change: &MadeChange, files: &Graph) -> bool
+    ensures { IsTrue result ↔ (change.now.base ≡ files.now) }
+{
+    change.get().base.files().same(files.files())
+}
+
+impl Content {
+    /// One state, which has the number 0 and no files.
+    pub fn new(alloc: Global, limits: Limits) -> Result<Content, AllocError>
+        ensures { IfOk result (λ states. states ≡ content (opening limits)) }
+    {
+        let files = Graph::empty(alloc)?;
+        let finished = Finished::new(alloc)?;
+        let nothing = Known::new(alloc);
+        let known = SharedKnown::new(alloc, nothing)?;
+        Ok(Content {
+            alloc,
+            limits,
+            history: History {
+                earlier: Vec::new(alloc),
+                current: State {
+                    number: 0,
+                    files,
+                    finished,
+                    known,
+                },
+                later: Vec::new(alloc),
+                next: 1,
+                visit: 0,
+            },
+            out: Out::new(alloc),
+        })
+    }
+
+    /// The number of the current state.
+    pub fn number(&self) -> u64
+        ensures { result ≡ self.now.current.number }
+    {
+        self.history.current.number()
+    }
+
+    /// How many Jobs are out.
+    pub fn jobs(&self) -> usize
+        ensures { result ≡ length self.now.out.jobs }
+    {
+        self.out.len()
+    }
+
+    /// Whether a Job is out.
+    pub fn is_out(&self, job: &Job) -> bool
+        ensures { IsTrue result ↔ IsOut self.now.out job.now }
+    {
+        self.out.is_out(job)
+    }
+
+    pub fn look(&self) -> Result<View, Refusal>
+        ensures { AnswersOrLacks self.now Look (looked result) self.now }
+    {
+        let snapshot = self.history.current.snapshot(self.limits)?;
+        let finished = self.history.current.finished.clone()?;
+        Ok(View {
+            snapshot,
+            finished,
+            undo: self.history.earlier.len(),
+            redo: self.history.later.len(),
+        })
+    }
+
+    /// Admits a change of the current files.
+    fn admit(&mut self, change: MadeChange) -> Result<(u64, MadeEdits), Refusal>
+        requires numbers { HasNumbers self.old }
+        requires base { change.base ≡ self.old.current.files }
+        ensures answer { AnswersOrLacks self.old (Commit self.old.current.number change) (committed result) self.new }
+        ensures edits { IfOk result (λ made. made.1 ≡ change.edits) }
+    {
+        let (state, edits) = state_after(
+            self.alloc,
+            &self.history.current,
+            self.history.next,
+            change,
+        )?;
+        let number = self.history.go_on(self.limits, state)?;
+        Ok((number, edits))
+    }
+
+    /// The change is admitted where the basis is the current number and its base has the current files, byte for byte. Besides the
+    /// number of the new state it gives the edits, for the entry.
+    pub fn commit(&mut self, basis: u64, change: MadeChange) -> Result<(u64, MadeEdits), Refusal>
+        requires { HasNumbers self.old }
+        ensures answer { AnswersOrLacks self.old (Commit basis change) (committed result) self.new }
+        ensures edits { IfOk result (λ made. made.1 ≡ change.edits) }
+    {
+        let current = &self.history.current;
+        let number = current.number;
+        if basis != number || !is_based(&change, &current.files) {
+            return Err(Refusal::Moved { current: number });
+        }
+        self.admit(change)
+    }
+
+    /// The same for a change whose base is known to have the current files: the numbers alone are compared.
+    pub fn commit_on_current(
+        &mut self,
+        basis: u64,
+        change: MadeChange,
+    ) -> Result<(u64, MadeEdits), Refusal>
+        requires numbers { HasNumbers self.old }
+        requires base { change.base ≡ self.old.current.files }
+        ensures answer { AnswersOrLacks self.old (Commit basis change) (committed result) self.new }
+        ensures edits { IfOk result (λ made. made.1 ≡ change.edits) }
+    {
+        let number = self.history.current.number;
+        if basis == number {
+            return self.admit(change);
+        }
+        Err(Refusal::Moved { current: number })
+    }
+
+    pub fn undo(&mut self, basis: u64) -> Result<u64, Refusal>
+        requires { HasNumbers self.old }
+        ensures { AnswersOrLacks self.old (Undo basis) (done result) self.new }
+    {
+        self.history.undo(basis)
+    }
+
+    pub fn redo(&mut self, basis: u64) -> Result<u64, Refusal>
+        requires { HasNumbers self.old }
+        ensures { AnswersOrLacks self.old (Redo basis) (done result) self.new }
+    {
+        self.history.redo(basis)
+    }
+
+    pub fn take(&mut self) -> Result<Job, Refusal>
+        requires { HasNumbers self.old }
+        ensures { AnswersOrLacks self.old Take (taken result) self.new }
+    {
+        let current = &self.history.current;
+        let Some(number) = first_waiting(current, &self.out, self.history.visit) else {
+            return Err(Refusal::NoJob);
+        };
+        let package = SharedPath::new(self.alloc, &current.files.package(number).path)?;
+        let inputs = PackageInputs::of(self.alloc, &current.files, number, &current.known)?;
+        let job = self
+            .out
+            .hand_out(current.number, self.history.visit, package, inputs)?;
+        Ok(job)
+    }
+
+    /// Takes in what a delivery comes to, if its Job is out.
+    fn enter(&mut self, job: Job, built: Built, outcome: Result<Outcome, AllocError>) -> Handed
+        requires { IfOk outcome (ComesTo self.old.current job built) }
+        ensures { AnswersOrLacks self.old (Deliver job built) (handed result) self.new }
+    {
+        match outcome {
+            Err(_) => Handed::Back(Refusal::Memory, job, Some(built)),
+            Ok(outcome) => match self.out.take_back(job) {
+                Err(job) => Handed::Back(Refusal::NoJob, job, Some(built)),
+                Ok(record) => {
+                    drop(record);
+                    drop(built);
+                    take_in(&mut self.history.current, outcome)
+                }
+            },
+        }
+    }
+
+    /// A Job that is not out comes back before anything is made.
+    pub fn deliver(&mut self, job: Job, built: Built) -> Handed
+        ensures { AnswersOrLacks self.old (Deliver job built) (handed result) self.new }
+    {
+        if !self.out.is_out(&job) {
+            return Handed::Back(Refusal::NoJob, job, Some(built));
+        }
+        let outcome = outcome_of(self.alloc, &self.history.current, &job, &built);
+        self.enter(job, built, outcome)
+    }
+
+    /// The same for a delivery that is known to bring the inputs of its package in the current files: no text is compared.
+    pub fn deliver_on_current(&mut self, job: Job, built: Built) -> Handed
+        requires { BringsCurrent self.old.current.files job built }
+        ensures { AnswersOrLacks self.old (Deliver job built) (handed result) self.new }
+    {
+        let outcome = outcome_on_current(self.alloc, &self.history.current, &job, &built);
+        self.enter(job, built, outcome)
+    }
+
+    /// It takes no memory, and always succeeds for a Job that is out.
+    pub fn give_back(&mut self, job: Job) -> Handed
+        ensures { AnswersOrLacks self.old (GiveBack job) (handed result) self.new }
+    {
+        let number = self.history.current.number();
+        let record = match self.out.take_back(job) {
+            Ok(record) => record,
+            Err(job) => return Handed::Back(Refusal::NoJob, job, None),
+        };
+        drop(record);
+        Handed::Done(number)
+    }
+
+    /// Takes in what was found in packages of some files, if they are those of the current state.
+    pub fn learn(&mut self, files: &Graph, known: Known)
+        requires { KnowsVerdicts files.now known }
+        ensures { self.new ≡ self.old }
+    {
+        if let Ok(known) = SharedKnown::new(self.alloc, known) {
+            self.history.current.learn(files, known);
+        }
+    }
+
+    /// The same of the files of the current state, which are not compared.
+    pub fn learn_current(&mut self, known: Known)
+        requires { KnowsVerdicts self.old.current.files known }
+        ensures { self.new ≡ self.old }
+    {
+        if let Ok(known) = SharedKnown::new(self.alloc, known) {
+            self.history.current.learn_own(known);
+        }
+    }
+
+    pub fn close(self) {
+        let Content {
+            alloc: _,
+            limits: _,
+            history,
+            out,
+        } = self;
+        let History {
+            earlier,
+            current,
+            later,
+            next: _,
+            visit: _,
+        } = history;
+        drop(earlier);
+        drop(current);
+        drop(later);
+        drop(out);
+    }
+}

@@ -1,0 +1,77 @@
+//! What a delivery comes to.
+ghost use Rattle.std.specs.Prelude.{◌≡◌, IfOk, Some, slice_get};
+ghost use Rattle.base_files.specs.Packages.{package_paths};
+ghost use Rattle.build_unit.specs.Inputs.{AreInputs};
+ghost use Rattle.history_book.specs.Current.{BringsCurrent};
+ghost use Rattle.history_book.specs.Outcomes.{ComesTo, FinishesIn};
+
+use crate::fresh::{fresh_number, number_of};
+use build_carry::{Finished, learned};
+use build_unit::{Built, Job};
+use history_machine::State;
+use std::alloc::{AllocError, Global};
+use workspace_check::SharedKnown;
+
+/// What a delivery comes to.
+#[derive(Drop)]
+pub(crate) enum Outcome {
+    /// The Job, or what was built, is not of the state.
+    Late,
+    /// The package is finished.
+    Known,
+    /// The package is finished now: this is the table, and what is known then.
+    Entered(Finished, SharedKnown),
+}
+
+/// What a delivery comes to, where the package that was built has this number, and its inputs are those that it was built from.
+fn outcome_at(
+    alloc: Global,
+    state: &State,
+    number: usize,
+    built: &Built,
+) -> Result<Outcome, AllocError>
+    requires number { slice_get (package_paths state.now.files) number ≡ Some built.now.package }
+    requires inputs { AreInputs state.now.files built.now.package built.now.inputs }
+    ensures { IfOk result (FinishesIn state.now built.now) }
+{
+    if state.finished.get(number).is_some() {
+        return Ok(Outcome::Known);
+    }
+    built.is_right();
+    let made = built.unit();
+    let unit = made.clone()?;
+    let finished = state.finished.with_unit(alloc, number, unit)?;
+    let known = learned(alloc, &state.files, &state.known, built)?;
+    Ok(Outcome::Entered(finished, known))
+}
+
+/// What a delivery to a state comes to: the texts of the package's closure are compared.
+pub(crate) fn outcome_of(
+    alloc: Global,
+    state: &State,
+    job: &Job,
+    built: &Built,
+) -> Result<Outcome, AllocError>
+    ensures { IfOk result (ComesTo state.now job.now built.now) }
+{
+    let Some(number) = fresh_number(alloc, state, job, built)? else {
+        return Ok(Outcome::Late);
+    };
+    outcome_at(alloc, state, number, built)
+}
+
+/// The same of a delivery that is known to bring the package's inputs: no text is compared.
+pub(crate) fn outcome_on_current(
+    alloc: Global,
+    state: &State,
+    job: &Job,
+    built: &Built,
+) -> Result<Outcome, AllocError>
+    requires { BringsCurrent state.now.files job.now built.now }
+    ensures { IfOk result (ComesTo state.now job.now built.now) }
+{
+    let Some(number) = number_of(state, job, built) else {
+        return Ok(Outcome::Late);
+    };
+    outcome_at(alloc, state, number, built)
+}

@@ -1,0 +1,21 @@
+//! How the journal gains an entry.
+ghost use Rattle.std.specs.Prelude.{◌≡◌, ◌+◌, ◌++◌, ◌∷◌, ◌≤◌, [], length, vec_capacity};
+
+use history_machine::{Entry, Line, MadeEdits, entry_twice};
+
+/// Adds an entry to the journal, in which there is room for it, and gives a copy of it.
+pub fn add_entry(
+    journal: &mut Vec<Entry>,
+    line: Line,
+    subject: Option<u64>,
+    made: Option<MadeEdits>,
+) -> Entry
+    requires { length journal.old.items + 1 ≤ vec_capacity journal.old }
+    ensures copy { result ≡ record { line = line; subject = subject; edits = made } }
+    ensures journal { journal.new.items ≡ journal.old.items ++ result ∷ [] }
+    ensures capacity { vec_capacity journal.new ≡ vec_capacity journal.old }
+{
+    let (entry, copy) = entry_twice(line, subject, made);
+    journal.push_reserved(entry);
+    copy
+}

@@ -1,0 +1,97 @@
+//! The state that follows another by a change of its files.
+ghost use Rattle.std.specs.Prelude.{◌≡◌, IfOk, IsTrue};
+ghost use Rattle.workspace_check.specs.Found.{KnowsVerdicts};
+ghost use Rattle.build_carry.specs.Changes.{AreMarks};
+ghost use Rattle.build_carry.specs.Finished.{HasNone};
+ghost use Rattle.build_carry.specs.Carried.{IsCarried};
+ghost use Rattle.history_book.specs.Following.{IsStateAfter};
+
+use build_carry::{Finished, Marks, carried_units, kept, marks_of, nothing_carried};
+use history_machine::{MadeEdits, State};
+use std::alloc::{AllocError, Global};
+use workspace_check::SharedKnown;
+use workspace_graph::Graph;
+use workspace_snapshot::MadeChange;
+
+/// The units of a state, and what it knows of packages, as far as a change to these files carries them over.
+fn carried_by(
+    alloc: Global,
+    current: &State,
+    files: &Graph,
+    marks: &Marks,
+) -> Result<(Finished, SharedKnown), AllocError>
+    requires before { AreMarks current.now.files files.now marks.now.before.items }
+    requires after { AreMarks files.now current.now.files marks.now.after.items }
+    ensures units { IfOk result (λ carried. IsCarried current.now.files current.now.finished files.now carried.0) }
+    ensures known { IfOk result (λ carried. KnowsVerdicts files.now carried.1) }
+{
+    let finished = carried_units(alloc, &current.files, &current.finished, files, marks)?;
+    let known = kept(alloc, &current.files, &current.known, files, marks)?;
+    Ok((finished, known))
+}
+
+/// Whether no package of a state is finished, and nothing is known of any.
+fn has_nothing(current: &State) -> bool
+    ensures { IsTrue result → HasNone current.now.finished }
+{
+    if !current.finished.is_empty() {
+        return false;
+    }
+    current.known.get().is_empty()
+}
+
+/// What a change of a state to these files carries over that has nothing to be carried.
+fn carried_bare(
+    alloc: Global,
+    current: &State,
+    files: &Graph,
+) -> Result<(Finished, SharedKnown), AllocError>
+    requires { HasNone current.now.finished }
+    ensures units { IfOk result (λ carried. IsCarried current.now.files current.now.finished files.now carried.0) }
+    ensures known { IfOk result (λ carried. KnowsVerdicts files.now carried.1) }
+{
+    nothing_carried(alloc, &current.finished, current.known.get(), files)
+}
+
+/// The same for a change of the state's files. The packages are marked by the folders that its edit set names, unless nothing is to be
+/// carried.
+fn carried_over(
+    alloc: Global,
+    current: &State,
+    change: &MadeChange,
+) -> Result<(Finished, SharedKnown), AllocError>
+    requires { change.now.base ≡ current.now.files }
+    ensures units { IfOk result (λ carried. IsCarried current.now.files current.now.finished change.now.files carried.0) }
+    ensures known { IfOk result (λ carried. KnowsVerdicts change.now.files carried.1) }
+{
+    let files = &change.get().files;
+    if has_nothing(current) {
+        return carried_bare(alloc, current, files);
+    }
+    let marks = marks_of(alloc, &current.files, change)?;
+    carried_by(alloc, current, files, &marks)
+}
+
+/// The state that a change of a state's files makes, under this number, and the change's edits.
+pub(crate) fn state_after(
+    alloc: Global,
+    current: &State,
+    number: u64,
+    change: MadeChange,
+) -> Result<(State, MadeEdits), AllocError>
+    requires { change.base ≡ current.now.files }
+    ensures state { IfOk result (λ made. IsStateAfter current.now number change made.0) }
+    ensures edits { IfOk result (λ made. made.1 ≡ change.edits) }
+{
+    let (finished, known) = carried_over(alloc, current, &change)?;
+    let change = change.into_change();
+    let files = change.files;
+    let edits = MadeEdits::new(alloc, change.edits)?;
+    let state = State {
+        number,
+        files,
+        finished,
+        known,
+    };
+    Ok((state, edits))
+}

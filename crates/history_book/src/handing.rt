@@ -1,0 +1,131 @@
+//! The questions that bring a Job back.
+ghost use Rattle.std.specs.Prelude.{◌≡◌, ◌+◌, ◌≤◌, ◌↔◌, IsTrue, None, Some, length, vec_capacity};
+ghost use Rattle.build_unit.specs.Jobs.{IsOut};
+ghost use Rattle.history_machine.specs.Journal.{subject_after, told_of};
+ghost use Rattle.history_machine.specs.Step.{AnswersOrLacks, Keeps};
+ghost use Rattle.history_machine.specs.declared.event.Event.TheVariants.{Deliver};
+ghost use Rattle.history_book.specs.Current.{BringsCurrent};
+ghost use Rattle.history_book.specs.Handed.{handed};
+ghost use Rattle.history_book.specs.Questions.{handing_event};
+
+use crate::told::refusal_told;
+use crate::{Answered, Asked, Content, Handed, Question, enter};
+use base_files::Refusal;
+use build_unit::{Built, Job};
+use history_machine::{Entry, EntryKind, Told};
+
+/// A Job that is handed in.
+pub enum HandingIn {
+    /// With what was built for it.
+    Deliver(Job, Built),
+    GiveBack(Job),
+}
+
+/// What is known of a Job that is handed in.
+pub(crate) fn asked_of(kind: EntryKind, job: &Job, content: &Content) -> Asked
+    ensures kind { result.kind ≡ kind }
+    ensures basis { result.basis ≡ job.now.number }
+    ensures out { IsTrue result.is_out ↔ IsOut content.now.out job.now }
+{
+    Asked {
+        kind,
+        basis: job.number(),
+        is_out: content.is_out(job),
+    }
+}
+
+/// What is answered to a Job with this ticket that was handed in.
+fn answered(ticket: u64, outcome: Handed) -> Answered<Handed>
+    ensures answer { result.answer ≡ outcome }
+    ensures out { result.out ≡ told_of (handed outcome) }
+    ensures subject { result.subject ≡ subject_after (Some ticket) (handed outcome) }
+    ensures made { result.made ≡ None }
+{
+    let subject = Some(ticket);
+    match outcome {
+        Handed::Done(number) => {
+            Answered::new(Handed::Done(number), Some(Told::Done(number)), subject)
+        }
+        Handed::Refused(refusal) => {
+            let out = refusal_told(&refusal);
+            Answered::new(Handed::Refused(refusal), out, subject)
+        }
+        Handed::Back(refusal, job, built) => {
+            let out = refusal_told(&refusal);
+            Answered::new(Handed::Back(refusal, job, built), out, subject)
+        }
+    }
+}
+
+/// Answers a delivery that is known to bring the inputs of its package in the current files.
+fn deliver_on_current(content: &mut Content, job: Job, built: Built) -> Answered<Handed>
+    requires { BringsCurrent content.old.current.files job built }
+    ensures answer { AnswersOrLacks content.old (Deliver job built) (handed result.answer) content.new }
+    ensures out { result.out ≡ told_of (handed result.answer) }
+    ensures subject { result.subject ≡ subject_after (Some job.ticket) (handed result.answer) }
+    ensures made { result.made ≡ None }
+{
+    let ticket = job.ticket();
+    answered(ticket, content.deliver_on_current(job, built))
+}
+
+/// Answers such a delivery, and adds its entry to the journal, in which there is room for it.
+pub(crate) fn enter_delivery(
+    content: &mut Content,
+    journal: &mut Vec<Entry>,
+    job: Job,
+    built: Built,
+) -> Handed
+    requires brings { BringsCurrent content.old.current.files job built }
+    requires room { length journal.old.items + 1 ≤ vec_capacity journal.old }
+    ensures keeps { Keeps content.old journal.old.items (Deliver job built) (handed result) content.new journal.new.items }
+    ensures capacity { vec_capacity journal.new ≡ vec_capacity journal.old }
+{
+    let asked = asked_of(EntryKind::Deliver, &job, content);
+    let answered = deliver_on_current(content, job, built);
+    let (answer, kept) = enter(journal, asked, answered);
+    drop(kept);
+    answer
+}
+
+impl Question for HandingIn {
+    type Answer = Handed;
+
+    ghost event = { handing_event };
+
+    ghost reply = { handed };
+
+    fn kind(&self) -> EntryKind {
+        match self {
+            HandingIn::Deliver(..) => EntryKind::Deliver,
+            HandingIn::GiveBack(_) => EntryKind::GiveBack,
+        }
+    }
+
+    fn asked(&self, content: &Content) -> Asked {
+        match self {
+            HandingIn::Deliver(job, _) => asked_of(EntryKind::Deliver, job, content),
+            HandingIn::GiveBack(job) => asked_of(EntryKind::GiveBack, job, content),
+        }
+    }
+
+    fn ask(self, content: &mut Content, _journal: &[Entry]) -> Answered<Handed> {
+        match self {
+            HandingIn::Deliver(job, built) => {
+                let ticket = job.ticket();
+                answered(ticket, content.deliver(job, built))
+            }
+            HandingIn::GiveBack(job) => {
+                let ticket = job.ticket();
+                answered(ticket, content.give_back(job))
+            }
+        }
+    }
+
+    fn refuse(self, refusal: Refusal) -> Handed {
+        match self {
+            HandingIn::Deliver(job, built) => Handed::Back(refusal, job, Some(built)),
+            HandingIn::GiveBack(job) => Handed::Back(refusal, job, None),
+        }
+    }
+}

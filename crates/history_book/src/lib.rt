@@ -1,0 +1,29 @@
+//! The content of a book, and the calls that change and ask it.
+#![tactic(auto)]
+
+mod answering;
+mod asking;
+mod book;
+mod changing;
+mod content;
+mod deliveries;
+mod entering;
+mod following;
+mod fresh;
+mod handed;
+mod handing;
+mod history;
+mod question;
+mod told;
+
+pub use answering::{answer, enter};
+pub use asking::{Logging, Looking, Taking};
+pub use book::Book;
+pub use changing::Changing;
+pub use content::Content;
+pub use entering::add_entry;
+pub use fresh::{fresh_number, number_of};
+pub use handed::Handed;
+pub use handing::HandingIn;
+pub use history::History;
+pub use question::{Answered, Asked, Question};

@@ -1,0 +1,108 @@
+//! What a book is asked: an event of one kind, with the type of the answers that it may get.
+ghost use Rattle.std.specs.Prelude.{◌≡◌, ◌↔◌, IsTrue, None, false};
+ghost use Rattle.history_book.specs.Needed.{entries_needed};
+ghost use Rattle.history_machine.specs.Journal.{ShowsLine, basis_of, edits_of, kind_of, subject_after, subject_of, told_of};
+ghost use Rattle.history_machine.specs.Machine.{HasNumbers};
+ghost use Rattle.history_machine.specs.Step.{AnswersOrLacks, BringsOut, refused};
+ghost use Rattle.history_machine.specs.declared.event.Event.{Event};
+ghost use Rattle.history_machine.specs.declared.event.Reply.{Reply};
+
+use crate::content::Content;
+use base_files::Refusal;
+use history_machine::{Entry, EntryKind, MadeEdits, Told};
+
+/// What is known of an event before it is answered.
+#[derive(Clone, Copy)]
+pub struct Asked {
+    pub kind: EntryKind,
+    pub basis: u64,
+    /// Whether it brings a Job that is out.
+    pub is_out: bool,
+}
+
+/// What an event is answered, with what its entry tells of it, if it has one.
+pub struct Answered<A> {
+    pub answer: A,
+    pub out: Option<Told>,
+    /// The number that a log asks for, or the ticket of the Job that is handed out or in.
+    pub subject: Option<u64>,
+    /// The edits of an admitted change.
+    pub made: Option<MadeEdits>,
+}
+
+/// An event of one kind. The type of its answers tells which replies it may get.
+pub trait Question {
+    type Answer;
+
+    /// The event that it is.
+    ghost event: { Self → Event };
+
+    /// The reply that an answer is.
+    ghost reply: { Self.Answer → Reply };
+
+    fn kind(&self) -> EntryKind
+        ensures { result ≡ kind_of (event self.now) };
+
+    /// What is known of it, where this is current.
+    fn asked(&self, content: &Content) -> Asked
+        ensures kind { result.kind ≡ kind_of (event self.now) }
+        ensures basis { result.basis ≡ basis_of content.now.current.number (event self.now) }
+        ensures out { IsTrue result.is_out ↔ BringsOut content.now.out (event self.now) };
+
+    /// Answers it. A log is shown an entry of the journal. Room is made before anything changes, so want of memory leaves all as it
+    /// was.
+    fn ask(self, content: &mut Content, journal: &[Entry]) -> Answered<Self::Answer>
+        requires { HasNumbers content.old }
+        ensures answer { AnswersOrLacks content.old (event self) (reply result.answer) content.new }
+        ensures shows { ShowsLine journal.now (event self) (reply result.answer) }
+        ensures out { result.out ≡ told_of (reply result.answer) }
+        ensures subject { result.subject ≡ subject_after (subject_of (event self)) (reply result.answer) }
+        ensures made { result.made ≡ edits_of (event self) (reply result.answer) };
+
+    /// The answer that refuses it, with what it brought.
+    fn refuse(self, refusal: Refusal) -> Self::Answer
+        ensures { reply result ≡ refused (event self) refusal };
+}
+
+impl Asked {
+    /// What is known of an event that brings no Job.
+    pub fn alone(kind: EntryKind, basis: u64) -> Asked
+        ensures { result ≡ record { kind = kind; basis = basis; is_out = false } }
+    {
+        Asked {
+            kind,
+            basis,
+            is_out: false,
+        }
+    }
+
+    /// For how many entries there must be room before the event, beside those that are due.
+    pub fn entries_needed(&self) -> u64
+        ensures { result ≡ entries_needed self.now }
+    {
+        if self.is_out {
+            return 0;
+        }
+        match self.kind {
+            EntryKind::Take => 2,
+            _ => 1,
+        }
+    }
+}
+
+impl<A> Answered<A> {
+    /// An answer that admits no change.
+    pub fn new(answer: A, out: Option<Told>, subject: Option<u64>) -> Answered<A>
+        ensures answer { result.answer ≡ answer }
+        ensures out { result.out ≡ out }
+        ensures subject { result.subject ≡ subject }
+        ensures made { result.made ≡ None }
+    {
+        Answered {
+            answer,
+            out,
+            subject,
+            made: None,
+        }
+    }
+}

@@ -1,0 +1,137 @@
+-- The history of a workspace as a machine: its states, the Jobs that are out, and what its steps make of them.
+use Rattle.std.specs.Prelude.{◌≡◌, ℕ, ◌+◌, ◌-◌, ◌^◌, ◌<◌, List, [], ◌∷◌, ◌++◌, length, drop, reverse}
+use Rattle.std.specs.FinMap as map
+use Rattle.base_files.specs.Workspace.{Workspace}
+use Rattle.base_files.specs.declared.limits.Limits.{Limits}
+use Rattle.build_unit.specs.Jobs.{JobsOut, Loses, label_of}
+use Rattle.build_unit.specs.declared.job.JobRecord.{JobRecord}
+use Rattle.build_unit.specs.declared.unit.Unit.{Unit as PackageUnit}
+use Rattle.build_carry.specs.Finished.{Table, Gains}
+use Rattle.history_machine.specs.declared.view.View.{View}
+use Rattle.workspace_snapshot.specs.declared.snapshot.Snapshot.{Snapshot}
+use Rattle.workspace_snapshot.specs.declared.change.Change.{Change}
+use Rattle.history_machine.specs.declared.entry.Entry.{Entry}
+use Rattle.history_machine.specs.State.{State}
+
+-- The states of a workspace, with the Jobs that are out: what events move.
+pub record Content : Type 0 where
+  pub limits : Limits
+  -- the states that undo reaches, the nearest last
+  pub earlier : List State
+  pub current : State
+  -- the states that redo reaches, the nearest last
+  pub later : List State
+  -- the number of the next new state
+  pub next : ℕ
+  -- each admitted change, undo and redo begins a visit: how many there were
+  pub visit : ℕ
+  -- the Jobs that are out
+  pub out : JobsOut
+
+-- The same, with the journal of the events.
+pub record Machine : Type 0 where
+  pub limits : Limits
+  pub earlier : List State
+  pub current : State
+  pub later : List State
+  pub next : ℕ
+  pub visit : ℕ
+  pub out : JobsOut
+  -- the entries of the events, each with its reply, the first first
+  pub journal : List Entry
+
+abbrev pub content : Machine → Content
+content m = record { limits = m.limits; earlier = m.earlier; current = m.current; later = m.later; next = m.next; visit = m.visit; out = m.out }
+
+abbrev pub with_journal : Content → List Entry → Machine
+with_journal c journal = record {
+  limits = c.limits;
+  earlier = c.earlier;
+  current = c.current;
+  later = c.later;
+  next = c.next;
+  visit = c.visit;
+  out =
+      c.out;
+  journal = journal;
+}
+
+-- the states in the order in which they were made, and how many come before the current one
+abbrev pub states : Content → List State
+states m = m.earlier ++ m.current ∷ reverse m.later
+
+abbrev pub cursor : Content → ℕ
+cursor m = length m.earlier
+
+-- the machine with one entry more
+abbrev pub recorded : Machine → Entry → Machine
+recorded m entry = record m { journal = m.journal ++ entry ∷ [] }
+
+-- the last states, as many as may be undone
+abbrev pub newest : ℕ → List State → List State
+newest depth states = drop (length states - depth) states
+
+-- a new current state, which no redo leaves; a visit begins
+abbrev pub changed : Content → Workspace → Table → Content
+changed m files finished = record m {
+  earlier = newest m.limits.undo_depth (m.earlier ++ m.current ∷ []);
+  current = record { number = m.next; files = files; finished = finished };
+  later = [];
+  next = m.next + 1;
+  visit = m.visit + 1;
+}
+
+-- the cursor of n stands one state before that of m, over the same states
+pub record IsOneBefore (n m : Content) : Type 0 where
+  pub limits : n.limits ≡ m.limits
+  pub earlier : m.earlier ≡ n.earlier ++ n.current ∷ []
+  pub later : n.later ≡ m.later ++ m.current ∷ []
+  pub next : n.next ≡ m.next
+
+-- a visit begins, and the same Jobs are out
+pub record BeginsVisit (old new : Content) : Type 0 where
+  pub visit : new.visit ≡ old.visit + 1
+  pub out : new.out ≡ old.out
+
+-- the next number, the visit and the ticket can be counted on by one
+pub record HasNumbers (c : Content) : Type 0 where
+  pub next : c.next + 1 < 2 ^ 64
+  pub visit : c.visit + 1 < 2 ^ 64
+  pub ticket : c.out.ticket + 1 < 2 ^ 64
+
+-- a Job that was out is out no more
+abbrev pub Returns : Content → JobRecord → Content → Type 0
+Returns old job new = (out : JobsOut) × Loses old.out (label_of job) out × (new ≡ record old { out = out })
+
+abbrev pub with_finished : State → Table → State
+with_finished state finished = record state { finished = finished }
+
+-- a Job that was out is out no more, and its package is finished in the current state, with this unit
+abbrev pub Enters : Content → JobRecord → PackageUnit → Content → Type 0
+Enters old job unit new =
+    (out : JobsOut) × (finished : Table) × Loses old.out (label_of job) out
+    × Gains old.current.files old.current.finished job.package unit finished
+    × (new ≡ record old { current = with_finished old.current finished; out = out })
+
+abbrev pub snapshot_of : Content → Snapshot
+snapshot_of m = record { number = m.current.number; limits = m.limits; files = m.current.files }
+
+abbrev pub view_of : Content → View
+view_of m = record { snapshot = snapshot_of m; finished = m.current.finished; undo = length m.earlier; redo = length m.later }
+
+-- the change was planned on the current state
+abbrev pub FitsCurrent : Content → ℕ → Change → Type 0
+FitsCurrent m basis change = (basis ≡ m.current.number) × (change.base ≡ m.current.files)
+
+-- one state, with number 0, no files and nothing finished; no Job is out
+abbrev pub opening : Limits → Machine
+opening limits = record {
+  limits = limits;
+  earlier = [];
+  current = record { number = 0; files = map.empty; finished = [] };
+  later = [];
+  next = 1;
+  visit = 0;
+  out = record { ticket = 0; jobs = [] };
+  journal = [];
+}

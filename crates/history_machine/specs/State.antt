@@ -1,0 +1,10 @@
+-- A state of the history.
+use Rattle.std.specs.Prelude.{ℕ}
+use Rattle.base_files.specs.Workspace.{Workspace}
+use Rattle.build_carry.specs.Finished.{Table}
+
+pub record State : Type 0 where
+  pub number : ℕ
+  pub files : Workspace
+  -- for each package, by its number, its unit if it is finished
+  pub finished : Table

@@ -1,0 +1,69 @@
+//! The edits of a change, as they are made for two entries.
+ghost use Rattle.std.specs.Prelude.{◌≡◌, IfOk};
+
+use crate::entry::{Entry, Line, SharedEdits};
+use base_edits::EditSet;
+use std::alloc::{AllocError, Global};
+use std::marker::Model;
+
+/// The edits of a change, held twice: for the entry of the journal, and for its copy. So the copy takes no memory once the change
+/// is admitted.
+#[derive(Drop)]
+pub struct MadeEdits {
+    kept: SharedEdits,
+    copy: SharedEdits,
+}
+
+impl Model for MadeEdits {
+    ghost use Rattle.std.specs.Prelude.{◌≡◌};
+    ghost use Rattle.base_edits.specs.EditSet.{FileChanges};
+
+    ghost Value = { FileChanges };
+
+    ghost view = { λ a. a.kept };
+
+    ghost invariant = { λ a. a.copy ≡ a.kept };
+}
+
+impl MadeEdits {
+    pub fn new(alloc: Global, edits: EditSet) -> Result<MadeEdits, AllocError>
+        ensures { IfOk result (λ made. made ≡ edits) }
+    {
+        let kept = SharedEdits::new(alloc, edits)?;
+        let copy = kept.clone()?;
+        Ok(MadeEdits { kept, copy })
+    }
+
+    fn into_both(self) -> (SharedEdits, SharedEdits)
+        ensures kept { result.0 ≡ self }
+        ensures copy { result.1 ≡ self }
+    {
+        let MadeEdits { kept, copy } = self;
+        (kept, copy)
+    }
+}
+
+/// An entry, and a copy of it.
+pub fn entry_twice(line: Line, subject: Option<u64>, made: Option<MadeEdits>) -> (Entry, Entry)
+    ensures entry { result.0 ≡ record { line = line; subject = subject; edits = made } }
+    ensures copy { result.1 ≡ record { line = line; subject = subject; edits = made } }
+{
+    let (edits, copied) = match made {
+        Some(made) => {
+            let (kept, copy) = made.into_both();
+            (Some(kept), Some(copy))
+        }
+        None => (None, None),
+    };
+    let entry = Entry {
+        line,
+        subject,
+        edits,
+    };
+    let copy = Entry {
+        line,
+        subject,
+        edits: copied,
+    };
+    (entry, copy)
+}

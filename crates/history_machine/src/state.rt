@@ -1,0 +1,92 @@
+//! One state of the history.
+ghost use Rattle.std.specs.Prelude.{◌≡◌, IfOk};
+ghost use Rattle.workspace_check.specs.Found.{KnowsVerdicts};
+
+use crate::view::KnownSnapshot;
+use base_files::Limits;
+use build_carry::Finished;
+use std::alloc::AllocError;
+use std::marker::Model;
+use workspace_check::SharedKnown;
+use workspace_graph::Graph;
+use workspace_snapshot::Snapshot;
+
+/// A workspace with its number, the units of those of its packages that are finished, and what is known of packages.
+pub struct State {
+    pub number: u64,
+    pub files: Graph,
+    pub finished: Finished,
+    pub known: SharedKnown,
+}
+
+/// Written out, so that crates above call it and don't prove again how each part is dropped.
+impl Drop for State {
+    fn drop(self) {
+        let State {
+            number: _,
+            files,
+            finished,
+            known,
+        } = self;
+        drop(files);
+        drop(finished);
+        drop(known);
+    }
+}
+
+impl Model for State {
+    ghost use Rattle.std.specs.Prelude.{◌≡◌, length};
+    ghost use Rattle.std.specs.Coded.{codes};
+    ghost use Rattle.base_files.specs.Packages.{package_paths};
+    ghost use Rattle.workspace_check.specs.Found.{KnowsVerdicts};
+    ghost use Rattle.build_unit.specs.Codes.{unit_code, workspace_code};
+    ghost use Rattle.history_machine.specs.State.{State};
+
+    ghost Value = { State };
+
+    ghost coded = { Prim.hlevel (codes, unit_code, workspace_code) };
+
+    ghost view = { λ a. record { number = a.number; files = a.files; finished = a.finished } };
+
+    ghost invariant = { λ a. (length a.finished ≡ length (package_paths a.files)) × KnowsVerdicts a.files a.known };
+}
+
+impl State {
+    pub fn number(&self) -> u64
+        ensures { result ≡ self.now.number }
+    {
+        self.number
+    }
+
+    /// The state, shared, as a snapshot.
+    pub fn snapshot(&self, limits: Limits) -> Result<KnownSnapshot, AllocError>
+        ensures { IfOk result (λ snapshot. snapshot ≡ record { number = self.now.number; limits = limits; files = self.now.files }) }
+    {
+        let files = self.files.clone()?;
+        let known = self.known.clone()?;
+        let snapshot = Snapshot {
+            number: self.number,
+            limits,
+            files,
+        };
+        Ok(KnownSnapshot::new(snapshot, known))
+    }
+
+    /// Takes in what was found in packages of some files, if they are its own.
+    pub fn learn(&mut self, files: &Graph, known: SharedKnown)
+        requires { KnowsVerdicts files.now known }
+        ensures { self.new ≡ self.old }
+    {
+        if self.files.files().same(files.files()) {
+            self.known = known;
+        }
+    }
+
+    /// The same of its own files, which are not compared.
+    pub fn learn_own(&mut self, known: SharedKnown)
+        requires { KnowsVerdicts self.old.files known }
+        ensures { self.new ≡ self.old }
+    {
+        self.known = known;
+    }
+}

@@ -1,0 +1,73 @@
+//! What a client sees of a state.
+ghost use Rattle.std.specs.Prelude.{◌≡◌};
+ghost use Rattle.workspace_check.specs.Found.{KnowsVerdicts};
+
+use build_carry::Finished;
+use std::marker::Model;
+use workspace_check::{Known, SharedKnown};
+use workspace_graph::Graph;
+use workspace_snapshot::Snapshot;
+
+/// A snapshot, with what is known of its packages. Contracts see the snapshot alone.
+#[derive(Drop)]
+pub struct KnownSnapshot {
+    snapshot: Snapshot,
+    known: SharedKnown,
+}
+
+impl Model for KnownSnapshot {
+    ghost use Rattle.workspace_snapshot.specs.contracts.snapshot.Snapshot.{the_row};
+    ghost use Rattle.workspace_snapshot.specs.declared.snapshot.Snapshot.{Snapshot};
+    ghost use Rattle.workspace_check.specs.Found.{KnowsVerdicts};
+
+    ghost Value = { Snapshot };
+
+    ghost coded = { the_row.coded };
+
+    ghost view = { λ a. a.snapshot };
+
+    ghost invariant = { λ a. KnowsVerdicts a.snapshot.files a.known };
+}
+
+impl KnownSnapshot {
+    pub(crate) fn new(snapshot: Snapshot, known: SharedKnown) -> KnownSnapshot
+        requires { KnowsVerdicts snapshot.files known }
+        ensures { result ≡ snapshot }
+    {
+        KnownSnapshot { snapshot, known }
+    }
+
+    pub fn get(&self) -> &Snapshot
+        ensures { result.now ≡ self.now }
+    {
+        &self.snapshot
+    }
+
+    pub fn number(&self) -> u64
+        ensures { result ≡ self.now.number }
+    {
+        self.snapshot.number
+    }
+
+    pub fn files(&self) -> &Graph
+        ensures { result.now ≡ self.now.files }
+    {
+        &self.snapshot.files
+    }
+
+    /// What is known of the packages of the files.
+    pub fn known(&self) -> &Known
+        ensures { KnowsVerdicts self.now.files result.now }
+    {
+        self.known.get()
+    }
+}
+
+/// A snapshot, with the units of its packages that are finished, and how many steps undo and redo can make from it.
+#[derive(Drop)]
+pub struct View {
+    pub snapshot: KnownSnapshot,
+    pub finished: Finished,
+    pub undo: usize,
+    pub redo: usize,
+}

@@ -1,0 +1,25 @@
+-- That the names of a file stand for something in what it is judged by.
+use Rattle.std.specs.Prelude.{ℕ, suc, ◌≡◌, ◌<◌, ⊤}
+use Rattle.go_ast.specs.SourceFile.{SourceFile}
+use Rattle.go_scope.specs.declared.model.Role.{Role}
+use Rattle.go_scope.specs.declared.model.Role.TheVariants.{Use, LeftName, NotLexical}
+use Rattle.go_scope.specs.declared.model.Purpose.TheVariants.{Selected}
+use Rattle.go_scope.specs.Table.{StandsAt}
+use Rattle.types_expr.specs.Types.{Broken}
+use Rattle.types_expr.specs.Types.{Package as PackageName}
+use Rattle.types_expr.specs.World.{World, Local, Means}
+use Rattle.types_declared.specs.Package.{Package}
+use Rattle.law_faultless.specs.Scopes.{IsBlankAt}
+
+-- An identifier with that role at the token: a lexical use is bound to something, and is no `_`; so is a name behind the name of a
+-- package; a left name of `:=` is bound to a local.
+abbrev pub StandsForSomething : World → SourceFile → (token : ℕ) → Role → Type 0
+StandsForSomething v s n Use = (v.bound n ≡ Means Broken → ⊥) × (IsBlankAt s n → ⊥)
+StandsForSomething v s n (NotLexical Selected) = (b : ℕ) → suc (suc b) ≡ n → v.bound b ≡ Means PackageName → v.bound n ≡ Means Broken → ⊥
+StandsForSomething v s n (LeftName block start) = (k : ℕ) × (v.bound n ≡ Local k)
+StandsForSomething v s n r = ⊤
+
+-- the same of each identifier of a file of the package
+abbrev pub NamesMean : Package → (file : ℕ) → World → SourceFile → Type 0
+NamesMean p file v s =
+    (u n : ℕ) → u < p.size → StandsAt p.layout (record { file = file; index = n }) u → StandsForSomething v s n (p.layout.role u)

@@ -1,0 +1,38 @@
+-- What of the questions of a function is not told by its file alone.
+use Rattle.std.specs.Prelude.{ℕ, ◌≡◌, ⊤, List, Some}
+use Rattle.types_expr.specs.Types.{Meaning, Value, TypeName, Function, BuiltinName, Package, Results, Broken}
+use Rattle.types_expr.specs.World.{Bound, Local, Means, BrokenVariable, BrokenFunction, BrokenType}
+use Rattle.build_object.specs.Lines.{GlobalName, FunctionName, Plain}
+use Rattle.build_object.specs.Source.{Source}
+use Rattle.build_object.specs.Numbering.{slot_of}
+use Rattle.law_faultless.specs.Stack.{Arity}
+use Rattle.law_faultless.specs.Asked.{Question, OfInteger, OfText, OfName, OfExport, OfMember, OfDeclared, OfLeft}
+use Rattle.law_faultless.specs.Answered.{IsKnown, plain_arity, MemberIsKnown}
+
+-- a function has the arity that it is called with; no name means a call's results
+abbrev pub HasArity : (arity : FunctionName → Arity) → Source → ℕ → Meaning → Type 0
+HasArity arity s n (Value k a) = ⊤
+HasArity arity s n (TypeName t) = ⊤
+HasArity arity s n (Function f) = (g : GlobalName) → s.global n ≡ Some g → arity (Plain g) ≡ plain_arity f
+HasArity arity s n (BuiltinName b) = ⊤
+HasArity arity s n Package = ⊤
+HasArity arity s n (Results ts) = ⊥
+HasArity arity s n Broken = ⊤
+
+-- a local that is used is one of the function's
+abbrev pub IsOwnName : (arity : FunctionName → Arity) → Source → (slots : List ℕ) → ℕ → Bound → Type 0
+IsOwnName arity s slots n (Local place) = IsKnown (slot_of slots place)
+IsOwnName arity s slots n (Means m) = HasArity arity s n m
+IsOwnName arity s slots n BrokenVariable = ⊤
+IsOwnName arity s slots n BrokenFunction = ⊤
+IsOwnName arity s slots n BrokenType = ⊤
+
+-- what is left open of a question
+abbrev pub IsSettled : (arity : FunctionName → Arity) → Source → (slots : List ℕ) → Question → Type 0
+IsSettled arity s slots (OfInteger n) = ⊤
+IsSettled arity s slots (OfText n) = ⊤
+IsSettled arity s slots (OfName n) = IsOwnName arity s slots n (s.world.bound n)
+IsSettled arity s slots (OfExport n) = IsOwnName arity s slots n (s.world.bound n) × (s.world.bound n ≡ Means Package → ⊥)
+IsSettled arity s slots (OfMember n t) = MemberIsKnown arity s (s.world.member n t)
+IsSettled arity s slots (OfDeclared n) = ⊤
+IsSettled arity s slots (OfLeft n) = (place : ℕ) × ((s.world.bound n ≡ Local place) × IsKnown (slot_of slots place))

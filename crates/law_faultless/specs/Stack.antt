@@ -1,0 +1,92 @@
+-- The discipline of the stack that lines of code work on: how high it is at each line.
+use Rattle.std.specs.Prelude.{ℕ, suc, ◌≡◌, ◌≤◌, ◌+◌, ◌-◌, ⊤, List, [], ◌∷◌, length}
+use Rattle.build_object.specs.Lines.{FunctionName, Line, Integer, Text, Truth, Nil, Local, Global, Field, FieldThrough, Index, Load, Negate, Not, Operate}
+use Rattle.build_object.specs.Lines.{Duplicate, Pop, JumpUnless, JumpIf, Jump, JumpBack, Call, CallBuiltin, Zero, With, MakeSlice, New, LocalAddress}
+use Rattle.build_object.specs.Lines.{GlobalAddress, FieldAddress, IndexAddress, BlankAddress, Set, Assign, Return, End}
+use Rattle.build_object.specs.Operands.{builtin_results}
+
+-- how many values a function takes, its receiver counted, and how many it gives back
+pub record Arity : Type 0 where
+  pub parameters : ℕ
+  pub results : ℕ
+
+-- What a line does to the stack: it takes so many values and puts so many others in their place; it gives a function so many
+-- values; it takes a value and leads on, or so many lines behind the next one; it leads there, or so many lines before the next
+-- one; it returns so many values; it ends the function.
+pub data Effect : Type 0 where
+  Works : ℕ → ℕ → Effect
+  Calls : ℕ → Arity → Effect
+  Tests : ℕ → Effect
+  Leads : ℕ → Effect
+  LeadsBack : ℕ → Effect
+  Returns : ℕ → Effect
+  Ends : Effect
+
+abbrev pub effect : (arity : FunctionName → Arity) → Line → Effect
+effect arity (Integer n) = Works 0 1
+effect arity (Text bytes) = Works 0 1
+effect arity (Truth b) = Works 0 1
+effect arity Nil = Works 0 1
+effect arity (Local slot) = Works 0 1
+effect arity (Global g) = Works 0 1
+effect arity (Field n) = Works 1 1
+effect arity (FieldThrough n) = Works 1 1
+effect arity Index = Works 2 1
+effect arity Load = Works 1 1
+effect arity Negate = Works 1 1
+effect arity Not = Works 1 1
+effect arity (Operate o) = Works 2 1
+effect arity Duplicate = Works 1 2
+effect arity Pop = Works 1 0
+effect arity (JumpUnless n) = Tests n
+effect arity (JumpIf n) = Tests n
+effect arity (Jump n) = Leads n
+effect arity (JumpBack n) = LeadsBack n
+effect arity (Call f n) = Calls n (arity f)
+effect arity (CallBuiltin b n) = Works n (builtin_results b)
+effect arity (Zero t) = Works 0 1
+effect arity (With n) = Works 2 1
+effect arity (MakeSlice n) = Works n 1
+effect arity New = Works 1 1
+effect arity (LocalAddress slot) = Works 0 1
+effect arity (GlobalAddress g) = Works 0 1
+effect arity (FieldAddress n) = Works 1 1
+effect arity IndexAddress = Works 2 1
+effect arity BlankAddress = Works 0 1
+effect arity (Set slot) = Works 1 0
+effect arity (Assign n) = Works (n + n) 0
+effect arity (Return n) = Returns n
+effect arity End = Ends
+
+-- at: how many values lie on the stack before each line; before line i there are as many as are taken, and before the next
+-- line those are gone, and so many others lie there
+pub record Moves (at : ℕ → ℕ) (i taken put : ℕ) : Type 0 where
+  pub enough : taken ≤ at i
+  pub left : at (suc i) + taken ≡ at i + put
+
+-- Line i does so: a jump finds the same height where it leads to; a call gives a function as many values as it has parameters; a
+-- return leaves no value but the results, and the end none.
+abbrev pub Obeys : (at : ℕ → ℕ) → (i : ℕ) → Effect → Type 0
+Obeys at i (Works taken put) = Moves at i taken put
+Obeys at i (Calls n a) = (n ≡ a.parameters) × Moves at i n a.results
+Obeys at i (Tests n) = Moves at i 1 0 × (at (suc i + n) ≡ at (suc i))
+Obeys at i (Leads n) = at (suc i + n) ≡ at i
+Obeys at i (LeadsBack n) = (n ≤ suc i) × (at (suc i - n) ≡ at i)
+Obeys at i (Returns n) = at i ≡ n
+Obeys at i Ends = at i ≡ 0
+
+abbrev pub RunsAt : (arity : FunctionName → Arity) → (at : ℕ → ℕ) → (i : ℕ) → Line → Type 0
+RunsAt arity at i l = Obeys at i (effect arity l)
+
+-- each of the lines does, the first of which is line i
+abbrev pub Runs : (arity : FunctionName → Arity) → (at : ℕ → ℕ) → (i : ℕ) → List Line → Type 0
+Runs arity at i [] = ⊤
+Runs arity at i (l ∷ ls) = RunsAt arity at i l × Runs arity at (suc i) ls
+
+-- There is one height for each line, by whatever way it is reached: so many values before the first line, and so many at the end of
+-- the lines and wherever a jump leads behind them.
+pub record IsBalanced (arity : FunctionName → Arity) (before : ℕ) (lines : List Line) (after : ℕ) : Type 0 where
+  pub at : ℕ → ℕ
+  pub begins : at 0 ≡ before
+  pub runs : Runs arity at 0 lines
+  pub ends : (n : ℕ) → at (length lines + n) ≡ after

@@ -1,0 +1,17 @@
+//! The laws of names behind dots and of keys.
+ghost use Rattle.std.specs.Prelude.{ℕ, Bool};
+ghost use Rattle.std.specs.List.{AllByRecursion};
+ghost use Rattle.go_ast.specs.SourceFile.{SourceFile, IsSourceFile};
+ghost use Rattle.go_scope.specs.Site.{Source};
+ghost use Rattle.go_scope.specs.FileSites.{file_sites};
+ghost use Rattle.types_expr.specs.World.{World};
+ghost use Rattle.types_stmt.specs.Declarations.{check_file};
+ghost use Rattle.law_typing.specs.Declarations.{FileIsTyped};
+ghost use Rattle.law_faultless.specs.Linked.{IsUsedMember, IsLinked};
+
+/// In a file that keeps the typing rules each name behind a dot that is not bound behind the name of a package is one of the uses of
+/// members, and so is each key; and the type before it has such a member.
+pub fn links_of_typed_files_are_used()
+    ensures { (w : World) → (is_init : ℕ → Bool) → (f : SourceFile) → IsSourceFile f → FileIsTyped w is_init f.tree → (s : Source) →
+        AllByRecursion (λ x. IsLinked w (IsUsedMember w (check_file w is_init f.tree).uses) x.place.index x.role) (file_sites s f.tree) }
+{}

@@ -1,0 +1,65 @@
+//! The laws of what the code of a package is made of.
+ghost use Rattle.std.specs.Prelude.{ℕ, ◌≡◌, List, Some, length};
+ghost use Rattle.go_ast.specs.SourceFile.{SourceFile, IsSourceFile};
+ghost use Rattle.go_ast.specs.Tree.{FuncTree};
+ghost use Rattle.types_expr.specs.Types.{PlainType, Meaning};
+ghost use Rattle.types_expr.specs.World.{World, Locals, Means, no_locals};
+ghost use Rattle.types_declared.specs.Bound.{result_types};
+ghost use Rattle.types_declared.specs.Package.{Package};
+ghost use Rattle.types_info.specs.Worlds.{is_init};
+ghost use Rattle.build_object.specs.Lines.{FunctionName};
+ghost use Rattle.build_object.specs.Numbering.{slot_of};
+ghost use Rattle.build_object.specs.Slots.{slots_of};
+ghost use Rattle.build_object.specs.Source.{Source};
+ghost use Rattle.build_object.specs.Sources.{IsSourceOf};
+ghost use Rattle.build_object.specs.Statements.{body_lines};
+ghost use Rattle.law_faultless.specs.Stack.{Arity, IsBalanced};
+ghost use Rattle.law_faultless.specs.Answered.{IsKnown};
+ghost use Rattle.law_faultless.specs.Asked.{Question, OfInteger, OfText, OfDeclared, OfMember};
+ghost use Rattle.law_faultless.specs.StatementsAsked.{FunctionAsks};
+ghost use Rattle.law_faultless.specs.Called.{IsCalledByName};
+ghost use Rattle.law_faultless.specs.Files.{IsFunctionIn};
+ghost use Rattle.law_faultless.specs.Open.{IsSettled};
+
+/// Each local that a function declares has one of its slots.
+pub fn declared_locals_have_slots()
+    ensures { (w : World) → (before : Locals) → (f : FuncTree) → (n : ℕ) → FunctionAsks w before f (OfDeclared n) →
+        IsKnown (slot_of (slots_of w f) n) }
+{}
+
+/// Of each name that means a variable or a function of a package it is known what that is called.
+pub fn names_of_packages_are_known()
+    ensures { (p : Package) → (files_of : List ℕ → List SourceFile) → (file : ℕ) → (f : SourceFile) → (s : Source) → IsSourceOf p files_of file f s →
+        (n : ℕ) → (m : Meaning) → s.world.bound n ≡ Means m → IsCalledByName m → IsKnown (s.global n) }
+{}
+
+/// In a function of a file, the type that is known before a name behind a dot, or of the literal that a key stands in, is the one
+/// by the typing rules.
+pub fn types_before_members_are_known()
+    ensures { (p : Package) → (files_of : List ℕ → List SourceFile) → (file : ℕ) → (f : SourceFile) → (s : Source) →
+        IsSourceOf p files_of file f s → IsSourceFile f →
+        (g : FuncTree) → (at : Locals) → IsFunctionIn s.world (is_init f) no_locals f.tree.decls g at →
+        (n : ℕ) → (t : PlainType) → FunctionAsks s.world at g (OfMember n t) → s.before n ≡ Some t }
+{}
+
+/// In a function of a file the value of each integer and of each string is known.
+pub fn literals_are_known()
+    ensures integers { (p : Package) → (files_of : List ℕ → List SourceFile) → (file : ℕ) → (f : SourceFile) → (s : Source) →
+        IsSourceOf p files_of file f s → IsSourceFile f →
+        (g : FuncTree) → (at : Locals) → IsFunctionIn s.world (is_init f) no_locals f.tree.decls g at → (n : ℕ) →
+        FunctionAsks s.world at g (OfInteger n) → IsKnown (s.number n) }
+    ensures texts { (p : Package) → (files_of : List ℕ → List SourceFile) → (file : ℕ) → (f : SourceFile) → (s : Source) →
+        IsSourceOf p files_of file f s → IsSourceFile f →
+        (g : FuncTree) → (at : Locals) → IsFunctionIn s.world (is_init f) no_locals f.tree.decls g at → (n : ℕ) →
+        FunctionAsks s.world at g (OfText n) → IsKnown (s.text n) }
+{}
+
+/// The code of a typed function of a file keeps the discipline of the stack, where what the file does not tell by itself is settled:
+/// that a local that is used is one of the function's, how many values functions take and give, and what members are called.
+pub fn functions_of_files_are_balanced()
+    ensures { (arity : FunctionName → Arity) → (p : Package) → (files_of : List ℕ → List SourceFile) → (file : ℕ) → (f : SourceFile) →
+        (s : Source) → IsSourceOf p files_of file f s → IsSourceFile f →
+        (g : FuncTree) → (at : Locals) → IsFunctionIn s.world (is_init f) no_locals f.tree.decls g at →
+        ((q : Question) → FunctionAsks s.world at g q → IsSettled arity s (slots_of s.world g) q) →
+        IsBalanced arity 0 (body_lines s (slots_of s.world g) (length (result_types g.result)) g.body) 0 }
+{}

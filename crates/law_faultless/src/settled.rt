@@ -1,0 +1,82 @@
+//! The laws of what the code of packages asks for, where a workspace has no faults.
+ghost use Rattle.std.specs.Prelude.{ℕ, ◌≡◌, List, [], Some, length, slice_get, Contains};
+ghost use Rattle.base_files.specs.Packages.{package_paths};
+ghost use Rattle.base_files.specs.Workspace.{Workspace};
+ghost use Rattle.go_ast.specs.SourceFile.{SourceFile};
+ghost use Rattle.go_ast.specs.Tree.{FuncTree};
+ghost use Rattle.types_expr.specs.World.{Locals, no_locals};
+ghost use Rattle.types_declared.specs.Bound.{result_types};
+ghost use Rattle.types_declared.specs.Package.{Package, Interface};
+ghost use Rattle.types_info.specs.Worlds.{is_init};
+ghost use Rattle.workspace_check.specs.FaultLists.{ListsFaults};
+ghost use Rattle.workspace_check.specs.Verdicts.{Verdicts, AreVerdicts};
+ghost use Rattle.build_object.specs.Lines.{FunctionName};
+ghost use Rattle.build_object.specs.Objects.{Object, Function, FunctionOf};
+ghost use Rattle.build_object.specs.Slots.{slots_of};
+ghost use Rattle.build_object.specs.Source.{Source};
+ghost use Rattle.build_object.specs.Sources.{IsSourceOf, IsObjectOf};
+ghost use Rattle.build_object.specs.Statements.{body_lines};
+ghost use Rattle.law_faultless.specs.Answered.{IsAnswered};
+ghost use Rattle.law_faultless.specs.Asked.{Question};
+ghost use Rattle.law_faultless.specs.Stack.{Arity, IsBalanced};
+ghost use Rattle.law_faultless.specs.StatementsAsked.{FunctionAsks};
+ghost use Rattle.law_faultless.specs.Files.{IsFunctionIn};
+ghost use Rattle.law_faultless.specs.Open.{IsSettled};
+ghost use Rattle.refs_binding.specs.Uses.{IsPackage};
+ghost use Rattle.build_unit.specs.Units.{AreFilesBelow, IsCompiled};
+ghost use Rattle.law_faultless.specs.Arities.{AreArities};
+ghost use Rattle.law_faultless.specs.Known.{IsFunctionOf};
+
+/// In a workspace without faults the functions of all packages have arities by their names: no two of a package are called alike.
+pub fn functions_have_arities()
+    ensures { (w : Workspace) → ListsFaults w [] → (known : Verdicts) → AreVerdicts w known →
+        (arity : FunctionName → Arity) × AreArities w known arity }
+{}
+
+/// In a workspace without faults nothing that the code of a function asks for is left open: each local that it names is one of its own,
+/// each function takes and gives as many values as it is written with, it is known where fields stand and what methods are called, no
+/// name behind the name of a package means a package, and none the results of a call.
+pub fn what_is_asked_is_settled()
+    ensures { (w : Workspace) → ListsFaults w [] → (known : Verdicts) → AreVerdicts w known →
+        (arity : FunctionName → Arity) → AreArities w known arity → (p : Package) → IsPackage w known p →
+        (files_of : List ℕ → List SourceFile) → AreFilesBelow w p.path files_of →
+        (file : ℕ) → (f : SourceFile) → slice_get p.files file ≡ Some f → (s : Source) → IsSourceOf p files_of file f s →
+        (g : FuncTree) → IsFunctionOf f g → (before : Locals) → (q : Question) → FunctionAsks s.world before g q →
+        IsSettled arity s (slots_of s.world g) q }
+{}
+
+/// So all that the code of a function of a file asks for is known: no line of it is left out.
+pub fn what_is_asked_is_known()
+    ensures { (w : Workspace) → ListsFaults w [] → (known : Verdicts) → AreVerdicts w known →
+        (arity : FunctionName → Arity) → AreArities w known arity → (p : Package) → IsPackage w known p →
+        (files_of : List ℕ → List SourceFile) → AreFilesBelow w p.path files_of →
+        (file : ℕ) → (f : SourceFile) → slice_get p.files file ≡ Some f → (s : Source) → IsSourceOf p files_of file f s →
+        (g : FuncTree) → (before : Locals) → IsFunctionIn s.world (is_init f) no_locals f.tree.decls g before →
+        (q : Question) → FunctionAsks s.world before g q → IsAnswered arity s (slots_of s.world g) q }
+{}
+
+/// And the code of each function of each file is balanced.
+pub fn functions_are_balanced()
+    ensures { (w : Workspace) → ListsFaults w [] → (known : Verdicts) → AreVerdicts w known →
+        (arity : FunctionName → Arity) → AreArities w known arity → (p : Package) → IsPackage w known p →
+        (files_of : List ℕ → List SourceFile) → AreFilesBelow w p.path files_of →
+        (file : ℕ) → (f : SourceFile) → slice_get p.files file ≡ Some f → (s : Source) → IsSourceOf p files_of file f s →
+        (g : FuncTree) → IsFunctionOf f g →
+        IsBalanced arity 0 (body_lines s (slots_of s.world g) (length (result_types g.result)) g.body) 0 }
+{}
+
+/// So is the code of each function of an object.
+pub fn objects_are_balanced()
+    ensures { (w : Workspace) → ListsFaults w [] → (known : Verdicts) → AreVerdicts w known →
+        (arity : FunctionName → Arity) → AreArities w known arity → (p : Package) → IsPackage w known p →
+        (files_of : List ℕ → List SourceFile) → AreFilesBelow w p.path files_of → (o : Object) → IsObjectOf p files_of o →
+        (f : Function) → Contains o.declarations (FunctionOf f) → IsBalanced arity 0 f.code 0 }
+{}
+
+/// So is the code of each function of the object that a package compiles to, whose text its unit holds.
+pub fn units_are_balanced()
+    ensures { (w : Workspace) → ListsFaults w [] → (known : Verdicts) → AreVerdicts w known →
+        (arity : FunctionName → Arity) → AreArities w known arity → (p : List ℕ) → Contains (package_paths w) p →
+        (i : Interface) → (text : List ℕ) → (u : IsCompiled w p i text) → (f : Function) →
+        Contains u.is_object.object.declarations (FunctionOf f) → IsBalanced arity 0 f.code 0 }
+{}

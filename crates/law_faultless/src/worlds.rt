@@ -1,0 +1,86 @@
+//! The laws of worlds and of what names stand for, without a premise but that the workspace has no faults.
+ghost use Rattle.std.specs.Prelude.{ℕ, ◌≡◌, true, false, List, [], Some, slice_get};
+ghost use Rattle.base_files.specs.Workspace.{Workspace};
+ghost use Rattle.go_ast.specs.SourceFile.{SourceFile};
+ghost use Rattle.go_ast.specs.Tree.{ReceiverTree};
+ghost use Rattle.go_scope.specs.Table.{StandsAt};
+ghost use Rattle.types_expr.specs.Types.{PlainType, Signature};
+ghost use Rattle.types_expr.specs.World.{World};
+ghost use Rattle.law_typing.specs.Declarations.{FileIsTyped};
+ghost use Rattle.types_declared.specs.Bound.{HasSignature};
+ghost use Rattle.types_declared.specs.Definitions.{IsMethodOf};
+ghost use Rattle.types_declared.specs.Package.{Package, PlacedVariable, PlacedFunction, package_variables, package_functions, function_place, spelled};
+ghost use Rattle.types_declared.specs.Written.{IsBroken, IsTypeOf};
+ghost use Rattle.types_info.specs.Worlds.{IsWorldOf, is_init};
+ghost use Rattle.workspace_check.specs.FaultLists.{ListsFaults};
+ghost use Rattle.workspace_check.specs.Verdicts.{Verdicts, AreVerdicts};
+ghost use Rattle.refs_binding.specs.declared.declaration.Declaration.{Declaration};
+ghost use Rattle.refs_binding.specs.Identifiers.{Stands, named_by};
+ghost use Rattle.refs_binding.specs.Uses.{IsPackage, IsBoundTo, HasNoDeclaration};
+ghost use Rattle.law_faultless.specs.MemberNames.{IsMemberName};
+ghost use Rattle.law_faultless.specs.Names.{NamesMean};
+ghost use Rattle.law_faultless.specs.Unbroken.{IsUnbroken};
+ghost use Rattle.law_faultless.specs.Worlds.{HaveAllWorlds};
+ghost use Rattle.law_faultless.specs.Roles.{is_to_be_bound, is_of_something};
+
+/// In a workspace without faults each file of a package is judged by something.
+pub fn packages_have_worlds()
+    ensures { (w : Workspace) → ListsFaults w [] → (known : Verdicts) → AreVerdicts w known → HaveAllWorlds w known }
+{}
+
+/// In a workspace without faults the names of each file stand for something in what it is judged by.
+pub fn names_stand_for_something()
+    ensures { (w : Workspace) → ListsFaults w [] → (known : Verdicts) → AreVerdicts w known → (p : Package) → IsPackage w known p →
+        (file : ℕ) → (s : SourceFile) → slice_get p.files file ≡ Some s → (v : World) → IsWorldOf p file s v → NamesMean p file v s }
+{}
+
+/// In a workspace without faults each file keeps the typing rules.
+pub fn files_keep_the_rules()
+    ensures { (w : Workspace) → ListsFaults w [] → (known : Verdicts) → AreVerdicts w known → (p : Package) → IsPackage w known p →
+        (file : ℕ) → (s : SourceFile) → slice_get p.files file ≡ Some s → (v : World) → IsWorldOf p file s v → FileIsTyped v (is_init s) s.tree }
+{}
+
+/// In a workspace without faults each name behind a dot that does not stand behind the name of a package is bound to a field or a method,
+/// and so is each key.
+pub fn member_names_are_bound()
+    ensures { (w : Workspace) → ListsFaults w [] → (known : Verdicts) → AreVerdicts w known → (p : Package) → IsPackage w known p →
+        (u : ℕ) → Stands p u → IsMemberName p u → (d : Declaration) × IsBoundTo w known p u d }
+{}
+
+/// In a workspace without faults each identifier has a declaration that declares, is a lexical use, stands behind a dot or is a key.
+pub fn identifiers_are_bound()
+    ensures { (w : Workspace) → ListsFaults w [] → (known : Verdicts) → AreVerdicts w known → (p : Package) → IsPackage w known p →
+        (u : ℕ) → Stands p u → is_to_be_bound (p.layout.role u) ≡ true → (d : Declaration) × IsBoundTo w known p u d }
+{}
+
+/// In a workspace without faults nothing that a package declares is broken: no definition, each variable has a type, each function and
+/// method a signature, and each function with a receiver is a method of a definition of the package, whose name is not bound to nothing.
+pub fn nothing_is_broken()
+    ensures definitions { (w : Workspace) → ListsFaults w [] → (known : Verdicts) → AreVerdicts w known → (p : Package) → IsPackage w known p →
+        (rank : ℕ) → IsBroken p rank → ⊥ }
+    ensures variables { (w : Workspace) → ListsFaults w [] → (known : Verdicts) → AreVerdicts w known → (p : Package) → IsPackage w known p →
+        (rank : ℕ) → (v : PlacedVariable) → slice_get (package_variables p) rank ≡ Some v → (t : PlainType) × IsTypeOf p v.file v.type_use t }
+    ensures functions { (w : Workspace) → ListsFaults w [] → (known : Verdicts) → AreVerdicts w known → (p : Package) → IsPackage w known p →
+        (rank : ℕ) → (f : PlacedFunction) → slice_get (package_functions p) rank ≡ Some f → (s : Signature) × HasSignature p f s }
+    ensures methods { (w : Workspace) → ListsFaults w [] → (known : Verdicts) → AreVerdicts w known → (p : Package) → IsPackage w known p →
+        (rank : ℕ) → (f : PlacedFunction) → slice_get (package_functions p) rank ≡ Some f → (r : ReceiverTree) → f.function.receiver ≡ Some r →
+        (definition : ℕ) × IsMethodOf p definition (spelled p f.file f.function.name) rank f }
+    ensures bound_methods { (w : Workspace) → ListsFaults w [] → (known : Verdicts) → AreVerdicts w known → (p : Package) → IsPackage w known p →
+        (rank : ℕ) → (f : PlacedFunction) → slice_get (package_functions p) rank ≡ Some f → (r : ReceiverTree) → f.function.receiver ≡ Some r →
+        (u : ℕ) → StandsAt p.layout (function_place f) u → ((d : Declaration) → IsBoundTo w known p u d → ⊥) → ⊥ }
+    ensures names { (w : Workspace) → ListsFaults w [] → (known : Verdicts) → AreVerdicts w known → (p : Package) → IsPackage w known p →
+        (file : ℕ) → (s : SourceFile) → (v : World) → IsWorldOf p file s v → IsUnbroken v }
+{}
+
+/// In a workspace without faults no identifier is bound to nothing, but the names in package clauses, those `_` that declare or are
+/// assigned, and the names of functions `init`; the literal of an import is no identifier.
+pub fn no_identifier_is_unbound()
+    ensures { (w : Workspace) → ListsFaults w [] → (known : Verdicts) → AreVerdicts w known → (p : Package) → IsPackage w known p →
+        (u : ℕ) → Stands p u → is_of_something (p.layout.role u) ≡ true → ((d : Declaration) → IsBoundTo w known p u d → ⊥) → ⊥ }
+{}
+
+/// So in a workspace without faults what holds a byte and has no declaration, so that `uses` refuses it, is one of these.
+pub fn what_has_no_declaration()
+    ensures { (w : Workspace) → ListsFaults w [] → (path : List ℕ) → (offset : ℕ) → (h : HasNoDeclaration w path offset) →
+        is_of_something (h.asked_in.layout.role (named_by h.asked_in.layout h.number)) ≡ false }
+{}

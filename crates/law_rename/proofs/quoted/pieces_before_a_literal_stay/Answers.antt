@@ -1,0 +1,6 @@
+-- The answers to the goals of `quoted::pieces_before_a_literal_stay`.
+use Rattle.law_rename.proofs.Replacing.{before_stays}
+use Rattle.law_rename.proofs.quoted.pieces_before_a_literal_stay.Goals as goal
+
+pub returns : goal.returns
+returns c = before_stays

@@ -1,0 +1,73 @@
+-- The identifiers of a package in which an import without a name gains one.
+use Rattle.std.specs.Prelude.{◌≡◌, ℕ, ◌+◌, List, ◌∷◌, ◌++◌, Option, true, cond, length, map, nat_eq, slice_get}
+use Rattle.go_scanner.specs.CutText.{CutText, tokens_in}
+use Rattle.go_scope.specs.declared.model.Block.TheVariants.{File}
+use Rattle.go_scope.specs.declared.model.Role.TheVariants.{Declaring, NotLexical}
+use Rattle.go_scope.specs.declared.model.Purpose.TheVariants.{ImportPath, UnnamedImport}
+use Rattle.go_scope.specs.FileSites.{SpelledFile, file_sites}
+use Rattle.go_scope.specs.Named.{is_unnamed_import}
+use Rattle.go_scope.specs.Site.{Site, sites_layout}
+use Rattle.go_ast.specs.SourceFile.{spelling_at}
+use Rattle.go_ast.specs.Tree.{FileTree}
+use Rattle.law_rename.specs.Around.{AroundImport, around_by, bare_import, file_with, from_on, named_import}
+use Rattle.law_rename.specs.Named.{NamePut, after_put, before_put}
+use Rattle.law_rename.specs.MovedSites.{moved_site}
+
+-- the bytes of a token, by its number; none beyond the last token
+abbrev pub spelled : CutText → ℕ → List ℕ
+spelled c n = spelling_at c.text (slice_get (tokens_in c) n)
+
+-- a tree with the bytes of its text's tokens
+abbrev pub spelled_tree : CutText → FileTree → SpelledFile
+spelled_tree c t = record { tree = t; spell = spelled c }
+
+-- the identifiers of a file of a rank
+abbrev pub sites_in : ℕ → SpelledFile → List Site
+sites_in rank f = file_sites (record { rank = rank; spell = f.spell }) f.tree
+
+-- an import without a name that gains one: the rank of its file, the number of its literal's token, the literal's bytes, and the name
+pub record Gain : Type 0 where
+  pub rank : ℕ
+  pub number : ℕ
+  pub literal : List ℕ
+  pub name : List ℕ
+
+-- the new numbers of the package's tokens: the name's comes in before the literal's
+abbrev pub moved_by : Gain → ℕ → ℕ → ℕ
+moved_by i file n = cond (nat_eq file i.rank) (from_on i.number n) n
+
+-- the import's literal while it has no name
+abbrev pub unnamed_site : Gain → Site
+unnamed_site i = record { place = record { file = i.rank; index = i.number }; name = i.literal; role = NotLexical UnnamedImport }
+
+-- what the import declares in its file, at its first token, under a name
+abbrev pub import_site : Gain → List ℕ → Site
+import_site i name = record { place = record { file = i.rank; index = i.number }; name = name; role = Declaring (File i.rank) 0 }
+
+-- the import's literal behind its name
+abbrev pub path_site : Gain → Site
+path_site i = record { place = record { file = i.rank; index = i.number + 1 }; name = i.literal; role = NotLexical ImportPath }
+
+-- In the place of the identifier of a number there are two, the import's name and its literal, and all others stay, moved.
+pub record HasGained (i : Gain) (stood : Site) (at : ℕ) (old new : List Site) : Type 0 where
+  pub before : List Site
+  pub behind : List Site
+  pub placed : length before ≡ at
+  pub old_is : old ≡ before ++ stood ∷ behind
+  pub new_is : new ≡ map (moved_site (moved_by i)) before ++ import_site i i.name ∷ path_site i ∷ map (moved_site (moved_by i)) behind
+
+-- Of the other imports without a name, the names of their packages are the same, given by the numbers that the identifiers get.
+abbrev pub AreLater : ℕ → List Site → (ℕ → Option (List ℕ)) → (ℕ → Option (List ℕ)) → Type 0
+AreLater at old names later = (d : ℕ) → (d ≡ at → ⊥) → is_unnamed_import ((sites_layout old).role d) ≡ true → later (from_on at d) ≡ names d
+
+-- the gain of an import in whose text a name is put before the literal, which is the token of a number
+abbrev pub gain_of : ℕ → ℕ → NamePut → Gain
+gain_of rank number p = record { rank = rank; number = number; literal = p.literal; name = p.name }
+
+-- the file before, in which the literal is the path of an import without a name
+abbrev pub file_before : ℕ → AroundImport → NamePut → SpelledFile
+file_before number a p = spelled_tree (before_put p) (file_with (bare_import number) a)
+
+-- the file after, in which the import has the name
+abbrev pub file_after : ℕ → AroundImport → NamePut → SpelledFile
+file_after number a p = spelled_tree (after_put p) (file_with (named_import number) (around_by (from_on number) a))

@@ -1,0 +1,11 @@
+-- What other packages see of a package's declarations.
+use Rattle.std.specs.Prelude.{ℕ, ◌≡◌, true, List}
+use Rattle.go_scope.specs.Bindings.{Layout, Names, Counts, IsPackageLevel}
+use Rattle.types_declared.specs.Laid.{is_exported}
+
+-- under a name other packages see the declaration e
+pub record IsSeenAs (l : Layout) (names : Names) (name : List ℕ) (e : ℕ) : Type 0 where
+  pub package_level : IsPackageLevel l e
+  pub counts : Counts l names e
+  pub named : names e ≡ name
+  pub exported : is_exported name ≡ true

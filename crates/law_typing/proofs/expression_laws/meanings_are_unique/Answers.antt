@@ -1,0 +1,6 @@
+-- The answers to the goals of `laws::meanings_are_unique`.
+use Rattle.law_typing.proofs.Conclusions.{one_meaning}
+use Rattle.law_typing.proofs.expression_laws.meanings_are_unique.Goals as goal
+
+pub returns : goal.returns
+returns c = λ w locals e m n h k. one_meaning w locals e m n h k

@@ -1,0 +1,7 @@
+-- The answers to the goals of `laws::faults_of_declarations_stand_at_broken_rules`.
+use Rattle.law_typing.proofs.PlacedConclusions.{places}
+use Rattle.law_typing.proofs.PlacedDeclarations.{decl_told}
+use Rattle.law_typing.proofs.place_laws.faults_of_declarations_stand_at_broken_rules.Goals as goal
+
+pub returns : goal.returns
+returns c = λ w is_init s d p. places (decl_told w is_init) s d p

@@ -1,0 +1,6 @@
+-- The answers to the goals of `laws::faults_of_expressions_stand_at_broken_rules`.
+use Rattle.law_typing.proofs.PlacedConclusions.{expression_places}
+use Rattle.law_typing.proofs.place_laws.faults_of_expressions_stand_at_broken_rules.Goals as goal
+
+pub returns : goal.returns
+returns c = λ w locals e p. expression_places w locals e p

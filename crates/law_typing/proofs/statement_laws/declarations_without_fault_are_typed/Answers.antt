@@ -1,0 +1,6 @@
+-- The answers to the goals of `laws::declarations_without_fault_are_typed`.
+use Rattle.law_typing.proofs.StatementConclusions.{settled_decl}
+use Rattle.law_typing.proofs.statement_laws.declarations_without_fault_are_typed.Goals as goal
+
+pub returns : goal.returns
+returns c = λ w b s d h. settled_decl w b s d h

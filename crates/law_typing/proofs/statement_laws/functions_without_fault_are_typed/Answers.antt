@@ -1,0 +1,6 @@
+-- The answers to the goals of `laws::functions_without_fault_are_typed`.
+use Rattle.law_typing.proofs.StatementConclusions.{settled_function}
+use Rattle.law_typing.proofs.statement_laws.functions_without_fault_are_typed.Goals as goal
+
+pub returns : goal.returns
+returns c = λ w b s f h. settled_function w b s f h

@@ -1,0 +1,6 @@
+-- The answers to the goals of `laws::typed_declarations_have_no_fault`.
+use Rattle.law_typing.proofs.StatementConclusions.{decl_law}
+use Rattle.law_typing.proofs.statement_laws.typed_declarations_have_no_fault.Goals as goal
+
+pub returns : goal.returns
+returns c = λ w b s d after h r. decl_law w b s d after h r

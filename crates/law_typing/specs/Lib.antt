@@ -1,0 +1,23 @@
+-- The definitions of this crate.
+pub mod Fits
+pub mod Operators
+pub mod Names
+pub mod Links
+pub mod Meanings
+pub mod Agrees
+pub mod Uses
+pub mod Faults
+pub mod Turns
+pub mod Giving
+pub mod Simple
+pub mod Statements
+pub mod Declarations
+pub mod Excused
+pub mod Reaches
+pub mod Expressions
+pub mod PlacedGiving
+pub mod Leading
+pub mod PlacedTurns
+pub mod PlacedSimple
+pub mod PlacedStatements
+pub mod PlacedDeclarations

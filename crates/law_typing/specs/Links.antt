@@ -1,0 +1,61 @@
+-- What stands behind an operand: selectors, indexes and calls.
+use Rattle.std.specs.Prelude.{◌≡◌, ℕ, Bool, false, true, List, [], ◌∷◌, Some}
+use Rattle.types_expr.specs.declared.types.Basic.{Basic}
+use Rattle.types_expr.specs.declared.types.Basic.TheVariants as basic
+use Rattle.types_expr.specs.declared.types.Builtin.TheVariants as builtin
+use Rattle.types_expr.specs.declared.symbol.Symbol.{Symbol}
+use Rattle.types_expr.specs.Types.{PlainType, BasicType, Pointer, PointerTo, SliceOf, Kind, Typed, Signature, Meaning, Value, TypeName, Function, BuiltinName}
+use Rattle.types_expr.specs.Types.{Package, Results}
+use Rattle.types_expr.specs.World.{World, Locals, AField, AMethod, underlying}
+use Rattle.law_typing.specs.Fits.{Converts, FitInTurn, EachFits}
+use Rattle.law_typing.specs.Operators.{IsOf}
+use Rattle.law_typing.specs.Names.{NameMeans}
+
+-- An operand, the name behind its dot, and what that selects: a field, which is a variable through a pointer and else where the
+-- operand is one; a method of T on a T or `*T`; a method of `*T` on a `*T` or on a variable; what a package has by that name.
+pub data Selects (w : World) (locals : Locals) : Meaning → ℕ → Meaning → Type 0 where
+  field : {t u : PlainType} {a : Bool} {name : ℕ} {s : Symbol} → w.member name t ≡ Some (AField s u) →
+      ((target : PlainType) → underlying w t ≡ PointerTo target → ⊥) →
+      Selects w locals (Value (Typed t) a) name (Value (Typed u) a)
+  field_through_pointer : {t u target : PlainType} {a : Bool} {name : ℕ} {s : Symbol} → w.member name t ≡ Some (AField s u) →
+      underlying w t ≡ PointerTo target →
+      Selects w locals (Value (Typed t) a) name (Value (Typed u) true)
+  method : {t : PlainType} {a : Bool} {name : ℕ} {s : Symbol} {signature : Signature} → w.member name t ≡ Some (AMethod s false signature) →
+      Selects w locals (Value (Typed t) a) name (Function signature)
+  method_on_pointer : {t : PlainType} {a : Bool} {name : ℕ} {s : Symbol} {signature : Signature} → w.member name (Pointer t) ≡ Some (AMethod s true signature) →
+      Selects w locals (Value (Typed (Pointer t)) a) name (Function signature)
+  method_on_variable : {t : PlainType} {name : ℕ} {s : Symbol} {signature : Signature} → w.member name t ≡ Some (AMethod s true signature) →
+      Selects w locals (Value (Typed t) true) name (Function signature)
+  of_package : {name : ℕ} {m : Meaning} → NameMeans w locals name m → Selects w locals Package name m
+
+-- an operand, the index behind it, and what that selects: a variable, the element of a slice
+pub data Indexes (w : World) : Meaning → Kind → Meaning → Type 0 where
+  element : {t u : PlainType} {a : Bool} {i : Kind} → underlying w t ≡ SliceOf u → IsOf w i basic.Int → Indexes w (Value (Typed t) a) i (Value (Typed u) true)
+
+-- what a call of a function with such results is: a value where it has one result
+pub data Gives : List PlainType → Meaning → Type 0 where
+  nothing : Gives [] (Results [])
+  one : {t : PlainType} → Gives (t ∷ []) (Value (Typed t) false)
+  several : {t u : PlainType} {ts : List PlainType} → Gives (t ∷ u ∷ ts) (Results (t ∷ u ∷ ts))
+
+-- a string or a slice
+pub data HasLength (w : World) : Kind → Type 0 where
+  a_string : {k : Kind} → IsOf w k basic.String → HasLength w k
+  a_slice : {t u : PlainType} → underlying w t ≡ SliceOf u → HasLength w (Typed t)
+
+-- bools, ints and strings
+pub data ArePrinted (w : World) : List Kind → Type 0 where
+  none : ArePrinted w []
+  also : {k : Kind} {b : Basic} {ks : List Kind} → IsOf w k b → ArePrinted w ks → ArePrinted w (k ∷ ks)
+
+-- An operand, the values that it is called with, and what the call is: functions and methods with as many arguments as
+-- parameters, each of which fits; a conversion of one value; the predeclared functions.
+pub data Calls (w : World) : Meaning → List Kind → Meaning → Type 0 where
+  function : {s : Signature} {ks : List Kind} {m : Meaning} → FitInTurn w ks s.parameters → Gives s.results m → Calls w (Function s) ks m
+  conversion : {k : Kind} {t : PlainType} → Converts w k t → Calls w (TypeName t) (k ∷ []) (Value (Typed t) false)
+  len : {k : Kind} → HasLength w k → Calls w (BuiltinName builtin.Len) (k ∷ []) (Value (Typed (BasicType basic.Int)) false)
+  append : {t u : PlainType} {ks : List Kind} → underlying w t ≡ SliceOf u → EachFits w u ks →
+      Calls w (BuiltinName builtin.Append) (Typed t ∷ ks) (Value (Typed t) false)
+  panic : {k : Kind} → Calls w (BuiltinName builtin.Panic) (k ∷ []) (Results [])
+  print : {ks : List Kind} → ArePrinted w ks → Calls w (BuiltinName builtin.Print) ks (Results [])
+  println : {ks : List Kind} → ArePrinted w ks → Calls w (BuiltinName builtin.Println) ks (Results [])

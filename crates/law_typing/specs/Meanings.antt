@@ -1,0 +1,85 @@
+-- What an expression means: the typing rules of the language, one constructor for each. An expression that breaks a rule, or uses
+-- what is broken, means nothing.
+use Rattle.std.specs.Prelude.{◌≡◌, ℕ, Bool, false, List, [], ◌∷◌, Option, Some, None}
+use Rattle.go_ast.specs.declared.syntax.BinaryOp.{BinaryOp}
+use Rattle.go_ast.specs.declared.syntax.PrefixOp.{PrefixOp}
+use Rattle.go_ast.specs.Tree.{TypeTree, ExprTree, LinkTrees, OperandTrees, ArgumentTrees, LiteralTree, ElementTrees}
+use Rattle.go_ast.specs.Tree as tree
+use Rattle.types_expr.specs.declared.types.Basic.TheVariants as basic
+use Rattle.types_expr.specs.declared.symbol.Symbol.{Symbol}
+use Rattle.types_expr.specs.Types.{PlainType, Pointer, SliceOf, Struct, Kind, Typed, Untyped, Meaning, Value}
+use Rattle.types_expr.specs.World.{World, Locals, AField, underlying}
+use Rattle.law_typing.specs.Fits.{Fits}
+use Rattle.law_typing.specs.Operators.{Operates, Prefixes}
+use Rattle.law_typing.specs.Names.{NameMeans, IsType}
+use Rattle.law_typing.specs.Links.{Selects, Indexes, Calls}
+
+-- a field that no earlier key named, by its rank
+pub data IsNew (rank : ℕ) : List ℕ → Type 0 where
+  first : IsNew rank []
+  after : {other : ℕ} {others : List ℕ} → (rank ≡ other → ⊥) → IsNew rank others → IsNew rank (other ∷ others)
+
+mutual
+  pub data HasMeaning (w : World) (locals : Locals) : ExprTree → Meaning → Type 0 where
+    number : {p : ℕ} → HasMeaning w locals (tree.Number p) (Value (Untyped basic.Int) false)
+    text : {p : ℕ} → HasMeaning w locals (tree.Text p) (Value (Untyped basic.String) false)
+    name : {p : ℕ} {m : Meaning} → NameMeans w locals p m → HasMeaning w locals (tree.Name p) m
+    composite : {l : LiteralTree} {t : PlainType} → IsLiteralOf w locals l t → HasMeaning w locals (tree.Composite l) (Value (Typed t) false)
+    paren : {o c : ℕ} {e : ExprTree} {k : Kind} {a : Bool} → HasMeaning w locals e (Value k a) → HasMeaning w locals (tree.Paren o e c) (Value k a)
+    prefix : {o : PrefixOp} {p : ℕ} {e : ExprTree} {k : Kind} {a : Bool} {m : Meaning} → HasMeaning w locals e (Value k a) → Prefixes w o k m →
+        HasMeaning w locals (tree.Prefix o p e) m
+    address : {p : ℕ} {l : LiteralTree} {t : PlainType} → IsLiteralOf w locals l t → HasMeaning w locals (tree.Address p l) (Value (Typed (Pointer t)) false)
+    chain : {e : ExprTree} {links : LinkTrees} {m r : Meaning} → HasMeaning w locals e m → LeadsTo w locals m links r →
+        HasMeaning w locals (tree.Chain e links) r
+    binary : {e : ExprTree} {rest : OperandTrees} {k : Kind} {a : Bool} {r : Meaning} → HasMeaning w locals e (Value k a) →
+        CombinesTo w locals (Value k a) rest r →
+        HasMeaning w locals (tree.Binary e rest) r
+
+  -- an operand that means the first, with these links behind it
+  pub data LeadsTo (w : World) (locals : Locals) : Meaning → LinkTrees → Meaning → Type 0 where
+    no_link : {m : Meaning} → LeadsTo w locals m tree.no_link m
+    selector : {d n : ℕ} {rest : LinkTrees} {m s r : Meaning} → Selects w locals m n s → LeadsTo w locals s rest r →
+        LeadsTo w locals m (tree.selector d n rest) r
+    index : {o c : ℕ} {e : ExprTree} {rest : LinkTrees} {m s r : Meaning} {k : Kind} {a : Bool} → HasMeaning w locals e (Value k a) → Indexes w m k s →
+        LeadsTo w locals s rest r →
+        LeadsTo w locals m (tree.index o e c rest) r
+    call : {o c : ℕ} {arguments : ArgumentTrees} {rest : LinkTrees} {m s r : Meaning} {ks : List Kind} → AreValues w locals arguments ks → Calls w m ks s →
+        LeadsTo w locals s rest r →
+        LeadsTo w locals m (tree.call o arguments c rest) r
+
+  -- a value that is the first, with these operators and operands behind it, from left to right
+  pub data CombinesTo (w : World) (locals : Locals) : Meaning → OperandTrees → Meaning → Type 0 where
+    no_operand : {m : Meaning} → CombinesTo w locals m tree.no_operand m
+    operand : {o : BinaryOp} {p : ℕ} {e : ExprTree} {rest : OperandTrees} {j k l : Kind} {a b : Bool} {r : Meaning} → HasMeaning w locals e (Value k b) →
+        Operates w o j k l →
+        CombinesTo w locals (Value l false) rest r → CombinesTo w locals (Value j a) (tree.operand o p e rest) r
+
+  -- arguments, each of which is a value
+  pub data AreValues (w : World) (locals : Locals) : ArgumentTrees → List Kind → Type 0 where
+    no_argument : AreValues w locals tree.no_argument []
+    argument : {e : ExprTree} {c : Option ℕ} {rest : ArgumentTrees} {k : Kind} {a : Bool} {ks : List Kind} → HasMeaning w locals e (Value k a) →
+        AreValues w locals rest ks →
+        AreValues w locals (tree.argument e c rest) (k ∷ ks)
+
+  -- a literal of a struct, with keys; a literal of a slice, without
+  pub data IsLiteralOf (w : World) (locals : Locals) : LiteralTree → PlainType → Type 0 where
+    struct_literal : {x : TypeTree} {o c : ℕ} {es : ElementTrees} {t : PlainType} {s : Symbol} → IsType w x t → underlying w t ≡ Struct s →
+        AreFields w locals t [] es →
+        IsLiteralOf w locals (tree.literal x o es c) t
+    slice_literal : {x : TypeTree} {o c : ℕ} {es : ElementTrees} {t u : PlainType} → IsType w x t → underlying w t ≡ SliceOf u → AreElements w locals u es →
+        IsLiteralOf w locals (tree.literal x o es c) t
+
+  -- elements of a struct of type t behind keys of the fields of these ranks: different fields, each with a value that fits
+  pub data AreFields (w : World) (locals : Locals) : PlainType → List ℕ → ElementTrees → Type 0 where
+    no_field : {t : PlainType} {named : List ℕ} → AreFields w locals t named tree.no_element
+    field : {t u : PlainType} {named : List ℕ} {key : ℕ × ℕ} {e : ExprTree} {c : Option ℕ} {rest : ElementTrees} {s : Symbol} {k : Kind} {a : Bool} →
+        w.member key.0 t ≡ Some (AField s u) → IsNew s.rank named → HasMeaning w locals e (Value k a) → Fits w k u →
+        AreFields w locals t (s.rank ∷ named) rest →
+        AreFields w locals t named (tree.element (Some key) e c rest)
+
+  -- elements of a slice, each a value that fits
+  pub data AreElements (w : World) (locals : Locals) : PlainType → ElementTrees → Type 0 where
+    no_element : {u : PlainType} → AreElements w locals u tree.no_element
+    element : {u : PlainType} {e : ExprTree} {c : Option ℕ} {rest : ElementTrees} {k : Kind} {a : Bool} → HasMeaning w locals e (Value k a) → Fits w k u →
+        AreElements w locals u rest →
+        AreElements w locals u (tree.element None e c rest)

@@ -1,0 +1,101 @@
+-- What right sides give and left sides take, also where a part of them gives or takes nothing; and which values are refused.
+use Rattle.std.specs.Prelude.{◌≡◌, ℕ, Bool, true, List, [], ◌∷◌, Option, Some, None, map, length, option_map}
+use Rattle.go_ast.specs.Tree.{Item, ExprTree}
+use Rattle.go_ast.specs.Tree as tree
+use Rattle.types_expr.specs.Places.{place_of}
+use Rattle.types_expr.specs.Types.{PlainType, Kind, Typed, Value, Results}
+use Rattle.types_expr.specs.World.{World, Locals}
+use Rattle.types_expr.specs.Judge.{Argued}
+use Rattle.law_typing.specs.Meanings.{HasMeaning}
+use Rattle.types_stmt.specs.Sides.{Target, Wants}
+use Rattle.law_typing.specs.Giving.{Taker, Fresh, OfType, Takes}
+use Rattle.law_typing.specs.Excused.{IsBlank, IsNewName}
+
+-- Right sides
+
+-- what stands at a place: a value of that kind, or none
+abbrev pub given_at : ℕ → Option Kind → Argued
+given_at place k = record { place = place; kind = k }
+
+-- an expression where a value is wanted: of what kind the value is; none where it is no value
+pub data GivesKind (w : World) (locals : Locals) (e : ExprTree) : Option Kind → Type 0 where
+  a_value : {k : Kind} {a : Bool} → HasMeaning w locals e (Value k a) → GivesKind w locals e (Some k)
+  not_a_value : ((k : Kind) (a : Bool) → HasMeaning w locals e (Value k a) → ⊥) → GivesKind w locals e None
+
+pub data EachGives (w : World) (locals : Locals) : List (Item ExprTree) → List Argued → Type 0 where
+  none_left : EachGives w locals [] []
+  one_more : {i : Item ExprTree} {is : List (Item ExprTree)} {k : Option Kind} {vs : List Argued} → GivesKind w locals i.value k → EachGives w locals is vs →
+      EachGives w locals (i ∷ is) (given_at (place_of i.value) k ∷ vs)
+
+-- right sides, or what is returned: a lone call of several results, or of none, gives those, each at the place of the call
+pub data SidesGive (w : World) (locals : Locals) : List (Item ExprTree) → List Argued → Type 0 where
+  nothing_given : SidesGive w locals [] []
+  a_call : {i : Item ExprTree} {ts : List PlainType} → HasMeaning w locals i.value (Results ts) →
+      SidesGive w locals (i ∷ []) (map (λ t. given_at (place_of i.value) (Some (Typed t))) ts)
+  one_given : {i : Item ExprTree} {k : Option Kind} → ((ts : List PlainType) → HasMeaning w locals i.value (Results ts) → ⊥) → GivesKind w locals i.value k →
+      SidesGive w locals (i ∷ []) (given_at (place_of i.value) k ∷ [])
+  several_given : {i j : Item ExprTree} {is : List (Item ExprTree)} {vs : List Argued} → EachGives w locals (i ∷ j ∷ is) vs → SidesGive w locals (i ∷ j ∷ is) vs
+
+-- Left sides
+
+-- a left side of `=`: `_`, and variables; none that is something else
+pub data AssignedTakes (w : World) (locals : Locals) (e : ExprTree) : Option Taker → Type 0 where
+  a_blank : IsBlank e → AssignedTakes w locals e (Some Fresh)
+  a_variable : {t : PlainType} → HasMeaning w locals e (Value (Typed t) true) → AssignedTakes w locals e (Some (OfType t))
+  no_variable : (IsBlank e → ⊥) → ((t : PlainType) → HasMeaning w locals e (Value (Typed t) true) → ⊥) → AssignedTakes w locals e None
+
+-- a name that stands for a value of that type
+pub data NamesValueOf (w : World) (locals : Locals) : ExprTree → PlainType → Type 0 where
+  an_old_name : {p : ℕ} {t : PlainType} {a : Bool} → HasMeaning w locals (tree.Name p) (Value (Typed t) a) → NamesValueOf w locals (tree.Name p) t
+
+-- a left side of `:=`: `_`, new names, and names of values
+pub data DefinedTakes (w : World) (locals : Locals) (e : ExprTree) : Option Taker → Type 0 where
+  an_underscore : IsBlank e → DefinedTakes w locals e (Some Fresh)
+  a_new_name : IsNewName w e → DefinedTakes w locals e (Some Fresh)
+  a_known_name : {t : PlainType} → (IsNewName w e → ⊥) → NamesValueOf w locals e t → DefinedTakes w locals e (Some (OfType t))
+  no_name : (IsBlank e → ⊥) → (IsNewName w e → ⊥) → ((t : PlainType) → NamesValueOf w locals e t → ⊥) → DefinedTakes w locals e None
+
+-- several left sides
+pub data EachTakes (R : ExprTree → Option Taker → Type 0) : List (Item ExprTree) → List (Option Taker) → Type 0 where
+  no_side : EachTakes R [] []
+  one_side : {i : Item ExprTree} {is : List (Item ExprTree)} {t : Option Taker} {ts : List (Option Taker)} → R i.value t → EachTakes R is ts →
+      EachTakes R (i ∷ is) (t ∷ ts)
+
+-- what takes values of a type, which may be broken
+abbrev pub taker_of : Option PlainType → Option Taker
+taker_of t = option_map OfType t
+
+-- what the results of a function want of what is returned
+abbrev pub wants : List (Option PlainType) → List Target
+wants results = map (λ t. Wants t) results
+
+-- Values that are refused
+
+pub data Refuses (w : World) : Option Kind → Option Taker → Type 0 where
+  refuses : {k : Kind} {t : Taker} → (Takes w k t → ⊥) → Refuses w (Some k) (Some t)
+
+-- the place of a value that what stands in its place on the left does not take
+pub data RefusedInTurn (w : World) : List Argued → List (Option Taker) → ℕ → Type 0 where
+  this_refused : {v : Argued} {vs : List Argued} {t : Option Taker} {ts : List (Option Taker)} → Refuses w v.kind t → RefusedInTurn w (v ∷ vs) (t ∷ ts) v.place
+  later_refused : {v : Argued} {vs : List Argued} {t : Option Taker} {ts : List (Option Taker)} {p : ℕ} → RefusedInTurn w vs ts p →
+      RefusedInTurn w (v ∷ vs) (t ∷ ts) p
+
+-- all are values; all take one
+pub data AllGive : List Argued → Type 0 where
+  all_given : AllGive []
+  also_given : {v : Argued} {vs : List Argued} {k : Kind} → v.kind ≡ Some k → AllGive vs → AllGive (v ∷ vs)
+
+pub data AllTake : List (Option Taker) → Type 0 where
+  all_taken : AllTake []
+  also_taken : {t : Taker} {ts : List (Option Taker)} → AllTake ts → AllTake (Some t ∷ ts)
+
+-- Values that left sides, of which the first begins at the place, do not take: one is refused; or there are not as many as left
+-- sides, and no part is broken.
+pub data IsMisgiven (w : World) (place : ℕ) (vs : List Argued) (ts : List (Option Taker)) : ℕ → Type 0 where
+  one_refused : {p : ℕ} → length vs ≡ length ts → RefusedInTurn w vs ts p → IsMisgiven w place vs ts p
+  wrong_count : (length vs ≡ length ts → ⊥) → AllGive vs → AllTake ts → IsMisgiven w place vs ts place
+
+-- the same of a `return` at the place, and a function's results, which are no parts of it
+pub data IsMisreturned (w : World) (place : ℕ) (vs : List Argued) (ts : List (Option Taker)) : ℕ → Type 0 where
+  result_refused : {p : ℕ} → length vs ≡ length ts → RefusedInTurn w vs ts p → IsMisreturned w place vs ts p
+  wrong_return : (length vs ≡ length ts → ⊥) → AllGive vs → IsMisreturned w place vs ts place

@@ -1,0 +1,36 @@
+//! The laws of typing.
+
+ghost use Rattle.std.specs.Prelude.{◌≡◌, ◌↔◌, ◌⊎◌, [], All};
+ghost use Rattle.go_ast.specs.Tree.{ExprTree};
+ghost use Rattle.types_expr.specs.Types.{Meaning};
+ghost use Rattle.types_expr.specs.World.{World, Locals};
+ghost use Rattle.types_expr.specs.Judge.{judge};
+ghost use Rattle.law_typing.specs.Meanings.{HasMeaning};
+ghost use Rattle.law_typing.specs.Agrees.{Agrees};
+ghost use Rattle.law_typing.specs.Uses.{UsesBroken};
+ghost use Rattle.law_typing.specs.Faults.{HasFault};
+
+/// An expression has a meaning by the typing rules exactly where it is found to mean just that, with no fault in it.
+pub fn expressions_are_judged_by_the_rules()
+    ensures { (w : World) → (locals : Locals) → (e : ExprTree) → (m : Meaning) → HasMeaning w locals e m ↔ Agrees (judge w locals e) m }
+{}
+
+/// An expression has one meaning at most.
+pub fn meanings_are_unique()
+    ensures { (w : World) → (locals : Locals) → (e : ExprTree) → (m n : Meaning) → HasMeaning w locals e m → HasMeaning w locals e n → m ≡ n }
+{}
+
+/// An expression in which no fault is found has a meaning, unless it uses what is broken.
+pub fn what_has_no_meaning_is_refused()
+    ensures { (w : World) → (locals : Locals) → (e : ExprTree) → (judge w locals e).faults ≡ [] → ((m : Meaning) × HasMeaning w locals e m) ⊎ UsesBroken w locals e }
+{}
+
+/// Each fault that is found in an expression stands where a part of it breaks a rule though that part's own parts break none.
+pub fn faults_stand_at_broken_rules()
+    ensures { (w : World) → (locals : Locals) → (e : ExprTree) → All (λ p. HasFault w locals e p) (judge w locals e).faults }
+{}
+
+/// Where an expression uses nothing that is broken, no fault is found in it exactly where it has a meaning.
+pub fn what_has_no_fault_has_a_meaning()
+    ensures { (w : World) → (locals : Locals) → (e : ExprTree) → (UsesBroken w locals e → ⊥) → ((judge w locals e).faults ≡ []) ↔ ((m : Meaning) × HasMeaning w locals e m) }
+{}

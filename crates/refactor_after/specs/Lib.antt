@@ -1,0 +1,12 @@
+-- The definitions of this crate.
+pub mod MembersAfter
+pub mod MembersFound
+pub mod NamesAfter
+pub mod NewNames
+pub mod NewMembers
+pub mod Read
+pub mod OldPlaces
+pub mod ScopeBindings
+pub mod Behind
+pub mod ScopedPackages
+pub mod Scopes

@@ -1,0 +1,53 @@
+-- The members of types under new names, as they are looked up.
+use Rattle.std.specs.Prelude.{ℕ, ◌≡◌, List, Option, Contains, MatchOption}
+use Rattle.std.specs.Borrow.{Bor}
+use Rattle.base_files.specs.Packages.{package_paths}
+use Rattle.types_expr.specs.declared.symbol.Symbol.{Symbol}
+use Rattle.types_expr.specs.Types.{PlainType, Underlying}
+use Rattle.types_expr.specs.World.{struct_of, struct_behind, owner}
+use Rattle.types_declared.specs.Package.{Package}
+use Rattle.types_declared.specs.Definitions.{IsUnderlyingOf}
+use Rattle.refs_binding.specs.declared.declaration.Declaration.{Declaration}
+use Rattle.refs_binding.specs.declared.declaration.Declaration.TheVariants.{Predeclared, Declared, Field, Method}
+use Rattle.refs_binding.specs.Uses.{IsPackage}
+use Rattle.refs_binding.specs.Workspaces.{known_in}
+use Rattle.base_edits.specs.Revisions.{Revision}
+use Rattle.refs_binding.specs.Standing.{InPackage}
+use Rattle.refactor_after.specs.declared.members.NewMembers.{NewMembers}
+use Rattle.refactor_after.specs.declared.types_after.TypesAfter.{TypesAfter}
+use Rattle.refactor_after.specs.MembersAfter.{IsFieldOfStruct, IsMethodOfOwner}
+use Rattle.refactor_after.specs.NewMembers.{AreNewMembers, AreAllNewMembers}
+
+-- the packages of the workspace before
+abbrev pub known_types : TypesAfter → Package → Type 0
+known_types t = IsPackage t.graph.now (known_in t.found.now)
+
+-- the members are those under the names that a change gives them
+abbrev pub KnowsMembers : Revision → TypesAfter → Type 0
+KnowsMembers r t = AreAllNewMembers t.graph.now (known_in t.found.now) r t.members.now
+
+-- the members of the package of a path; none where no package has it
+abbrev pub AreMembersFound : Revision → TypesAfter → List ℕ → Option (Bor NewMembers) → Type 0
+AreMembersFound r t path found = MatchOption found (Contains (package_paths t.graph.now) path → ⊥)
+    (λ m. InPackage (known_types t) path (λ p. AreNewMembers r p m.now))
+
+-- the rank of which K holds; none where it holds of none
+abbrev pub IsRankFound : (ℕ → Type 0) → Option ℕ → Type 0
+IsRankFound K found = MatchOption found ((rank : ℕ) → K rank → ⊥) (λ rank. K rank)
+
+-- the struct that the underlying type of a definition is, if it is one
+abbrev pub IsStructFound : Package → ℕ → Option Symbol → Type 0
+IsStructFound p rank found = (u : Underlying) × (IsUnderlyingOf p rank u × (found ≡ struct_of u))
+
+-- a field, or a method, is what a name is for the type before it
+abbrev pub IsFieldBehind : (Package → Type 0) → Revision → (own name : List ℕ) → (definition : Symbol → Underlying) → PlainType → Declaration → Type 0
+IsFieldBehind Known r own name definition t (Predeclared n) = ⊥
+IsFieldBehind Known r own name definition t (Declared path d) = ⊥
+IsFieldBehind Known r own name definition t (Field s) = IsFieldOfStruct Known r own name (struct_behind definition t) s
+IsFieldBehind Known r own name definition t (Method s) = ⊥
+
+abbrev pub IsMethodBehind : (Package → Type 0) → Revision → (own name : List ℕ) → PlainType → Declaration → Type 0
+IsMethodBehind Known r own name t (Predeclared n) = ⊥
+IsMethodBehind Known r own name t (Declared path d) = ⊥
+IsMethodBehind Known r own name t (Field s) = ⊥
+IsMethodBehind Known r own name t (Method s) = IsMethodOfOwner Known r own name (owner t) s

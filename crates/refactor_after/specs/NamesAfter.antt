@@ -1,0 +1,31 @@
+-- What fields and methods are called under the new names of a change: types and their methods are those of the workspace before, and
+-- only the names are new.
+use Rattle.std.specs.Prelude.{ℕ, ◌≡◌, List, Some, slice_get}
+use Rattle.base_files.specs.declared.place.Place.{Place}
+use Rattle.go_scope.specs.declared.model.Position.{Position}
+use Rattle.types_declared.specs.Package.{Package, PlacedFunction, package_functions, function_place, spelled}
+use Rattle.types_declared.specs.Definitions.{PlacedField, package_fields}
+use Rattle.types_members.specs.MethodsView.{IsOwner}
+use Rattle.refs_binding.specs.Binding.{field_place}
+use Rattle.base_edits.specs.Revisions.{Revision}
+use Rattle.refs_binding.specs.Standing.{TokenAt}
+
+-- what the name at a position of a package is called afterwards
+pub record IsCalledAfter (r : Revision) (p : Package) (at : Position) (name : List ℕ) : Type 0 where
+  pub place : Place
+  pub stands : TokenAt p at place
+  pub called : r.called place (spelled p at.file at.index) ≡ name
+
+-- the field of that rank has that name, in the struct that the definition writes
+pub record IsFieldAfter (r : Revision) (p : Package) (definition : ℕ) (name : List ℕ) (rank : ℕ) : Type 0 where
+  pub field : PlacedField
+  pub has_rank : slice_get (package_fields p) rank ≡ Some field
+  pub of_struct : field.definition ≡ definition
+  pub called : IsCalledAfter r p (field_place field) name
+
+-- the function of that rank is a method of that name of that definition
+pub record IsMethodAfter (r : Revision) (p : Package) (definition : ℕ) (name : List ℕ) (rank : ℕ) : Type 0 where
+  pub method : PlacedFunction
+  pub has_rank : slice_get (package_functions p) rank ≡ Some method
+  pub of_type : IsOwner p method definition
+  pub called : IsCalledAfter r p (function_place method) name

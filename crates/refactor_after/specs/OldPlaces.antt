@@ -1,0 +1,48 @@
+-- The declarations of a workspace by the places to which a change moves them. Known: the packages of that workspace.
+use Rattle.std.specs.Prelude.{ℕ, ◌≡◌, ◌⊎◌, ◌↔◌, List, Option, Some, None, Contains, slice_index_or}
+use Rattle.std.specs.List.Sorted.{IsSortedBy}
+use Rattle.std.specs.Ordering.{is_lt}
+use Rattle.base_files.specs.declared.place.Place.{Place}
+use Rattle.types_declared.specs.Package.{Package}
+use Rattle.refs_binding.specs.declared.bound_spot.BoundSpot.{BoundSpot}
+use Rattle.refs_binding.specs.declared.declaration.Declaration.{Declaration}
+use Rattle.refs_binding.specs.declared.declaration.Declaration.TheVariants.{Declared, Field, Method}
+use Rattle.refs_binding.specs.Bindings.{place_at}
+use Rattle.refs_binding.specs.Places.{place_cmp}
+use Rattle.refs_binding.specs.Standing.{IsDeclaredAt}
+use Rattle.refs_places.specs.declared.declared_places.DeclaredPlaces.{DeclaredPlaces}
+
+-- a declaration by the place to which that goes where it stands
+abbrev pub GoesFrom : (Place → Place) → Declaration → Option Place → BoundSpot → Type 0
+GoesFrom moved d None b = ⊥
+GoesFrom moved d (Some place) b = (b.declaration ≡ d) × (place_at b ≡ moved place)
+
+-- one of the declarations of a package, each by its number
+abbrev pub GoFrom : (Place → Place) → (ℕ → Declaration) → List (Option Place) → BoundSpot → Type 0
+GoFrom moved member places b = (n : ℕ) × GoesFrom moved (member n) (slice_index_or places n None) b
+
+abbrev pub field_at : List ℕ → ℕ → Declaration
+field_at path rank = Field (record { «package» = path; rank = rank })
+
+abbrev pub method_at : List ℕ → ℕ → Declaration
+method_at path rank = Method (record { «package» = path; rank = rank })
+
+-- one of all declarations of the package of a path
+abbrev pub GoFromPackage : (Place → Place) → List ℕ → DeclaredPlaces → BoundSpot → Type 0
+GoFromPackage moved path places b =
+    (GoFrom moved (Declared path) places.names.items b ⊎ GoFrom moved (field_at path) places.fields.items b) ⊎
+    GoFrom moved (method_at path) places.methods.items b
+
+-- a declaration of the workspace goes to a place
+pub record HasGoneTo (Known : Package → Type 0) (moved : Place → Place) (d : Declaration) (to : Place) : Type 0 where
+  pub place : Place
+  pub declared : IsDeclaredAt Known d place
+  pub goes : to ≡ moved place
+
+abbrev pub HasGone : (Package → Type 0) → (Place → Place) → BoundSpot → Type 0
+HasGone Known moved b = HasGoneTo Known moved b.declaration (place_at b)
+
+-- all such, in the order of the places
+pub record AreOldPlaces (Known : Package → Type 0) (moved : Place → Place) (old : List BoundSpot) : Type 0 where
+  pub in_order : IsSortedBy (λ a b. is_lt (place_cmp (place_at a) (place_at b))) old
+  pub each : (b : BoundSpot) → Contains old b ↔ HasGone Known moved b

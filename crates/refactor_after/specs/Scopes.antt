@@ -1,0 +1,57 @@
+-- The scopes of the packages of a workspace, as they are found.
+use Rattle.std.specs.Prelude.{ℕ, ◌≡◌, List, [], Option, Some, length, map, slice_get, MatchOption}
+use Rattle.base_files.specs.Packages.{package_paths, package_files}
+use Rattle.base_files.specs.Workspace.{Workspace}
+use Rattle.go_ast.specs.SourceFile.{FileParts, source_of}
+use Rattle.workspace_graph.specs.Parsed.{AreParsed}
+use Rattle.go_scope.specs.Scoped.{ScopedPackage, scoped}
+use Rattle.types_declared.specs.PackageNames.{IsLaidOver}
+use Rattle.types_declared.specs.Package.{Package}
+use Rattle.types_declared.specs.InterfacesView.{no_interface}
+use Rattle.types_info.specs.PackageOf.{package_in}
+use Rattle.refs_binding.specs.Exports.{number_named, AreNumbers}
+use Rattle.refactor_after.specs.ScopedPackages.{IsScopedIn}
+use Rattle.refactor_after.specs.declared.scopes.PackageScopes.{PackageScopes}
+
+-- the package of a path whose scopes these are; of what others export nothing is known
+abbrev pub package_by : (path : List ℕ) → List FileParts → ScopedPackage → Package
+package_by path files table = package_in path (map source_of files) table no_interface
+
+abbrev pub package_scoped : (path : List ℕ) → PackageScopes → Package
+package_scoped path s = package_by path s.files.now s.table
+
+-- the files of a package, its table, and what it exports, by that
+pub record AreScopesOf (path : List ℕ) (files : List FileParts) (table : ScopedPackage) (s : PackageScopes) : Type 0 where
+  pub same_files : s.files.now ≡ files
+  pub same_table : s.table ≡ table
+  pub exports : AreNumbers (package_scoped path s) (number_named s.exports)
+
+-- the same by a table in which these names are given to the imports without a name
+pub record AreScopesNamed (path : List ℕ) (files : List FileParts) (name_of : List ℕ → Option (List ℕ)) (s : PackageScopes) : Type 0 where
+  pub laid : ScopedPackage
+  pub is_laid : IsLaidOver (map source_of files) name_of (scoped files) laid
+  pub are_scopes : AreScopesOf path files laid s
+
+-- the scopes of the package of a path
+pub record AreScopes (w : Workspace) (path : List ℕ) (s : PackageScopes) : Type 0 where
+  pub is_scoped : IsScopedIn w (package_scoped path s)
+  pub parsed : AreParsed (package_files w path) s.files.now []
+  pub exports : AreNumbers (package_scoped path s) (number_named s.exports)
+
+-- some file of the package of a path has no tree, or there is no such package
+abbrev pub IsNotScoped : Workspace → List ℕ → Type 0
+IsNotScoped w path = (p : Package) → IsScopedIn w p → p.path ≡ path → ⊥
+
+-- the scopes of the package of a path; none where a file of it has no tree
+abbrev pub MayBeScopes : Workspace → List ℕ → Option PackageScopes → Type 0
+MayBeScopes w path found = MatchOption found (IsNotScoped w path) (λ s. AreScopes w path s)
+
+-- the same of each of the first packages
+pub record AreScopesBelow (w : Workspace) (count : ℕ) (list : List (Option PackageScopes)) : Type 0 where
+  pub size : length list ≡ count
+  pub each : (n : ℕ) (path : List ℕ) (found : Option PackageScopes) → slice_get (package_paths w) n ≡ Some path → slice_get list n ≡ Some found →
+      MayBeScopes w path found
+
+-- the same of all packages
+abbrev pub AreAllScopes : Workspace → List (Option PackageScopes) → Type 0
+AreAllScopes w list = AreScopesBelow w (length (package_paths w)) list

@@ -1,0 +1,22 @@
+//! Files that stand behind a place.
+ghost use Rattle.std.specs.Prelude.{◌≡◌, ◌↔◌, All, IsTrue};
+ghost use Rattle.std.specs.Ordering.{is_lt};
+ghost use Rattle.base_files.specs.Workspace.{path_cmp};
+ghost use Rattle.refactor_after.specs.Behind.{LiesBehind};
+
+use base_files::Place;
+use go_ast::FileTree;
+
+/// Whether a file's path comes behind that of a place.
+fn lies_behind(place: &Place, file: &FileTree) -> bool
+    ensures { result ≡ is_lt (path_cmp place.now.path file.now.path) }
+{
+    place.path.cmp(file.path()).is_lt()
+}
+
+/// Whether the paths of some files all come behind that of a place.
+pub fn lie_behind(place: &Place, files: &[FileTree]) -> bool
+    ensures { IsTrue result ↔ All (LiesBehind place.now) files.now }
+{
+    files.iter().all(|file| lies_behind(place, file))
+}

@@ -1,0 +1,207 @@
+//! The declarations of a workspace by the places to which a change moves them.
+ghost use Rattle.std.specs.Prelude.{◌≡◌, Contains, IfOk, OnOk, MatchOption};
+ghost use Rattle.std.specs.List.Sorted.{IsSortedBy};
+ghost use Rattle.std.specs.Ordering.{is_lt};
+ghost use Rattle.base_edits.specs.Moved.{moved};
+ghost use Rattle.refs_binding.specs.declared.bound_spot.BoundSpot.{BoundSpot as Bound};
+ghost use Rattle.refs_binding.specs.declared.declaration.Declaration.TheVariants.{Declared};
+ghost use Rattle.refs_binding.specs.Bindings.{AddsAll, place_at};
+ghost use Rattle.refs_binding.specs.Places.{place_cmp};
+ghost use Rattle.refs_binding.specs.Uses.{IsPackage};
+ghost use Rattle.refs_binding.specs.Packages.{ArePackages};
+ghost use Rattle.refs_places.specs.DeclaredPlaces.{AreDeclared};
+ghost use Rattle.refactor_after.specs.Read.{workspace_of, verdicts_of};
+ghost use Rattle.refactor_after.specs.OldPlaces.{GoesFrom, GoFrom, GoFromPackage, HasGone, AreOldPlaces, field_at, method_at};
+
+use base_edits::Moves;
+use base_files::Place;
+use refs_binding::bindings::{find, sort};
+use refs_binding::{BoundSpot, Declaration, Packages, Spot, path_of};
+use refs_places::declared_places::DeclaredPlaces;
+use std::alloc::{AllocError, Global};
+use types_expr::symbol::{SharedPath, Symbol};
+
+/// Adds a declaration by the place to which it goes.
+fn add_moved(
+    found: &mut Vec<BoundSpot>,
+    moves: &Moves<'_>,
+    place: &Place,
+    declaration: Declaration,
+) -> Result<(), AllocError>
+    ensures { OnOk result (AddsAll found.old.items found.new.items (λ b. (b.declaration ≡ declaration) × (place_at b ≡ moved moves.now place.now))) }
+{
+    let Place { path, offset } = moves.place(&place.path, place.offset)?;
+    let spot = Spot { path, offset };
+    found.push(BoundSpot { spot, declaration })?;
+    Ok(())
+}
+
+/// The field or method of a rank in a package.
+pub fn symbol(path: &SharedPath, rank: usize) -> Result<Symbol, AllocError>
+    ensures { IfOk result (λ s. (s.package ≡ path.now) × (s.rank ≡ rank)) }
+{
+    let package = path.clone()?;
+    Ok(Symbol { package, rank })
+}
+
+/// Adds a declaration of a package's scopes, if it stands somewhere.
+fn add_name(
+    found: &mut Vec<BoundSpot>,
+    moves: &Moves<'_>,
+    path: &SharedPath,
+    d: usize,
+    place: &Option<Place>,
+) -> Result<(), AllocError>
+    ensures { OnOk result (AddsAll found.old.items found.new.items (GoesFrom (moved moves.now) (Declared path.now d) place.now)) }
+{
+    match place {
+        None => Ok(()),
+        Some(place) => {
+            let package = path.clone()?;
+            add_moved(found, moves, place, Declaration::Declared(package, d))
+        }
+    }
+}
+
+/// Adds the declarations of a package's scopes.
+fn add_names(
+    found: &mut Vec<BoundSpot>,
+    moves: &Moves<'_>,
+    path: &SharedPath,
+    names: &[Option<Place>],
+) -> Result<(), AllocError>
+    ensures { OnOk result (AddsAll found.old.items found.new.items (GoFrom (moved moves.now) (Declared path.now) names.now)) }
+{
+    for d in 0..names.len() {
+        add_name(found, moves, path, d, &names[d])?;
+    }
+    Ok(())
+}
+
+/// Adds a field of a package, if it stands somewhere.
+fn add_field(
+    found: &mut Vec<BoundSpot>,
+    moves: &Moves<'_>,
+    path: &SharedPath,
+    rank: usize,
+    place: &Option<Place>,
+) -> Result<(), AllocError>
+    ensures { OnOk result (AddsAll found.old.items found.new.items (GoesFrom (moved moves.now) (field_at path.now rank) place.now)) }
+{
+    match place {
+        None => Ok(()),
+        Some(place) => {
+            let field = symbol(path, rank)?;
+            add_moved(found, moves, place, Declaration::Field(field))
+        }
+    }
+}
+
+/// Adds the fields of a package.
+fn add_fields(
+    found: &mut Vec<BoundSpot>,
+    moves: &Moves<'_>,
+    path: &SharedPath,
+    fields: &[Option<Place>],
+) -> Result<(), AllocError>
+    ensures { OnOk result (AddsAll found.old.items found.new.items (GoFrom (moved moves.now) (field_at path.now) fields.now)) }
+{
+    for rank in 0..fields.len() {
+        add_field(found, moves, path, rank, &fields[rank])?;
+    }
+    Ok(())
+}
+
+/// Adds a method of a package, if it stands somewhere.
+fn add_method(
+    found: &mut Vec<BoundSpot>,
+    moves: &Moves<'_>,
+    path: &SharedPath,
+    rank: usize,
+    place: &Option<Place>,
+) -> Result<(), AllocError>
+    ensures { OnOk result (AddsAll found.old.items found.new.items (GoesFrom (moved moves.now) (method_at path.now rank) place.now)) }
+{
+    match place {
+        None => Ok(()),
+        Some(place) => {
+            let method = symbol(path, rank)?;
+            add_moved(found, moves, place, Declaration::Method(method))
+        }
+    }
+}
+
+/// Adds the methods of a package.
+fn add_methods(
+    found: &mut Vec<BoundSpot>,
+    moves: &Moves<'_>,
+    path: &SharedPath,
+    methods: &[Option<Place>],
+) -> Result<(), AllocError>
+    ensures { OnOk result (AddsAll found.old.items found.new.items (GoFrom (moved moves.now) (method_at path.now) methods.now)) }
+{
+    for rank in 0..methods.len() {
+        add_method(found, moves, path, rank, &methods[rank])?;
+    }
+    Ok(())
+}
+
+/// Adds the declarations of a package.
+fn add_package(
+    found: &mut Vec<BoundSpot>,
+    moves: &Moves<'_>,
+    path: &SharedPath,
+    places: &DeclaredPlaces,
+) -> Result<(), AllocError>
+    ensures { OnOk result (AddsAll found.old.items found.new.items (GoFromPackage (moved moves.now) path.now places.now)) }
+{
+    add_names(found, moves, path, &places.names)?;
+    add_fields(found, moves, path, &places.fields)?;
+    add_methods(found, moves, path, &places.methods)
+}
+
+/// Adds the declarations of all packages.
+fn add_all(
+    old: &mut Vec<BoundSpot>,
+    packages: &Packages<'_>,
+    places: &[DeclaredPlaces],
+    moves: &Moves<'_>,
+) -> Result<(), AllocError>
+    requires read { ArePackages packages.now }
+    requires places { AreDeclared (workspace_of packages.now) (verdicts_of packages.now) places.now }
+    ensures { OnOk result (AddsAll old.old.items old.new.items (HasGone (IsPackage (workspace_of packages.now) (verdicts_of packages.now)) (moved moves.now))) }
+{
+    for number in 0..packages.graph.len() {
+        let path = path_of(packages.graph, packages.found, number);
+        add_package(old, moves, path, &places[number])?;
+    }
+    Ok(())
+}
+
+/// The declarations of a workspace, sorted by the places to which they go.
+pub fn old_places(
+    alloc: Global,
+    packages: &Packages<'_>,
+    places: &[DeclaredPlaces],
+    moves: &Moves<'_>,
+) -> Result<Vec<BoundSpot>, AllocError>
+    requires read { ArePackages packages.now }
+    requires places { AreDeclared (workspace_of packages.now) (verdicts_of packages.now) places.now }
+    ensures { IfOk result (λ old. AreOldPlaces (IsPackage (workspace_of packages.now) (verdicts_of packages.now)) (moved moves.now) old.items) }
+{
+    let mut old = Vec::new(alloc);
+    add_all(&mut old, packages, places, moves)?;
+    sort(&mut old);
+    Ok(old)
+}
+
+/// The declaration that has gone to a place.
+pub fn before_of<'a>(old: &'a [BoundSpot], place: &Place) -> Option<&'a Declaration>
+    requires { IsSortedBy (λ a b. is_lt (place_cmp (place_at a) (place_at b))) old.now }
+    ensures { MatchOption result ((b : Bound) → Contains old.now b → place_at b ≡ place.now → ⊥) (λ d. (b : Bound) × (Contains old.now b × ((place_at b ≡ place.now) × (b.declaration ≡ d.now)))) }
+{
+    match find(old, place) {
+        None => None,
+        Some(found) => Some(&found.declaration),
+    }
+}

@@ -1,0 +1,72 @@
+-- What is known while identifiers are judged.
+use Rattle.std.specs.Prelude.{◌≡◌}
+use Rattle.base_files.specs.Workspace.{Workspace}
+use Rattle.base_files.specs.declared.place.Place.{Place}
+use Rattle.base_edits.specs.EditSet.{FileChanges, edited}
+use Rattle.base_edits.specs.Moved.{moved}
+use Rattle.types_declared.specs.Package.{Package}
+use Rattle.workspace_check.specs.Verdicts.{Verdicts}
+use Rattle.base_edits.specs.Revisions.{Revision}
+use Rattle.base_edits.specs.RevisionsOfEdits.{called_by, revision_of}
+use Rattle.refs_binding.specs.declared.declaration.Declaration.{Declaration}
+use Rattle.refs_binding.specs.declared.packages.Packages.{Packages}
+use Rattle.refs_binding.specs.Exports.{AreExports}
+use Rattle.refs_binding.specs.Packages.{ArePackages}
+use Rattle.refs_binding.specs.Uses.{IsPackage}
+use Rattle.refs_binding.specs.Standing.{IsDeclaredAt}
+use Rattle.refs_places.specs.DeclaredPlaces.{AreDeclared}
+use Rattle.refactor_after.specs.NewMembers.{AreAllNewMembers}
+use Rattle.refactor_after.specs.Scopes.{AreAllScopes}
+use Rattle.refactor_after.specs.Read.{workspace_of, verdicts_of}
+use Rattle.refactor_after.specs.OldPlaces.{AreOldPlaces, HasGoneTo}
+use Rattle.refactor_after.specs.ScopeBindings.{AreScopeBindings}
+use Rattle.refactor_conflict.specs.Afterwards.{HasBecome}
+use Rattle.refactor_conflict.specs.declared.first.Before.{Before}
+use Rattle.refactor_conflict.specs.declared.judge.Judge.{Judge}
+
+-- the change by an edit set that leads to a workspace
+abbrev pub change_by : Workspace → FileChanges → Revision
+change_by after s = record { after = after; moved = moved s; called = called_by s }
+
+-- what is found before a change
+pub record KnowsBefore (p : Packages) (s : FileChanges) (b : Before) : Type 0 where
+  pub exports : AreExports (workspace_of p) (verdicts_of p) b.exports.items
+  pub places : AreDeclared (workspace_of p) (verdicts_of p) b.places.items
+  pub old : AreOldPlaces (IsPackage (workspace_of p) (verdicts_of p)) (moved s) b.old.items
+  pub members : AreAllNewMembers (workspace_of p) (verdicts_of p) (revision_of (workspace_of p) s) b.members.items
+
+-- the same, and what is found afterwards
+pub record KnowsChange (j : Judge) : Type 0 where
+  pub read : ArePackages j.packages.now
+  pub exports : AreExports (workspace_of j.packages.now) (verdicts_of j.packages.now) j.exports.now
+  pub places : AreDeclared (workspace_of j.packages.now) (verdicts_of j.packages.now) j.places.now
+  pub old : AreOldPlaces (IsPackage (workspace_of j.packages.now) (verdicts_of j.packages.now)) (moved j.moves.now) j.old.now
+  pub after : j.after.now ≡ edited j.moves.now (workspace_of j.packages.now)
+  pub scoped : AreAllScopes j.after.now j.scoped.now
+  pub bound : AreScopeBindings j.after.now j.bound.now
+  pub members : AreAllNewMembers (workspace_of j.packages.now) (verdicts_of j.packages.now) (change_by j.after.now j.moves.now) j.members.now
+
+-- the workspace before, and what is known of its packages
+abbrev pub workspace_in : Judge → Workspace
+workspace_in j = workspace_of j.packages.now
+
+abbrev pub known_verdicts : Judge → Verdicts
+known_verdicts j = verdicts_of j.packages.now
+
+-- these packages
+abbrev pub known_packages : Judge → Package → Type 0
+known_packages j = IsPackage (workspace_in j) (known_verdicts j)
+
+-- the change
+abbrev pub change_in : Judge → Revision
+change_in j = change_by j.after.now j.moves.now
+
+-- which declaration has become which
+abbrev pub becomes_in : Judge → Declaration → Declaration → Type 0
+becomes_in j = HasBecome (workspace_in j) (known_verdicts j) (change_in j)
+
+-- a declaration of the workspace before goes to where one of the workspace afterwards stands
+pub record GoesWhere (Known After : Package → Type 0) (moved : Place → Place) (c e : Declaration) : Type 0 where
+  pub to : Place
+  pub goes : HasGoneTo Known moved c to
+  pub stands : IsDeclaredAt After e to

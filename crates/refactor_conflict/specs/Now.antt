@@ -1,0 +1,41 @@
+-- What is found of the workspace afterwards, as its scopes are.
+use Rattle.std.specs.Prelude.{ℕ, ◌≡◌, ⊤, List, slice_get, map}
+use Rattle.base_files.specs.Workspace.{Workspace}
+use Rattle.base_files.specs.declared.place.Place.{Place}
+use Rattle.go_ast.specs.SourceFile.{source_of}
+use Rattle.go_scope.specs.Bindings.{Counts}
+use Rattle.go_scope.specs.Scoped.{layout_in}
+use Rattle.types_declared.specs.Laid.{literal_of}
+use Rattle.types_declared.specs.Package.{Package}
+use Rattle.types_check.specs.Interfaces.{IsSeen}
+use Rattle.refs_binding.specs.declared.declaration.Declaration.{Declaration}
+use Rattle.refs_binding.specs.declared.declaration.Declaration.TheVariants.{Predeclared, Declared, Field, Method}
+use Rattle.refactor_after.specs.ScopedPackages.{IsScopedIn}
+use Rattle.refactor_after.specs.declared.scopes.PackageScopes.{PackageScopes}
+use Rattle.refs_binding.specs.Standing.{TokenBegins}
+
+-- a declaration that counts, as scopes see it: one that is predeclared or a package's own
+abbrev pub IsCounted : Workspace → Declaration → Type 0
+IsCounted w (Predeclared d) = ⊤
+IsCounted w (Declared path d) = (p : Package) × (IsScopedIn w p × ((p.path ≡ path) × Counts p.layout p.names d))
+IsCounted w (Field s) = ⊥
+IsCounted w (Method s) = ⊥
+
+-- the token at which the declaration of a number stands, an import at its path literal, begins at the place
+abbrev pub IsOwnToken : PackageScopes → ℕ → Place → Type 0
+IsOwnToken s d place = let at = (layout_in s.table).place (literal_of (layout_in s.table) d) in
+    TokenBegins (slice_get (map source_of s.files.now) at.file) at.index place
+
+-- the package of a path exports e under a name
+pub record IsExportIn (w : Workspace) (path name : List ℕ) (e : Declaration) : Type 0 where
+  pub other : Package
+  pub is_package : IsScopedIn w other
+  pub of_path : other.path ≡ path
+  pub declaration : ℕ
+  pub seen : IsSeen other declaration
+  pub named : other.names declaration ≡ name
+  pub exported : e ≡ Declared path declaration
+
+-- one package exports e under a name
+abbrev pub IsExportOf : Package → List ℕ → Declaration → Type 0
+IsExportOf p name e = (d : ℕ) × ((IsSeen p d × (p.names d ≡ name)) × (e ≡ Declared p.path d))

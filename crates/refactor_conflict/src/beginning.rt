@@ -1,0 +1,27 @@
+//! The identifiers of a package by the tokens at which they stand.
+ghost use Rattle.std.specs.Prelude.{IfOk};
+ghost use Rattle.types_declared.specs.PackageView.{package_of, IsIndexOf};
+ghost use Rattle.refs_binding.specs.Steps.{AtToken};
+ghost use Rattle.refs_places.specs.DeclaredPlaces.{IsFound};
+
+use base_files::Place;
+use go_scope::model::Position;
+use refs_places::name_beginning;
+use std::alloc::AllocError;
+use types_declared::{Index, Package};
+
+/// The place at which the identifier begins that stands at a token; none where none stands there, and for the literal of an
+/// import.
+pub fn token_beginning(
+    unit: Package<'_>,
+    index: &Index<'_>,
+    at: Position,
+) -> Result<Option<Place>, AllocError>
+    requires { IsIndexOf (package_of unit) index.now }
+    ensures { IfOk result (IsFound (AtToken (package_of unit.entry) at)) }
+{
+    match index.identifiers.get(at) {
+        None => Ok(None),
+        Some(_) => name_beginning(unit.files, at),
+    }
+}

@@ -1,0 +1,212 @@
+//! The first identifier of a workspace that a change would lose or capture.
+ghost use Rattle.std.specs.Prelude.{◌≡◌, ◌<◌, None, length, IsTrue, IfOk, OnOk};
+ghost use Rattle.base_files.specs.Packages.{package_paths};
+ghost use Rattle.base_edits.specs.EditSet.{edited};
+ghost use Rattle.base_edits.specs.RevisionsOfEdits.{revision_of};
+ghost use Rattle.refs_binding.specs.Packages.{ArePackages};
+ghost use Rattle.refs_binding.specs.Workspaces.{IsSound, known_in};
+ghost use Rattle.refactor_after.specs.Scopes.{AreAllScopes};
+ghost use Rattle.refactor_conflict.specs.Conflicts.{AreBehind, IsConflict, IsToldFirst, TellsFirst, Takes, HoldsAhead};
+ghost use Rattle.refactor_after.specs.Read.{workspace_of, verdicts_of};
+ghost use Rattle.refactor_conflict.specs.Judging.{KnowsBefore, KnowsChange, workspace_in, known_verdicts, change_in};
+ghost use Rattle.refactor_conflict.specs.Staying.{StaysAt, StaysInNumber};
+
+use crate::conflict::Conflict;
+use crate::first_identifier::first_identifier;
+use crate::judge::Judge;
+use crate::judging::judge_unit;
+use base_edits::{EditSet, Moves};
+use go_ast::FileTree;
+use refactor_after::{
+    NewMembers, PackageScopes, clause_names, lie_behind, new_members, old_places, scope_bindings,
+    scoped_packages,
+};
+use refs_binding::{BoundSpot, Packages, all_seen};
+use refs_index::exports::exports;
+use refs_places::declared_places::{DeclaredPlaces, declared_places};
+use std::alloc::{AllocError, Global};
+use std::collections::BTreeMap;
+use workspace_check::Findings;
+use workspace_graph::Graph;
+
+/// Whether some files all stand behind the conflict that was found first.
+fn are_behind(first: &Option<Conflict>, files: &[FileTree]) -> bool
+    ensures { IsTrue result → AreBehind first.now files.now }
+{
+    match first {
+        None => false,
+        Some(conflict) => lie_behind(&conflict.used, files),
+    }
+}
+
+/// Judges the identifiers of the package of a number, unless they all stand behind the conflict that was found.
+fn judge_package(
+    alloc: Global,
+    first: &mut Option<Conflict>,
+    judge: &Judge<'_, '_, '_>,
+    number: usize,
+) -> Result<(), AllocError>
+    requires in_range { number < length (package_paths (workspace_in judge.now)) }
+    requires knows { KnowsChange judge.now }
+    ensures takes { OnOk result (Takes (IsConflict (workspace_in judge.now) (known_verdicts judge.now) (change_in judge.now)) first.old first.new) }
+    ensures stays { OnOk result (HoldsAhead (StaysInNumber (workspace_in judge.now) (known_verdicts judge.now) (change_in judge.now) number) first.new) }
+{
+    let unit = judge.packages.unit(number);
+    if are_behind(first, unit.files) {
+        return Ok(());
+    }
+    judge_unit(alloc, first, judge, unit, number)
+}
+
+/// The first identifier that is lost or captured.
+fn first_judged(alloc: Global, judge: &Judge<'_, '_, '_>) -> Result<Option<Conflict>, AllocError>
+    requires { KnowsChange judge.now }
+    ensures takes { IfOk result (λ first. Takes (IsConflict (workspace_in judge.now) (known_verdicts judge.now) (change_in judge.now)) None first) }
+    ensures stays { IfOk result (HoldsAhead (StaysAt (workspace_in judge.now) (known_verdicts judge.now) (change_in judge.now))) }
+{
+    let mut first = None;
+    for number in 0..judge.packages.graph.len() {
+        judge_package(alloc, &mut first, judge, number)?;
+    }
+    Ok(first)
+}
+
+/// What is found of a workspace before a change.
+#[derive(Drop)]
+struct Before {
+    exports: Vec<BTreeMap<Vec<u8>, usize>>,
+    places: Vec<DeclaredPlaces>,
+    old: Vec<BoundSpot>,
+    members: Vec<NewMembers>,
+}
+
+impl Before {
+    fn of(alloc: Global, packages: &Packages<'_>, moves: &Moves<'_>) -> Result<Before, AllocError>
+        requires { ArePackages packages.now }
+        ensures { IfOk result (KnowsBefore packages.now moves.now) }
+    {
+        let exports = exports(alloc, packages)?;
+        let places = declared_places(alloc, packages)?;
+        let old = old_places(alloc, packages, &places, moves)?;
+        let members = new_members(alloc, packages, moves)?;
+        Ok(Before {
+            exports,
+            places,
+            old,
+            members,
+        })
+    }
+}
+
+/// The first identifier that is lost or captured, by what is found before and afterwards.
+fn first_found(
+    alloc: Global,
+    packages: &Packages<'_>,
+    before: &Before,
+    moves: &Moves<'_>,
+    after: &Graph,
+    scoped: &[Option<PackageScopes<'_>>],
+) -> Result<Option<Conflict>, AllocError>
+    requires read { ArePackages packages.now }
+    requires before { KnowsBefore packages.now moves.now before.now }
+    requires after { after.now ≡ edited moves.now (workspace_of packages.now) }
+    requires scoped { AreAllScopes after.now scoped.now }
+    ensures takes { IfOk result (λ first. Takes (IsConflict (workspace_of packages.now) (verdicts_of packages.now) (revision_of (workspace_of packages.now) moves.now)) None first) }
+    ensures stays { IfOk result (HoldsAhead (StaysAt (workspace_of packages.now) (verdicts_of packages.now) (revision_of (workspace_of packages.now) moves.now))) }
+{
+    let bound = scope_bindings(alloc, after, scoped)?;
+    let judge = Judge {
+        packages,
+        members: &before.members,
+        exports: &before.exports,
+        places: &before.places,
+        old: &before.old,
+        moves,
+        after,
+        scoped,
+        bound: &bound,
+    };
+    first_judged(alloc, &judge)
+}
+
+/// The first identifier that edits lose or capture, by what is found before.
+fn first_afterwards(
+    alloc: Global,
+    packages: &Packages<'_>,
+    before: &Before,
+    moves: &Moves<'_>,
+    after: &Graph,
+) -> Result<Option<Conflict>, AllocError>
+    requires read { ArePackages packages.now }
+    requires before { KnowsBefore packages.now moves.now before.now }
+    requires after { after.now ≡ edited moves.now (workspace_of packages.now) }
+    ensures takes { IfOk result (λ first. Takes (IsConflict (workspace_of packages.now) (verdicts_of packages.now) (revision_of (workspace_of packages.now) moves.now)) None first) }
+    ensures stays { IfOk result (HoldsAhead (StaysAt (workspace_of packages.now) (verdicts_of packages.now) (revision_of (workspace_of packages.now) moves.now))) }
+{
+    let names = clause_names(alloc, after)?;
+    let scoped = scoped_packages(alloc, after, &names)?;
+    first_found(alloc, packages, before, moves, after, &scoped)
+}
+
+/// The first identifier that edits lose or capture, if they do.
+fn judged_first(
+    alloc: Global,
+    packages: &Packages<'_>,
+    edits: &EditSet,
+    after: &Graph,
+) -> Result<Option<Conflict>, AllocError>
+    requires read { ArePackages packages.now }
+    requires after { after.now ≡ edited edits.now (workspace_of packages.now) }
+    ensures takes { IfOk result (λ first. Takes (IsConflict (workspace_of packages.now) (verdicts_of packages.now) (revision_of (workspace_of packages.now) edits.now)) None first) }
+    ensures stays { IfOk result (HoldsAhead (StaysAt (workspace_of packages.now) (verdicts_of packages.now) (revision_of (workspace_of packages.now) edits.now))) }
+{
+    let moves = Moves::of(alloc, edits)?;
+    let before = Before::of(alloc, packages, &moves)?;
+    first_afterwards(alloc, packages, &before, &moves, after)
+}
+
+/// The first identifier of a workspace without faults, as one that is lost.
+fn first_lost(alloc: Global, packages: &Packages<'_>) -> Result<Option<Conflict>, AllocError>
+    requires { ArePackages packages.now }
+    ensures { IfOk result (IsToldFirst (workspace_of packages.now) (verdicts_of packages.now)) }
+{
+    match first_identifier(alloc, packages)? {
+        None => Ok(None),
+        Some(used) => Ok(Some(Conflict { used, by: None })),
+    }
+}
+
+/// The first identifier of packages without faults that edits lose or capture, or else the first of all.
+fn first_read(
+    alloc: Global,
+    packages: &Packages<'_>,
+    edits: &EditSet,
+    after: &Graph,
+) -> Result<Option<Conflict>, AllocError>
+    requires read { ArePackages packages.now }
+    requires after { after.now ≡ edited edits.now (workspace_of packages.now) }
+    ensures { IfOk result (TellsFirst (workspace_of packages.now) (verdicts_of packages.now) (revision_of (workspace_of packages.now) edits.now)) }
+{
+    match judged_first(alloc, packages, edits, after)? {
+        Some(conflict) => Ok(Some(conflict)),
+        None => first_lost(alloc, packages),
+    }
+}
+
+/// The first identifier of a workspace without faults that edits lose or capture, where `after` is the edited workspace. Where
+/// they do none, the first of all counts as lost. None where the workspace has no identifier.
+pub fn first_conflict(
+    alloc: Global,
+    graph: &Graph,
+    found: &Findings,
+    edits: &EditSet,
+    after: &Graph,
+) -> Result<Option<Conflict>, AllocError>
+    requires sound { IsSound graph.now found.now }
+    requires after { after.now ≡ edited edits.now graph.now }
+    ensures { IfOk result (TellsFirst graph.now (known_in found.now) (revision_of graph.now edits.now)) }
+{
+    let seen = all_seen(alloc, graph, found)?;
+    let packages = Packages::of(alloc, graph, found, &seen)?;
+    first_read(alloc, &packages, edits, after)
+}

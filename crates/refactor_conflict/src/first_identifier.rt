@@ -1,0 +1,57 @@
+//! The first identifier of a workspace.
+ghost use Rattle.std.specs.Prelude.{Contains, IfOk};
+ghost use Rattle.std.specs.Option.{option_copied};
+ghost use Rattle.base_files.specs.declared.place.Place.{Place as At};
+ghost use Rattle.refs_binding.specs.Packages.{ArePackages};
+ghost use Rattle.refs_places.specs.Identified.{IsIdentifierAt};
+ghost use Rattle.refactor_conflict.specs.Firsts.{IsEarlier, IsFirstPlace};
+ghost use Rattle.refactor_after.specs.Read.{workspace_of, verdicts_of};
+
+use crate::noting::compare;
+use base_files::Place;
+use refs_binding::Packages;
+use refs_index::SoundWorkspace;
+use std::alloc::{AllocError, Global};
+
+/// The first of a place and the one that was found before, if there is one.
+fn earlier<'a>(first: Option<&'a Place>, place: &'a Place) -> &'a Place
+    ensures { IsEarlier (option_copied first.entry) place.now result.now }
+{
+    match first {
+        None => place,
+        Some(other) => {
+            if compare(place, other).is_lt() {
+                place
+            } else {
+                other
+            }
+        }
+    }
+}
+
+/// The first of some places.
+fn first_of(places: &[Place]) -> Option<&Place>
+    ensures { IsFirstPlace (λ (place : At). Contains places.now place) (option_copied result) }
+{
+    let mut first = None;
+    for place in places {
+        first = Some(earlier(first, place));
+    }
+    first
+}
+
+/// The first identifier of a workspace without faults.
+pub fn first_identifier(alloc: Global, packages: &Packages<'_>) -> Result<Option<Place>, AllocError>
+    requires { ArePackages packages.now }
+    ensures { IfOk result (IsFirstPlace (IsIdentifierAt (workspace_of packages.now) (verdicts_of packages.now))) }
+{
+    let sound = SoundWorkspace::of(alloc, packages)?;
+    let places = sound.identifier_places(alloc)?;
+    match first_of(&places) {
+        None => Ok(None),
+        Some(place) => Ok(Some(Place {
+            path: place.path.clone()?,
+            offset: place.offset,
+        })),
+    }
+}

@@ -1,0 +1,40 @@
+//! What is known of a change while identifiers are judged.
+ghost use Rattle.std.specs.Prelude.{◌≡◌};
+
+use base_edits::Moves;
+use refactor_after::{NewMembers, PackageScopes, TypesAfter};
+use refs_binding::{BoundSpot, Packages};
+use refs_places::declared_places::DeclaredPlaces;
+use std::collections::BTreeMap;
+use workspace_graph::Graph;
+
+/// What is known of a change: the packages before, the members of their types under new names, what they export, and their
+/// declarations, by where they stand and by where they go; and the packages of the workspace afterwards, as their scopes are, with
+/// all that these bind.
+#[derive(Clone, Copy)]
+pub struct Judge<'a, 'm, 's> {
+    pub packages: &'a Packages<'a>,
+    pub members: &'a [NewMembers],
+    pub exports: &'a [BTreeMap<Vec<u8>, usize>],
+    pub places: &'a [DeclaredPlaces],
+    pub old: &'a [BoundSpot],
+    pub moves: &'a Moves<'m>,
+    pub after: &'a Graph,
+    pub scoped: &'a [Option<PackageScopes<'s>>],
+    pub bound: &'a [BoundSpot],
+}
+
+impl<'a> Judge<'a, '_, '_> {
+    /// The types of the workspace before, with their members under the new names.
+    pub fn types(&self) -> TypesAfter<'a>
+        ensures graph { result.graph.now ≡ self.now.packages.now.graph.now }
+        ensures found { result.found.now ≡ self.now.packages.now.found.now }
+        ensures members { result.members.now ≡ self.now.members.now }
+    {
+        TypesAfter {
+            graph: self.packages.graph,
+            found: self.packages.found,
+            members: self.members,
+        }
+    }
+}

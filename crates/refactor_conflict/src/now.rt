@@ -1,0 +1,187 @@
+//! What an identifier is bound to after a change, judged alone.
+ghost use Rattle.std.specs.Prelude.{ℕ, ◌≡◌, ◌∷◌, [], List, Contains, IfOk, MatchOption};
+ghost use Rattle.base_files.specs.Packages.{package_paths, package_files};
+ghost use Rattle.base_files.specs.Path.{folder};
+ghost use Rattle.base_edits.specs.Revisions.{GoesTo};
+ghost use Rattle.base_edits.specs.RevisionsOfEdits.{called_by};
+ghost use Rattle.refs_binding.specs.Exports.{number_named, AreNumbers};
+ghost use Rattle.types_expr.specs.View.{type_of};
+ghost use Rattle.types_expr.specs.WorldView.{underlying_in};
+ghost use Rattle.refs_binding.specs.Members.{definitions_seen};
+ghost use Rattle.refs_binding.specs.Steps.{IsDeclarationFound};
+ghost use Rattle.refactor_after.specs.MembersAfter.{IsMemberAfter};
+ghost use Rattle.refactor_after.specs.Scopes.{package_scoped};
+ghost use Rattle.refactor_after.specs.ScopeBindings.{IsScopeUse};
+ghost use Rattle.refactor_conflict.specs.Afterwards.{IsBoundByScopes, IsExportAfter};
+ghost use Rattle.refactor_conflict.specs.Judging.{KnowsChange, workspace_in, known_packages, change_in};
+ghost use Rattle.refactor_conflict.specs.Now.{IsExportIn, IsExportOf};
+
+use crate::judge::Judge;
+use base_files::{Path, Place};
+use go_ast::FileTree;
+use refactor_after::{PackageScopes, Written, member, scopes_at};
+use refs_binding::bindings::find;
+use refs_binding::{Declaration, trees};
+use std::alloc::{AllocError, Global};
+use types_declared::Package;
+use types_expr::found::MemberUse;
+use types_expr::symbol::SharedPath;
+use types_expr::world::{Definition, World};
+
+/// What the scopes of the workspace afterwards bind to, of what begins at a place there.
+fn bound_at(judge: &Judge<'_, '_, '_>, place: &Place) -> Result<Option<Declaration>, AllocError>
+    requires { KnowsChange judge.now }
+    ensures { IfOk result (IsDeclarationFound (λ e. IsScopeUse judge.now.after.now e place.now)) }
+{
+    match find(judge.bound, place) {
+        None => Ok(None),
+        Some(bound) => Ok(Some(bound.declaration.copy()?)),
+    }
+}
+
+/// What an identifier of scopes is bound to.
+pub fn now_by_scope(
+    judge: &Judge<'_, '_, '_>,
+    place: &Place,
+) -> Result<Option<Declaration>, AllocError>
+    requires { KnowsChange judge.now }
+    ensures { IfOk result (IsDeclarationFound (IsBoundByScopes (change_in judge.now) place.now)) }
+{
+    let moved = judge.moves.place(&place.path, place.offset)?;
+    bound_at(judge, &moved)
+}
+
+/// The first file of the package of a path.
+fn first_file<'a>(judge: &Judge<'a, '_, '_>, path: &[u8]) -> Option<&'a FileTree>
+    requires knows { KnowsChange judge.now }
+    requires there { Contains (package_paths (workspace_in judge.now)) path.now }
+    ensures { MatchOption result (package_files (workspace_in judge.now) path.now ≡ []) (λ f. (first : List ℕ × List ℕ) × ((others : List (List ℕ × List ℕ)) × ((package_files (workspace_in judge.now) path.now ≡ first ∷ others) × (first.0 ≡ f.now.path)))) }
+{
+    match judge.packages.graph.number_of(path) {
+        None => None,
+        Some(number) => trees(judge.packages.graph, judge.packages.found, number).first(),
+    }
+}
+
+/// Where the package of a path goes: to the folder to which its first file goes.
+fn goes_to<'a>(judge: &Judge<'a, '_, '_>, path: &[u8]) -> Option<&'a Path>
+    requires knows { KnowsChange judge.now }
+    requires there { Contains (package_paths (workspace_in judge.now)) path.now }
+    ensures { MatchOption result ((to : List ℕ) → GoesTo (workspace_in judge.now) (change_in judge.now) path.now to → ⊥) (λ file. GoesTo (workspace_in judge.now) (change_in judge.now) path.now (folder file.now)) }
+{
+    match first_file(judge, path) {
+        None => None,
+        Some(file) => Some(judge.moves.path(file.path())),
+    }
+}
+
+/// The declaration that a package exports under a name.
+fn export_in(scopes: &PackageScopes<'_>, name: &[u8]) -> Option<usize>
+    ensures { result ≡ number_named scopes.now.exports name.now }
+{
+    scopes.exports.get(name).copied()
+}
+
+/// What the package of a path exports under a name, by its scopes.
+fn exported_in(
+    alloc: Global,
+    scopes: &PackageScopes<'_>,
+    path: &[u8],
+    name: &[u8],
+) -> Result<Option<Declaration>, AllocError>
+    requires { AreNumbers (package_scoped path.now scopes.now) (number_named scopes.now.exports) }
+    ensures { IfOk result (IsDeclarationFound (IsExportOf (package_scoped path.now scopes.now) name.now)) }
+{
+    match export_in(scopes, name) {
+        None => Ok(None),
+        Some(d) => {
+            let package = SharedPath::new(alloc, path)?;
+            Ok(Some(Declaration::Declared(package, d)))
+        }
+    }
+}
+
+/// What the package that a path has afterwards exports under a name.
+fn exported_after(
+    alloc: Global,
+    judge: &Judge<'_, '_, '_>,
+    path: &[u8],
+    name: &[u8],
+) -> Result<Option<Declaration>, AllocError>
+    requires { KnowsChange judge.now }
+    ensures { IfOk result (IsDeclarationFound (IsExportIn judge.now.after.now path.now name.now)) }
+{
+    match scopes_at(judge.after, judge.scoped, path) {
+        None => Ok(None),
+        Some(scopes) => exported_in(alloc, scopes, path, name),
+    }
+}
+
+/// What a name behind that of the package of a path is bound to: what that exports where it has gone.
+pub fn now_by_package(
+    alloc: Global,
+    judge: &Judge<'_, '_, '_>,
+    behind: &[u8],
+    place: &Place,
+    name: &[u8],
+) -> Result<Option<Declaration>, AllocError>
+    requires knows { KnowsChange judge.now }
+    requires there { Contains (package_paths (workspace_in judge.now)) behind.now }
+    ensures { IfOk result (IsDeclarationFound (IsExportAfter (workspace_in judge.now) (change_in judge.now) behind.now (called_by judge.now.moves.now place.now name.now))) }
+{
+    let name = judge.moves.called(&place.path, place.offset, name);
+    match goes_to(judge, behind) {
+        None => Ok(None),
+        Some(file) => exported_after(alloc, judge, file.folder(), name),
+    }
+}
+
+/// The world of the definitions that a package sees, without names.
+#[tactic(auto, unfolding(types_expr::specs::WorldView::definition_in, types_expr::specs::WorldView::definition_at))]
+fn seen_world<'w>(unit: Package<'w>, own: &'w [Definition]) -> World<'w>
+    ensures { underlying_in result ≡ (λ s. (definitions_seen unit.entry own.now s).underlying) }
+{
+    World {
+        package: unit.path,
+        names: &[],
+        bounds: &[],
+        own,
+        imported: unit.interfaces.definitions(),
+    }
+}
+
+/// The member that a name is for the type before a member use, by the definitions that the package sees and under the new names.
+fn member_called(
+    judge: &Judge<'_, '_, '_>,
+    unit: Package<'_>,
+    own: &[Definition],
+    found: &MemberUse,
+    called: &[u8],
+) -> Result<Option<Declaration>, AllocError>
+    requires { KnowsChange judge.now }
+    ensures { IfOk result (IsDeclarationFound (IsMemberAfter (known_packages judge.now) (change_in judge.now) unit.entry.path.now called.now (λ s. (definitions_seen unit.entry own.now s).underlying) (type_of found.now.before))) }
+{
+    let world = seen_world(unit, own);
+    let name = Written {
+        own: unit.path.path(),
+        name: called,
+    };
+    member(&judge.types(), name, &world, &found.before)
+}
+
+/// What a name behind another dot, or a key, is bound to: the member that the type before it has under the new names.
+pub fn now_by_member(
+    judge: &Judge<'_, '_, '_>,
+    unit: Package<'_>,
+    own: &[Definition],
+    found: &MemberUse,
+    place: &Place,
+    name: &[u8],
+) -> Result<Option<Declaration>, AllocError>
+    requires { KnowsChange judge.now }
+    ensures { let called = called_by judge.now.moves.now place.now name.now in
+        IfOk result (IsDeclarationFound (IsMemberAfter (known_packages judge.now) (change_in judge.now) unit.entry.path.now called (λ s. (definitions_seen unit.entry own.now s).underlying) (type_of found.now.before))) }
+{
+    let called = judge.moves.called(&place.path, place.offset, name);
+    member_called(judge, unit, own, found, called)
+}

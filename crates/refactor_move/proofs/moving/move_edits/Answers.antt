@@ -1,0 +1,35 @@
+-- The answers to the goals of `moving::move_edits`.
+use Rattle.std.proofs.Common.{Global, subst}
+use Rattle.std.specs.Prelude.{Err}
+use Rattle.std.specs.FinMap.{entries}
+use Rattle.base_files.specs.Workspace.{Workspace}
+use Rattle.refs_binding.specs.Workspaces.{known_in}
+use Rattle.refactor_move.specs.Steps.{AreChangesOf, TellsChanges}
+use Rattle.refactor_move.proofs.Fitting.{is_edit_set}
+use Rattle.refactor_move.proofs.Planning.{refused_set, planned_set}
+use Rattle.refactor_move.proofs.moving.move_edits.Goals as goal
+
+pub returns-in-Err : goal.returns-in-Err
+returns-in-Err c =
+    let w = c.args.graph.now in
+    let m = c.in_ok-moved.moved in
+    let edits = c.in_ok-edits.edits in
+    refused_set w (known_in c.args.found.now) m edits c.args.from.now c.args.to.now c.args.called.now c.in_ok-moved.ensures c.in-Err.refusal
+    (subst (λ (v : Workspace). TellsChanges {Z = Global} m edits (entries v) (Err c.in-Err.refusal)) c.files.ensures c.in-Err.ensures)
+
+pub set_of-requires : goal.set_of-requires
+set_of-requires c =
+    let m = c.in_ok-moved.moved in
+    let edits = c.in_ok-edits.edits in
+    let cs = c.in-Ok.changed.items in
+    let are = subst (λ (v : Workspace). AreChangesOf m edits (entries v) cs) c.files.ensures c.in-Ok.ensures in
+    is_edit_set c.args.graph.now c.args.found.now c.requires.sound m edits c.in_ok-edits.ensures cs are
+
+pub returns : goal.returns
+returns c =
+    let m = c.in_ok-moved.moved in
+    let edits = c.in_ok-edits.edits in
+    let cs = c.in-Ok.changed.items in
+    let are = subst (λ (v : Workspace). AreChangesOf m edits (entries v) cs) c.files.ensures c.in-Ok.ensures in
+    planned_set c.args.graph.now c.args.found.now c.requires.sound m edits c.in_ok-edits.ensures cs are c.args.from.now c.args.to.now c.args.called.now
+    c.in_ok-moved.ensures c.requires.free c.set_of.result c.set_of.ensures

@@ -1,0 +1,38 @@
+-- What is changed of one file where a package is moved.
+use Rattle.std.specs.Prelude.{ℕ, ◌≡◌, ◌⊎◌, true, false, List, [], Option, Some, slice_get}
+use Rattle.base_files.specs.Packages.{is_go}
+use Rattle.base_files.specs.Workspace.{Workspace}
+use Rattle.go_ast.specs.SourceFile.{SourceFile}
+use Rattle.types_declared.specs.Package.{Package}
+use Rattle.workspace_check.specs.Verdicts.{Verdicts}
+use Rattle.base_edits.specs.declared.change.FileChange.{FileChange}
+use Rattle.base_edits.specs.declared.change.Fate.TheVariants.{Stays, Moves}
+use Rattle.base_edits.specs.declared.edit.Edit.{Edit}
+use Rattle.refs_binding.specs.Uses.{IsPackage}
+use Rattle.refactor_move.specs.declared.moved.Moved.{Moved}
+use Rattle.refactor_move.specs.Paths.{IsUnder, HasMovedFile}
+use Rattle.refactor_move.specs.FileEdits.{AreFileEdits}
+
+-- the edits of the Go file of a path, which is a file of some package
+pub record AreGoEdits (w : Workspace) (known : Verdicts) (m : Moved) (path : List ℕ) (edits : List Edit) : Type 0 where
+  pub inside : Package
+  pub is_package : IsPackage w known inside
+  pub rank : ℕ
+  pub source : SourceFile
+  pub has_rank : slice_get inside.files rank ≡ Some source
+  pub of_path : source.path ≡ path
+  pub are : AreFileEdits inside rank source m edits
+
+-- the edits of the file of a path; none in a file that is no Go file
+pub record AreEditsOf (w : Workspace) (known : Verdicts) (m : Moved) (path : List ℕ) (edits : List Edit) : Type 0 where
+  pub go : is_go path ≡ true → AreGoEdits w known m path edits
+  pub other : is_go path ≡ false → edits ≡ []
+
+-- where the file of a path is then: elsewhere if it lies in the folder that is moved
+abbrev pub IsPathAfter : Moved → (path : List ℕ) → Option (List ℕ) → Type 0
+IsPathAfter m path after = ((new : List ℕ) × (HasMovedFile m.from m.to path new × (after ≡ Some new))) ⊎ ((IsUnder m.from path → ⊥) × (after ≡ Some path))
+
+-- a file moves, or is edited and stays
+abbrev pub MovesOrEdits : Moved → FileChange → Type 0
+MovesOrEdits m c = ((new : List ℕ) × (HasMovedFile m.from m.to c.path new × (c.fate ≡ Moves new))) ⊎
+    ((IsUnder m.from c.path → ⊥) × ((c.fate ≡ Stays) × (c.edits ≡ [] → ⊥)))

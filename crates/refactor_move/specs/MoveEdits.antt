@@ -1,0 +1,57 @@
+-- The edit set that moves a package with all that its folder holds.
+use Rattle.std.specs.Prelude.{ℕ, ◌≡◌, List, [], ⊤, Contains, IsSome, Result, Ok, Err}
+use Rattle.std.specs.FinMap as files
+use Rattle.base_files.specs.Path.{IsPath}
+use Rattle.base_files.specs.Workspace.{Workspace}
+use Rattle.base_files.specs.declared.refusal.Refusal.{Refusal}
+use Rattle.base_files.specs.declared.refusal.Refusal.TheVariants.{Memory, TooLarge}
+use Rattle.workspace_check.specs.Verdicts.{Verdicts}
+use Rattle.base_edits.specs.EditSet.{FileChanges, change_of}
+use Rattle.base_edits.specs.Fits.{Fits, path_after}
+use Rattle.base_edits.specs.Moved.{edits_by}
+use Rattle.base_edits.specs.declared.change.FileChange.{FileChange}
+use Rattle.refs_binding.specs.Uses.{IsPackage}
+use Rattle.refactor_move.specs.declared.moved.Moved.{Moved}
+use Rattle.refactor_move.specs.Paths.{IsUnder, HasMoved}
+use Rattle.refactor_move.specs.Following.{IsNameAfter}
+use Rattle.refactor_move.specs.Changes.{AreEditsOf, IsPathAfter, MovesOrEdits}
+
+-- what is moved where, and the name that the package has at a third path, where it follows that
+pub record IsMoveOf (w : Workspace) (known : Verdicts) (from to called : List ℕ) (m : Moved) : Type 0 where
+  pub source : m.from ≡ from
+  pub target : m.to ≡ to
+  pub name : IsNameAfter (IsPackage w known) from called m.name
+
+-- In each file just the edits of its tokens; each file in the folder moves, and no other; what is neither edited nor moved is no
+-- part of the set, and no file is added. The package gets the name that it has at the path `called`, where it follows that.
+pub record AreMoveEdits (w : Workspace) (known : Verdicts) (from to called : List ℕ) (s : FileChanges) : Type 0 where
+  pub moved : Moved
+  pub is_move : IsMoveOf w known from to called moved
+  pub edits : (path : List ℕ) → IsSome (files.get w path) → AreEditsOf w known moved path (edits_by (change_of s path))
+  pub paths : (path : List ℕ) → IsSome (files.get w path) → IsPathAfter moved path (path_after s path)
+  pub only : (c : FileChange) → Contains s.changed c → MovesOrEdits moved c
+  pub none_added : s.added ≡ []
+
+-- a file in the folder for which there is no path in the other, since that would have too many bytes
+pub record HasNoNewPath (w : Workspace) (from to : List ℕ) : Type 0 where
+  pub old : List ℕ
+  pub is_file : IsSome (files.get w old)
+  pub is_path : IsPath 1 old
+  pub new : List ℕ
+  pub moves : HasMoved from to old new
+  pub no_path : ¬ (IsPath 1 new)
+
+-- no file lies in the folder
+abbrev pub IsFree : Workspace → (folder : List ℕ) → Type 0
+IsFree w folder = (path : List ℕ) → IsSome (files.get w path) → IsUnder folder path → ⊥
+
+-- no file lies in the second folder, but where it moves
+abbrev pub HoldsNoOther : Workspace → (from to : List ℕ) → Type 0
+HoldsNoOther w from to = (path : List ℕ) → IsSome (files.get w path) → IsUnder to path → IsUnder from path
+
+-- the edit set, or that a file cannot be moved
+abbrev pub PlansMoveEdits : Workspace → Verdicts → (from to called : List ℕ) → Result FileChanges Refusal → Type 0
+PlansMoveEdits w known from to called (Ok s) = AreMoveEdits w known from to called s × Fits s w
+PlansMoveEdits w known from to called (Err TooLarge) = HasNoNewPath w from to
+PlansMoveEdits w known from to called (Err Memory) = ⊤
+PlansMoveEdits w known from to called (Err refusal) = ⊥

@@ -1,0 +1,146 @@
+-- What the steps answer by which the edits of a move are found.
+use Rattle.std.specs.Prelude.{ℕ, ◌≡◌, ◌≢◌, ◌<◌, ◌↔◌, ◌⊎◌, Bool, false, List, [], ◌∷◌, ⊤, Option, Some, None, Result, Ok, Err, IsTrue, IsSome}
+use Rattle.std.specs.Prelude.{Contains, Vec, length, codes, slice_get, slice_index_or, if◌then◌else◌}
+use Rattle.std.specs.BTreeMap.{BTreeMap, get}
+use Rattle.base_files.specs.Packages.{is_go}
+use Rattle.base_files.specs.Workspace.{Workspace, path_cmp}
+use Rattle.base_files.specs.declared.refusal.Refusal.{Refusal}
+use Rattle.base_files.specs.declared.refusal.Refusal.TheVariants.{Memory, TooLarge}
+use Rattle.base_files.specs.declared.place.Span.{Span}
+use Rattle.go_scanner.specs.CutText.{tokens_in}
+use Rattle.go_ast.specs.SourceFile.{SourceFile}
+use Rattle.workspace_graph.specs.FileImports.{import_literals}
+use Rattle.workspace_graph.specs.declared.file_imports.FileImport.{FileImport}
+use Rattle.types_declared.specs.Files.{HasLiteral}
+use Rattle.types_declared.specs.Package.{Package}
+use Rattle.workspace_check.specs.Verdicts.{Verdicts}
+use Rattle.base_edits.specs.declared.change.FileChange.{FileChange}
+use Rattle.base_edits.specs.declared.change.Fate.TheVariants.{Stays, Moves}
+use Rattle.base_edits.specs.declared.edit.Edit.{Edit}
+use Rattle.refs_binding.specs.Workspaces.{IsPackageAt}
+use Rattle.refactor_rename.specs.NewName.{IsNewName, IsReserved}
+use Rattle.refactor_move.specs.declared.moved.Moved.{Moved}
+use Rattle.refactor_move.specs.PathSteps.{HasNoPathFor}
+use Rattle.refactor_move.specs.Paths.{IsUnder, HasMovedPackage, quoted}
+use Rattle.refactor_move.specs.FileEdits.{AreFileEdits}
+use Rattle.refactor_move.specs.Changes.{AreGoEdits, MovesOrEdits}
+
+-- Names and literals
+
+-- a name follows another, if a package is called so
+pub record MayFollow (last name : List ℕ) : Type 0 where
+  pub no_main : last ≢ codes "main"
+  pub other : name ≢ last
+  pub form : IsNewName name
+  pub free : ¬ (IsReserved name)
+
+-- a literal at the token stands for the path of a package that moves, and this is the new one in quotes
+pub record IsNewLiteral (f : SourceFile) (m : Moved) (token : ℕ) (text : List ℕ) : Type 0 where
+  pub old : List ℕ
+  pub stands_for : HasLiteral f token old
+  pub new : List ℕ
+  pub moves : HasMovedPackage m.from m.to old new
+  pub is_text : text ≡ quoted new
+
+-- the edit of these bytes, if there is a text for it
+abbrev pub edits_with : Span → Option (List ℕ) → List Edit
+edits_with span None = []
+edits_with span (Some text) = record { span = span; text = text } ∷ []
+
+-- Marks
+
+-- the tokens of which P holds are marked, and the others as before
+pub record Marks (old new : List Bool) (P : ℕ → Type 0) : Type 0 where
+  pub size : length new ≡ length old
+  pub each : (i : ℕ) → i < length old → IsTrue (slice_index_or new i false) ↔ (IsTrue (slice_index_or old i false) ⊎ P i)
+
+-- one of the imports has its literal at the token
+abbrev pub IsLiteralAmong : List FileImport → ℕ → Type 0
+IsLiteralAmong imports i = (x : FileImport) × Contains imports x × (x.literal ≡ i)
+
+-- the tokens of which P holds are marked, of so many
+pub record AreMarks (P : ℕ → Type 0) (count : ℕ) (marks : List Bool) : Type 0 where
+  pub size : length marks ≡ count
+  pub each : (i : ℕ) → i < length marks → IsTrue (slice_index_or marks i false) ↔ P i
+
+abbrev pub AreImportMarks : SourceFile → List Bool → Type 0
+AreImportMarks f marks = AreMarks (Contains (import_literals f.tree)) (length (tokens_in f.cut)) marks
+
+-- The edits of files, by their paths
+
+abbrev pub EditMap : Type 0
+EditMap = BTreeMap (List ℕ) (List Edit)
+
+abbrev pub edits_for : EditMap → List ℕ → Option (List Edit)
+edits_for map path = get path_cmp map path
+
+-- each path of which F tells has got edits, and all that are new are such as K tells
+pub record AddsEdits (old new : EditMap) (K : List ℕ → List Edit → Type 0) (F : List ℕ → Type 0) : Type 0 where
+  pub keeps : (path : List ℕ) → IsSome (edits_for old path) → IsSome (edits_for new path)
+  pub holds : (path : List ℕ) → F path → IsSome (edits_for new path)
+  pub only : (path : List ℕ) (edits : List Edit) → edits_for new path ≡ Some edits → (edits_for old path ≡ Some edits) ⊎ K path edits
+
+-- the file of that rank in a package
+pub record IsFileAt (p : Package) (rank : ℕ) (path : List ℕ) : Type 0 where
+  pub source : SourceFile
+  pub has_rank : slice_get p.files rank ≡ Some source
+  pub of_path : source.path ≡ path
+
+-- its edits
+pub record AreEditsAt (p : Package) (m : Moved) (rank : ℕ) (path : List ℕ) (edits : List Edit) : Type 0 where
+  pub file : IsFileAt p rank path
+  pub are : AreFileEdits p rank file.source m edits
+
+-- the same of some rank
+abbrev pub HasFileIn : Package → List ℕ → Type 0
+HasFileIn p path = (rank : ℕ) × IsFileAt p rank path
+
+abbrev pub AreEditsIn : Package → Moved → List ℕ → List Edit → Type 0
+AreEditsIn p m path edits = (rank : ℕ) × AreEditsAt p m rank path edits
+
+-- the edits of the files of the first packages are known, and they are right
+pub record KnowsEdits (w : Workspace) (known : Verdicts) (m : Moved) (count : ℕ) (map : EditMap) : Type 0 where
+  pub right : (path : List ℕ) (edits : List Edit) → edits_for map path ≡ Some edits → AreGoEdits w known m path edits
+  pub all : (n : ℕ) (p : Package) (path : List ℕ) → n < count → IsPackageAt w known n p → HasFileIn p path → IsSome (edits_for map path)
+
+abbrev pub edits_or_none : Option (List Edit) → List Edit
+edits_or_none None = []
+edits_or_none (Some edits) = edits
+
+-- the edits of the file of a path; none in a file that is no Go file
+abbrev pub edits_found : EditMap → List ℕ → List Edit
+edits_found map path = if is_go path then edits_or_none (edits_for map path) else []
+
+-- Changes
+
+-- the change of a file that stays, if it has edits
+abbrev pub edited_or_none : List ℕ → List Edit → Option FileChange
+edited_or_none path [] = None
+edited_or_none path (e ∷ edits) = Some (record { path = path; edits = e ∷ edits; fate = Stays })
+
+-- the change of a file with these edits that gets a path, if it gets one or has edits
+abbrev pub change_by : List ℕ → List Edit → Option (List ℕ) → Option FileChange
+change_by path edits None = edited_or_none path edits
+change_by path edits (Some new) = Some (record { path = path; edits = edits; fate = Moves new })
+
+-- that change, or that the file gets no path
+abbrev pub TellsChange : Moved → (path : List ℕ) → List Edit → Result (Option FileChange) Refusal → Type 0
+TellsChange m path edits (Ok None) = (IsUnder m.from path → ⊥) × (edits ≡ [])
+TellsChange m path edits (Ok (Some c)) = (c.path ≡ path) × (c.edits ≡ edits) × MovesOrEdits m c
+TellsChange m path edits (Err TooLarge) = HasNoPathFor m path
+TellsChange m path edits (Err Memory) = ⊤
+TellsChange m path edits (Err refusal) = ⊥
+
+-- the changes of those of some files that move or have edits
+pub data AreChangesOf (m : Moved) (map : EditMap) : List (List ℕ × List ℕ) → List FileChange → Type 0 where
+  none : AreChangesOf m map [] []
+  kept : {e : List ℕ × List ℕ} {es : List (List ℕ × List ℕ)} {cs : List FileChange} → (IsUnder m.from e.0 → ⊥) → edits_found map e.0 ≡ [] →
+      AreChangesOf m map es cs → AreChangesOf m map (e ∷ es) cs
+  changed : {e : List ℕ × List ℕ} {es : List (List ℕ × List ℕ)} {c : FileChange} {cs : List FileChange} → c.path ≡ e.0 → c.edits ≡ edits_found map e.0 →
+      MovesOrEdits m c → AreChangesOf m map es cs → AreChangesOf m map (e ∷ es) (c ∷ cs)
+
+abbrev pub TellsChanges : {Z : Type 0} → Moved → EditMap → List (List ℕ × List ℕ) → Result (Vec FileChange Z) Refusal → Type 0
+TellsChanges m map files (Ok changes) = AreChangesOf m map files changes.items
+TellsChanges m map files (Err TooLarge) = (file : List ℕ × List ℕ) × (Contains files file × HasNoPathFor m file.0)
+TellsChanges m map files (Err Memory) = ⊤
+TellsChanges m map files (Err refusal) = ⊥

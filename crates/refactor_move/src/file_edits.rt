@@ -1,0 +1,152 @@
+//! The edits of one file.
+ghost use Rattle.std.specs.Prelude.{◌≡◌, ◌≤◌, ◌↔◌, ◌++◌, IfOk, OnOk, IsTrue, Some, Contains, slice_get};
+ghost use Rattle.go_scanner.specs.declared.piece.Class.TheVariants.{Name};
+ghost use Rattle.go_scanner.specs.CutText.{tokens_in};
+ghost use Rattle.go_ast.specs.SourceFile.{source_of};
+ghost use Rattle.workspace_graph.specs.FileImports.{import_literals};
+ghost use Rattle.types_declared.specs.PackageView.{package_of, IsIndexOf};
+ghost use Rattle.refs_binding.specs.Bindings.{AddsAll};
+ghost use Rattle.refactor_rename.specs.FileEdits.{EndBy};
+ghost use Rattle.refactor_move.specs.FileEdits.{ReplacesPath, ReplacesName, IsEditAt, AreFileEdits};
+ghost use Rattle.refactor_move.specs.Steps.{edits_with};
+
+use crate::literals::new_literal;
+use crate::marks::import_marks;
+use crate::moved::Moved;
+use crate::names::is_package_name;
+use base_edits::Edit;
+use base_files::{FileText, Span};
+use go_ast::FileTree;
+use go_scanner::{Class, Piece};
+use std::alloc::{AllocError, Global};
+use types_declared::{Index, Package};
+
+/// Adds an edit, if there is a text for it.
+fn push_some(edits: &mut Vec<Edit>, span: Span, text: Option<FileText>) -> Result<(), AllocError>
+    ensures { OnOk result (edits.new.items ≡ edits.old.items ++ edits_with span text) }
+{
+    match text {
+        None => Ok(()),
+        Some(text) => {
+            edits.push(Edit { span, text })?;
+            Ok(())
+        }
+    }
+}
+
+/// Adds the new path in place of the literal of an import, if the package moves.
+fn add_path(
+    alloc: Global,
+    edits: &mut Vec<Edit>,
+    file: &FileTree,
+    number: usize,
+    token: Piece,
+    moved: &Moved,
+) -> Result<(), AllocError>
+    requires at { slice_get (tokens_in (source_of file.now).cut) number ≡ Some token }
+    requires is_import { Contains (import_literals (source_of file.now).tree) number }
+    requires span { token.span.start ≤ token.span.end }
+    requires order { EndBy edits.old.items token.span.start }
+    ensures order { OnOk result (EndBy edits.new.items token.span.end) }
+    ensures adds { OnOk result (AddsAll edits.old.items edits.new.items (ReplacesPath (source_of file.now) moved.now number)) }
+{
+    let text = new_literal(alloc, file, number, moved)?;
+    push_some(edits, token.span, text)
+}
+
+/// A file of a package, and what moves.
+#[derive(Clone, Copy)]
+struct MovedFile<'a> {
+    unit: Package<'a>,
+    index: &'a Index<'a>,
+    file: &'a FileTree,
+    rank: usize,
+    moved: &'a Moved,
+}
+
+/// Adds the name that follows in place of a name, if that is one of the package that is moved.
+fn add_name(
+    edits: &mut Vec<Edit>,
+    of: &MovedFile<'_>,
+    number: usize,
+    token: Piece,
+) -> Result<(), AllocError>
+    requires index { IsIndexOf (package_of of.now.unit) of.now.index.now }
+    requires at { slice_get (tokens_in (source_of of.now.file.now).cut) number ≡ Some token }
+    requires is_name { token.class ≡ Name }
+    requires span { token.span.start ≤ token.span.end }
+    requires order { EndBy edits.old.items token.span.start }
+    ensures order { OnOk result (EndBy edits.new.items token.span.end) }
+    ensures adds { OnOk result (AddsAll edits.old.items edits.new.items (ReplacesName (package_of of.now.unit) of.now.rank (source_of of.now.file.now) of.now.moved.now number)) }
+{
+    if let Some(name) = &of.moved.name {
+        if is_package_name(of.unit, of.index, of.file, of.rank, of.moved, number) {
+            edits.push(Edit {
+                span: token.span,
+                text: name.clone()?,
+            })?;
+        }
+    }
+    Ok(())
+}
+
+/// Adds the edit of a token, if it has one.
+fn add_edit(
+    alloc: Global,
+    edits: &mut Vec<Edit>,
+    of: &MovedFile<'_>,
+    number: usize,
+    token: Piece,
+    is_import: bool,
+) -> Result<(), AllocError>
+    requires index { IsIndexOf (package_of of.now.unit) of.now.index.now }
+    requires at { slice_get (tokens_in (source_of of.now.file.now).cut) number ≡ Some token }
+    requires is_import { IsTrue is_import ↔ Contains (import_literals (source_of of.now.file.now).tree) number }
+    requires span { token.span.start ≤ token.span.end }
+    requires order { EndBy edits.old.items token.span.start }
+    ensures order { OnOk result (EndBy edits.new.items token.span.end) }
+    ensures adds { OnOk result (AddsAll edits.old.items edits.new.items (IsEditAt (package_of of.now.unit) of.now.rank (source_of of.now.file.now) of.now.moved.now number)) }
+{
+    if token.class == Class::Name {
+        add_name(edits, of, number, token)
+    } else if is_import {
+        add_path(alloc, edits, of.file, number, token, of.moved)
+    } else {
+        Ok(())
+    }
+}
+
+/// The edits of a file, in the order of its tokens.
+pub(crate) fn edits_of(
+    alloc: Global,
+    unit: Package<'_>,
+    index: &Index<'_>,
+    file: &FileTree,
+    rank: usize,
+    moved: &Moved,
+) -> Result<Vec<Edit>, AllocError>
+    requires { IsIndexOf (package_of unit) index.now }
+    ensures { IfOk result (λ edits. AreFileEdits (package_of unit.entry) rank (source_of file.now) moved.now edits.items) }
+{
+    let marks = import_marks(alloc, file)?;
+    let tokens = file.pieces().tokens();
+    let of = MovedFile {
+        unit,
+        index,
+        file,
+        rank,
+        moved,
+    };
+    let mut edits = Vec::new(alloc);
+    for number in 0..tokens.len() {
+        add_edit(
+            alloc,
+            &mut edits,
+            &of,
+            number,
+            tokens[number],
+            marks[number],
+        )?;
+    }
+    Ok(edits)
+}

@@ -1,0 +1,101 @@
+//! Whether the name of a package follows its path.
+ghost use Rattle.std.specs.Prelude.{◌≡◌, ◌<◌, ◌↔◌, IsTrue, IfOk, map};
+ghost use Rattle.go_ast.specs.SourceFile.{source_of};
+ghost use Rattle.types_declared.specs.Files.{package_name};
+ghost use Rattle.refs_binding.specs.Uses.{IsPackage};
+ghost use Rattle.refs_binding.specs.Workspaces.{IsSound, known_in};
+ghost use Rattle.refs_binding.specs.Standing.{InPackage};
+ghost use Rattle.refactor_rename.specs.NewName.{IsNewName, IsReserved};
+ghost use Rattle.refactor_move.specs.Paths.{last_of};
+ghost use Rattle.refactor_move.specs.Following.{Follows, IsNameAfter};
+ghost use Rattle.refactor_move.specs.Steps.{MayFollow};
+
+use base_files::{FileText, Path};
+use go_ast::FileTree;
+use refactor_rename::is_new_name;
+use refs_binding::trees;
+use std::alloc::{AllocError, Global};
+use types_declared::clause_name;
+use workspace_check::Findings;
+use workspace_graph::Graph;
+
+/// The last element of a path.
+fn last_of(path: &str) -> &str
+    ensures { result.now ≡ last_of path.now }
+{
+    match path.rsplit_once('/') {
+        None => path,
+        Some((_, last)) => last,
+    }
+}
+
+/// Whether a package may have a name.
+fn is_package_name(name: &str) -> bool
+    ensures { IsTrue result ↔ (IsNewName name.now × ¬ (IsReserved name.now)) }
+{
+    name != "init" && name != "main" && is_new_name(name)
+}
+
+/// Whether a name follows another one, if packages are called so.
+fn may_follow(last: &str, name: &str) -> bool
+    ensures { IsTrue result ↔ MayFollow last.now name.now }
+{
+    last != "main" && name != last && is_package_name(name)
+}
+
+/// The name of the package of some files.
+fn name_of(files: &[FileTree]) -> &[u8]
+    ensures { result.now ≡ package_name (map source_of files.now) }
+{
+    match files.first() {
+        None => &[],
+        Some(file) => clause_name(file),
+    }
+}
+
+/// Whether the package of some files has a name.
+fn is_called(files: &[FileTree], name: &str) -> bool
+    ensures { IsTrue result ↔ (package_name (map source_of files.now) ≡ name.now) }
+{
+    name_of(files) == name.as_bytes()
+}
+
+/// Whether the package of a path is called as its last element.
+fn is_called_so(graph: &Graph, found: &Findings, from: &Path) -> bool
+    requires { IsSound graph.now found.now }
+    ensures { IsTrue result ↔ InPackage (IsPackage graph.now (known_in found.now)) from.now (λ p. package_name p.files ≡ last_of from.now) }
+{
+    match graph.number_of(from.as_str().as_bytes()) {
+        None => false,
+        Some(number) => is_called(trees(graph, found, number), last_of(from.as_str())),
+    }
+}
+
+/// Whether the name of a package follows its path.
+fn follows(graph: &Graph, found: &Findings, from: &Path, to: &Path) -> bool
+    requires { IsSound graph.now found.now }
+    ensures { IsTrue result ↔ Follows (IsPackage graph.now (known_in found.now)) from.now to.now }
+{
+    let last = last_of(from.as_str());
+    let name = last_of(to.as_str());
+    may_follow(last, name) && is_called_so(graph, found, from)
+}
+
+/// The name of a package that follows its path, if it does.
+pub(crate) fn name_after(
+    alloc: Global,
+    graph: &Graph,
+    found: &Findings,
+    from: &Path,
+    to: &Path,
+) -> Result<Option<FileText>, AllocError>
+    requires { IsSound graph.now found.now }
+    ensures { IfOk result (IsNameAfter (IsPackage graph.now (known_in found.now)) from.now to.now) }
+{
+    if follows(graph, found, from, to) {
+        let name = Vec::from_slice(alloc, last_of(to.as_str()).as_bytes())?;
+        Ok(Some(FileText::new(alloc, name)?))
+    } else {
+        Ok(None)
+    }
+}

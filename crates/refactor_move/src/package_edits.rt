@@ -1,0 +1,155 @@
+//! The edits of all Go files, by their paths.
+ghost use Rattle.std.specs.Prelude.{◌<◌, ◌+◌, Some, length, map, IfOk, OnOk};
+ghost use Rattle.std.specs.BTreeMap.{Updates};
+ghost use Rattle.base_files.specs.Packages.{package_paths};
+ghost use Rattle.base_files.specs.Workspace.{path_cmp};
+ghost use Rattle.go_ast.specs.SourceFile.{source_of};
+ghost use Rattle.types_info.specs.PackageOf.{package_in};
+ghost use Rattle.types_declared.specs.InterfacesView.{interface_in};
+ghost use Rattle.types_declared.specs.PackageView.{package_of, IsIndexOf};
+ghost use Rattle.refs_binding.specs.Workspaces.{IsSound, known_in};
+ghost use Rattle.refactor_move.specs.FileEdits.{AreFileEdits};
+ghost use Rattle.refactor_move.specs.Steps.{AddsEdits, AreEditsIn, HasFileIn, IsFileAt, AreEditsAt, KnowsEdits};
+
+use crate::file_edits::edits_of;
+use crate::moved::Moved;
+use base_edits::Edits;
+use base_files::Path;
+use go_ast::FileTree;
+use go_scope::table::ScopeTable;
+use refs_binding::{laid_table, path_of, trees};
+use std::alloc::{AllocError, Global};
+use std::collections::BTreeMap;
+use types_declared::{Index, Interfaces, Package};
+use types_expr::symbol::SharedPath;
+use workspace_check::{Findings, seen};
+use workspace_graph::Graph;
+
+/// Adds the edits of a file.
+fn insert(
+    edits: &mut BTreeMap<Path, Edits>,
+    file: &FileTree,
+    found: Edits,
+) -> Result<(), AllocError>
+    ensures { OnOk result (Updates path_cmp edits.old edits.new file.now.path (Some found)) }
+{
+    let path = file.path().clone()?;
+    edits.insert(path, found)?;
+    Ok(())
+}
+
+/// The edits of a file of a package.
+fn edits_in(
+    alloc: Global,
+    unit: Package<'_>,
+    index: &Index<'_>,
+    file: &FileTree,
+    rank: usize,
+    moved: &Moved,
+) -> Result<Edits, AllocError>
+    requires { IsIndexOf (package_of unit) index.now }
+    ensures { IfOk result (AreFileEdits (package_of unit.entry) rank (source_of file.now) moved.now) }
+{
+    Ok(Edits::new(edits_of(alloc, unit, index, file, rank, moved)?))
+}
+
+/// Adds the edits of a file of a package.
+fn add_file(
+    alloc: Global,
+    edits: &mut BTreeMap<Path, Edits>,
+    unit: Package<'_>,
+    index: &Index<'_>,
+    rank: usize,
+    moved: &Moved,
+) -> Result<(), AllocError>
+    requires index { IsIndexOf (package_of unit) index.now }
+    requires in_range { rank < length unit.files.now }
+    ensures { OnOk result (AddsEdits edits.old edits.new (AreEditsAt (package_of unit.entry) moved.now rank) (IsFileAt (package_of unit.entry) rank)) }
+{
+    let files = unit.files;
+    let file = &files[rank];
+    let found = edits_in(alloc, unit, index, file, rank, moved)?;
+    insert(edits, file, found)
+}
+
+/// Adds the edits of the files of a package.
+fn add_files(
+    alloc: Global,
+    edits: &mut BTreeMap<Path, Edits>,
+    unit: Package<'_>,
+    moved: &Moved,
+) -> Result<(), AllocError>
+    ensures { OnOk result (AddsEdits edits.old edits.new (AreEditsIn (package_of unit.entry) moved.now) (HasFileIn (package_of unit.entry))) }
+{
+    let index = Index::of(alloc, unit)?;
+    for rank in 0..unit.files.len() {
+        add_file(alloc, edits, unit, &index, rank, moved)?;
+    }
+    Ok(())
+}
+
+/// The path of a package, and its files.
+#[derive(Clone, Copy)]
+struct PackageFiles<'p, 'f> {
+    path: &'p SharedPath,
+    files: &'f [FileTree],
+}
+
+/// Adds the edits of the files of the package of a path.
+fn add_package_by(
+    alloc: Global,
+    edits: &mut BTreeMap<Path, Edits>,
+    of: &PackageFiles<'_, '_>,
+    table: &ScopeTable<'_>,
+    interfaces: &Interfaces,
+    moved: &Moved,
+) -> Result<(), AllocError>
+    ensures { let p = package_in of.now.path.now (map source_of of.now.files.now) table.now (interface_in interfaces.now) in
+        OnOk result (AddsEdits edits.old edits.new (AreEditsIn p moved.now) (HasFileIn p)) }
+{
+    let unit = Package {
+        path: of.path,
+        files: of.files,
+        table,
+        interfaces,
+    };
+    add_files(alloc, edits, unit, moved)
+}
+
+/// Adds the edits of the files of the package of a number.
+fn add_package(
+    alloc: Global,
+    edits: &mut BTreeMap<Path, Edits>,
+    graph: &Graph,
+    found: &Findings,
+    number: usize,
+    moved: &Moved,
+) -> Result<(), AllocError>
+    requires in_range { number < length (package_paths graph.now) }
+    requires sound { IsSound graph.now found.now }
+    ensures { OnOk result (KnowsEdits graph.now (known_in found.now) moved.now number edits.old → KnowsEdits graph.now (known_in found.now) moved.now (number + 1) edits.new) }
+{
+    let files = trees(graph, found, number);
+    let seen = seen(alloc, graph, number, &found.interfaces)?;
+    let table = laid_table(alloc, files, &seen)?;
+    let path = path_of(graph, found, number);
+    let of = PackageFiles { path, files };
+    add_package_by(alloc, edits, &of, &table, &seen, moved)
+}
+
+/// The edits of all Go files of a workspace without faults.
+pub(crate) fn all_edits(
+    alloc: Global,
+    graph: &Graph,
+    found: &Findings,
+    moved: &Moved,
+) -> Result<BTreeMap<Path, Edits>, AllocError>
+    requires { IsSound graph.now found.now }
+    ensures { IfOk result (KnowsEdits graph.now (known_in found.now) moved.now (length (package_paths graph.now))) }
+{
+    let mut edits = BTreeMap::new(alloc);
+    for number in 0..graph.len() {
+        add_package(alloc, &mut edits, graph, found, number, moved)?;
+    }
+    Ok(edits)
+}

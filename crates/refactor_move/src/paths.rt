@@ -1,0 +1,57 @@
+//! The paths of files in the folder that is moved.
+ghost use Rattle.std.specs.Prelude.{◌≡◌, ◌↔◌, ◌++◌, ◌∷◌, IsTrue, IfOk, MatchOption, string_bytes};
+ghost use Rattle.refactor_move.specs.Paths.{IsUnder};
+ghost use Rattle.refactor_move.specs.PathSteps.{ReadsNewPath, TellsNewPath};
+
+use crate::moved::Moved;
+use base_files::{Path, Refusal};
+use std::alloc::{AllocError, Global};
+
+/// What stands behind a folder and a slash in a path, if the path lies in the folder.
+fn rest_under<'a>(folder: &str, path: &'a str) -> Option<&'a str>
+    ensures { MatchOption result (IsUnder folder.now path.now → ⊥) (λ rest. path.now ≡ folder.now ++ 47 ∷ rest.now) }
+{
+    path.strip_prefix(folder)?.strip_prefix("/")
+}
+
+/// Whether a path lies in a folder.
+pub fn is_under(folder: &Path, path: &Path) -> bool
+    ensures { IsTrue result ↔ IsUnder folder.now path.now }
+{
+    rest_under(folder.as_str(), path.as_str()).is_some()
+}
+
+/// A path behind a folder and a slash.
+fn join(alloc: Global, folder: &str, rest: &str) -> Result<String, AllocError>
+    ensures { IfOk result (λ path. string_bytes path ≡ folder.now ++ 47 ∷ rest.now) }
+{
+    let mut path = folder.to_string(alloc)?;
+    path.push_str("/")?;
+    path.push_str(rest)?;
+    Ok(path)
+}
+
+/// The path of a file behind a folder and a slash, if that is one.
+fn path_in(alloc: Global, folder: &Path, rest: &str) -> Result<Path, Refusal>
+    ensures { ReadsNewPath folder.now rest.now result }
+{
+    let path = join(alloc, folder.as_str(), rest)?;
+    match Path::read(alloc, path.as_str(), 1) {
+        Ok(path) => Ok(path),
+        Err(Refusal::Memory) => Err(Refusal::Memory),
+        Err(_) => Err(Refusal::TooLarge),
+    }
+}
+
+/// The path that a file gets which lies in the folder that is moved.
+pub fn new_path(alloc: Global, moved: &Moved, path: &Path) -> Result<Option<Path>, Refusal>
+    ensures { TellsNewPath moved.now path.now result }
+{
+    match rest_under(moved.from.as_str(), path.as_str()) {
+        None => Ok(None),
+        Some(rest) => match path_in(alloc, &moved.to, rest) {
+            Ok(path) => Ok(Some(path)),
+            Err(refusal) => Err(refusal),
+        },
+    }
+}

@@ -1,0 +1,59 @@
+//! The new paths of packages that move, in double quotes.
+ghost use Rattle.std.specs.Prelude.{ℕ, List, ◌≡◌, ◌↔◌, ◌++◌, IsTrue, IfOk, MatchOption};
+ghost use Rattle.refactor_move.specs.Paths.{HasMovedPackage, quoted};
+ghost use Rattle.refactor_move.specs.PathSteps.{IsBehind};
+
+use crate::moved::Moved;
+use base_files::FileText;
+use std::alloc::{AllocError, Global};
+
+/// Whether nothing stands behind a folder, or a slash and more.
+fn is_behind(rest: &[u8]) -> bool
+    ensures { IsTrue result ↔ IsBehind rest.now }
+{
+    match rest.first() {
+        None => true,
+        Some(byte) => *byte == b'/',
+    }
+}
+
+/// What stands behind other bytes, if a text begins with these.
+fn rest_of<'a>(front: &[u8], text: &'a [u8]) -> Option<&'a [u8]>
+    ensures { MatchOption result ((rest : List ℕ) → text.now ≡ front.now ++ rest → ⊥) (λ rest. text.now ≡ front.now ++ rest.now) }
+{
+    text.strip_prefix(front)
+}
+
+/// What stands behind a folder in the path of a package there.
+fn package_rest<'a>(folder: &[u8], path: &'a [u8]) -> Option<&'a [u8]>
+    ensures { MatchOption result ((rest : List ℕ) → path.now ≡ folder.now ++ rest → IsBehind rest → ⊥) (λ rest. (path.now ≡ folder.now ++ rest.now) × IsBehind rest.now) }
+{
+    let rest = rest_of(folder, path)?;
+    if is_behind(rest) { Some(rest) } else { None }
+}
+
+/// A path of two parts in double quotes.
+fn quote(alloc: Global, folder: &[u8], rest: &[u8]) -> Result<FileText, AllocError>
+    ensures { IfOk result (λ text. text ≡ quoted (folder.now ++ rest.now)) }
+{
+    let mut text = Vec::from_slice(alloc, b"\"".as_slice())?;
+    text.extend_from_slice(folder)?;
+    text.extend_from_slice(rest)?;
+    text.push(b'"')?;
+    FileText::new(alloc, text)
+}
+
+/// The new path of a package in double quotes, if its path changes.
+pub fn quoted_path(
+    alloc: Global,
+    moved: &Moved,
+    path: &[u8],
+) -> Result<Option<FileText>, AllocError>
+    ensures { IfOk result (λ text. MatchOption text ((new : List ℕ) → HasMovedPackage moved.now.from moved.now.to path.now new → ⊥)
+        (λ text. (new : List ℕ) × (HasMovedPackage moved.now.from moved.now.to path.now new × (text ≡ quoted new)))) }
+{
+    match package_rest(moved.from.as_str().as_bytes(), path) {
+        None => Ok(None),
+        Some(rest) => Ok(Some(quote(alloc, moved.to.as_str().as_bytes(), rest)?)),
+    }
+}

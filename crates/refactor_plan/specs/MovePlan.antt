@@ -1,0 +1,127 @@
+-- What planning a move answers.
+use Rattle.std.specs.Prelude.{ℕ, ◌≡◌, ◌≢◌, ◌⊎◌, List, [], ⊤, Contains, IsSome, Result, Ok, Err}
+use Rattle.std.specs.FinMap as files
+use Rattle.base_files.specs.Packages.{package_paths}
+use Rattle.base_files.specs.Path.{IsPath}
+use Rattle.base_files.specs.Workspace.{Workspace}
+use Rattle.base_files.specs.declared.refusal.Refusal.{Refusal}
+use Rattle.base_files.specs.declared.refusal.Refusal.TheVariants.{Memory, BadPath, NoPackage, Same, InsideItself, TargetTaken, TooLarge, Faulty, Captured, Lost}
+use Rattle.workspace_check.specs.Verdicts.{Verdicts, AreVerdicts}
+use Rattle.workspace_check.specs.FaultLists.{ListsFaults}
+use Rattle.refs_binding.specs.Uses.{HasFirstFault}
+use Rattle.base_edits.specs.RevisionsOfEdits.{revision_of}
+use Rattle.refactor_preserve.specs.Preserved.{Preserves}
+use Rattle.refactor_conflict.specs.Refusals.{TellsConflict}
+use Rattle.base_edits.specs.EditSet.{FileChanges, edited}
+use Rattle.base_edits.specs.Fits.{Fits}
+use Rattle.workspace_snapshot.specs.Fits.{FitsLimits}
+use Rattle.workspace_snapshot.specs.declared.snapshot.Snapshot.{Snapshot}
+use Rattle.workspace_snapshot.specs.declared.change.Change.{Change}
+use Rattle.workspace_snapshot.specs.declared.change.ChangeKind.TheVariants.{Move}
+use Rattle.refactor_move.specs.Paths.{IsUnder}
+use Rattle.refactor_move.specs.MoveEdits.{AreMoveEdits, HasNoNewPath, IsFree}
+
+-- both are paths, the first that of a package
+pub record IsAsked (w : Workspace) (from to : List ℕ) : Type 0 where
+  pub source : IsPath 1 from
+  pub target : IsPath 1 to
+  pub is_package : Contains (package_paths w) from
+
+-- and the second is another one
+pub record IsElsewhere (w : Workspace) (from to : List ℕ) : Type 0 where
+  pub asked : IsAsked w from to
+  pub other : to ≢ from
+
+-- that does not lie in the folder of the first
+pub record IsBeside (w : Workspace) (from to : List ℕ) : Type 0 where
+  pub elsewhere : IsElsewhere w from to
+  pub outside : ¬ (IsUnder from to)
+
+-- and in whose folder no file lies
+pub record IsMovable (w : Workspace) (from to : List ℕ) : Type 0 where
+  pub beside : IsBeside w from to
+  pub free : IsFree w to
+
+-- and the workspace has no fault
+pub record IsWellAsked (w : Workspace) (from to : List ℕ) : Type 0 where
+  pub movable : IsMovable w from to
+  pub sound : ListsFaults w []
+
+-- some file lies in the folder
+pub record IsTaken (w : Workspace) (folder : List ℕ) : Type 0 where
+  pub path : List ℕ
+  pub is_file : IsSome (files.get w path)
+  pub under : IsUnder folder path
+
+-- these changes move the package
+pub record IsMoving (w : Workspace) (from to : List ℕ) (s : FileChanges) : Type 0 where
+  pub known : Verdicts
+  pub right : AreVerdicts w known
+  pub edits : AreMoveEdits w known from to to s
+
+-- these give it the name alone that it has there, and leave each file at its path
+pub record IsNaming (w : Workspace) (from to : List ℕ) (s : FileChanges) : Type 0 where
+  pub known : Verdicts
+  pub right : AreVerdicts w known
+  pub edits : AreMoveEdits w known from from to s
+
+-- the refusal names the first identifier that is told of these changes; the package where no identifier is there
+pub record IsToldOf (w : Workspace) (from : List ℕ) (s : FileChanges) (refusal : Refusal) : Type 0 where
+  pub known : Verdicts
+  pub right : AreVerdicts w known
+  pub tells : TellsConflict w known (revision_of w s) (record { path = from; offset = 0 }) refusal
+
+-- these changes do not preserve bindings
+pub record HasConflict (w : Workspace) (from to : List ℕ) (refusal : Refusal) : Type 0 where
+  pub changes : FileChanges
+  pub moving : IsMoving w from to changes
+  pub not_preserved : ¬ (Preserves w (revision_of w changes))
+  pub told : IsToldOf w from changes refusal
+
+-- a file would get too long a path, and the name alone already does not preserve bindings
+pub record HasNameConflict (w : Workspace) (from to : List ℕ) (refusal : Refusal) : Type 0 where
+  pub no_path : HasNoNewPath w from to
+  pub changes : FileChanges
+  pub naming : IsNaming w from to changes
+  pub not_preserved : ¬ (Preserves w (revision_of w changes))
+  pub told : IsToldOf w from changes refusal
+
+-- the name does, but a file would get too long a path
+pub record IsTooLong (w : Workspace) (from to : List ℕ) : Type 0 where
+  pub no_path : HasNoNewPath w from to
+  pub changes : FileChanges
+  pub naming : IsNaming w from to changes
+  pub preserves : Preserves w (revision_of w changes)
+
+-- bindings are preserved, but the files pass a limit
+pub record IsTooLarge (snapshot : Snapshot) (from to : List ℕ) : Type 0 where
+  pub changes : FileChanges
+  pub moving : IsMoving snapshot.files from to changes
+  pub preserves : Preserves snapshot.files (revision_of snapshot.files changes)
+  pub too_large : ¬ (FitsLimits snapshot.limits (edited changes snapshot.files))
+
+-- the change of the snapshot's files by edits that move the package and preserve bindings
+pub record IsMoved (snapshot : Snapshot) (from to : List ℕ) (change : Change) : Type 0 where
+  pub moving : IsMoving snapshot.files from to change.edits
+  pub preserves : Preserves snapshot.files (revision_of snapshot.files change.edits)
+  pub fits : FitsLimits snapshot.limits (edited change.edits snapshot.files)
+  pub fit_files : Fits change.edits snapshot.files
+  pub is_change : change ≡ record { base = snapshot.files; kind = Move; edits = change.edits; files = edited change.edits snapshot.files }
+
+-- Moving a package, or why it is not moved: the first reason that applies. Where a file would get too long a path there are no
+-- files to compare, and the name tells whether there is a conflict: bindings do not depend on what a path is.
+abbrev pub PlansMove : Snapshot → (from to : List ℕ) → Result Change Refusal → Type 0
+PlansMove snapshot from to (Ok change) = IsWellAsked snapshot.files from to × IsMoved snapshot from to change
+PlansMove snapshot from to (Err BadPath) = ¬ (IsPath 1 from × IsPath 1 to)
+PlansMove snapshot from to (Err NoPackage) = IsPath 1 from × IsPath 1 to × ¬ (Contains (package_paths snapshot.files) from)
+PlansMove snapshot from to (Err Same) = IsAsked snapshot.files from to × (to ≡ from)
+PlansMove snapshot from to (Err InsideItself) = IsElsewhere snapshot.files from to × IsUnder from to
+PlansMove snapshot from to (Err TargetTaken) = IsBeside snapshot.files from to × IsTaken snapshot.files to
+PlansMove snapshot from to (Err (Faulty place kind)) = IsMovable snapshot.files from to × HasFirstFault snapshot.files place kind
+PlansMove snapshot from to (Err (Captured used by)) =
+    IsWellAsked snapshot.files from to × (HasConflict snapshot.files from to (Captured used by) ⊎ HasNameConflict snapshot.files from to (Captured used by))
+PlansMove snapshot from to (Err (Lost used)) =
+    IsWellAsked snapshot.files from to × (HasConflict snapshot.files from to (Lost used) ⊎ HasNameConflict snapshot.files from to (Lost used))
+PlansMove snapshot from to (Err TooLarge) = IsWellAsked snapshot.files from to × (IsTooLong snapshot.files from to ⊎ IsTooLarge snapshot from to)
+PlansMove snapshot from to (Err Memory) = ⊤
+PlansMove snapshot from to (Err refusal) = ⊥

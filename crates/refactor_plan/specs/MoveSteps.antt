@@ -1,0 +1,83 @@
+-- What the steps of planning a move answer.
+use Rattle.std.specs.Prelude.{ℕ, ◌≡◌, ◌⊎◌, List, [], ⊤, Contains, Result, Ok, Err}
+use Rattle.base_files.specs.Packages.{package_paths}
+use Rattle.base_files.specs.Path.{IsPath}
+use Rattle.base_files.specs.Workspace.{Workspace}
+use Rattle.base_files.specs.declared.refusal.Refusal.{Refusal}
+use Rattle.base_files.specs.declared.refusal.Refusal.TheVariants.{Memory, NoPackage, Same, InsideItself, TargetTaken, TooLarge, Faulty, Captured, Lost}
+use Rattle.workspace_check.specs.declared.known.Known.{Known}
+use Rattle.workspace_check.specs.FaultLists.{ListsFaults}
+use Rattle.workspace_check.specs.Found.{KnowsVerdicts}
+use Rattle.refs_binding.specs.Uses.{HasFirstFault}
+use Rattle.base_edits.specs.RevisionsOfEdits.{revision_of}
+use Rattle.refactor_preserve.specs.Preserved.{Preserves}
+use Rattle.base_edits.specs.EditSet.{FileChanges, edited}
+use Rattle.workspace_snapshot.specs.Fits.{FitsLimits}
+use Rattle.workspace_snapshot.specs.declared.snapshot.Snapshot.{Snapshot}
+use Rattle.workspace_snapshot.specs.declared.change.Change.{Change}
+use Rattle.workspace_snapshot.specs.declared.change.ChangeKind.TheVariants.{Move}
+use Rattle.refactor_move.specs.Paths.{IsUnder}
+use Rattle.refactor_move.specs.MoveEdits.{IsFree}
+use Rattle.refactor_plan.specs.MovePlan.{IsToldOf, IsTaken, HasConflict, HasNameConflict, IsTooLong, IsTooLarge, IsMoved}
+
+-- both are paths
+pub record ArePaths (from to : List ℕ) : Type 0 where
+  pub source : IsPath 1 from
+  pub target : IsPath 1 to
+
+-- whether a package can be moved there, or why not
+abbrev pub RefusesTarget : Workspace → (from to : List ℕ) → Result (Unit {0}) Refusal → Type 0
+RefusesTarget w from to (Ok done) = Contains (package_paths w) from × ¬ (to ≡ from) × ¬ (IsUnder from to) × IsFree w to
+RefusesTarget w from to (Err NoPackage) = ¬ (Contains (package_paths w) from)
+RefusesTarget w from to (Err Same) = Contains (package_paths w) from × (to ≡ from)
+RefusesTarget w from to (Err InsideItself) = Contains (package_paths w) from × ¬ (to ≡ from) × IsUnder from to
+RefusesTarget w from to (Err TargetTaken) = Contains (package_paths w) from × ¬ (to ≡ from) × ¬ (IsUnder from to) × IsTaken w to
+RefusesTarget w from to (Err Memory) = ⊤
+RefusesTarget w from to (Err refusal) = ⊥
+
+-- the change that these edits make of a snapshot's files
+abbrev pub moving_by : Snapshot → FileChanges → Change
+moving_by snapshot s = record { base = snapshot.files; kind = Move; edits = s; files = edited s snapshot.files }
+
+-- bindings are not preserved, and this refusal tells of them
+abbrev pub IsConflict : Workspace → List ℕ → FileChanges → Refusal → Type 0
+IsConflict w from s refusal = (¬ (Preserves w (revision_of w s))) × IsToldOf w from s refusal
+
+-- whether bindings are preserved, with what is known of the edited workspace then, or that they are not
+abbrev pub RefusesConflict : Workspace → List ℕ → FileChanges → Result Known Refusal → Type 0
+RefusesConflict w from s (Ok known) = Preserves w (revision_of w s) × KnowsVerdicts (edited s w) known
+RefusesConflict w from s (Err (Captured used by)) = IsConflict w from s (Captured used by)
+RefusesConflict w from s (Err (Lost used)) = IsConflict w from s (Lost used)
+RefusesConflict w from s (Err Memory) = ⊤
+RefusesConflict w from s (Err refusal) = ⊥
+
+-- the same where the change is of no use, since a file would get too long a path
+abbrev pub RefusesLength : Workspace → List ℕ → FileChanges → Result Change Refusal → Type 0
+RefusesLength w from s (Ok change) = ⊥
+RefusesLength w from s (Err TooLarge) = Preserves w (revision_of w s)
+RefusesLength w from s (Err (Captured used by)) = IsConflict w from s (Captured used by)
+RefusesLength w from s (Err (Lost used)) = IsConflict w from s (Lost used)
+RefusesLength w from s (Err Memory) = ⊤
+RefusesLength w from s (Err refusal) = ⊥
+
+-- that change, unless it does not preserve bindings or passes a limit
+abbrev pub PlansEdits : Snapshot → List ℕ → FileChanges → Result Change Refusal → Type 0
+PlansEdits snapshot from s (Ok change) =
+    Preserves snapshot.files (revision_of snapshot.files s) × FitsLimits snapshot.limits (edited s snapshot.files) × (change ≡ moving_by snapshot s)
+PlansEdits snapshot from s (Err (Captured used by)) = IsConflict snapshot.files from s (Captured used by)
+PlansEdits snapshot from s (Err (Lost used)) = IsConflict snapshot.files from s (Lost used)
+PlansEdits snapshot from s (Err TooLarge) = Preserves snapshot.files (revision_of snapshot.files s) × ¬ (FitsLimits snapshot.limits (edited s snapshot.files))
+PlansEdits snapshot from s (Err Memory) = ⊤
+PlansEdits snapshot from s (Err refusal) = ⊥
+
+-- what planning answers where the package can be moved there
+abbrev pub PlansIn : Snapshot → (from to : List ℕ) → Result Change Refusal → Type 0
+PlansIn snapshot from to (Ok change) = ListsFaults snapshot.files [] × IsMoved snapshot from to change
+PlansIn snapshot from to (Err (Faulty place kind)) = HasFirstFault snapshot.files place kind
+PlansIn snapshot from to (Err (Captured used by)) =
+    ListsFaults snapshot.files [] × (HasConflict snapshot.files from to (Captured used by) ⊎ HasNameConflict snapshot.files from to (Captured used by))
+PlansIn snapshot from to (Err (Lost used)) =
+    ListsFaults snapshot.files [] × (HasConflict snapshot.files from to (Lost used) ⊎ HasNameConflict snapshot.files from to (Lost used))
+PlansIn snapshot from to (Err TooLarge) = ListsFaults snapshot.files [] × (IsTooLong snapshot.files from to ⊎ IsTooLarge snapshot from to)
+PlansIn snapshot from to (Err Memory) = ⊤
+PlansIn snapshot from to (Err refusal) = ⊥

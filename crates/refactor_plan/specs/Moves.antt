@@ -1,0 +1,37 @@
+-- What a move that was planned and admitted does to a history.
+use Rattle.std.specs.Prelude.{ℕ, ◌≡◌, List, Ok}
+use Rattle.base_edits.specs.EditSet.{edited}
+use Rattle.workspace_snapshot.specs.declared.snapshot.Snapshot.{Snapshot}
+use Rattle.workspace_snapshot.specs.declared.change.Change.{Change}
+use Rattle.base_edits.specs.RevisionsOfEdits.{revision_of}
+use Rattle.refactor_preserve.specs.Preserved.{Preserves}
+use Rattle.refactor_plan.specs.MovePlan.{PlansMove, IsMoving}
+use Rattle.history_machine.specs.declared.event.Event.{Event}
+use Rattle.history_machine.specs.declared.event.Event.TheVariants.{Commit, Undo}
+use Rattle.history_machine.specs.declared.event.Reply.{Reply}
+use Rattle.history_machine.specs.declared.event.Reply.TheVariants.{Done}
+use Rattle.history_machine.specs.State.{State}
+use Rattle.history_machine.specs.Machine.{Machine}
+use Rattle.history_machine.specs.Step.{Step}
+use Rattle.history_machine.specs.Run.{Run, IsQuiet, Restores}
+
+-- the state behind has the files of edits that move the package of the state before, and bindings are preserved
+pub record HasMovedExactly (from to : List ℕ) (change : Change) (before after : State) : Type 0 where
+  pub moving : IsMoving before.files from to change.edits
+  pub files : after.files ≡ edited change.edits before.files
+  pub preserves : Preserves before.files (revision_of before.files change.edits)
+
+abbrev pub MovesKeepBindings : Type 0
+MovesKeepBindings = (snapshot : Snapshot) (from to : List ℕ) (change : Change) (old new : Machine) (basis number : ℕ)
+    → PlansMove snapshot from to (Ok change)
+    → Step old (Commit basis change) (Done number) new
+    → HasMovedExactly from to change old.current new.current
+
+abbrev pub UndoTakesMovesBack : Type 0
+UndoTakesMovesBack = (snapshot : Snapshot) (from to : List ℕ) (change : Change) (start changed settled end : Machine) (basis number : ℕ)
+    (between : List (Event × Reply)) (reply : Reply)
+    → PlansMove snapshot from to (Ok change)
+    → Step start (Commit basis change) (Done number) changed
+    → Run changed between settled → IsQuiet between
+    → Step settled (Undo settled.current.number) reply end
+    → Restores start.current settled reply end

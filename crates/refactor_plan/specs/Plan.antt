@@ -1,0 +1,113 @@
+-- What planning a rename answers.
+use Rattle.std.specs.Prelude.{ℕ, ◌≡◌, ◌⊎◌, List, [], ⊤, None, Result, Ok, Err}
+use Rattle.std.specs.FinMap as files
+use Rattle.base_files.specs.Path.{IsPath}
+use Rattle.base_files.specs.Workspace.{Workspace}
+use Rattle.base_files.specs.declared.refusal.Refusal.{Refusal}
+use Rattle.base_files.specs.declared.refusal.Refusal.TheVariants.{Memory, BadPath, NoFile, TooLarge, Faulty, NoIdentifier, NotRenamable, BadName, Same}
+use Rattle.base_files.specs.declared.refusal.Refusal.TheVariants.{Captured, Lost}
+use Rattle.workspace_check.specs.Verdicts.{Verdicts, AreVerdicts}
+use Rattle.workspace_check.specs.FaultLists.{ListsFaults}
+use Rattle.refs_binding.specs.declared.declaration.Declaration.{Declaration}
+use Rattle.refs_binding.specs.Uses.{IsPackage, IsFile, HasDeclaration, HasNoIdentifier, HasNoDeclaration, HasFirstFault}
+use Rattle.refs_binding.specs.Called.{IsCalled}
+use Rattle.base_edits.specs.RevisionsOfEdits.{revision_of}
+use Rattle.refactor_preserve.specs.Preserved.{Preserves}
+use Rattle.refactor_conflict.specs.Refusals.{TellsConflict}
+use Rattle.base_edits.specs.EditSet.{FileChanges, edited}
+use Rattle.base_edits.specs.Fits.{Fits}
+use Rattle.workspace_snapshot.specs.Fits.{FitsLimits}
+use Rattle.workspace_snapshot.specs.declared.snapshot.Snapshot.{Snapshot}
+use Rattle.workspace_snapshot.specs.declared.change.Change.{Change}
+use Rattle.workspace_snapshot.specs.declared.change.ChangeKind.TheVariants.{Rename}
+use Rattle.refactor_rename.specs.NewName.{IsNewName}
+use Rattle.refactor_rename.specs.Naming.{IsFixed, IsReservedFor}
+use Rattle.refactor_rename.specs.RenameEdits.{AreRenameEdits}
+
+-- the arguments have their forms, the file is there, and the workspace has no fault
+pub record IsWellAsked (w : Workspace) (path name : List ℕ) : Type 0 where
+  pub file : IsFile w path
+  pub form : IsNewName name
+  pub sound : ListsFaults w []
+
+-- what holds the byte is bound to a declaration
+pub record IsAsked (w : Workspace) (path : List ℕ) (offset : ℕ) : Type 0 where
+  pub known : Verdicts
+  pub right : AreVerdicts w known
+  pub declaration : Declaration
+  pub has : HasDeclaration w known path offset declaration
+
+-- to one that cannot be renamed
+pub record IsAskedFixed (w : Workspace) (path : List ℕ) (offset : ℕ) : Type 0 where
+  pub asked : IsAsked w path offset
+  pub fixed : IsFixed (IsPackage w asked.known) asked.declaration
+
+-- to one that can
+pub record IsRenamable (w : Workspace) (path : List ℕ) (offset : ℕ) : Type 0 where
+  pub asked : IsAsked w path offset
+  pub not_fixed : ¬ (IsFixed (IsPackage w asked.known) asked.declaration)
+
+-- but may not have that name
+pub record IsAskedReserved (w : Workspace) (path : List ℕ) (offset : ℕ) (name : List ℕ) : Type 0 where
+  pub renamable : IsRenamable w path offset
+  pub reserved : IsReservedFor (IsPackage w renamable.asked.known) renamable.asked.declaration name
+
+-- to one that may have that name
+pub record MayBeCalled (w : Workspace) (path : List ℕ) (offset : ℕ) (name : List ℕ) : Type 0 where
+  pub renamable : IsRenamable w path offset
+  pub allowed : ¬ (IsReservedFor (IsPackage w renamable.asked.known) renamable.asked.declaration name)
+
+-- but has it already
+pub record IsAskedSame (w : Workspace) (path : List ℕ) (offset : ℕ) (name : List ℕ) : Type 0 where
+  pub may : MayBeCalled w path offset name
+  pub called : IsCalled (IsPackage w may.renamable.asked.known) may.renamable.asked.declaration name
+
+-- these changes give it that name
+pub record IsRenaming (w : Workspace) (path : List ℕ) (offset : ℕ) (name : List ℕ) (s : FileChanges) : Type 0 where
+  pub may : MayBeCalled w path offset name
+  pub other : ¬ (IsCalled (IsPackage w may.renamable.asked.known) may.renamable.asked.declaration name)
+  pub edits : AreRenameEdits w may.renamable.asked.known may.renamable.asked.declaration name s
+
+-- these changes do not preserve bindings, and the refusal names the first identifier that is told of them; the byte where no
+-- identifier is there
+pub record HasConflict (w : Workspace) (path : List ℕ) (offset : ℕ) (name : List ℕ) (refusal : Refusal) : Type 0 where
+  pub changes : FileChanges
+  pub renaming : IsRenaming w path offset name changes
+  pub not_preserved : ¬ (Preserves w (revision_of w changes))
+  pub known : Verdicts
+  pub right : AreVerdicts w known
+  pub told : TellsConflict w known (revision_of w changes) (record { path = path; offset = offset }) refusal
+
+-- bindings are preserved, but the files pass a limit
+pub record IsTooLarge (snapshot : Snapshot) (path : List ℕ) (offset : ℕ) (name : List ℕ) : Type 0 where
+  pub changes : FileChanges
+  pub renaming : IsRenaming snapshot.files path offset name changes
+  pub preserves : Preserves snapshot.files (revision_of snapshot.files changes)
+  pub too_large : ¬ (FitsLimits snapshot.limits (edited changes snapshot.files))
+
+-- the change of the snapshot's files by edits that give the name and preserve bindings
+pub record IsRenamed (snapshot : Snapshot) (path : List ℕ) (offset : ℕ) (name : List ℕ) (change : Change) : Type 0 where
+  pub renaming : IsRenaming snapshot.files path offset name change.edits
+  pub preserves : Preserves snapshot.files (revision_of snapshot.files change.edits)
+  pub fits : FitsLimits snapshot.limits (edited change.edits snapshot.files)
+  pub fit_files : Fits change.edits snapshot.files
+  pub is_change : change ≡ record { base = snapshot.files; kind = Rename; edits = change.edits; files = edited change.edits snapshot.files }
+
+-- Renaming what holds a byte, or why it is not renamed: the first reason that applies.
+abbrev pub PlansRename : Snapshot → List ℕ → ℕ → List ℕ → Result Change Refusal → Type 0
+PlansRename snapshot path offset name (Ok change) = IsWellAsked snapshot.files path name × IsRenamed snapshot path offset name change
+PlansRename snapshot path offset name (Err BadPath) = ¬ (IsPath 2 path)
+PlansRename snapshot path offset name (Err BadName) =
+    (IsPath 2 path × ¬ (IsNewName name)) ⊎ (IsWellAsked snapshot.files path name × IsAskedReserved snapshot.files path offset name)
+PlansRename snapshot path offset name (Err NoFile) = IsPath 2 path × IsNewName name × (files.get snapshot.files path ≡ None)
+PlansRename snapshot path offset name (Err (Faulty place kind)) = IsFile snapshot.files path × IsNewName name × HasFirstFault snapshot.files place kind
+PlansRename snapshot path offset name (Err NoIdentifier) = IsWellAsked snapshot.files path name × HasNoIdentifier snapshot.files path offset
+PlansRename snapshot path offset name (Err NotRenamable) =
+    IsWellAsked snapshot.files path name × (HasNoDeclaration snapshot.files path offset ⊎ IsAskedFixed snapshot.files path offset)
+PlansRename snapshot path offset name (Err Same) = IsWellAsked snapshot.files path name × IsAskedSame snapshot.files path offset name
+PlansRename snapshot path offset name (Err (Captured used by)) = IsWellAsked snapshot.files path name ×
+    HasConflict snapshot.files path offset name (Captured used by)
+PlansRename snapshot path offset name (Err (Lost used)) = IsWellAsked snapshot.files path name × HasConflict snapshot.files path offset name (Lost used)
+PlansRename snapshot path offset name (Err TooLarge) = IsWellAsked snapshot.files path name × IsTooLarge snapshot path offset name
+PlansRename snapshot path offset name (Err Memory) = ⊤
+PlansRename snapshot path offset name (Err refusal) = ⊥

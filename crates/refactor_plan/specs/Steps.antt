@@ -1,0 +1,61 @@
+-- What the steps of planning a rename answer.
+use Rattle.std.specs.Prelude.{ℕ, ◌≡◌, ◌⊎◌, List, [], ⊤, Result, Ok, Err}
+use Rattle.base_files.specs.declared.place.Place.{Place}
+use Rattle.base_files.specs.declared.refusal.Refusal.{Refusal}
+use Rattle.base_files.specs.declared.refusal.Refusal.TheVariants.{Memory, TooLarge, Faulty, NoIdentifier, NotRenamable, BadName, Same, Captured, Lost}
+use Rattle.workspace_check.specs.Verdicts.{Verdicts}
+use Rattle.workspace_check.specs.FaultLists.{ListsFaults}
+use Rattle.refs_binding.specs.declared.declaration.Declaration.{Declaration}
+use Rattle.refs_binding.specs.Uses.{HasNoIdentifier, HasNoDeclaration, HasFirstFault}
+use Rattle.base_edits.specs.RevisionsOfEdits.{revision_of}
+use Rattle.refactor_preserve.specs.Preserved.{Preserves}
+use Rattle.refactor_conflict.specs.Refusals.{TellsConflict}
+use Rattle.base_edits.specs.EditSet.{FileChanges, edited}
+use Rattle.base_edits.specs.Fits.{Fits}
+use Rattle.workspace_snapshot.specs.Fits.{FitsLimits}
+use Rattle.workspace_snapshot.specs.declared.snapshot.Snapshot.{Snapshot}
+use Rattle.workspace_snapshot.specs.declared.change.Change.{Change}
+use Rattle.workspace_snapshot.specs.declared.change.ChangeKind.TheVariants.{Rename}
+use Rattle.refactor_rename.specs.RenameEdits.{AreRenameEdits}
+use Rattle.refactor_plan.specs.Plan.{IsAskedFixed, IsAskedReserved, IsAskedSame, HasConflict, IsTooLarge, IsRenamed}
+
+-- the change that these edits make of a snapshot's files
+abbrev pub renaming_by : Snapshot → FileChanges → Change
+renaming_by snapshot s = record { base = snapshot.files; kind = Rename; edits = s; files = edited s snapshot.files }
+
+-- these edits do not preserve bindings, and this refusal tells of them
+abbrev pub IsConflict : Snapshot → Verdicts → Place → FileChanges → Refusal → Type 0
+IsConflict snapshot known asked s refusal =
+    (¬ (Preserves snapshot.files (revision_of snapshot.files s))) × TellsConflict snapshot.files known (revision_of snapshot.files s) asked refusal
+
+-- that change, unless it does not preserve bindings or passes a limit
+abbrev pub PlansEdits : Snapshot → Verdicts → Place → FileChanges → Result Change Refusal → Type 0
+PlansEdits snapshot known asked s (Ok change) =
+    Preserves snapshot.files (revision_of snapshot.files s) × FitsLimits snapshot.limits (edited s snapshot.files) × (change ≡ renaming_by snapshot s)
+PlansEdits snapshot known asked s (Err (Captured used by)) = IsConflict snapshot known asked s (Captured used by)
+PlansEdits snapshot known asked s (Err (Lost used)) = IsConflict snapshot known asked s (Lost used)
+PlansEdits snapshot known asked s (Err TooLarge) = Preserves snapshot.files (revision_of snapshot.files s) ×
+    ¬ (FitsLimits snapshot.limits (edited s snapshot.files))
+PlansEdits snapshot known asked s (Err Memory) = ⊤
+PlansEdits snapshot known asked s (Err refusal) = ⊥
+
+-- the same of the edits that give a declaration a name, unless there was no memory for them
+abbrev pub PlansDeclaration : Snapshot → Verdicts → Place → Declaration → List ℕ → Result Change Refusal → Type 0
+PlansDeclaration snapshot known asked d name result =
+    (result ≡ Err Memory) ⊎ ((s : FileChanges) × (AreRenameEdits snapshot.files known d name s ×
+    (Fits s snapshot.files × PlansEdits snapshot known asked s result)))
+
+-- what planning answers where the arguments have their forms and the file is there
+abbrev pub PlansIn : Snapshot → List ℕ → ℕ → List ℕ → Result Change Refusal → Type 0
+PlansIn snapshot path offset name (Ok change) = ListsFaults snapshot.files [] × IsRenamed snapshot path offset name change
+PlansIn snapshot path offset name (Err (Faulty place kind)) = HasFirstFault snapshot.files place kind
+PlansIn snapshot path offset name (Err NoIdentifier) = ListsFaults snapshot.files [] × HasNoIdentifier snapshot.files path offset
+PlansIn snapshot path offset name (Err NotRenamable) = ListsFaults snapshot.files [] ×
+    (HasNoDeclaration snapshot.files path offset ⊎ IsAskedFixed snapshot.files path offset)
+PlansIn snapshot path offset name (Err BadName) = ListsFaults snapshot.files [] × IsAskedReserved snapshot.files path offset name
+PlansIn snapshot path offset name (Err Same) = ListsFaults snapshot.files [] × IsAskedSame snapshot.files path offset name
+PlansIn snapshot path offset name (Err (Captured used by)) = ListsFaults snapshot.files [] × HasConflict snapshot.files path offset name (Captured used by)
+PlansIn snapshot path offset name (Err (Lost used)) = ListsFaults snapshot.files [] × HasConflict snapshot.files path offset name (Lost used)
+PlansIn snapshot path offset name (Err TooLarge) = ListsFaults snapshot.files [] × IsTooLarge snapshot path offset name
+PlansIn snapshot path offset name (Err Memory) = ⊤
+PlansIn snapshot path offset name (Err refusal) = ⊥

@@ -1,0 +1,12 @@
+-- The lemmas of this crate.
+pub mod Alignment
+pub mod Every
+pub mod Resolving
+pub mod Deciding
+pub mod Laid
+pub mod ReadingOn
+pub mod Unaffected
+pub mod Marked
+pub mod Losing
+pub mod UnaffectedPackages
+pub mod MarkedClosure

@@ -1,0 +1,221 @@
+-- The marked packages of two workspaces tell that all bindings are kept.
+use Rattle.std.proofs.Common.{ℕ, ◌≡◌, inl, inr, Bool, true, false, List, get_or, refl, sym, ap, subst, ◌∙◌}
+use Rattle.std.specs.Prelude.{Option, Some, None, ◌↔◌, Contains, slice_get, IfSome}
+use Rattle.std.specs.Borrow.{Bor}
+use Rattle.std.specs.Option.{option_copied}
+use Rattle.std.proofs.lemmas.Bool.{true≢false}
+use Rattle.std.proofs.lemmas.Option.{none-some, same_Some}
+use Rattle.base_files.specs.Packages.{package_paths}
+use Rattle.base_files.specs.Path.{folder}
+use Rattle.base_files.specs.Workspace.{Workspace}
+use Rattle.base_files.specs.declared.place.Place.{Place}
+use Rattle.base_edits.specs.EditSet.{FileChanges, edited}
+use Rattle.base_edits.specs.Moved.{moved}
+use Rattle.workspace_graph.specs.Search.{IsMarked}
+use Rattle.workspace_graph.proofs.Asked.{number}
+use Rattle.types_declared.specs.Package.{Package}
+use Rattle.workspace_check.specs.Verdicts.{Verdicts, AreVerdicts}
+use Rattle.refs_binding.specs.declared.bound_spot.BoundSpot.{BoundSpot}
+use Rattle.refs_binding.specs.declared.declaration.Declaration.{Declaration}
+use Rattle.refs_binding.specs.declared.declaration.Declaration.TheVariants.{Predeclared, Declared, Field, Method}
+use Rattle.refs_binding.specs.Bindings.{place_at}
+use Rattle.refs_binding.specs.Uses.{IsPackage, IsUseOf}
+use Rattle.refs_binding.specs.Workspaces.{IsPackageAt, known_in}
+use Rattle.refs_binding.specs.Standing.{StandsIn, IsDeclaredAt}
+use Rattle.refs_binding.proofs.PackageNumbers.{in_package}
+use Rattle.refs_binding.proofs.Folders.{begins_in_folder}
+use Rattle.base_edits.specs.Revisions.{Revision}
+use Rattle.base_edits.specs.RevisionsOfEdits.{called_by, revision_of}
+use Rattle.refactor_preserve.specs.Affected.{AreAffected}
+use Rattle.refactor_preserve.specs.declared.among.MarkedPackages.{MarkedPackages}
+use Rattle.refs_places.specs.declared.declared_places.DeclaredPlaces.{DeclaredPlaces}
+use Rattle.refs_index.specs.Corresponding.{stands}
+use Rattle.refs_index.specs.Sound.{packages_of}
+use Rattle.refactor_preserve.specs.Among.{AreHeldOf, BothGo, view_among, IsBoundMarked, IsBoundThere, IsIdentifierAmong, BecomesAmong, AllWereAmong}
+use Rattle.refactor_preserve.specs.Among.{AddsNoneAmong, KeepsMarked, AddsMarked}
+use Rattle.refs_places.specs.DeclaredPlaces.{IsFoundIn, AreDeclaredIn, AreDeclaredAt, IsPlaceIn}
+use Rattle.refs_places.specs.Outside.{path_by}
+use Rattle.refactor_preserve.specs.BoundToOne.{IsBoundToOne}
+use Rattle.refactor_preserve.specs.Preserved.{KeepsBindings}
+use Rattle.refs_places.specs.Identified.{IsIdentifierAt}
+use Rattle.refactor_preserve.specs.Steps.{HasBound, IsBoundBy}
+use Rattle.refs_index.specs.Becoming.{Becomes as Becoming_to}
+use Rattle.refactor_preserve.proofs.Every.{spot_at}
+use Rattle.refactor_preserve.proofs.Unaffected.{Becoming, unaffected_becomes, unaffected_keeps, unaffected_adds}
+
+-- a bound identifier of a marked package is one of the workspace, and begins in the folder of the package
+pub among_use : (s : MarkedPackages) (b : BoundSpot) → IsBoundMarked s b → IsUseOf s.graph.now (known_in s.found.now) b.declaration (place_at b)
+among_use s b h = record {
+  used_in = h.bound.used_in;
+  is_package = h.bound.is_package.is_package;
+  user = h.bound.bound.0;
+  begins = h.bound.bound.1.0;
+  bound = h.bound.bound.1.1;
+}
+
+-- and the other way round
+pub use_among : (s : MarkedPackages) (d : Declaration) (place : Place) (n : ℕ) → slice_get (package_paths s.graph.now) n ≡ Some (folder place.path) →
+    IsMarked s.marks.now n → IsUseOf s.graph.now (known_in s.found.now) d place → IsBoundMarked s (spot_at d place)
+use_among s d place n at marked h =
+    let own = begins_in_folder s.graph.now (known_in s.found.now) h.used_in h.is_package place.path place.offset h.user h.begins in
+    record {
+      number = n;
+      is_of = marked;
+      bound = record {
+        used_in = h.used_in;
+        is_package = record { has_number = at ∙ ap Some (sym own); is_package = h.is_package };
+        bound = (h.user, (h.begins, h.bound));
+      };
+    }
+
+-- the same of identifiers
+identifier_among : (w : Workspace) (known : Verdicts) (marks : List Bool) (place : Place) (n : ℕ) → slice_get (package_paths w) n ≡ Some (folder place.path) →
+    IsMarked marks n → IsIdentifierAt w known place → IsIdentifierAmong w known marks place
+identifier_among w known marks place n at marked h =
+    let own = begins_in_folder w known h.used_in h.is_package place.path place.offset h.user h.begins in
+    record {
+      number = n;
+      marked = marked;
+      begins = record {
+        used_in = h.used_in;
+        is_package = record { has_number = at ∙ ap Some (sym own); is_package = h.is_package };
+        user = h.user;
+        begins = h.begins;
+      };
+    }
+
+-- what is bound to one of which P holds is bound to one of which Q does
+bound_as : (w : Workspace) (known : Verdicts) (place : Place) (P Q : Declaration → Type 0) →
+    ((d : Declaration) → IsUseOf w known d place → P d → Q d) → IsBoundToOne w known place P → IsBoundToOne w known place Q
+bound_as w known place P Q to h = record { declaration = h.declaration; is_use = h.is_use; holds = to h.declaration h.is_use h.holds }
+
+module _ (before then : MarkedPackages) (s : FileChanges) (right : AreVerdicts before.graph.now (known_in before.found.now))
+    (also : AreVerdicts then.graph.now (known_in then.found.now))
+    (are : AreAffected before.graph.now before.graph.now then.graph.now s before.marks.now) where
+  abbrev Becomes : Declaration → Declaration → Type 0
+  Becomes d e = Becoming before.graph.now then.graph.now s (known_in before.found.now) (known_in then.found.now) right also d e
+
+  becomes : (d e : Declaration) (place : Place) → IsUseOf before.graph.now (known_in before.found.now) d place →
+      BecomesAmong before then (moved s) d e → Becomes d e
+  becomes d e place is (inl h) = h
+  becomes d e place is (inr h) =
+      let o = h.1 in
+      let free = are.unaffected o.number o.path o.has_number o.unmarked in
+      subst (Becomes d) h.0
+      (unaffected_becomes before.graph.now then.graph.now s (known_in before.found.now) (known_in then.found.now) right also o.path free d o.of_path place is)
+
+  keeps_use : (n : ℕ) (place : Place) (d : Declaration) → slice_get (package_paths before.graph.now) n ≡ Some (folder place.path) →
+      (mark : Bool) → get_or before.marks.now n false ≡ mark → KeepsMarked before then (moved s) →
+      IsUseOf before.graph.now (known_in before.found.now) d place → IsBoundToOne then.graph.now (known_in then.found.now) (moved s place) (Becomes d)
+  keeps_use n place d at true marked keeps is =
+      bound_as then.graph.now (known_in then.found.now) (moved s place) (λ e. BecomesAmong before then (moved s) d e) (Becomes d)
+      (λ e there b. becomes d e place is b) (keeps (spot_at d place) (use_among before d place n at marked is))
+  keeps_use n place d at false unmarked keeps is =
+      unaffected_keeps before.graph.now then.graph.now s (known_in before.found.now) (known_in then.found.now) right also place d
+      (are.unaffected n (folder place.path) at (λ t. true≢false (sym t ∙ unmarked))) is
+
+  adds_use : (n : ℕ) (place : Place) (e : Declaration) → slice_get (package_paths before.graph.now) n ≡ Some (folder place.path) →
+      (mark : Bool) → get_or before.marks.now n false ≡ mark → AddsMarked before then (moved s) →
+      IsIdentifierAt before.graph.now (known_in before.found.now) place →
+      IsUseOf then.graph.now (known_in then.found.now) e (moved s place) →
+      IsBoundToOne before.graph.now (known_in before.found.now) place (λ d. Becomes d e)
+  adds_use n place e at true marked adds i is =
+      bound_as before.graph.now (known_in before.found.now) place (λ d. BecomesAmong before then (moved s) d e) (λ d. Becomes d e)
+      (λ d here b. becomes d e place here b)
+      (adds place (identifier_among before.graph.now (known_in before.found.now) before.marks.now place n at marked i) e is)
+  adds_use n place e at false unmarked adds i is =
+      unaffected_adds before.graph.now then.graph.now s (known_in before.found.now) (known_in then.found.now) right also place e
+      (are.unaffected n (folder place.path) at (λ t. true≢false (sym t ∙ unmarked))) i is
+
+  identifier_folder : (place : Place) → IsIdentifierAt before.graph.now (known_in before.found.now) place →
+      (n : ℕ) × (slice_get (package_paths before.graph.now) n ≡ Some (folder place.path))
+  identifier_folder place i =
+      let own = begins_in_folder before.graph.now (known_in before.found.now) i.used_in i.is_package place.path place.offset i.user i.begins in
+      number before.graph.now (folder place.path) (subst (Contains (package_paths before.graph.now)) own i.is_package.of_workspace)
+
+  abbrev revision_to : Workspace → Revision
+  revision_to x = record { after = x; moved = moved s; called = called_by s }
+
+  all_kept : KeepsMarked before then (moved s) → AddsMarked before then (moved s) →
+      KeepsBindings before.graph.now (known_in before.found.now) (revision_to then.graph.now) (known_in then.found.now)
+  all_kept keeps adds = record {
+    keeps = λ place d is.
+        let i : IsIdentifierAt before.graph.now (known_in before.found.now) place =
+        record { used_in = is.used_in; is_package = is.is_package; user = is.user; begins = is.begins } in
+        let n = identifier_folder place i in
+        keeps_use n.0 place d n.1 (get_or before.marks.now n.0 false) refl keeps is;
+    adds_none = λ place e i is.
+        let n = identifier_folder place i in
+        adds_use n.0 place e n.1 (get_or before.marks.now n.0 false) refl adds i is;
+  }
+
+  -- where each identifier of the marked packages is kept, and none is bound to more, all bindings are kept
+  pub kept_by_marked : then.graph.now ≡ edited s before.graph.now → KeepsMarked before then (moved s) → AddsMarked before then (moved s) →
+      KeepsBindings before.graph.now (known_in before.found.now) (revision_of before.graph.now s) (known_in then.found.now)
+  kept_by_marked same keeps adds =
+      subst (λ x. KeepsBindings before.graph.now (known_in before.found.now) (revision_to x) (known_in then.found.now)) same (all_kept keeps adds)
+
+-- the package of the folder of a place is marked
+abbrev pub IsMarkedFolder : MarkedPackages → Place → Type 0
+IsMarkedFolder s place = (n : ℕ) × (slice_get (package_paths s.graph.now) n ≡ Some (folder place.path)) × IsMarked s.marks.now n
+
+-- those that begin at a place
+pub bound_among : (s : MarkedPackages) (place : Place) (P : Declaration → Type 0) (here : List BoundSpot) →
+    ((b : BoundSpot) → Contains here b ↔ IsBoundThere s place b) → HasBound P here → IsBoundBy (view_among s) place P
+bound_among s place P here each h =
+    let is = (each h.one).0 h.listed in
+    record {
+      declaration = h.one.declaration;
+      is_use = subst (IsUseOf s.graph.now (known_in s.found.now) h.one.declaration) is.1 (among_use s h.one is.0);
+      holds = h.holds;
+    }
+
+pub were_among : (before then : MarkedPackages) (moved : Place → Place) (place : Place) (old new : List BoundSpot) → IsMarkedFolder then (moved place) →
+    ((b : BoundSpot) → Contains old b ↔ IsBoundThere before place b) → ((b : BoundSpot) → Contains new b ↔ IsBoundThere then (moved place) b) →
+    AllWereAmong before then moved old new → AddsNoneAmong before then moved place
+were_among before then moved place old new within each_old each_new all e is =
+    let b = spot_at e (moved place) in
+    bound_among before place (λ d. BecomesAmong before then moved d e) old each_old
+    (all b ((each_new b).1 (use_among then e (moved place) within.0 within.1 within.2 is, refl)))
+
+pub both_ways : (all here : List BoundSpot) (s : MarkedPackages) (place : Place) (b : BoundSpot) → Contains all b ↔ IsBoundMarked s b →
+    Contains here b ↔ (Contains all b × (place_at b ≡ place)) → Contains here b ↔ IsBoundThere s place b
+both_ways all here s place b are some = ((λ h. let x = some.0 h in (are.0 x.0, x.1)), (λ h. some.1 (are.1 h.0, h.1)))
+
+-- what stands in the package of its path is declared there
+declared_in : (w : Workspace) (known : Verdicts) (n : ℕ) (p : Package) (path : List ℕ) (d : Declaration) (place : Place) → IsPackageAt w known n p →
+    slice_get (package_paths w) n ≡ Some path → path_by d ≡ Some path → StandsIn p d place → IsDeclaredAt (IsPackage w known) d place
+declared_in w known n p path (Predeclared m) place is at of h = absurd (none-some path of)
+declared_in w known n p path (Declared q m) place is at of h =
+    in_package w known n p q (λ c. StandsIn c (Declared q m) place) is (at ∙ sym of) h
+declared_in w known n p path (Field s) place is at of h =
+    in_package w known n p s.package (λ c. StandsIn c (Field s) place) is (at ∙ sym of) h
+declared_in w known n p path (Method s) place is at of h =
+    in_package w known n p s.package (λ c. StandsIn c (Method s) place) is (at ∙ sym of) h
+
+some_found : {X : Type 0} (P Q : X → Type 0) (o : Option (Bor X)) → ((x : X) → P x → Q x) → IsFoundIn P o → IfSome o (λ x. Q x.now)
+some_found P Q None to h = tt
+some_found P Q (Some x) to h = to x.now h
+
+-- where a declaration of a marked package stands
+pub place_among : (w : Workspace) (known : Verdicts) (marks : List Bool) (all : List (Option DeclaredPlaces)) (n : ℕ) (path : List ℕ) (d : Declaration)
+    (places : DeclaredPlaces) (o : Option (Bor Place)) → AreHeldOf w known marks all → slice_get (package_paths w) n ≡ Some path → path_by d ≡ Some path →
+    slice_get all n ≡ Some (Some places) → ((p : Package) → AreDeclaredIn p places → IsPlaceIn p d o) →
+    IfSome o (λ place. IsDeclaredAt (IsPackage w known) d place.now)
+place_among w known marks all n path d places o are at of has told =
+    let here : AreDeclaredAt w known n places = are.each n (Some places) has in
+    some_found (StandsIn here.inside d) (IsDeclaredAt (IsPackage w known) d) o
+    (λ place h. declared_in w known n here.inside path d place here.is_package at of h) (told here.inside here.declared)
+
+of_some : {X : Type 0} (P : X → Type 0) (o : Option (Bor X)) (x : X) → IfSome o (λ y. P y.now) → option_copied o ≡ Some x → P x
+of_some P None x h e = absurd (none-some x e)
+of_some P (Some b) x h e = subst P (same_Some b.now x e) h
+
+-- where both declarations stand at known places, and the one goes to the other
+pub become_by : (before then : MarkedPackages) (moved : Place → Place) (d e : Declaration) (old new : Option (Bor Place)) →
+    IfSome old (λ place. IsDeclaredAt (packages_of (view_among before)) d place.now) →
+    IfSome new (λ place. IsDeclaredAt (packages_of (view_among then)) e place.now) → BothGo moved (option_copied old) (option_copied new) →
+    Becoming_to (view_among before) (view_among then) moved d e
+become_by before then moved d e old new here there h =
+    stands h.from (of_some (IsDeclaredAt (packages_of (view_among before)) d) old h.from here h.is_old)
+    (of_some (IsDeclaredAt (packages_of (view_among then)) e) new (moved h.from) there h.is_new)

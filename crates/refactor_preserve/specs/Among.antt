@@ -1,0 +1,104 @@
+-- What is held of the marked packages of a workspace without faults, and what they tell.
+use Rattle.std.specs.Prelude.{ℕ, ◌≡◌, ◌⊎◌, ◌↔◌, ⊤, Bool, List, Option, Some, length, MatchOption, Contains}
+use Rattle.base_files.specs.Packages.{package_paths}
+use Rattle.base_files.specs.Workspace.{Workspace}
+use Rattle.base_files.specs.declared.place.Place.{Place}
+use Rattle.workspace_graph.specs.Search.{IsMarked}
+use Rattle.workspace_check.specs.declared.findings.Findings.{Findings}
+use Rattle.workspace_check.specs.Verdicts.{Verdicts}
+use Rattle.refs_binding.specs.declared.bound_spot.BoundSpot.{BoundSpot}
+use Rattle.refs_binding.specs.declared.declaration.Declaration.{Declaration}
+use Rattle.refs_binding.specs.Bindings.{IsBoundAmong, AreBindingsAmong, place_at}
+use Rattle.refs_binding.specs.Packages.{HoldsOfEach}
+use Rattle.refs_binding.specs.Uses.{IsUseOf}
+use Rattle.refs_binding.specs.Workspaces.{IsSound, known_in}
+use Rattle.refactor_preserve.specs.declared.among.KnownBefore.{KnownBefore}
+use Rattle.refactor_preserve.specs.declared.among.MarkedPackages.{MarkedPackages}
+use Rattle.refs_places.specs.declared.declared_places.DeclaredPlaces.{DeclaredPlaces}
+use Rattle.refs_places.specs.DeclaredPlaces.{AreDeclaredAt}
+use Rattle.refs_places.specs.Outside.{IsOutside}
+use Rattle.refs_index.specs.Sound.{SoundView}
+use Rattle.refs_places.specs.Identified.{BeginsInNumber}
+use Rattle.refactor_preserve.specs.Steps.{IsBoundBy, IsKept, HasBound}
+use Rattle.refs_index.specs.Becoming.{Becomes}
+use Rattle.refactor_preserve.specs.declared.answer.Answer.{Answer}
+use Rattle.refactor_preserve.specs.declared.answer.Answer.TheVariants.{Yes, No, Unknown}
+
+-- where the declarations of the package of a number stand, if it is marked
+abbrev pub IsHeldOf : Workspace → Verdicts → List Bool → ℕ → Option DeclaredPlaces → Type 0
+IsHeldOf w known marks n held = MatchOption held (IsMarked marks n → ⊥) (λ places. AreDeclaredAt w known n places)
+
+abbrev pub AreHeldOf : Workspace → Verdicts → List Bool → List (Option DeclaredPlaces) → Type 0
+AreHeldOf w known marks all = HoldsOfEach (IsHeldOf w known marks) (length (package_paths w)) all
+
+-- a workspace without faults: where the declarations of the marked packages stand, and what the identifiers of these are bound to
+pub record HoldsMarked (w : Workspace) (found : Findings) (marks : List Bool) (all : List (Option DeclaredPlaces)) (bound : List BoundSpot) : Type 0 where
+  pub sound : IsSound w found
+  pub declared : AreHeldOf w (known_in found) marks all
+  pub bindings : AreBindingsAmong w (known_in found) (IsMarked marks) bound
+
+abbrev pub AreHeld : MarkedPackages → Type 0
+AreHeld s = HoldsMarked s.graph.now s.found.now s.marks.now s.places.items s.bindings
+
+-- what they are seen as
+abbrev pub view_among : MarkedPackages → SoundView
+view_among s = record { workspace = s.graph.now; known = known_in s.found.now }
+
+-- an identifier of one of them is bound to that declaration, and begins at that place
+abbrev pub IsBoundMarked : MarkedPackages → BoundSpot → Type 0
+IsBoundMarked s b = IsBoundAmong s.graph.now (known_in s.found.now) (IsMarked s.marks.now) b
+
+abbrev pub IsBoundThere : MarkedPackages → Place → BoundSpot → Type 0
+IsBoundThere s place b = IsBoundMarked s b × (place_at b ≡ place)
+
+-- an identifier of one of them begins at the place
+pub record IsIdentifierAmong (w : Workspace) (known : Verdicts) (marks : List Bool) (place : Place) : Type 0 where
+  pub number : ℕ
+  pub marked : IsMarked marks number
+  pub begins : BeginsInNumber w known number place
+
+-- the places at which identifiers of the marked packages begin
+abbrev pub AreIdentifiersAmong : Workspace → Verdicts → List Bool → List Place → Type 0
+AreIdentifiersAmong w known marks places = (place : Place) → Contains places place ↔ IsIdentifierAmong w known marks place
+
+-- the marked packages before a change, with these places
+pub record IsKnownBefore (k : KnownBefore) : Type 0 where
+  pub packages : AreHeld k.packages
+  pub identifiers : AreIdentifiersAmong k.packages.graph.now (known_in k.packages.found.now) k.packages.marks.now k.identifiers.items
+
+-- both places are known, and the one goes to the other
+pub record BothGo (moved : Place → Place) (old new : Option Place) : Type 0 where
+  pub from : Place
+  pub is_old : old ≡ Some from
+  pub is_new : new ≡ Some (moved from)
+
+-- d has become e; or it is e, and its package is not marked
+abbrev pub BecomesAmong : MarkedPackages → MarkedPackages → (Place → Place) → Declaration → Declaration → Type 0
+BecomesAmong before then moved d e = Becomes (view_among before) (view_among then) moved d e ⊎ ((d ≡ e) × IsOutside before.graph.now before.marks.now d)
+
+-- a bound identifier is afterwards bound to what its declaration has so become
+abbrev pub IsKeptAmong : MarkedPackages → MarkedPackages → (Place → Place) → BoundSpot → Type 0
+IsKeptAmong before then moved b = IsBoundBy (view_among then) (moved (place_at b)) (λ e. BecomesAmong before then moved b.declaration e)
+
+abbrev pub AllWereAmong : MarkedPackages → MarkedPackages → (Place → Place) → List BoundSpot → List BoundSpot → Type 0
+AllWereAmong before then moved old new = (b : BoundSpot) → Contains new b → HasBound (λ d. BecomesAmong before then moved d b.declaration) old
+
+-- what begins at a place is afterwards bound to nothing but what its declarations have so become
+abbrev pub AddsNoneAmong : MarkedPackages → MarkedPackages → (Place → Place) → Place → Type 0
+AddsNoneAmong before then moved place =
+    (e : Declaration) → IsUseOf then.graph.now (known_in then.found.now) e (moved place) →
+    IsBoundBy (view_among before) place (λ d. BecomesAmong before then moved d e)
+
+abbrev pub KeepsMarked : MarkedPackages → MarkedPackages → (Place → Place) → Type 0
+KeepsMarked before then moved = (b : BoundSpot) → IsBoundMarked before b → IsKeptAmong before then moved b
+
+abbrev pub AddsMarked : MarkedPackages → MarkedPackages → (Place → Place) → Type 0
+AddsMarked before then moved =
+    (place : Place) → IsIdentifierAmong before.graph.now (known_in before.found.now) before.marks.now place → AddsNoneAmong before then moved place
+
+-- what an answer tells of both: yes, that each identifier of the marked packages is kept, and none is bound to more; no, that one is not
+-- kept
+abbrev pub TellsMarked : MarkedPackages → MarkedPackages → (Place → Place) → Answer → Type 0
+TellsMarked before then moved Yes = KeepsMarked before then moved × AddsMarked before then moved
+TellsMarked before then moved No = (b : BoundSpot) × (IsBoundMarked before b × (IsKept (view_among before) (view_among then) moved b → ⊥))
+TellsMarked before then moved Unknown = ⊤

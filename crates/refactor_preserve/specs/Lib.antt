@@ -1,0 +1,12 @@
+-- The definitions of this crate.
+pub mod Aligned
+pub mod BoundToOne
+pub mod Steps
+pub mod Preserved
+pub mod Among
+pub mod ReadSoFar
+pub mod Planned
+pub mod Answers
+pub mod Marked
+pub mod Affected
+pub mod Marking

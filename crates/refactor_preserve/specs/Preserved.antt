@@ -1,0 +1,35 @@
+-- When a change preserves all bindings.
+use Rattle.std.specs.Prelude.{[], Option, None, Some}
+use Rattle.base_files.specs.Workspace.{Workspace}
+use Rattle.base_files.specs.declared.place.Place.{Place}
+use Rattle.workspace_check.specs.Verdicts.{Verdicts, AreVerdicts}
+use Rattle.workspace_check.specs.declared.known.Known.{Known}
+use Rattle.workspace_check.specs.FaultLists.{ListsFaults}
+use Rattle.workspace_check.specs.Found.{KnowsVerdicts}
+use Rattle.refs_binding.specs.declared.declaration.Declaration.{Declaration}
+use Rattle.refs_binding.specs.Uses.{IsPackage, IsUseOf}
+use Rattle.refs_places.specs.Identified.{IsIdentifierAt}
+use Rattle.base_edits.specs.Revisions.{Revision}
+use Rattle.refactor_preserve.specs.BoundToOne.{IsBoundToOne}
+use Rattle.refs_index.specs.Corresponding.{Corresponds}
+
+-- Each identifier is bound to a declaration exactly where it is afterwards bound to the one that this has become.
+pub record KeepsBindings (w : Workspace) (before : Verdicts) (r : Revision) (after : Verdicts) : Type 0 where
+  pub keeps : (place : Place) (d : Declaration) → IsUseOf w before d place →
+      IsBoundToOne r.after after (r.moved place) (λ e. Corresponds (IsPackage w before) (IsPackage r.after after) r.moved d e)
+  pub adds_none : (place : Place) (e : Declaration) → IsIdentifierAt w before place → IsUseOf r.after after e (r.moved place) →
+      IsBoundToOne w before place (λ d. Corresponds (IsPackage w before) (IsPackage r.after after) r.moved d e)
+
+-- No fault is there afterwards, and each identifier stays bound to what its declaration has become.
+pub record Preserves (w : Workspace) (r : Revision) : Type 0 where
+  pub before : Verdicts
+  pub right : AreVerdicts w before
+  pub after : Verdicts
+  pub right_after : AreVerdicts r.after after
+  pub sound : ListsFaults r.after []
+  pub kept : KeepsBindings w before r after
+
+-- whether a change preserves all bindings, and then what is known of the changed workspace
+abbrev pub TellsPreserved : Workspace → Revision → Option Known → Type 0
+TellsPreserved w r None = ¬ (Preserves w r)
+TellsPreserved w r (Some known) = Preserves w r × KnowsVerdicts r.after known

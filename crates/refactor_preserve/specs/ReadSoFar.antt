@@ -1,0 +1,52 @@
+-- What was read of the marked ones of some packages of a workspace without faults, one after another.
+use Rattle.std.specs.Prelude.{ℕ, ◌≡◌, ◌<◌, ◌⊎◌, ◌↔◌, List, [], Option, Some, length, MatchOption, Contains, IsTrue}
+use Rattle.std.proofs.Math.ListN.{set}
+use Rattle.base_files.specs.Packages.{package_paths}
+use Rattle.base_files.specs.Workspace.{Workspace}
+use Rattle.workspace_graph.specs.Search.{IsMarked}
+use Rattle.refs_index.specs.KnownExports.{AreSomeExports}
+use Rattle.refs_binding.specs.Bindings.{AddsAll, IsBoundAt}
+use Rattle.refs_binding.specs.Packages.{HoldsOfEach}
+use Rattle.refs_binding.specs.Workspaces.{known_in}
+use Rattle.refactor_preserve.specs.declared.reading_order.SoFar.{SoFar}
+use Rattle.refactor_preserve.specs.declared.reading_order.Wanted.{Wanted}
+use Rattle.refs_places.specs.declared.declared_places.DeclaredPlaces.{DeclaredPlaces}
+use Rattle.refs_places.specs.DeclaredPlaces.{AreDeclaredAt}
+use Rattle.refs_places.specs.Identified.{BeginsInNumber}
+
+-- all packages, by their numbers
+abbrev pub HoldsAllNumbers : Workspace → List ℕ → Type 0
+HoldsAllNumbers w numbers = (n : ℕ) → Contains numbers n ↔ (n < length (package_paths w))
+
+-- one of some packages tells it
+abbrev pub OfSome : {X : Type 0} → List ℕ → (ℕ → X → Type 0) → X → Type 0
+OfSome numbers Q x = (n : ℕ) × (Contains numbers n × Q n x)
+
+-- where the declarations of the package of a number stand, if it is marked and one of some
+abbrev pub IsHeldOfSome : Wanted → List ℕ → ℕ → Option DeclaredPlaces → Type 0
+IsHeldOfSome wanted numbers n held =
+    MatchOption held (Contains numbers n → IsMarked wanted.marks.now n → ⊥) (λ places. AreDeclaredAt wanted.graph.now (known_in wanted.found.now) n places)
+
+-- the marked ones of these packages were read, and what is known of exports is right
+pub record IsReadSoFar (wanted : Wanted) (numbers : List ℕ) (s : SoFar) : Type 0 where
+  pub places : HoldsOfEach (IsHeldOfSome wanted numbers) (length (package_paths wanted.graph.now)) s.places.items
+  pub exports : AreSomeExports wanted.graph.now (known_in wanted.found.now) s.numbers.items
+  pub bound : AddsAll [] s.gathered.bound.items
+      (OfSome numbers (λ n b. IsMarked wanted.marks.now n × IsBoundAt wanted.graph.now (known_in wanted.found.now) n b))
+  pub identifiers : IsTrue wanted.identifiers →
+      AddsAll [] s.gathered.identifiers.items
+      (OfSome numbers (λ n place. IsMarked wanted.marks.now n × BeginsInNumber wanted.graph.now (known_in wanted.found.now) n place))
+
+-- the package of a number was read
+pub record ReadsOne (wanted : Wanted) (n : ℕ) (old new : SoFar) : Type 0 where
+  pub held : DeclaredPlaces
+  pub is_set : new.places.items ≡ set old.places.items n (Some held)
+  pub declared : AreDeclaredAt wanted.graph.now (known_in wanted.found.now) n held
+  pub exports : AreSomeExports wanted.graph.now (known_in wanted.found.now) new.numbers.items
+  pub bound : AddsAll old.gathered.bound.items new.gathered.bound.items (IsBoundAt wanted.graph.now (known_in wanted.found.now) n)
+  pub identifiers : IsTrue wanted.identifiers →
+      AddsAll old.gathered.identifiers.items new.gathered.identifiers.items (BeginsInNumber wanted.graph.now (known_in wanted.found.now) n)
+
+-- the same, if it is marked; else nothing was read
+abbrev pub MayRead : Wanted → ℕ → (old new : SoFar) → Type 0
+MayRead wanted n old new = (IsMarked wanted.marks.now n × ReadsOne wanted n old new) ⊎ ((IsMarked wanted.marks.now n → ⊥) × (new ≡ old))

@@ -1,0 +1,112 @@
+//! Whether identifiers are bound afterwards to nothing but what their declarations become.
+ghost use Rattle.std.specs.Prelude.{◌↔◌, IsTrue, IfOk, Contains};
+ghost use Rattle.base_files.specs.declared.place.Place.{Place as At};
+ghost use Rattle.base_edits.specs.Moved.{moved};
+ghost use Rattle.refs_index.specs.Held.{IsHeld};
+ghost use Rattle.refs_index.specs.Sound.{view_in};
+ghost use Rattle.refactor_preserve.specs.Steps.{HasBound, AllWere, AddsNone, AddsNowhere};
+ghost use Rattle.refs_index.specs.Becoming.{Becomes};
+
+use crate::near::Near;
+use base_edits::Moves;
+use base_files::Place;
+use refs_binding::{BoundSpot, Declaration};
+use refs_index::{SoundWorkspace, corresponds};
+use std::alloc::{AllocError, Global};
+
+/// Whether one of some bound identifiers is bound to what has become a declaration.
+fn some_was(
+    moves: &Moves<'_>,
+    before: &SoundWorkspace<'_>,
+    then: &SoundWorkspace<'_>,
+    bound: &[BoundSpot],
+    e: &Declaration,
+) -> Result<bool, AllocError>
+    requires before { IsHeld before.now }
+    requires then { IsHeld then.now }
+    ensures { IfOk result (λ yes. IsTrue yes ↔ HasBound (λ d. Becomes (view_in before.now) (view_in then.now) (moved moves.now) d e.now) bound.now) }
+{
+    for b in bound {
+        if corresponds(moves, before, then, &b.declaration, e)? {
+            return Ok(true);
+        }
+    }
+    Ok(false)
+}
+
+/// Whether each of some identifiers that are bound afterwards is bound to what has become one of those before.
+fn all_were(
+    moves: &Moves<'_>,
+    before: &SoundWorkspace<'_>,
+    then: &SoundWorkspace<'_>,
+    old: &[BoundSpot],
+    new: &[BoundSpot],
+) -> Result<bool, AllocError>
+    requires before { IsHeld before.now }
+    requires then { IsHeld then.now }
+    ensures { IfOk result (λ yes. IsTrue yes ↔ AllWere (view_in before.now) (view_in then.now) (moved moves.now) old.now new.now) }
+{
+    for b in new {
+        if !some_was(moves, before, then, old, &b.declaration)? {
+            return Ok(false);
+        }
+    }
+    Ok(true)
+}
+
+/// Whether what begins at a place is afterwards bound to nothing but what its declarations have become.
+fn adds_none(
+    moves: &Moves<'_>,
+    before: &SoundWorkspace<'_>,
+    then: &SoundWorkspace<'_>,
+    near: &mut Near,
+    place: &Place,
+) -> Result<bool, AllocError>
+    requires before { IsHeld before.now }
+    requires then { IsHeld then.now }
+    ensures { IfOk result (λ yes. IsTrue yes ↔ AddsNone (view_in before.now) (view_in then.now) (moved moves.now) place.now) }
+{
+    let to = moves.place(&place.path, place.offset)?;
+    all_were(
+        moves,
+        before,
+        then,
+        before.bound_at(&mut near.before, place),
+        then.bound_at(&mut near.then, &to),
+    )
+}
+
+/// Whether this is so at each of some places.
+fn add_none(
+    moves: &Moves<'_>,
+    before: &SoundWorkspace<'_>,
+    then: &SoundWorkspace<'_>,
+    places: &[Place],
+) -> Result<bool, AllocError>
+    requires before { IsHeld before.now }
+    requires then { IsHeld then.now }
+    ensures { IfOk result (λ yes. IsTrue yes ↔ ((place : At) → Contains places.now place → AddsNone (view_in before.now) (view_in then.now) (moved moves.now) place)) }
+{
+    let mut near = Near { before: 0, then: 0 };
+    for place in places {
+        if !adds_none(moves, before, then, &mut near, place)? {
+            return Ok(false);
+        }
+    }
+    Ok(true)
+}
+
+/// Whether this is so of all identifiers.
+pub fn adds_nowhere(
+    alloc: Global,
+    moves: &Moves<'_>,
+    before: &SoundWorkspace<'_>,
+    then: &SoundWorkspace<'_>,
+) -> Result<bool, AllocError>
+    requires before { IsHeld before.now }
+    requires then { IsHeld then.now }
+    ensures { IfOk result (λ yes. IsTrue yes ↔ AddsNowhere (view_in before.now) (view_in then.now) (moved moves.now)) }
+{
+    let places = before.identifier_places(alloc)?;
+    add_none(moves, before, then, &places)
+}

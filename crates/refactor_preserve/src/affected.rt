@@ -1,0 +1,23 @@
+//! The law of packages that a change does not affect.
+ghost use Rattle.std.specs.Prelude.{ℕ, ◌≡◌, List};
+ghost use Rattle.base_files.specs.Path.{folder};
+ghost use Rattle.base_files.specs.Workspace.{Workspace};
+ghost use Rattle.base_files.specs.declared.place.Place.{Place};
+ghost use Rattle.base_edits.specs.EditSet.{FileChanges};
+ghost use Rattle.base_edits.specs.Moved.{moved};
+ghost use Rattle.workspace_graph.specs.Packages.{IsInClosure};
+ghost use Rattle.workspace_check.specs.Verdicts.{Verdicts, AreVerdicts};
+ghost use Rattle.refs_binding.specs.declared.declaration.Declaration.{Declaration};
+ghost use Rattle.refs_binding.specs.Uses.{IsPackage};
+ghost use Rattle.refs_binding.specs.Standing.{IsDeclaredAt};
+ghost use Rattle.refs_lookup.specs.Within.{StandsWithin};
+ghost use Rattle.refactor_preserve.specs.Affected.{IsUnaffected};
+
+/// Where a change does not affect a package, no place in the files of its closure moves, and each declaration that stands there
+/// stands there afterwards.
+pub fn unaffected_stays()
+    ensures places { (w : Workspace) → (x : Workspace) → (s : FileChanges) → (p : List ℕ) → IsUnaffected w x s p → (place : Place) →
+        IsInClosure w p (folder place.path) → moved s place ≡ place }
+    ensures declarations { (w : Workspace) → (x : Workspace) → (s : FileChanges) → (before : Verdicts) → (after : Verdicts) → AreVerdicts w before → AreVerdicts x after →
+        (p : List ℕ) → IsUnaffected w x s p → (d : Declaration) → (place : Place) → StandsWithin w before p d place → IsDeclaredAt (IsPackage x after) d (moved s place) }
+{}

@@ -1,0 +1,331 @@
+//! Whether the bound identifiers of two workspaces go each to one, mostly one to the next: then each stays bound, and none to more.
+ghost use Rattle.std.specs.Prelude.{◌≡◌, ◌<◌, length, Contains, IfOk, IfSome, IsTrue};
+ghost use Rattle.base_files.specs.Packages.{package_paths};
+ghost use Rattle.types_declared.specs.PackageView.{package_of};
+ghost use Rattle.refs_places.specs.Beginnings.{place_of};
+ghost use Rattle.base_edits.specs.FilesMoved.{AreMovesOf};
+ghost use Rattle.refs_binding.specs.Bindings.{place_at};
+ghost use Rattle.refactor_preserve.specs.Aligned.{AreCompared, moved_in, new_of, IsPartner, IsAligned, AreApart, AreApartBelow, AreAlignedBelow, GoInOrder, IsSafe, IsSafeAt, IsSafeIn, IsSafeNumber, AreSafe};
+ghost use Rattle.refs_index.specs.Sound.{view_in};
+ghost use Rattle.refactor_preserve.specs.Steps.{KeepsAll, AddsNowhere};
+ghost use Rattle.refs_index.specs.Becoming.{Becomes};
+
+use crate::near::Near;
+use base_edits::{FileMoves, Moves};
+use base_files::Place;
+use refs_binding::bindings::find;
+use refs_binding::{BoundSpot, Declaration};
+use refs_index::{SoundWorkspace, are_predeclared};
+use refs_places::bound_here::is_bound;
+use refs_places::{NameStart, start};
+use std::alloc::AllocError;
+use types_declared::Package;
+
+/// Two workspaces without faults, and where the places of the one go in the other.
+#[derive(Clone, Copy)]
+pub struct Compared<'a, 'm, 'b, 't> {
+    pub moves: &'a Moves<'m>,
+    pub before: &'a SoundWorkspace<'b>,
+    pub then: &'a SoundWorkspace<'t>,
+}
+
+/// Whether a declaration has become another. The places of the first one's file are moved as those of a file that is often the same.
+fn became(
+    both: &Compared<'_, '_, '_, '_>,
+    near: &mut Near,
+    file: FileMoves<'_>,
+    d: &Declaration,
+    e: &Declaration,
+) -> Result<bool, AllocError>
+    requires both { AreCompared both.now }
+    requires file { AreMovesOf both.now.moves.now file }
+    ensures { IfOk result (λ yes. IsTrue yes → Becomes (view_in both.now.before.now) (view_in both.now.then.now) (moved_in both.now) d.now e.now) }
+{
+    if are_predeclared(d, e) {
+        return Ok(true);
+    }
+    match both.before.declared_near(&mut near.before, d) {
+        None => Ok(false),
+        Some(old) => match both.then.declared_near(&mut near.then, e) {
+            None => Ok(false),
+            Some(new) => {
+                let file = both.moves.file_near(file, &old.path);
+                both.moves.goes_to(file, old.offset, &new.path, new.offset)
+            }
+        },
+    }
+}
+
+/// The identifier of the other workspace, if one goes to where it begins. Behind it the next is looked for first.
+fn partner_if<'a>(
+    both: &Compared<'_, '_, '_, '_>,
+    next: &mut usize,
+    file: FileMoves<'_>,
+    old: &BoundSpot,
+    one: &'a BoundSpot,
+) -> Result<Option<&'a BoundSpot>, AllocError>
+    requires both { AreCompared both.now }
+    requires file { AreMovesOf both.now.moves.now file }
+    requires path { file.old.now ≡ old.now.spot.path }
+    requires listed { Contains (new_of both.now) one.now }
+    ensures { IfOk result (λ found. IfSome found (λ b. IsPartner both.now old.now b.now)) }
+{
+    if both
+        .moves
+        .goes_to(file, old.spot.offset, &one.spot.path, one.spot.offset)?
+    {
+        *next = next.saturating_add(1);
+        Ok(Some(one))
+    } else {
+        Ok(None)
+    }
+}
+
+/// The identifier that begins where another goes, if it is the one that is looked for first.
+fn near_partner<'a>(
+    both: &Compared<'a, '_, '_, '_>,
+    next: &mut usize,
+    file: FileMoves<'_>,
+    old: &BoundSpot,
+) -> Result<Option<&'a BoundSpot>, AllocError>
+    requires both { AreCompared both.now }
+    requires file { AreMovesOf both.now.moves.now file }
+    requires path { file.old.now ≡ old.now.spot.path }
+    ensures { IfOk result (λ found. IfSome found (λ b. IsPartner both.now old.now b.now)) }
+{
+    let new = both.then.bindings.as_slice();
+    match new.get(*next) {
+        None => Ok(None),
+        Some(one) => partner_if(both, next, file, old, one),
+    }
+}
+
+/// The identifier that begins at a place to which another goes.
+fn partner_at<'a>(
+    both: &Compared<'a, '_, '_, '_>,
+    next: &mut usize,
+    old: &BoundSpot,
+    to: &Place,
+) -> Option<&'a BoundSpot>
+    requires both { AreCompared both.now }
+    requires to { to.now ≡ moved_in both.now (place_at old.now) }
+    ensures { IfSome result (λ b. IsPartner both.now old.now b.now) }
+{
+    match both.then.bound_at(next, to).first() {
+        None => None,
+        Some(one) => Some(one),
+    }
+}
+
+/// The identifier that begins where another goes, by a search, as where files of a moved folder end or begin.
+fn far_partner<'a>(
+    both: &Compared<'a, '_, '_, '_>,
+    next: &mut usize,
+    old: &BoundSpot,
+) -> Result<Option<&'a BoundSpot>, AllocError>
+    requires { AreCompared both.now }
+    ensures { IfOk result (λ found. IfSome found (λ b. IsPartner both.now old.now b.now)) }
+{
+    let to = both.moves.place(&old.spot.path, old.spot.offset)?;
+    Ok(partner_at(both, next, old, &to))
+}
+
+/// An identifier that begins where another goes: looked for first at a number, which then is that of the one behind it.
+fn partner<'a>(
+    both: &Compared<'a, '_, '_, '_>,
+    next: &mut usize,
+    file: FileMoves<'_>,
+    old: &BoundSpot,
+) -> Result<Option<&'a BoundSpot>, AllocError>
+    requires both { AreCompared both.now }
+    requires file { AreMovesOf both.now.moves.now file }
+    requires path { file.old.now ≡ old.now.spot.path }
+    ensures { IfOk result (λ found. IfSome found (λ b. IsPartner both.now old.now b.now)) }
+{
+    match near_partner(both, next, file, old)? {
+        None => far_partner(both, next, old),
+        Some(one) => Ok(Some(one)),
+    }
+}
+
+/// Whether an identifier goes to where one begins that is bound to what its declaration has become.
+fn is_aligned(
+    both: &Compared<'_, '_, '_, '_>,
+    near: &mut Near,
+    next: &mut usize,
+    file: FileMoves<'_>,
+    old: &BoundSpot,
+) -> Result<bool, AllocError>
+    requires both { AreCompared both.now }
+    requires file { AreMovesOf both.now.moves.now file }
+    requires path { file.old.now ≡ old.now.spot.path }
+    ensures { IfOk result (λ yes. IsTrue yes → IsAligned both.now old.now) }
+{
+    match partner(both, next, file, old)? {
+        None => Ok(false),
+        Some(one) => became(both, near, file, &old.declaration, &one.declaration),
+    }
+}
+
+/// Whether two identifiers begin at two places.
+fn differ(one: &BoundSpot, other: &BoundSpot) -> bool
+    ensures { IsTrue result → place_at one.now ≡ place_at other.now → ⊥ }
+{
+    one.spot.offset != other.spot.offset || one.spot.path != other.spot.path
+}
+
+/// Whether an identifier and the one behind it, if there is one, begin at two places.
+fn are_apart(new: &[BoundSpot], number: usize) -> bool
+    requires { number < length new.now }
+    ensures { IsTrue result → AreApart new.now number }
+{
+    match new.get(number + 1) {
+        None => true,
+        Some(next) => differ(&new[number], next),
+    }
+}
+
+/// Whether this is so of each.
+fn are_all_apart(new: &[BoundSpot]) -> bool
+    ensures { IsTrue result → AreApartBelow new.now (length new.now) }
+{
+    for number in 0..new.len() {
+        if !are_apart(new, number) {
+            return false;
+        }
+    }
+    true
+}
+
+/// Whether all are aligned. The file is that of some place.
+fn are_all_aligned<'a>(
+    both: &Compared<'a, '_, '_, '_>,
+    file: FileMoves<'a>,
+    old: &'a [BoundSpot],
+) -> Result<bool, AllocError>
+    requires both { AreCompared both.now }
+    requires file { AreMovesOf both.now.moves.now file }
+    ensures { IfOk result (λ yes. IsTrue yes → AreAlignedBelow both.now old.now (length old.now)) }
+{
+    let mut file = file;
+    let mut near = Near { before: 0, then: 0 };
+    let mut next = 0;
+    for number in 0..old.len() {
+        let one = &old[number];
+        file = both.moves.file_near(file, &one.spot.path);
+        if !is_aligned(both, &mut near, &mut next, file, one)? {
+            return Ok(false);
+        }
+    }
+    Ok(true)
+}
+
+/// Whether each bound identifier goes to one that is bound to what its declaration has become. They are looked for in their order, in
+/// which those of a file that stays or moves go one to the next.
+fn go_in_order(both: &Compared<'_, '_, '_, '_>) -> Result<bool, AllocError>
+    requires { AreCompared both.now }
+    ensures { IfOk result (λ yes. IsTrue yes → GoInOrder both.now) }
+{
+    let old = both.before.bindings.as_slice();
+    let new = both.then.bindings.as_slice();
+    if !are_all_apart(new) {
+        return Ok(false);
+    }
+    match old.first() {
+        None => Ok(true),
+        Some(first) => are_all_aligned(both, both.moves.file(&first.spot.path), old),
+    }
+}
+
+/// Whether an identifier that begins at a place is bound, or nothing is bound where it goes.
+fn is_safe(
+    both: &Compared<'_, '_, '_, '_>,
+    near: &mut usize,
+    at: NameStart<'_>,
+) -> Result<bool, AllocError>
+    requires { AreCompared both.now }
+    ensures { IfOk result (λ yes. IsTrue yes → IsSafe both.now (place_of at.entry)) }
+{
+    if is_bound(both.before.bindings.as_slice(), near, at) {
+        return Ok(true);
+    }
+    let to = both.moves.place(at.path, at.offset)?;
+    match find(both.then.bindings.as_slice(), &to) {
+        None => Ok(true),
+        Some(_) => Ok(false),
+    }
+}
+
+/// The same of the identifier of a number, if it begins somewhere.
+fn is_safe_identifier(
+    both: &Compared<'_, '_, '_, '_>,
+    near: &mut usize,
+    unit: Package<'_>,
+    u: usize,
+) -> Result<bool, AllocError>
+    requires both { AreCompared both.now }
+    requires in_range { u < length unit.table.now.sites }
+    ensures { IfOk result (λ yes. IsTrue yes → IsSafeAt both.now (package_of unit.entry) u) }
+{
+    match start(unit, u) {
+        None => Ok(true),
+        Some(at) => is_safe(both, near, at),
+    }
+}
+
+/// The same of all identifiers of a package.
+fn is_safe_unit(
+    both: &Compared<'_, '_, '_, '_>,
+    near: &mut usize,
+    unit: Package<'_>,
+) -> Result<bool, AllocError>
+    requires { AreCompared both.now }
+    ensures { IfOk result (λ yes. IsTrue yes → IsSafeIn both.now (package_of unit.entry)) }
+{
+    for u in 0..unit.table.len() {
+        if !is_safe_identifier(both, near, unit, u)? {
+            return Ok(false);
+        }
+    }
+    Ok(true)
+}
+
+/// The same of the package of a number.
+fn is_safe_package(
+    both: &Compared<'_, '_, '_, '_>,
+    near: &mut usize,
+    number: usize,
+) -> Result<bool, AllocError>
+    requires both { AreCompared both.now }
+    requires in_range { number < length (package_paths both.now.before.now.packages.now.graph.now) }
+    ensures { IfOk result (λ yes. IsTrue yes → IsSafeNumber both.now number) }
+{
+    let unit = both.before.packages.unit(number);
+    is_safe_unit(both, near, unit)
+}
+
+/// The same of all packages.
+fn are_safe(both: &Compared<'_, '_, '_, '_>) -> Result<bool, AllocError>
+    requires { AreCompared both.now }
+    ensures { IfOk result (λ yes. IsTrue yes → AreSafe both.now) }
+{
+    let mut near = 0;
+    for number in 0..both.before.packages.graph.len() {
+        if !is_safe_package(both, &mut near, number)? {
+            return Ok(false);
+        }
+    }
+    Ok(true)
+}
+
+/// Whether the bound identifiers tell by their order alone that each stays bound to what its declaration has become, and none to more.
+pub fn keep_order(both: &Compared<'_, '_, '_, '_>) -> Result<bool, AllocError>
+    requires { AreCompared both.now }
+    ensures { IfOk result (λ yes. IsTrue yes → KeepsAll (view_in both.now.before.now) (view_in both.now.then.now) (moved_in both.now) × AddsNowhere (view_in both.now.before.now) (view_in both.now.then.now) (moved_in both.now)) }
+{
+    if go_in_order(both)? {
+        are_safe(both)
+    } else {
+        Ok(false)
+    }
+}

@@ -1,0 +1,182 @@
+//! The marked packages of a workspace without faults: where their declarations stand, what their identifiers are bound to, and, of
+//! the workspace before a change, where these begin.
+ghost use Rattle.std.specs.Prelude.{ℕ, ◌≡◌, ◌↔◌, Some, slice_get, Contains, IfOk, IfSome, IsTrue};
+ghost use Rattle.base_files.specs.Packages.{package_paths};
+ghost use Rattle.base_files.specs.Path.{folder};
+ghost use Rattle.workspace_graph.specs.Search.{IsMarked};
+ghost use Rattle.refs_binding.specs.declared.bound_spot.BoundSpot.{BoundSpot as Bound};
+ghost use Rattle.refs_binding.specs.Workspaces.{IsSound, known_in};
+ghost use Rattle.refs_binding.specs.Standing.{IsDeclaredAt};
+ghost use Rattle.refactor_preserve.specs.Among.{AreHeld, AreIdentifiersAmong, IsBoundMarked, IsBoundThere, IsKnownBefore, view_among};
+ghost use Rattle.refs_places.specs.Outside.{IsOutside, path_by};
+ghost use Rattle.refs_index.specs.Sound.{packages_of};
+
+use crate::reading_order::{Held, read_marked};
+use base_files::{Path, Place};
+use refs_binding::{BoundSpot, Declaration};
+use refs_index::{Bindings, is_same};
+use refs_places::bound_here::bound_here;
+use refs_places::declared_places::{DeclaredPlaces, package_path};
+use std::alloc::{AllocError, Global};
+use types_expr::symbol::SharedPath;
+use workspace_check::{Findings, is_marked};
+use workspace_graph::Graph;
+
+/// A workspace without faults, of whose packages the marked ones are held: where their declarations stand, by the packages'
+/// numbers, and what their identifiers are bound to.
+#[derive(Drop)]
+pub struct MarkedPackages<'a> {
+    graph: &'a Graph,
+    found: &'a Findings,
+    marks: &'a [bool],
+    places: Vec<Option<DeclaredPlaces>>,
+    bindings: Bindings,
+}
+
+impl<'a> MarkedPackages<'a> {
+    pub fn of(
+        alloc: Global,
+        graph: &'a Graph,
+        found: &'a Findings,
+        marks: &'a [bool],
+    ) -> Result<MarkedPackages<'a>, AllocError>
+        requires { IsSound graph.now found.now }
+        ensures graph { IfOk result (λ marked. marked.graph.now ≡ graph.now) }
+        ensures found { IfOk result (λ marked. marked.found.now ≡ found.now) }
+        ensures marks { IfOk result (λ marked. marked.marks.now ≡ marks.now) }
+        ensures held { IfOk result (λ marked. AreHeld marked) }
+    {
+        let Held {
+            places,
+            bindings,
+            identifiers,
+        } = read_marked(alloc, graph, found, marks, false)?;
+        drop(identifiers);
+        Ok(MarkedPackages {
+            graph,
+            found,
+            marks,
+            places,
+            bindings,
+        })
+    }
+
+    /// Where a declaration stands, if its package is marked.
+    pub fn declared_at(&self, declaration: &Declaration) -> Option<&Place>
+        requires { AreHeld self.now }
+        ensures { IfSome result (λ place. IsDeclaredAt (packages_of (view_among self.now)) declaration.now place.now) }
+    {
+        match package_path(declaration) {
+            None => None,
+            Some(path) => self.declared_under(path, declaration),
+        }
+    }
+
+    /// Where a declaration of the package of a path stands, if this is marked.
+    fn declared_under(&self, path: &SharedPath, declaration: &Declaration) -> Option<&Place>
+        requires held { AreHeld self.now }
+        requires path { path_by declaration.now ≡ Some path.now }
+        ensures { IfSome result (λ place. IsDeclaredAt (packages_of (view_among self.now)) declaration.now place.now) }
+    {
+        match self.graph.number_of(path.path()) {
+            None => None,
+            Some(number) => match self.places.get(number) {
+                Some(Some(places)) => places.at(declaration),
+                _ => None,
+            },
+        }
+    }
+
+    /// Whether two declarations are the same one, of a package that is not marked.
+    pub fn leaves(&self, d: &Declaration, e: &Declaration) -> bool
+        ensures { IsTrue result → ((d.now ≡ e.now) × IsOutside self.now.graph.now self.now.marks.now d.now) }
+    {
+        is_same(d, e) && is_outside(self.graph, self.marks, d)
+    }
+
+    /// Whether the package of a file's folder is marked.
+    pub fn holds(&self, path: &Path) -> bool
+        ensures { IsTrue result → ((n : ℕ) × (slice_get (package_paths self.now.graph.now) n ≡ Some (folder path.now)) × IsMarked self.now.marks.now n) }
+    {
+        match self.graph.number_of(path.folder()) {
+            None => false,
+            Some(number) => is_marked(self.marks, number),
+        }
+    }
+
+    /// The bound identifiers, each with its declaration.
+    pub fn bound(&self) -> &[BoundSpot]
+        requires { AreHeld self.now }
+        ensures { (b : Bound) → Contains result.now b ↔ IsBoundMarked self.now b }
+    {
+        self.bindings.as_slice()
+    }
+
+    /// Those that begin at a place. They are looked for first at the number where those found last end.
+    pub fn bound_at(&self, near: &mut usize, place: &Place) -> &[BoundSpot]
+        requires { AreHeld self.now }
+        ensures { (b : Bound) → Contains result.now b ↔ IsBoundThere self.now place.now b }
+    {
+        bound_here(self.bindings.as_slice(), near, place)
+    }
+}
+
+/// The marked packages of a workspace before its change, and the places at which their identifiers begin that are no literals.
+#[derive(Drop)]
+pub struct KnownBefore<'a> {
+    pub packages: MarkedPackages<'a>,
+    identifiers: Vec<Place>,
+}
+
+impl<'a> KnownBefore<'a> {
+    pub fn of(
+        alloc: Global,
+        graph: &'a Graph,
+        found: &'a Findings,
+        marks: &'a [bool],
+    ) -> Result<KnownBefore<'a>, AllocError>
+        requires { IsSound graph.now found.now }
+        ensures graph { IfOk result (λ known. known.packages.graph.now ≡ graph.now) }
+        ensures found { IfOk result (λ known. known.packages.found.now ≡ found.now) }
+        ensures marks { IfOk result (λ known. known.packages.marks.now ≡ marks.now) }
+        ensures held { IfOk result (λ known. IsKnownBefore known) }
+    {
+        let Held {
+            places,
+            bindings,
+            identifiers,
+        } = read_marked(alloc, graph, found, marks, true)?;
+        let packages = MarkedPackages {
+            graph,
+            found,
+            marks,
+            places,
+            bindings,
+        };
+        Ok(KnownBefore {
+            packages,
+            identifiers,
+        })
+    }
+
+    /// The places at which identifiers begin that are no literals.
+    pub fn identifier_places(&self) -> &[Place]
+        requires { IsKnownBefore self.now }
+        ensures { let s = self.now.packages in AreIdentifiersAmong s.graph.now (known_in s.found.now) s.marks.now result.now }
+    {
+        &self.identifiers
+    }
+}
+
+/// Whether the package of a declaration is there, and not marked.
+fn is_outside(graph: &Graph, marks: &[bool], declaration: &Declaration) -> bool
+    ensures { IsTrue result → IsOutside graph.now marks.now declaration.now }
+{
+    match package_path(declaration) {
+        None => false,
+        Some(path) => match graph.number_of(path.path()) {
+            None => false,
+            Some(number) => !is_marked(marks, number),
+        },
+    }
+}

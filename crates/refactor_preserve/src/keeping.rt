@@ -1,0 +1,74 @@
+//! Whether identifiers stay bound to what their declarations become.
+ghost use Rattle.std.specs.Prelude.{◌↔◌, IsTrue, IfOk};
+ghost use Rattle.base_edits.specs.Moved.{moved};
+ghost use Rattle.refs_index.specs.Held.{IsHeld};
+ghost use Rattle.refs_index.specs.Sound.{view_in};
+ghost use Rattle.refactor_preserve.specs.Steps.{HasBound, IsKept, KeepsAll};
+ghost use Rattle.refs_index.specs.Becoming.{Becomes};
+
+use base_edits::Moves;
+use refs_binding::{BoundSpot, Declaration};
+use refs_index::{SoundWorkspace, corresponds};
+use std::alloc::AllocError;
+
+/// Whether one of some bound identifiers is bound to what a declaration has become.
+fn some_became(
+    moves: &Moves<'_>,
+    before: &SoundWorkspace<'_>,
+    then: &SoundWorkspace<'_>,
+    d: &Declaration,
+    bound: &[BoundSpot],
+) -> Result<bool, AllocError>
+    requires before { IsHeld before.now }
+    requires then { IsHeld then.now }
+    ensures { IfOk result (λ yes. IsTrue yes ↔ HasBound (λ e. Becomes (view_in before.now) (view_in then.now) (moved moves.now) d.now e) bound.now) }
+{
+    for b in bound {
+        if corresponds(moves, before, then, d, &b.declaration)? {
+            return Ok(true);
+        }
+    }
+    Ok(false)
+}
+
+/// Whether a bound identifier is afterwards bound to what its declaration has become.
+fn is_kept(
+    moves: &Moves<'_>,
+    before: &SoundWorkspace<'_>,
+    then: &SoundWorkspace<'_>,
+    near: &mut usize,
+    bound: &BoundSpot,
+) -> Result<bool, AllocError>
+    requires before { IsHeld before.now }
+    requires then { IsHeld then.now }
+    ensures { IfOk result (λ yes. IsTrue yes ↔ IsKept (view_in before.now) (view_in then.now) (moved moves.now) bound.now) }
+{
+    let place = moves.place(&bound.spot.path, bound.spot.offset)?;
+    some_became(
+        moves,
+        before,
+        then,
+        &bound.declaration,
+        then.bound_at(near, &place),
+    )
+}
+
+/// Whether each bound identifier is.
+pub fn are_kept(
+    moves: &Moves<'_>,
+    before: &SoundWorkspace<'_>,
+    then: &SoundWorkspace<'_>,
+) -> Result<bool, AllocError>
+    requires before { IsHeld before.now }
+    requires then { IsHeld then.now }
+    ensures { IfOk result (λ yes. IsTrue yes ↔ KeepsAll (view_in before.now) (view_in then.now) (moved moves.now)) }
+{
+    let all = before.bound();
+    let mut near = 0;
+    for bound in all {
+        if !is_kept(moves, before, then, &mut near, bound)? {
+            return Ok(false);
+        }
+    }
+    Ok(true)
+}

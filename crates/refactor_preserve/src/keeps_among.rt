@@ -1,0 +1,310 @@
+//! Whether the affected packages alone tell that an edit set keeps all bindings, or that it does not.
+ghost use Rattle.std.specs.Prelude.{◌≡◌, Contains, IfOk, IsTrue, MatchOption, Some};
+ghost use Rattle.std.specs.Option.{option_copied};
+ghost use Rattle.base_files.specs.declared.place.Place.{Place as At};
+ghost use Rattle.base_edits.specs.EditSet.{edited};
+ghost use Rattle.base_edits.specs.Moved.{moved};
+ghost use Rattle.refs_binding.specs.Workspaces.{IsSound, known_in};
+ghost use Rattle.base_edits.specs.RevisionsOfEdits.{revision_of};
+ghost use Rattle.refactor_preserve.specs.Affected.{AreAffected};
+ghost use Rattle.refactor_preserve.specs.Among.{AreHeld, IsKnownBefore, BecomesAmong, IsKeptAmong, AllWereAmong, AddsNoneAmong, KeepsMarked, AddsMarked, BothGo, IsBoundMarked, TellsMarked};
+ghost use Rattle.refactor_preserve.specs.Answers.{Tells};
+ghost use Rattle.refactor_preserve.specs.Marked.{HasMarks};
+ghost use Rattle.refactor_preserve.specs.Preserved.{KeepsBindings};
+ghost use Rattle.refactor_preserve.specs.Steps.{HasBound};
+
+use crate::Near;
+use crate::among::{KnownBefore, MarkedPackages};
+use crate::answer::{Answer, no_or_unknown, yes_or_unknown};
+use crate::edited_workspace::EditedWorkspace;
+use crate::lost::is_lost;
+use crate::marking::affected_by;
+use base_edits::{EditSet, Moves};
+use base_files::Place;
+use refs_binding::{BoundSpot, Declaration};
+use refs_index::{are_predeclared, goes_to};
+use std::alloc::{AllocError, Global};
+use workspace_check::Findings;
+use workspace_graph::Graph;
+
+/// Whether two places are known, and the one goes to the other.
+fn both_go(moves: &Moves<'_>, old: Option<&Place>, new: Option<&Place>) -> Result<bool, AllocError>
+    ensures { IfOk result (λ yes. IsTrue yes → BothGo (moved moves.now) (option_copied old.entry) (option_copied new.entry)) }
+{
+    match old {
+        None => Ok(false),
+        Some(old) => match new {
+            None => Ok(false),
+            Some(new) => goes_to(moves, old, new),
+        },
+    }
+}
+
+/// Whether a declaration has become another, or is the same one of a package that is not affected.
+fn became(
+    moves: &Moves<'_>,
+    before: &MarkedPackages<'_>,
+    then: &MarkedPackages<'_>,
+    d: &Declaration,
+    e: &Declaration,
+) -> Result<bool, AllocError>
+    requires before { AreHeld before.now }
+    requires then { AreHeld then.now }
+    ensures { IfOk result (λ yes. IsTrue yes → BecomesAmong before.now then.now (moved moves.now) d.now e.now) }
+{
+    if are_predeclared(d, e) {
+        return Ok(true);
+    }
+    if before.leaves(d, e) {
+        return Ok(true);
+    }
+    both_go(moves, before.declared_at(d), then.declared_at(e))
+}
+
+/// Whether one of some bound identifiers is bound to what a declaration has become.
+fn some_became(
+    moves: &Moves<'_>,
+    before: &MarkedPackages<'_>,
+    then: &MarkedPackages<'_>,
+    d: &Declaration,
+    bound: &[BoundSpot],
+) -> Result<bool, AllocError>
+    requires before { AreHeld before.now }
+    requires then { AreHeld then.now }
+    ensures { IfOk result (λ yes. IsTrue yes → HasBound (λ e. BecomesAmong before.now then.now (moved moves.now) d.now e) bound.now) }
+{
+    for b in bound {
+        if became(moves, before, then, d, &b.declaration)? {
+            return Ok(true);
+        }
+    }
+    Ok(false)
+}
+
+/// Whether one of some bound identifiers is bound to what has become a declaration.
+fn some_was(
+    moves: &Moves<'_>,
+    before: &MarkedPackages<'_>,
+    then: &MarkedPackages<'_>,
+    bound: &[BoundSpot],
+    e: &Declaration,
+) -> Result<bool, AllocError>
+    requires before { AreHeld before.now }
+    requires then { AreHeld then.now }
+    ensures { IfOk result (λ yes. IsTrue yes → HasBound (λ d. BecomesAmong before.now then.now (moved moves.now) d e.now) bound.now) }
+{
+    for b in bound {
+        if became(moves, before, then, &b.declaration, e)? {
+            return Ok(true);
+        }
+    }
+    Ok(false)
+}
+
+/// Whether a bound identifier is afterwards bound to what its declaration has become.
+fn is_kept(
+    moves: &Moves<'_>,
+    before: &MarkedPackages<'_>,
+    then: &MarkedPackages<'_>,
+    near: &mut usize,
+    bound: &BoundSpot,
+) -> Result<bool, AllocError>
+    requires before { AreHeld before.now }
+    requires then { AreHeld then.now }
+    ensures { IfOk result (λ yes. IsTrue yes → IsKeptAmong before.now then.now (moved moves.now) bound.now) }
+{
+    let place = moves.place(&bound.spot.path, bound.spot.offset)?;
+    some_became(
+        moves,
+        before,
+        then,
+        &bound.declaration,
+        then.bound_at(near, &place),
+    )
+}
+
+/// The first bound identifier of the marked packages of which this is not told.
+fn first_unkept<'a>(
+    moves: &Moves<'_>,
+    before: &'a MarkedPackages<'_>,
+    then: &MarkedPackages<'_>,
+) -> Result<Option<&'a BoundSpot>, AllocError>
+    requires before { AreHeld before.now }
+    requires then { AreHeld then.now }
+    ensures { IfOk result (λ first. MatchOption first (KeepsMarked before.now then.now (moved moves.now)) (λ b. IsBoundMarked before.now b.now)) }
+{
+    let all = before.bound();
+    let mut near = 0;
+    for bound in all {
+        if !is_kept(moves, before, then, &mut near, bound)? {
+            return Ok(Some(bound));
+        }
+    }
+    Ok(None)
+}
+
+/// Whether each of some identifiers that are bound afterwards is bound to what has become one of those before.
+fn all_were(
+    moves: &Moves<'_>,
+    before: &MarkedPackages<'_>,
+    then: &MarkedPackages<'_>,
+    old: &[BoundSpot],
+    new: &[BoundSpot],
+) -> Result<bool, AllocError>
+    requires before { AreHeld before.now }
+    requires then { AreHeld then.now }
+    ensures { IfOk result (λ yes. IsTrue yes → AllWereAmong before.now then.now (moved moves.now) old.now new.now) }
+{
+    for b in new {
+        if !some_was(moves, before, then, old, &b.declaration)? {
+            return Ok(false);
+        }
+    }
+    Ok(true)
+}
+
+/// Whether what begins at a place goes to a marked package, and is bound there to nothing but what its declarations have become.
+fn adds_none(
+    moves: &Moves<'_>,
+    before: &MarkedPackages<'_>,
+    then: &MarkedPackages<'_>,
+    near: &mut Near,
+    place: &Place,
+) -> Result<bool, AllocError>
+    requires before { AreHeld before.now }
+    requires then { AreHeld then.now }
+    ensures { IfOk result (λ yes. IsTrue yes → AddsNoneAmong before.now then.now (moved moves.now) place.now) }
+{
+    let to = moves.place(&place.path, place.offset)?;
+    if !then.holds(&to.path) {
+        return Ok(false);
+    }
+    all_were(
+        moves,
+        before,
+        then,
+        before.bound_at(&mut near.before, place),
+        then.bound_at(&mut near.then, &to),
+    )
+}
+
+/// Whether this is so at each of some places.
+fn add_none(
+    moves: &Moves<'_>,
+    before: &MarkedPackages<'_>,
+    then: &MarkedPackages<'_>,
+    places: &[Place],
+) -> Result<bool, AllocError>
+    requires before { AreHeld before.now }
+    requires then { AreHeld then.now }
+    ensures { IfOk result (λ yes. IsTrue yes → (place : At) → Contains places.now place → AddsNoneAmong before.now then.now (moved moves.now) place) }
+{
+    let mut near = Near { before: 0, then: 0 };
+    for place in places {
+        if !adds_none(moves, before, then, &mut near, place)? {
+            return Ok(false);
+        }
+    }
+    Ok(true)
+}
+
+/// Whether this is so of all identifiers of the marked packages.
+fn adds_nowhere(
+    moves: &Moves<'_>,
+    before: &KnownBefore<'_>,
+    then: &MarkedPackages<'_>,
+) -> Result<bool, AllocError>
+    requires before { IsKnownBefore before.now }
+    requires then { AreHeld then.now }
+    ensures { IfOk result (λ yes. IsTrue yes → AddsMarked before.now.packages then.now (moved moves.now)) }
+{
+    add_none(moves, &before.packages, then, before.identifier_places())
+}
+
+/// Whether no identifier of the marked packages is bound to more, where each stays bound.
+fn adds_marked(
+    moves: &Moves<'_>,
+    before: &KnownBefore<'_>,
+    then: &MarkedPackages<'_>,
+) -> Result<Answer, AllocError>
+    requires before { IsKnownBefore before.now }
+    requires then { AreHeld then.now }
+    requires keeps { KeepsMarked before.now.packages then.now (moved moves.now) }
+    ensures { IfOk result (λ answer. TellsMarked before.now.packages then.now (moved moves.now) answer) }
+{
+    let adds_none = adds_nowhere(moves, before, then)?;
+    Ok(yes_or_unknown(adds_none))
+}
+
+/// Whether an identifier of the marked packages that may not stay bound does not.
+fn loses_marked(
+    moves: &Moves<'_>,
+    before: &MarkedPackages<'_>,
+    then: &MarkedPackages<'_>,
+    bound: &BoundSpot,
+) -> Result<Answer, AllocError>
+    requires before { AreHeld before.now }
+    requires then { AreHeld then.now }
+    requires bound { IsBoundMarked before.now bound.now }
+    ensures { IfOk result (λ answer. TellsMarked before.now then.now (moved moves.now) answer) }
+{
+    let lost = is_lost(moves, before, then, bound)?;
+    Ok(no_or_unknown(lost))
+}
+
+/// Whether the marked packages tell that each identifier stays bound to what its declaration becomes, or that one does not.
+fn tell_marked(
+    moves: &Moves<'_>,
+    before: &KnownBefore<'_>,
+    then: &MarkedPackages<'_>,
+) -> Result<Answer, AllocError>
+    requires before { IsKnownBefore before.now }
+    requires then { AreHeld then.now }
+    ensures { IfOk result (λ answer. TellsMarked before.now.packages then.now (moved moves.now) answer) }
+{
+    match first_unkept(moves, &before.packages, then)? {
+        None => adds_marked(moves, before, then),
+        Some(bound) => loses_marked(moves, &before.packages, then, bound),
+    }
+}
+
+/// What the marked packages tell of all identifiers.
+fn keeps_marked(
+    alloc: Global,
+    before: &KnownBefore<'_>,
+    edits: &EditSet,
+    then: &MarkedPackages<'_>,
+) -> Result<Answer, AllocError>
+    requires before { IsKnownBefore before.now }
+    requires then { AreHeld then.now }
+    requires edited { then.now.graph.now ≡ edited edits.now before.now.packages.graph.now }
+    requires affected { AreAffected before.now.packages.graph.now before.now.packages.graph.now then.now.graph.now edits.now before.now.packages.marks.now }
+    ensures { IfOk result (λ answer. Tells answer (KeepsBindings before.now.packages.graph.now (known_in before.now.packages.found.now) (revision_of before.now.packages.graph.now edits.now) (known_in then.now.found.now))) }
+{
+    let moves = Moves::of(alloc, edits)?;
+    tell_marked(&moves, before, then)
+}
+
+/// Whether the packages that an edit set affects tell that it keeps all bindings, or that it does not. Where they tell neither, or are
+/// all packages, this stays unknown.
+pub fn keeps_among(
+    alloc: Global,
+    graph: &Graph,
+    found: &Findings,
+    change: &EditedWorkspace<'_>,
+    found_after: &Findings,
+) -> Result<Answer, AllocError>
+    requires sound { IsSound graph.now found.now }
+    requires after { change.now.after.now ≡ edited change.now.edits.now graph.now }
+    requires marks { HasMarks graph.now change.now }
+    requires sound_after { IsSound change.now.after.now found_after.now }
+    ensures { IfOk result (λ answer. Tells answer (KeepsBindings graph.now (known_in found.now) (revision_of graph.now change.now.edits.now) (known_in found_after.now))) }
+{
+    let affected = affected_by(alloc, graph, change.edits, change.after, change.marks)?;
+    if affected.before.iter().all(|mark| *mark) {
+        return Ok(Answer::Unknown);
+    }
+    let before = KnownBefore::of(alloc, graph, found, &affected.before)?;
+    let then = MarkedPackages::of(alloc, change.after, found_after, &affected.then)?;
+    keeps_marked(alloc, &before, change.edits, &then)
+}

@@ -1,0 +1,56 @@
+//! Whether all identifiers stay bound to what their declarations become.
+ghost use Rattle.std.specs.Prelude.{◌↔◌, IsTrue, IfOk};
+ghost use Rattle.base_edits.specs.Moved.{moved};
+ghost use Rattle.refs_index.specs.Held.{IsHeld};
+ghost use Rattle.refs_index.specs.Sound.{view_in};
+ghost use Rattle.refactor_preserve.specs.Steps.{KeepsAll, AddsNowhere};
+
+use crate::adding::adds_nowhere;
+use crate::aligned::{Compared, keep_order};
+use crate::keeping::are_kept;
+use base_edits::Moves;
+use refs_index::SoundWorkspace;
+use std::alloc::{AllocError, Global};
+
+/// Whether each identifier of a workspace stays bound to what its declaration becomes in another, by a search for each.
+fn keeps_each(
+    alloc: Global,
+    moves: &Moves<'_>,
+    before: &SoundWorkspace<'_>,
+    then: &SoundWorkspace<'_>,
+) -> Result<bool, AllocError>
+    requires before { IsHeld before.now }
+    requires then { IsHeld then.now }
+    ensures { IfOk result (λ kept. IsTrue kept
+        ↔ (KeepsAll (view_in before.now) (view_in then.now) (moved moves.now) × AddsNowhere (view_in before.now) (view_in then.now) (moved moves.now))) }
+{
+    if are_kept(moves, before, then)? {
+        adds_nowhere(alloc, moves, before, then)
+    } else {
+        Ok(false)
+    }
+}
+
+/// Whether each identifier of a workspace stays bound to what its declaration becomes in another: first by the order of the bound
+/// identifiers alone, and where that does not tell it by a search for each.
+pub fn keeps(
+    alloc: Global,
+    moves: &Moves<'_>,
+    before: &SoundWorkspace<'_>,
+    then: &SoundWorkspace<'_>,
+) -> Result<bool, AllocError>
+    requires before { IsHeld before.now }
+    requires then { IsHeld then.now }
+    ensures { IfOk result (λ kept. IsTrue kept
+        ↔ (KeepsAll (view_in before.now) (view_in then.now) (moved moves.now) × AddsNowhere (view_in before.now) (view_in then.now) (moved moves.now))) }
+{
+    let both = Compared {
+        moves,
+        before,
+        then,
+    };
+    if keep_order(&both)? {
+        return Ok(true);
+    }
+    keeps_each(alloc, moves, before, then)
+}

@@ -1,0 +1,26 @@
+//! Whether an edited workspace keeps the binding of each identifier.
+#![tactic(auto)]
+
+mod adding;
+pub mod affected;
+mod aligned;
+mod among;
+mod answer;
+mod edited_workspace;
+mod keeping;
+mod keeps_among;
+mod kept;
+mod lost;
+mod marking;
+mod near;
+mod planned;
+mod preserving;
+mod reading;
+mod reading_order;
+
+pub use keeping::are_kept;
+pub use kept::keeps;
+pub use marking::{Affected, affected_by};
+pub use near::Near;
+pub use planned::{Planned, within_limits};
+pub use preserving::preserves;

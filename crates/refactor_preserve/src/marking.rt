@@ -1,0 +1,167 @@
+//! The packages that a change affects: all but those whose closure has the same texts before and after, and of whose closure no
+//! file is among the changed ones.
+ghost use Rattle.std.specs.Prelude.{◌≡◌, ◌<◌, IfOk, length, slice_get};
+ghost use Rattle.base_files.specs.Packages.{package_paths};
+ghost use Rattle.workspace_graph.specs.Graphs.{OfPackage};
+ghost use Rattle.build_carry.specs.Changes.{AreMarks, MarkClosures, MarkFolders};
+ghost use Rattle.refactor_preserve.specs.Affected.{AreAffected};
+ghost use Rattle.refactor_preserve.specs.Marking.{IsRead, TellsAffected, folders_of};
+
+use base_edits::{EditSet, FileChange};
+use build_carry::{Marks, keeps_texts};
+use std::alloc::{AllocError, Global};
+use workspace_check::is_marked;
+use workspace_graph::Graph;
+
+/// A mark for each package that holds a file that is among the changed ones.
+fn touched_marks(
+    alloc: Global,
+    graph: &Graph,
+    changed: &[FileChange],
+) -> Result<Vec<bool>, AllocError>
+    ensures { IfOk result (λ marks. MarkFolders graph.now (folders_of changed.now) marks.items) }
+{
+    let mut marks = vec![in alloc; false; graph.len()]?;
+    for change in changed {
+        if let Some(number) = graph.number_of(change.path.folder()) {
+            marks[number] = true;
+        }
+    }
+    Ok(marks)
+}
+
+/// A mark for each package whose closure holds a file that is among the changed ones.
+fn reaching_marks(
+    alloc: Global,
+    graph: &Graph,
+    changed: &[FileChange],
+) -> Result<Vec<bool>, AllocError>
+    ensures { IfOk result (λ marks. MarkClosures graph.now (folders_of changed.now) marks.items) }
+{
+    let marks = touched_marks(alloc, graph, changed)?;
+    graph.reaching(alloc, &marks)
+}
+
+/// A change of a workspace, with marks for the packages in whose closures it changes files.
+#[derive(Drop)]
+struct MarkedChange<'a> {
+    before: &'a Graph,
+    edits: &'a EditSet,
+    after: &'a Graph,
+    marks: &'a Marks,
+    touched: Vec<bool>,
+}
+
+impl<'a> MarkedChange<'a> {
+    fn of(
+        alloc: Global,
+        before: &'a Graph,
+        edits: &'a EditSet,
+        after: &'a Graph,
+        marks: &'a Marks,
+    ) -> Result<MarkedChange<'a>, AllocError>
+        requires before_marks { AreMarks before.now after.now marks.now.before.items }
+        requires after_marks { AreMarks after.now before.now marks.now.after.items }
+        ensures before { IfOk result (λ change. change.before.now ≡ before.now) }
+        ensures edits { IfOk result (λ change. change.edits.now ≡ edits.now) }
+        ensures after { IfOk result (λ change. change.after.now ≡ after.now) }
+        ensures read { IfOk result (λ change. IsRead change) }
+    {
+        let touched = reaching_marks(alloc, before, edits.changed())?;
+        Ok(MarkedChange {
+            before,
+            edits,
+            after,
+            marks,
+            touched,
+        })
+    }
+
+    /// Whether a package is affected that has those numbers before and after.
+    fn affects_both(&self, old: usize, new: usize) -> bool
+        requires old { old < length (package_paths self.now.before.now) }
+        requires same { slice_get (package_paths self.now.before.now) old ≡ slice_get (package_paths self.now.after.now) new }
+        requires new { new < length (package_paths self.now.after.now) }
+        requires read { IsRead self.now }
+        ensures { OfPackage self.now.before.now old (λ p. TellsAffected self.now.before.now self.now.after.now self.now.edits.now p result) }
+    {
+        if is_marked(&self.touched, old) {
+            return true;
+        }
+        !keeps_texts(self.marks, old, new)
+    }
+
+    /// Whether a package of the workspace before is affected.
+    fn affects_old(&self, old: usize) -> bool
+        requires old { old < length (package_paths self.now.before.now) }
+        requires read { IsRead self.now }
+        ensures { OfPackage self.now.before.now old (λ p. TellsAffected self.now.before.now self.now.after.now self.now.edits.now p result) }
+    {
+        match self.after.number_of(&self.before.package(old).path) {
+            None => true,
+            Some(new) => self.affects_both(old, new),
+        }
+    }
+
+    /// Whether a package of the workspace afterwards is.
+    fn affects_new(&self, new: usize) -> bool
+        requires new { new < length (package_paths self.now.after.now) }
+        requires read { IsRead self.now }
+        ensures { OfPackage self.now.after.now new (λ p. TellsAffected self.now.before.now self.now.after.now self.now.edits.now p result) }
+    {
+        match self.before.number_of(&self.after.package(new).path) {
+            None => true,
+            Some(old) => self.affects_both(old, new),
+        }
+    }
+
+    fn before_marks(&self, alloc: Global) -> Result<Vec<bool>, AllocError>
+        requires { IsRead self.now }
+        ensures { IfOk result (λ marks. AreAffected self.now.before.now self.now.before.now self.now.after.now self.now.edits.now marks.items) }
+    {
+        let mut marks = Vec::new(alloc);
+        for old in 0..self.before.len() {
+            marks.push(self.affects_old(old))?;
+        }
+        Ok(marks)
+    }
+
+    fn then_marks(&self, alloc: Global) -> Result<Vec<bool>, AllocError>
+        requires { IsRead self.now }
+        ensures { IfOk result (λ marks. AreAffected self.now.after.now self.now.before.now self.now.after.now self.now.edits.now marks.items) }
+    {
+        let mut marks = Vec::new(alloc);
+        for new in 0..self.after.len() {
+            marks.push(self.affects_new(new))?;
+        }
+        Ok(marks)
+    }
+}
+
+/// The affected packages of a workspace, and of the one that it becomes, marked by their numbers.
+#[derive(Drop)]
+pub struct Affected {
+    pub before: Vec<bool>,
+    pub then: Vec<bool>,
+}
+
+/// Marks the packages that an edit set affects, in a workspace and in the edited one, by the marks of those in whose closures one has
+/// other files then.
+pub fn affected_by(
+    alloc: Global,
+    before: &Graph,
+    edits: &EditSet,
+    after: &Graph,
+    marks: &Marks,
+) -> Result<Affected, AllocError>
+    requires before_marks { AreMarks before.now after.now marks.now.before.items }
+    requires after_marks { AreMarks after.now before.now marks.now.after.items }
+    ensures before { IfOk result (λ marks. AreAffected before.now before.now after.now edits.now marks.before.items) }
+    ensures then { IfOk result (λ marks. AreAffected after.now before.now after.now edits.now marks.then.items) }
+{
+    let change = MarkedChange::of(alloc, before, edits, after, marks)?;
+    Ok(Affected {
+        before: change.before_marks(alloc)?,
+        then: change.then_marks(alloc)?,
+    })
+}

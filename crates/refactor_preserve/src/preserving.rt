@@ -1,0 +1,192 @@
+//! Whether a change preserves the bindings of a workspace.
+ghost use Rattle.std.specs.Prelude.{◌≡◌, ◌↔◌, [], IsTrue, IfOk, MatchBool};
+ghost use Rattle.base_edits.specs.EditSet.{edited};
+ghost use Rattle.workspace_check.specs.FaultLists.{ListsFaults};
+ghost use Rattle.workspace_check.specs.Found.{AreFindings, IsFound, KnowsVerdicts};
+ghost use Rattle.refs_binding.specs.Packages.{ArePackages};
+ghost use Rattle.refs_binding.specs.Workspaces.{IsSound, known_in};
+ghost use Rattle.refactor_preserve.specs.Marked.{HasMarks};
+ghost use Rattle.refactor_preserve.specs.Preserved.{KeepsBindings, Preserves, TellsPreserved};
+ghost use Rattle.base_edits.specs.RevisionsOfEdits.{revision_of};
+
+use crate::answer::Answer;
+use crate::edited_workspace::EditedWorkspace;
+use crate::keeps;
+use crate::keeps_among::keeps_among;
+use base_edits::{EditSet, Moves};
+use base_files::Refusal;
+use build_carry::{known_after, marks_of};
+use refs_binding::{Packages, all_seen, refuse_faults};
+use refs_index::SoundWorkspace;
+use std::alloc::{AllocError, Global};
+use workspace_check::{Findings, Found, Known, verdicts};
+use workspace_graph::Graph;
+use workspace_snapshot::MadeChange;
+
+/// Whether each identifier of packages without faults is bound, in others without faults, to what its declaration has become.
+fn keeps_read(
+    alloc: Global,
+    before: &Packages<'_>,
+    edits: &EditSet,
+    after: &Packages<'_>,
+) -> Result<bool, AllocError>
+    requires before { ArePackages before.now }
+    requires after { ArePackages after.now }
+    requires edited { after.now.graph.now ≡ edited edits.now before.now.graph.now }
+    ensures { IfOk result (λ kept. IsTrue kept ↔ KeepsBindings before.now.graph.now (known_in before.now.found.now) (revision_of before.now.graph.now edits.now) (known_in after.now.found.now)) }
+{
+    let moves = Moves::of(alloc, edits)?;
+    let before = SoundWorkspace::of(alloc, before)?;
+    let then = SoundWorkspace::of(alloc, after)?;
+    keeps(alloc, &moves, &before, &then)
+}
+
+/// The same of workspaces, by all their packages.
+fn keeps_all_bindings(
+    alloc: Global,
+    graph: &Graph,
+    found: &Findings,
+    edits: &EditSet,
+    after: &Graph,
+    found_after: &Findings,
+) -> Result<bool, AllocError>
+    requires sound { IsSound graph.now found.now }
+    requires after { after.now ≡ edited edits.now graph.now }
+    requires sound_after { IsSound after.now found_after.now }
+    ensures { IfOk result (λ kept. IsTrue kept ↔ KeepsBindings graph.now (known_in found.now) (revision_of graph.now edits.now) (known_in found_after.now)) }
+{
+    let seen = all_seen(alloc, graph, found)?;
+    let before = Packages::of(alloc, graph, found, &seen)?;
+    let seen_after = all_seen(alloc, after, found_after)?;
+    let then = Packages::of(alloc, after, found_after, &seen_after)?;
+    keeps_read(alloc, &before, edits, &then)
+}
+
+/// The same, by the affected packages alone where these tell it; asked as the function before is, since it falls back on that.
+fn keeps_bindings(
+    alloc: Global,
+    graph: &Graph,
+    found: &Findings,
+    change: &EditedWorkspace<'_>,
+    found_after: &Findings,
+) -> Result<bool, AllocError>
+    requires sound { IsSound graph.now found.now }
+    requires after { change.now.after.now ≡ edited change.now.edits.now graph.now }
+    requires marks { HasMarks graph.now change.now }
+    requires sound_after { IsSound change.now.after.now found_after.now }
+    ensures { IfOk result (λ kept. IsTrue kept ↔ KeepsBindings graph.now (known_in found.now) (revision_of graph.now change.now.edits.now) (known_in found_after.now)) }
+{
+    match keeps_among(alloc, graph, found, change, found_after)? {
+        Answer::Yes => Ok(true),
+        Answer::No => Ok(false),
+        Answer::Unknown => keeps_all_bindings(
+            alloc,
+            graph,
+            found,
+            change.edits,
+            change.after,
+            found_after,
+        ),
+    }
+}
+
+/// Whether nothing that was found in a workspace is a fault.
+fn is_sound(alloc: Global, graph: &Graph, found: &Findings) -> Result<bool, AllocError>
+    requires { AreFindings graph.now found.now }
+    ensures { IfOk result (λ sound. MatchBool sound (IsSound graph.now found.now) (ListsFaults graph.now [] → ⊥)) }
+{
+    match refuse_faults(alloc, graph, found) {
+        Ok(()) => Ok(true),
+        Err(Refusal::Memory) => Err(AllocError),
+        Err(_) => Ok(false),
+    }
+}
+
+/// What is found in a changed workspace. A package whose closure keeps its texts is not checked again.
+fn found_after(
+    alloc: Global,
+    graph: &Graph,
+    known: &Known,
+    change: &EditedWorkspace<'_>,
+) -> Result<Found, AllocError>
+    requires known { KnowsVerdicts graph.now known.now }
+    requires marks { HasMarks graph.now change.now }
+    ensures { IfOk result (IsFound change.now.after.now) }
+{
+    let kept = known_after(alloc, graph, known, change.after, change.marks)?;
+    verdicts(alloc, change.after, &kept)
+}
+
+/// Whether an edit set leaves a workspace without faults in which each identifier is bound to what its declaration has become, by
+/// what was found in it before and after.
+fn are_preserved(
+    alloc: Global,
+    graph: &Graph,
+    found: &Findings,
+    change: &EditedWorkspace<'_>,
+    found_after: &Findings,
+) -> Result<bool, AllocError>
+    requires sound { IsSound graph.now found.now }
+    requires after { change.now.after.now ≡ edited change.now.edits.now graph.now }
+    requires marks { HasMarks graph.now change.now }
+    requires found_after { AreFindings change.now.after.now found_after.now }
+    ensures { IfOk result (λ kept. IsTrue kept ↔ Preserves graph.now (revision_of graph.now change.now.edits.now)) }
+{
+    if is_sound(alloc, change.after, found_after)? {
+        keeps_bindings(alloc, graph, found, change, found_after)
+    } else {
+        Ok(false)
+    }
+}
+
+/// What is known of a workspace by what was found in it, where this is wanted.
+fn known_if(wanted: bool, found: Found) -> Option<Known>
+    ensures { MatchBool wanted (result ≡ Some found.known) (result ≡ None) }
+{
+    let Found { findings, known } = found;
+    drop(findings);
+    if wanted { Some(known) } else { None }
+}
+
+/// Whether an edit set leaves a workspace without faults in which each identifier is bound to what its declaration has become; where
+/// it does, with what is known of the edited workspace then. What was found before, with the marks of the change, says which packages
+/// need not be checked again.
+fn preserves_marked(
+    alloc: Global,
+    graph: &Graph,
+    found: &Found,
+    change: &EditedWorkspace<'_>,
+) -> Result<Option<Known>, AllocError>
+    requires sound { IsSound graph.now found.now.findings }
+    requires known { KnowsVerdicts graph.now found.now.known }
+    requires after { change.now.after.now ≡ edited change.now.edits.now graph.now }
+    requires marks { HasMarks graph.now change.now }
+    ensures { IfOk result (TellsPreserved graph.now (revision_of graph.now change.now.edits.now)) }
+{
+    let then = found_after(alloc, graph, &found.known, change)?;
+    let kept = are_preserved(alloc, graph, &found.findings, change, &then.findings)?;
+    Ok(known_if(kept, then))
+}
+
+/// The same of a change of the workspace. Texts are compared only of files in whose folders its edit set names files.
+pub fn preserves(
+    alloc: Global,
+    graph: &Graph,
+    found: &Found,
+    change: &MadeChange,
+) -> Result<Option<Known>, AllocError>
+    requires sound { IsSound graph.now found.now.findings }
+    requires known { KnowsVerdicts graph.now found.now.known }
+    requires base { change.now.base ≡ graph.now }
+    requires after { change.now.files ≡ edited change.now.edits graph.now }
+    ensures { IfOk result (TellsPreserved graph.now (revision_of graph.now change.now.edits)) }
+{
+    let marks = marks_of(alloc, graph, change)?;
+    let made = change.get();
+    let marked = EditedWorkspace {
+        edits: &made.edits,
+        after: &made.files,
+        marks: &marks,
+    };
+    preserves_marked(alloc, graph, found, &marked)
+}

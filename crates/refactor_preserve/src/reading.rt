@@ -1,0 +1,244 @@
+//! What is read of one marked package of a workspace without faults: where its declarations stand, what its identifiers are bound to,
+//! where these begin, if that is wanted, and what the package exports.
+ghost use Rattle.std.specs.Prelude.{◌<◌, length, IfOk, IfSome, IsTrue, OnOk};
+ghost use Rattle.base_files.specs.Packages.{package_paths};
+ghost use Rattle.refs_index.specs.KnownExports.{KnowsExports};
+ghost use Rattle.refs_binding.specs.Bindings.{AddsAll, IsBoundAt};
+ghost use Rattle.refs_binding.specs.Exports.{AreNumbersAt};
+ghost use Rattle.refs_binding.specs.Packages.{IsTableAs};
+ghost use Rattle.refs_binding.specs.Workspaces.{IsSound, known_in};
+ghost use Rattle.refs_places.specs.DeclaredPlaces.{AreDeclaredAt};
+ghost use Rattle.refs_places.specs.Identified.{BeginsInNumber};
+
+use base_files::Place;
+use go_scope::table::ScopeTable;
+use refs_binding::exports::numbers_by;
+use refs_binding::{BoundSpot, path_of, read_table};
+use refs_index::{KnownExports, bind_laid};
+use refs_places::declared_places::{DeclaredPlaces, unit_places};
+use refs_places::identifier_places::add_unit;
+use std::alloc::{AllocError, Global};
+use std::collections::BTreeMap;
+use types_declared::{Interfaces, Package};
+use workspace_check::{Findings, is_marked, seen};
+use workspace_graph::Graph;
+
+/// Which packages are read: the marked ones, over what those export that they import; and whether the places at which their
+/// identifiers begin are wanted.
+#[derive(Clone, Copy)]
+pub struct Reading<'a> {
+    pub exports: &'a KnownExports<'a>,
+    pub marks: &'a [bool],
+    pub identifiers: bool,
+}
+
+/// What is gathered of packages, one after another: their bound identifiers, and the places at which identifiers begin.
+#[derive(Drop)]
+pub struct Gathered {
+    pub bound: Vec<BoundSpot>,
+    pub identifiers: Vec<Place>,
+}
+
+/// What is read of one package: where its declarations stand, and what it exports, if a marked package imports it.
+#[derive(Drop)]
+pub struct ReadPackage {
+    pub places: DeclaredPlaces,
+    pub numbers: Option<BTreeMap<Vec<u8>, usize>>,
+}
+
+/// Where the declarations of the package of a number stand, by what this sees and its table.
+fn places_laid(
+    alloc: Global,
+    graph: &Graph,
+    found: &Findings,
+    seen: &Interfaces,
+    table: &ScopeTable<'_>,
+    number: usize,
+) -> Result<DeclaredPlaces, AllocError>
+    requires in_range { number < length (package_paths graph.now) }
+    requires sound { IsSound graph.now found.now }
+    requires table { IsTableAs graph.now (known_in found.now) number table.now seen.now }
+    ensures { IfOk result (AreDeclaredAt graph.now (known_in found.now) number) }
+{
+    let path = path_of(graph, found, number);
+    let files = table.files();
+    let unit = Package {
+        path,
+        files,
+        table,
+        interfaces: seen,
+    };
+    unit_places(alloc, unit)
+}
+
+/// Adds the places at which the identifiers of the package of a number begin, by what this sees and its table.
+fn add_laid(
+    places: &mut Vec<Place>,
+    graph: &Graph,
+    found: &Findings,
+    seen: &Interfaces,
+    table: &ScopeTable<'_>,
+    number: usize,
+) -> Result<(), AllocError>
+    requires in_range { number < length (package_paths graph.now) }
+    requires sound { IsSound graph.now found.now }
+    requires table { IsTableAs graph.now (known_in found.now) number table.now seen.now }
+    ensures { OnOk result (AddsAll places.old.items places.new.items (BeginsInNumber graph.now (known_in found.now) number)) }
+{
+    let path = path_of(graph, found, number);
+    let files = table.files();
+    let unit = Package {
+        path,
+        files,
+        table,
+        interfaces: seen,
+    };
+    add_unit(places, unit)
+}
+
+/// The same, where these places are wanted.
+fn add_wanted(
+    places: &mut Vec<Place>,
+    reading: &Reading<'_>,
+    seen: &Interfaces,
+    table: &ScopeTable<'_>,
+    number: usize,
+) -> Result<(), AllocError>
+    requires in_range { number < length (package_paths reading.now.exports.now.graph.now) }
+    requires exports { KnowsExports reading.now.exports.now }
+    requires table { let e = reading.now.exports.now in IsTableAs e.graph.now (known_in e.found.now) number table.now seen.now }
+    ensures { let e = reading.now.exports.now in
+        OnOk result (IsTrue reading.now.identifiers → AddsAll places.old.items places.new.items (BeginsInNumber e.graph.now (known_in e.found.now) number)) }
+{
+    if reading.identifiers {
+        let graph = reading.exports.graph;
+        let found = reading.exports.found;
+        add_laid(places, graph, found, seen, table, number)
+    } else {
+        Ok(())
+    }
+}
+
+/// Gathers what is wanted of the package of a number, by what this sees and its table, and tells where its declarations stand.
+fn gather_laid(
+    alloc: Global,
+    gathered: &mut Gathered,
+    reading: &Reading<'_>,
+    seen: &Interfaces,
+    table: &ScopeTable<'_>,
+    number: usize,
+) -> Result<DeclaredPlaces, AllocError>
+    requires in_range { number < length (package_paths reading.now.exports.now.graph.now) }
+    requires exports { KnowsExports reading.now.exports.now }
+    requires table { let e = reading.now.exports.now in IsTableAs e.graph.now (known_in e.found.now) number table.now seen.now }
+    ensures places { let e = reading.now.exports.now in IfOk result (AreDeclaredAt e.graph.now (known_in e.found.now) number) }
+    ensures bound { let e = reading.now.exports.now in
+        OnOk result (AddsAll gathered.old.bound.items gathered.new.bound.items (IsBoundAt e.graph.now (known_in e.found.now) number)) }
+    ensures identifiers { let e = reading.now.exports.now in
+        OnOk result (IsTrue reading.now.identifiers → AddsAll gathered.old.identifiers.items gathered.new.identifiers.items (BeginsInNumber e.graph.now (known_in e.found.now) number)) }
+{
+    let exports = reading.exports;
+    bind_laid(alloc, &mut gathered.bound, exports, seen, table, number)?;
+    add_wanted(&mut gathered.identifiers, reading, seen, table, number)?;
+    places_laid(alloc, exports.graph, exports.found, seen, table, number)
+}
+
+/// Whether a marked package imports the package of a number. Only speed rests on it.
+fn is_imported(graph: &Graph, marks: &[bool], number: usize) -> bool
+    requires { number < length (package_paths graph.now) }
+{
+    for importer in graph.importers(number) {
+        if is_marked(marks, *importer) {
+            return true;
+        }
+    }
+    false
+}
+
+/// What the package of a number exports, by what this sees and its table.
+fn numbers_laid(
+    alloc: Global,
+    graph: &Graph,
+    found: &Findings,
+    seen: &Interfaces,
+    table: &ScopeTable<'_>,
+    number: usize,
+) -> Result<BTreeMap<Vec<u8>, usize>, AllocError>
+    requires in_range { number < length (package_paths graph.now) }
+    requires sound { IsSound graph.now found.now }
+    requires table { IsTableAs graph.now (known_in found.now) number table.now seen.now }
+    ensures { IfOk result (AreNumbersAt graph.now (known_in found.now) number) }
+{
+    let path = path_of(graph, found, number);
+    let files = table.files();
+    numbers_by(alloc, path, files, table, seen)
+}
+
+/// The same, if a marked package imports that one.
+fn imported_numbers(
+    alloc: Global,
+    reading: &Reading<'_>,
+    seen: &Interfaces,
+    table: &ScopeTable<'_>,
+    number: usize,
+) -> Result<Option<BTreeMap<Vec<u8>, usize>>, AllocError>
+    requires in_range { number < length (package_paths reading.now.exports.now.graph.now) }
+    requires exports { KnowsExports reading.now.exports.now }
+    requires table { let e = reading.now.exports.now in IsTableAs e.graph.now (known_in e.found.now) number table.now seen.now }
+    ensures { let e = reading.now.exports.now in IfOk result (λ numbers. IfSome numbers (AreNumbersAt e.graph.now (known_in e.found.now) number)) }
+{
+    let graph = reading.exports.graph;
+    let found = reading.exports.found;
+    if is_imported(graph, reading.marks, number) {
+        let numbers = numbers_laid(alloc, graph, found, seen, table, number)?;
+        return Ok(Some(numbers));
+    }
+    Ok(None)
+}
+
+/// Gathers what is wanted of the package of a number, and tells what is read of it, by what this sees and its table.
+fn read_laid(
+    alloc: Global,
+    gathered: &mut Gathered,
+    reading: &Reading<'_>,
+    seen: &Interfaces,
+    table: &ScopeTable<'_>,
+    number: usize,
+) -> Result<ReadPackage, AllocError>
+    requires in_range { number < length (package_paths reading.now.exports.now.graph.now) }
+    requires exports { KnowsExports reading.now.exports.now }
+    requires table { let e = reading.now.exports.now in IsTableAs e.graph.now (known_in e.found.now) number table.now seen.now }
+    ensures places { let e = reading.now.exports.now in IfOk result (λ read. AreDeclaredAt e.graph.now (known_in e.found.now) number read.places) }
+    ensures numbers { let e = reading.now.exports.now in IfOk result (λ read. IfSome read.numbers (AreNumbersAt e.graph.now (known_in e.found.now) number)) }
+    ensures bound { let e = reading.now.exports.now in
+        OnOk result (AddsAll gathered.old.bound.items gathered.new.bound.items (IsBoundAt e.graph.now (known_in e.found.now) number)) }
+    ensures identifiers { let e = reading.now.exports.now in
+        OnOk result (IsTrue reading.now.identifiers → AddsAll gathered.old.identifiers.items gathered.new.identifiers.items (BeginsInNumber e.graph.now (known_in e.found.now) number)) }
+{
+    let numbers = imported_numbers(alloc, reading, seen, table, number)?;
+    let places = gather_laid(alloc, gathered, reading, seen, table, number)?;
+    Ok(ReadPackage { places, numbers })
+}
+
+/// The same of the package of a number, which is read for it.
+pub(crate) fn gather_read(
+    alloc: Global,
+    gathered: &mut Gathered,
+    reading: &Reading<'_>,
+    number: usize,
+) -> Result<ReadPackage, AllocError>
+    requires in_range { number < length (package_paths reading.now.exports.now.graph.now) }
+    requires exports { KnowsExports reading.now.exports.now }
+    ensures places { let e = reading.now.exports.now in IfOk result (λ read. AreDeclaredAt e.graph.now (known_in e.found.now) number read.places) }
+    ensures numbers { let e = reading.now.exports.now in IfOk result (λ read. IfSome read.numbers (AreNumbersAt e.graph.now (known_in e.found.now) number)) }
+    ensures bound { let e = reading.now.exports.now in
+        OnOk result (AddsAll gathered.old.bound.items gathered.new.bound.items (IsBoundAt e.graph.now (known_in e.found.now) number)) }
+    ensures identifiers { let e = reading.now.exports.now in
+        OnOk result (IsTrue reading.now.identifiers → AddsAll gathered.old.identifiers.items gathered.new.identifiers.items (BeginsInNumber e.graph.now (known_in e.found.now) number)) }
+{
+    let graph = reading.exports.graph;
+    let found = reading.exports.found;
+    let seen = seen(alloc, graph, number, &found.interfaces)?;
+    let table = read_table(alloc, graph, found, &seen, number)?;
+    read_laid(alloc, gathered, reading, &seen, &table, number)
+}

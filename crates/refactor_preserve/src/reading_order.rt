@@ -1,0 +1,271 @@
+//! The marked packages of a workspace without faults, each of which is read once, behind those that it imports: what these export is
+//! known then.
+ghost use Rattle.std.specs.Prelude.{◌≡◌, ◌<◌, [], None, length, IfOk, IfSome, IsTrue, OnOk};
+ghost use Rattle.base_files.specs.Packages.{package_paths};
+ghost use Rattle.workspace_graph.specs.Imports.{HoldsBelow};
+ghost use Rattle.refs_index.specs.KnownExports.{AreSomeExports};
+ghost use Rattle.refs_binding.specs.Bindings.{AddsAll, IsBoundAt};
+ghost use Rattle.refs_binding.specs.Exports.{AreNumbersAt};
+ghost use Rattle.refs_binding.specs.Packages.{HoldsOfEach};
+ghost use Rattle.refs_binding.specs.Workspaces.{IsSound, known_in};
+ghost use Rattle.refactor_preserve.specs.Among.{AreIdentifiersAmong, HoldsMarked};
+ghost use Rattle.refactor_preserve.specs.ReadSoFar.{HoldsAllNumbers, IsReadSoFar, MayRead, ReadsOne};
+ghost use Rattle.refs_places.specs.DeclaredPlaces.{AreDeclaredAt};
+ghost use Rattle.refs_places.specs.Identified.{BeginsInNumber};
+
+use crate::reading::{Gathered, ReadPackage, Reading, gather_read};
+use base_files::Place;
+use refs_index::exports::numbers_at;
+use refs_index::{Bindings, KnownExports};
+use refs_places::declared_places::DeclaredPlaces;
+use std::alloc::{AllocError, Global};
+use std::collections::BTreeMap;
+use workspace_check::{Findings, is_marked};
+use workspace_graph::Graph;
+
+/// What is held of the marked packages: where their declarations stand, by the packages' numbers, what their identifiers are bound to,
+/// and, where they were wanted, the places at which these begin.
+#[derive(Drop)]
+pub struct Held {
+    pub places: Vec<Option<DeclaredPlaces>>,
+    pub bindings: Bindings,
+    pub identifiers: Vec<Place>,
+}
+
+/// Of which packages of a workspace it is asked: the marked ones; and whether the places at which their identifiers begin are wanted.
+#[derive(Clone, Copy)]
+pub struct Wanted<'a> {
+    pub graph: &'a Graph,
+    pub found: &'a Findings,
+    pub marks: &'a [bool],
+    pub identifiers: bool,
+}
+
+/// What was read of packages, one after another: what is gathered of the marked ones, where the declarations of these stand, and what
+/// packages export, as far as it is known, both by the packages' numbers.
+#[derive(Drop)]
+pub struct SoFar {
+    pub gathered: Gathered,
+    pub places: Vec<Option<DeclaredPlaces>>,
+    pub numbers: Vec<Option<BTreeMap<Vec<u8>, usize>>>,
+}
+
+/// Nothing, for each of so many packages.
+fn nothing<T: Drop>(alloc: Global, count: usize) -> Result<Vec<Option<T>>, AllocError>
+    ensures { IfOk result (λ all. HoldsOfEach (λ n held. held ≡ None) count all.items) }
+{
+    let mut all = Vec::with_capacity(alloc, count)?;
+    for _number in 0..count {
+        all.push(None)?;
+    }
+    Ok(all)
+}
+
+impl SoFar {
+    /// Nothing was read.
+    fn new(alloc: Global, wanted: &Wanted<'_>) -> Result<SoFar, AllocError>
+        ensures { IfOk result (IsReadSoFar wanted.now []) }
+    {
+        let places = nothing(alloc, wanted.graph.len())?;
+        let numbers = nothing(alloc, wanted.graph.len())?;
+        let gathered = Gathered {
+            bound: Vec::new(alloc),
+            identifiers: Vec::new(alloc),
+        };
+        Ok(SoFar {
+            gathered,
+            places,
+            numbers,
+        })
+    }
+}
+
+/// Makes known what the package of a number exports. Where it isn't known, the package is read for it.
+fn know_one(
+    alloc: Global,
+    wanted: &Wanted<'_>,
+    numbers: &mut Vec<Option<BTreeMap<Vec<u8>, usize>>>,
+    number: usize,
+) -> Result<(), AllocError>
+    requires in_range { number < length (package_paths wanted.now.graph.now) }
+    requires sound { IsSound wanted.now.graph.now wanted.now.found.now }
+    requires numbers { AreSomeExports wanted.now.graph.now (known_in wanted.now.found.now) numbers.old.items }
+    ensures { OnOk result (AreSomeExports wanted.now.graph.now (known_in wanted.now.found.now) numbers.new.items) }
+{
+    if numbers[number].is_none() {
+        let exports = numbers_at(alloc, wanted.graph, wanted.found, number)?;
+        numbers[number] = Some(exports);
+    }
+    Ok(())
+}
+
+/// Makes known what the packages export that the package of a number imports.
+fn know_imports(
+    alloc: Global,
+    wanted: &Wanted<'_>,
+    numbers: &mut Vec<Option<BTreeMap<Vec<u8>, usize>>>,
+    number: usize,
+) -> Result<(), AllocError>
+    requires in_range { number < length (package_paths wanted.now.graph.now) }
+    requires sound { IsSound wanted.now.graph.now wanted.now.found.now }
+    requires numbers { AreSomeExports wanted.now.graph.now (known_in wanted.now.found.now) numbers.old.items }
+    ensures { OnOk result (AreSomeExports wanted.now.graph.now (known_in wanted.now.found.now) numbers.new.items) }
+{
+    for import in wanted.graph.imports(number) {
+        know_one(alloc, wanted, numbers, *import)?;
+    }
+    Ok(())
+}
+
+/// Gathers what is wanted of the package of a number, over what others export, as far as that is known.
+fn read_known(
+    alloc: Global,
+    wanted: &Wanted<'_>,
+    gathered: &mut Gathered,
+    numbers: &[Option<BTreeMap<Vec<u8>, usize>>],
+    number: usize,
+) -> Result<ReadPackage, AllocError>
+    requires in_range { number < length (package_paths wanted.now.graph.now) }
+    requires sound { IsSound wanted.now.graph.now wanted.now.found.now }
+    requires numbers { AreSomeExports wanted.now.graph.now (known_in wanted.now.found.now) numbers.now }
+    ensures places { IfOk result (λ read. AreDeclaredAt wanted.now.graph.now (known_in wanted.now.found.now) number read.places) }
+    ensures numbers { IfOk result (λ read. IfSome read.numbers (AreNumbersAt wanted.now.graph.now (known_in wanted.now.found.now) number)) }
+    ensures bound { OnOk result (AddsAll gathered.old.bound.items gathered.new.bound.items (IsBoundAt wanted.now.graph.now (known_in wanted.now.found.now) number)) }
+    ensures identifiers { OnOk result (IsTrue wanted.now.identifiers →
+        AddsAll gathered.old.identifiers.items gathered.new.identifiers.items (BeginsInNumber wanted.now.graph.now (known_in wanted.now.found.now) number)) }
+{
+    let exports = KnownExports {
+        graph: wanted.graph,
+        found: wanted.found,
+        numbers,
+    };
+    let reading = Reading {
+        exports: &exports,
+        marks: wanted.marks,
+        identifiers: wanted.identifiers,
+    };
+    gather_read(alloc, gathered, &reading, number)
+}
+
+/// Reads the package of a number.
+fn read_one(
+    alloc: Global,
+    wanted: &Wanted<'_>,
+    so_far: &mut SoFar,
+    number: usize,
+) -> Result<(), AllocError>
+    requires in_range { number < length (package_paths wanted.now.graph.now) }
+    requires sound { IsSound wanted.now.graph.now wanted.now.found.now }
+    requires size { length so_far.old.places.items ≡ length (package_paths wanted.now.graph.now) }
+    requires numbers { AreSomeExports wanted.now.graph.now (known_in wanted.now.found.now) so_far.old.numbers.items }
+    ensures { OnOk result (ReadsOne wanted.now number so_far.old so_far.new) }
+{
+    know_imports(alloc, wanted, &mut so_far.numbers, number)?;
+    let read = read_known(alloc, wanted, &mut so_far.gathered, &so_far.numbers, number)?;
+    so_far.places[number] = Some(read.places);
+    so_far.numbers[number] = read.numbers;
+    Ok(())
+}
+
+/// The same, if the package is marked; of another nothing is read.
+fn read_if_marked(
+    alloc: Global,
+    wanted: &Wanted<'_>,
+    so_far: &mut SoFar,
+    number: usize,
+) -> Result<(), AllocError>
+    requires in_range { number < length (package_paths wanted.now.graph.now) }
+    requires sound { IsSound wanted.now.graph.now wanted.now.found.now }
+    requires size { length so_far.old.places.items ≡ length (package_paths wanted.now.graph.now) }
+    requires numbers { AreSomeExports wanted.now.graph.now (known_in wanted.now.found.now) so_far.old.numbers.items }
+    ensures { OnOk result (MayRead wanted.now number so_far.old so_far.new) }
+{
+    if is_marked(wanted.marks, number) {
+        read_one(alloc, wanted, so_far, number)
+    } else {
+        Ok(())
+    }
+}
+
+/// Reads the marked ones of some packages, in their order.
+fn read_ordered(alloc: Global, wanted: &Wanted<'_>, order: &[usize]) -> Result<SoFar, AllocError>
+    requires sound { IsSound wanted.now.graph.now wanted.now.found.now }
+    requires order { HoldsAllNumbers wanted.now.graph.now order.now }
+    ensures { IfOk result (IsReadSoFar wanted.now order.now) }
+{
+    let mut so_far = SoFar::new(alloc, wanted)?;
+    for number in order {
+        read_if_marked(alloc, wanted, &mut so_far, *number)?;
+    }
+    Ok(so_far)
+}
+
+/// The numbers below one.
+fn numbers_below(alloc: Global, count: usize) -> Result<Vec<usize>, AllocError>
+    ensures { IfOk result (λ numbers. HoldsBelow (λ n. Unit {0}) count numbers.items) }
+{
+    let mut numbers = Vec::new(alloc);
+    for number in 0..count {
+        numbers.push(number)?;
+    }
+    Ok(numbers)
+}
+
+/// All packages by their numbers, each behind those that it imports, if a search finds such an order.
+fn reading_order(alloc: Global, graph: &Graph) -> Result<Vec<usize>, AllocError>
+    ensures { IfOk result (λ order. HoldsAllNumbers graph.now order.items) }
+{
+    let found = graph.links().order(alloc)?;
+    match found {
+        Some(order) => Ok(order),
+        None => numbers_below(alloc, graph.len()),
+    }
+}
+
+/// What is held of the marked packages, of which all was read.
+fn held_of(wanted: &Wanted<'_>, order: &[usize], so_far: SoFar) -> Result<Held, AllocError>
+    requires sound { IsSound wanted.now.graph.now wanted.now.found.now }
+    requires order { HoldsAllNumbers wanted.now.graph.now order.now }
+    requires so_far { IsReadSoFar wanted.now order.now so_far }
+    ensures held { IfOk result (λ held. HoldsMarked wanted.now.graph.now wanted.now.found.now wanted.now.marks.now held.places.items held.bindings) }
+    ensures identifiers { IfOk result (λ held. IsTrue wanted.now.identifiers →
+        AreIdentifiersAmong wanted.now.graph.now (known_in wanted.now.found.now) wanted.now.marks.now held.identifiers.items) }
+{
+    let SoFar {
+        gathered,
+        places,
+        numbers,
+    } = so_far;
+    drop(numbers);
+    let Gathered { bound, identifiers } = gathered;
+    let bindings = Bindings::among(bound)?;
+    Ok(Held {
+        places,
+        bindings,
+        identifiers,
+    })
+}
+
+/// What is held of the marked packages of a workspace without faults; with the places at which their identifiers begin, where these are
+/// wanted. Only these packages are read, each once, and those that they import and that are not marked.
+pub fn read_marked(
+    alloc: Global,
+    graph: &Graph,
+    found: &Findings,
+    marks: &[bool],
+    identifiers: bool,
+) -> Result<Held, AllocError>
+    requires { IsSound graph.now found.now }
+    ensures held { IfOk result (λ held. HoldsMarked graph.now found.now marks.now held.places.items held.bindings) }
+    ensures identifiers { IfOk result (λ held. IsTrue identifiers → AreIdentifiersAmong graph.now (known_in found.now) marks.now held.identifiers.items) }
+{
+    let wanted = Wanted {
+        graph,
+        found,
+        marks,
+        identifiers,
+    };
+    let order = reading_order(alloc, graph)?;
+    let so_far = read_ordered(alloc, &wanted, &order)?;
+    held_of(&wanted, &order, so_far)
+}

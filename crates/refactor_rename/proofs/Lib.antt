@@ -1,0 +1,10 @@
+-- The lemmas of this crate.
+pub mod Words
+pub mod Refusing
+pub mod Literals
+pub mod TreeSearch
+pub mod Sources
+pub mod RenamedPaths
+pub mod Changing
+pub mod Searching
+pub mod Editing

@@ -1,0 +1,69 @@
+-- Refusals for one of three reasons.
+use Rattle.std.proofs.Common.{ℕ, ◌≡◌, List, subst}
+use Rattle.std.specs.Prelude.{Option, Some, None, MatchOption, Result, Ok, Err}
+use Rattle.base_files.specs.declared.refusal.Refusal.{Refusal}
+use Rattle.base_files.specs.declared.refusal.Refusal.TheVariants as refusal
+use Rattle.go_scope.specs.declared.model.Position.{Position}
+use Rattle.types_declared.specs.Package.{Package, spelled}
+use Rattle.refs_binding.specs.Called.{IsMemberCalled}
+use Rattle.refactor_rename.specs.NewName.{IsReserved}
+use Rattle.refactor_rename.specs.Naming.{RefusesFor}
+
+-- two reasons that are one
+pub record Agree (one other : Type 0) : Type 0 where
+  pub there : one → other
+  pub back : other → one
+
+pub agree_same : (one : Type 0) → Agree one one
+agree_same one = record { there = λ h. h; back = λ h. h }
+
+module _ (F G B C D E : Type 0) (fixed : Agree F G) (reserved : Agree B C) (called : Agree D E) where
+  refused_as : (r : Refusal) → RefusesFor F B D (Err r) → RefusesFor G C E (Err r)
+  refused_as refusal.Memory h = h
+  refused_as refusal.BadCommand h = absurd h
+  refused_as refusal.BadPath h = absurd h
+  refused_as refusal.NoFile h = absurd h
+  refused_as refusal.TooLarge h = absurd h
+  refused_as (refusal.Moved a) h = absurd h
+  refused_as refusal.NothingToUndo h = absurd h
+  refused_as refusal.NothingToRedo h = absurd h
+  refused_as (refusal.Faulty a b) h = absurd h
+  refused_as refusal.NoIdentifier h = absurd h
+  refused_as refusal.NotRenamable h = fixed.there h
+  refused_as refusal.BadName h = ((λ g. h.0 (fixed.back g)), reserved.there h.1)
+  refused_as refusal.Same h = ((λ g. h.0 (fixed.back g)), (λ c. h.1 (reserved.back c)), called.there h.2)
+  refused_as (refusal.Captured a b) h = absurd h
+  refused_as (refusal.Lost a) h = absurd h
+  refused_as refusal.NoPackage h = absurd h
+  refused_as refusal.TargetTaken h = absurd h
+  refused_as refusal.InsideItself h = absurd h
+  refused_as refusal.JournalFull h = absurd h
+  refused_as (refusal.Pending a) h = absurd h
+  refused_as (refusal.Stale a) h = absurd h
+  refused_as refusal.Already h = absurd h
+  refused_as refusal.NoJob h = absurd h
+  refused_as refusal.BodyShort h = absurd h
+
+  pub refuses_as : (r : Result (Unit {0}) Refusal) → RefusesFor F B D r → RefusesFor G C E r
+  refuses_as (Ok done) h = ((λ g. h.0 (fixed.back g)), (λ c. h.1 (reserved.back c)), (λ e. h.2 (called.back e)))
+  refuses_as (Err r) h = refused_as r h
+
+no_member : (name : List ℕ) → Agree ⊥ (⊥ × IsReserved name)
+no_member name = record { there = λ h. absurd h; back = λ h. h.0 }
+
+-- the name of a member is that which stands where it is declared
+pub member_refused : (IsAt : (rank : ℕ) → Position → Type 0) (p : Package) (rank : ℕ) (name : List ℕ) →
+    ((a b : Position) → IsAt rank a → IsAt rank b → a ≡ b) → (o : Option Position) (r : Result (Unit {0}) Refusal) →
+    MatchOption o ((at : Position) → IsAt rank at → ⊥) (λ at. IsAt rank at) →
+    MatchOption o (RefusesFor ⊥ ⊥ ⊥ r) (λ a. RefusesFor ⊥ ⊥ (spelled p a.file a.index ≡ name) r) →
+    RefusesFor ⊥ (⊥ × IsReserved name) (IsMemberCalled IsAt p rank name) r
+member_refused IsAt p rank name one None r none h =
+    refuses_as ⊥ ⊥ ⊥ (⊥ × IsReserved name) ⊥ (IsMemberCalled IsAt p rank name) (agree_same ⊥) (no_member name)
+    (record { there = λ n. absurd n; back = λ c. none c.at c.is_at }) r h
+member_refused IsAt p rank name one (Some a) r is h =
+    refuses_as ⊥ ⊥ ⊥ (⊥ × IsReserved name) (spelled p a.file a.index ≡ name) (IsMemberCalled IsAt p rank name) (agree_same ⊥) (no_member name)
+    (record {
+      there = λ e. record { at = a; is_at = is; called = e };
+      back = λ c.
+          subst (λ (x : Position). spelled p x.file x.index ≡ name) (one c.at a c.is_at is) c.called;
+    }) r h

@@ -1,0 +1,46 @@
+-- The answers to the goals of `file_edits::edits_of`.
+use Rattle.std.proofs.Common.{length, sym, ap, subst, ◌∙◌, arith, get_or}
+use Rattle.go_scanner.specs.declared.piece.Class.TheVariants.{ByteOrderMark}
+use Rattle.go_scanner.specs.declared.piece.Piece.{Piece}
+use Rattle.go_scanner.specs.CutText.{CutText, tokens_in}
+use Rattle.go_scanner.specs.Spans.{FollowFrom}
+use Rattle.go_ast.specs.SourceFile.{source_of}
+use Rattle.refactor_rename.proofs.Editing.{going_first, going_next, follow_at, end_more, all_edits}
+use Rattle.refactor_rename.proofs.file_edits.edits_of.Goals as goal
+
+no_piece : Piece
+no_piece = record { class = ByteOrderMark; span = record { start = 0; end = 0 } }
+
+pub add_edits-requires-clause-span : goal.add_edits-requires-clause-span
+unfolding no_piece
+add_edits-requires-clause-span c =
+    let h = c.loop-number.invariant in
+    (follow_at c.tokens-tokens.result.now c.loop-number.number h.at (length (source_of c.args.file.now).cut.text) no_piece c.loop-number-test.true h.follow).1
+
+pub add_edits-requires-clause-order : goal.add_edits-requires-clause-order
+unfolding no_piece
+add_edits-requires-clause-order c =
+    let h = c.loop-number.invariant in
+    let follows = follow_at c.tokens-tokens.result.now c.loop-number.number h.at (length (source_of c.args.file.now).cut.text) no_piece
+    c.loop-number-test.true h.follow in
+    end_more c.loop-number.edits.items h.at (get_or c.tokens-tokens.result.now c.loop-number.number no_piece).span.start follows.0 h.end_by
+
+pub loop-number-init : goal.loop-number-init
+loop-number-init c =
+    let cut = c.pieces.result.now in
+    let text = (source_of c.args.file.now).cut.text in
+    going_first (source_of c.args.file.now) c.args.renamed.now c.tokens-tokens.result.now c.new-edits.result.items c.new-edits.ensures.items
+    (subst (λ ts. FollowFrom 0 ts (length text)) (sym c.tokens-tokens.ensures.tokens)
+    (subst (λ (v : CutText). FollowFrom 0 (tokens_in cut) (length v.text)) c.pieces.ensures c.tokens-tokens.ensures.order.follow))
+
+pub loop-number-preserved : goal.loop-number-preserved
+unfolding no_piece
+loop-number-preserved c =
+    going_next (source_of c.args.file.now) c.args.renamed.now c.tokens-tokens.result.now c.loop-number.number no_piece c.loop-number.edits.items
+    c.add_edits.new.edits.items c.loop-number-test.true c.loop-number.invariant
+    c.in_ok-add_edits.ensures.order c.in_ok-add_edits.ensures.adds
+
+pub returns : goal.returns
+returns c =
+    all_edits (source_of c.args.file.now) c.args.renamed.now c.tokens-tokens.result.now c.loop-number.edits.items c.loop-number.number
+    (c.tokens-tokens.ensures.tokens ∙ ap tokens_in c.pieces.ensures) (omega arith) c.loop-number.invariant

@@ -1,0 +1,45 @@
+-- The edits of one file that give identifiers in it, and the literal of an import in it, another name.
+use Rattle.std.specs.Prelude.{ℕ, ◌≡◌, ◌↔◌, ◌⊎◌, List, Option, Some, None, Contains, length, slice_get}
+use Rattle.go_scanner.specs.declared.piece.Piece.{Piece}
+use Rattle.go_scanner.specs.declared.piece.Class.TheVariants.{Name}
+use Rattle.go_scanner.specs.CutText.{tokens_in}
+use Rattle.go_ast.specs.SourceFile.{SourceFile}
+use Rattle.base_edits.specs.Edits.{AreInOrder, LieWithin}
+use Rattle.base_edits.specs.declared.edit.Edit.{Edit}
+use Rattle.refactor_rename.specs.declared.renamed.Literal.{Literal}
+use Rattle.refactor_rename.specs.declared.renamed.Renamed.{Renamed}
+use Rattle.refactor_rename.specs.Replacements.{IsNameBefore}
+
+-- a token of the file of a path is the literal
+abbrev pub IsLiteralAt : Option Literal → (path : List ℕ) → (token : ℕ) → Type 0
+IsLiteralAt None path token = ⊥
+IsLiteralAt (Some l) path token = (l.path ≡ path) × (l.token ≡ token)
+
+-- the token is an identifier that begins at one of the places, and has the name in its place
+pub record ReplacesName (f : SourceFile) (r : Renamed) (i : ℕ) (e : Edit) : Type 0 where
+  pub token : Piece
+  pub at : slice_get (tokens_in f.cut) i ≡ Some token
+  pub is_name : token.class ≡ Name
+  pub among : Contains r.places (record { path = f.path; offset = token.span.start })
+  pub is_edit : e ≡ record { span = token.span; text = r.name }
+
+-- the token is the literal, and gets the name before it
+pub record InsertsName (f : SourceFile) (r : Renamed) (i : ℕ) (e : Edit) : Type 0 where
+  pub token : Piece
+  pub at : slice_get (tokens_in f.cut) i ≡ Some token
+  pub is_literal : IsLiteralAt r.literal f.path i
+  pub span : e.span ≡ record { start = token.span.start; end = token.span.start }
+  pub text : IsNameBefore f i r.name e.text
+
+abbrev pub IsEditAt : SourceFile → Renamed → ℕ → Edit → Type 0
+IsEditAt f r i e = InsertsName f r i e ⊎ ReplacesName f r i e
+
+-- edits in order, none of which ends behind an offset
+pub record EndBy (edits : List Edit) (offset : ℕ) : Type 0 where
+  pub in_order : AreInOrder 0 edits
+  pub ends : LieWithin offset edits
+
+-- the edits of all tokens of a file
+pub record AreFileEdits (f : SourceFile) (r : Renamed) (edits : List Edit) : Type 0 where
+  pub end_by : EndBy edits (length f.cut.text)
+  pub each : (e : Edit) → Contains edits e ↔ ((i : ℕ) × IsEditAt f r i e)

@@ -1,0 +1,34 @@
+-- The literals of imports without a name, which stand for their declarations. IsPackage: the packages of the workspace.
+use Rattle.std.specs.Prelude.{ℕ, ◌≡◌, ◌<◌, Option, Some, None, slice_get, MatchOption}
+use Rattle.go_ast.specs.SourceFile.{SourceFile}
+use Rattle.go_scope.specs.Bindings.{IsImport}
+use Rattle.types_declared.specs.Laid.{literal_of}
+use Rattle.types_declared.specs.Package.{Package}
+use Rattle.refs_binding.specs.declared.declaration.Declaration.{Declaration}
+use Rattle.refs_binding.specs.declared.declaration.Declaration.TheVariants.{Predeclared, Declared, Field, Method}
+use Rattle.refs_binding.specs.Standing.{InPackage}
+use Rattle.refactor_rename.specs.declared.renamed.Literal.{Literal}
+
+-- a token of a file, if there is one
+abbrev pub IsTokenOf : Option SourceFile → ℕ → Literal → Type 0
+IsTokenOf None token l = ⊥
+IsTokenOf (Some f) token l = (l.path ≡ f.path) × (l.token ≡ token)
+
+-- an import that has no name
+abbrev pub IsUnnamed : Package → ℕ → Type 0
+IsUnnamed p d = IsImport p.layout d × (literal_of p.layout d ≡ d)
+
+-- the declaration of the package is such an import, and this is its literal
+abbrev pub IsLiteralIn : Package → ℕ → Literal → Type 0
+IsLiteralIn p d l = (d < p.size) × IsUnnamed p d × IsTokenOf (slice_get p.files (p.layout.place d).file) (p.layout.place d).index l
+
+-- the same of a declaration of the workspace
+abbrev pub IsLiteralOf : (Package → Type 0) → Declaration → Literal → Type 0
+IsLiteralOf IsPackage (Predeclared d) l = ⊥
+IsLiteralOf IsPackage (Declared path d) l = InPackage IsPackage path (λ p. IsLiteralIn p d l)
+IsLiteralOf IsPackage (Field s) l = ⊥
+IsLiteralOf IsPackage (Method s) l = ⊥
+
+-- the literal of which K holds; none where it holds of none
+abbrev pub IsLiteralFound : (Literal → Type 0) → Option Literal → Type 0
+IsLiteralFound K found = MatchOption found ((l : Literal) → K l → ⊥) (λ l. K l)

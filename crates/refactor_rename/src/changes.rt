@@ -1,0 +1,103 @@
+//! The changes of the files of a workspace.
+ghost use Rattle.std.specs.Prelude.{ℕ, ◌≡◌, ◌↔◌, List, Contains, map, IfOk, OnOk, MatchOption};
+ghost use Rattle.std.specs.List.Sorted.{IsStrictlySortedBy};
+ghost use Rattle.base_files.specs.Workspace.{path_cmp};
+ghost use Rattle.go_ast.specs.SourceFile.{SourceFile, FileParts, source_of};
+ghost use Rattle.refs_binding.specs.Places.{place_cmp};
+ghost use Rattle.refs_binding.specs.Workspaces.{IsSound, known_in};
+ghost use Rattle.refactor_rename.specs.RenameEdits.{IsSourceIn};
+ghost use Rattle.refactor_rename.specs.Changes.{IsPathOf, AddsChange, AreSourceChanges};
+
+use crate::file_edits::edits_of;
+use crate::paths::paths_of;
+use crate::renamed::Renamed;
+use base_edits::{Edits, Fate, FileChange};
+use base_files::Path;
+use go_ast::FileTree;
+use refs_binding::trees;
+use std::alloc::{AllocError, Global};
+use workspace_check::Findings;
+use workspace_graph::Graph;
+
+/// The tree of the file of a path, if it is among these, which are in the order of their paths.
+fn tree_in<'a>(files: &'a [FileTree], path: &Path) -> Option<&'a FileTree>
+    requires { IsStrictlySortedBy path_cmp (map (λ t. t.path) files.now) }
+    ensures { MatchOption result ((t : FileParts) → Contains files.now t → t.path ≡ path.now → ⊥) (λ file. Contains files.now file.now × (file.now.path ≡ path.now)) }
+{
+    match files.binary_search_by(|file| file.path().cmp(path)) {
+        Ok(place) => Some(&files[place]),
+        Err(_) => None,
+    }
+}
+
+/// The tree of the file of a path, if it is a Go file.
+fn tree_of<'a>(graph: &'a Graph, found: &Findings, path: &Path) -> Option<&'a FileTree>
+    requires { IsSound graph.now found.now }
+    ensures { MatchOption result ((f : SourceFile) → IsSourceIn graph.now (known_in found.now) f → f.path ≡ path.now → ⊥)
+        (λ file. IsSourceIn graph.now (known_in found.now) (source_of file.now) × (file.now.path ≡ path.now)) }
+{
+    match graph.number_of(path.folder()) {
+        None => None,
+        Some(number) => tree_in(trees(graph, found, number), path),
+    }
+}
+
+/// Adds the change of a file, if something is renamed there.
+fn add_change(
+    alloc: Global,
+    changed: &mut Vec<FileChange>,
+    file: &FileTree,
+    renamed: &Renamed,
+) -> Result<(), AllocError>
+    requires { IsStrictlySortedBy place_cmp renamed.now.places }
+    ensures { OnOk result (AddsChange (source_of file.now) renamed.now changed.old.items changed.new.items) }
+{
+    let edits = edits_of(alloc, file, renamed)?;
+    if !edits.is_empty() {
+        changed.push(FileChange {
+            path: file.path().clone()?,
+            edits: Edits::new(edits),
+            fate: Fate::Stays,
+        })?;
+    }
+    Ok(())
+}
+
+/// The changes of the files of some paths, which are in order, and among which are those of all files in which something is
+/// renamed.
+fn changes_in(
+    alloc: Global,
+    graph: &Graph,
+    found: &Findings,
+    paths: &[Path],
+    renamed: &Renamed,
+) -> Result<Vec<FileChange>, AllocError>
+    requires sound { IsSound graph.now found.now }
+    requires sorted { IsStrictlySortedBy place_cmp renamed.now.places }
+    requires order { IsStrictlySortedBy path_cmp paths.now }
+    requires each { (q : List ℕ) → Contains paths.now q ↔ IsPathOf renamed.now q }
+    ensures { IfOk result (λ changed. AreSourceChanges graph.now (known_in found.now) renamed.now changed.items) }
+{
+    let mut changed = Vec::new(alloc);
+    for path in paths {
+        if let Some(file) = tree_of(graph, found, path) {
+            add_change(alloc, &mut changed, file, renamed)?;
+        }
+    }
+    Ok(changed)
+}
+
+/// The changes of all files in which something is renamed, in the order of their paths.
+pub(crate) fn changes_of(
+    alloc: Global,
+    graph: &Graph,
+    found: &Findings,
+    renamed: &Renamed,
+) -> Result<Vec<FileChange>, AllocError>
+    requires sound { IsSound graph.now found.now }
+    requires sorted { IsStrictlySortedBy place_cmp renamed.now.places }
+    ensures { IfOk result (λ changed. AreSourceChanges graph.now (known_in found.now) renamed.now changed.items) }
+{
+    let paths = paths_of(alloc, renamed)?;
+    changes_in(alloc, graph, found, paths.as_slice(), renamed)
+}

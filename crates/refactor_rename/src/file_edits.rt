@@ -1,0 +1,173 @@
+//! The edits of one file.
+ghost use Rattle.std.specs.Prelude.{◌≡◌, ◌<◌, ◌≤◌, ◌↔◌, ◌++◌, ◌∷◌, [], Contains, IsTrue, IfOk, OnOk, Some, slice_get};
+ghost use Rattle.std.specs.List.Sorted.{IsStrictlySortedBy};
+ghost use Rattle.go_scanner.specs.CutText.{tokens_in};
+ghost use Rattle.go_ast.specs.SourceFile.{source_of};
+ghost use Rattle.refs_binding.specs.Bindings.{AddsAll};
+ghost use Rattle.refs_binding.specs.Places.{place_cmp};
+ghost use Rattle.refactor_rename.specs.Replacements.{EndsImport, IsRightBehindImport, IsNameBefore};
+ghost use Rattle.refactor_rename.specs.FileEdits.{IsLiteralAt, ReplacesName, InsertsName, IsEditAt, EndBy, AreFileEdits};
+
+use crate::renamed::{Literal, Renamed};
+use base_edits::Edit;
+use base_files::{FileText, Path, Place, Span};
+use go_ast::FileTree;
+use go_scanner::{Class, Piece};
+use std::alloc::{AllocError, Global};
+use std::cmp::Ordering;
+
+/// How a place compares with a byte of a file.
+fn compare_place(place: &Place, path: &Path, offset: usize) -> Ordering
+    ensures { result ≡ place_cmp place.now (record { path = path.now; offset = offset }) }
+{
+    place.path.cmp(path).then(place.offset.cmp(&offset))
+}
+
+/// Whether one of the places is that byte of the file.
+fn is_among(places: &[Place], path: &Path, offset: usize) -> bool
+    requires { IsStrictlySortedBy place_cmp places.now }
+    ensures { IsTrue result ↔ Contains places.now (record { path = path.now; offset = offset }) }
+{
+    match places.binary_search_by(|place| compare_place(place, path, offset)) {
+        Ok(_) => true,
+        Err(_) => false,
+    }
+}
+
+/// Whether a token of a file is the literal.
+fn is_literal(literal: &Option<Literal>, path: &Path, number: usize) -> bool
+    ensures { IsTrue result ↔ IsLiteralAt literal.now path.now number }
+{
+    match literal {
+        None => false,
+        Some(literal) => literal.path == *path && literal.token == number,
+    }
+}
+
+/// Whether a token is the word `import`, and ends at an offset.
+fn ends_import(file: &FileTree, before: usize, offset: usize) -> bool
+    ensures { IsTrue result ↔ EndsImport (source_of file.now) before offset }
+{
+    let word = file.spelling(before);
+    word == b"import".as_slice()
+        && file.offset(before) <= offset
+        && offset - file.offset(before) == word.len()
+}
+
+/// Whether the word `import` ends where a token of a file begins.
+fn is_behind_import(file: &FileTree, number: usize) -> bool
+    ensures { IsTrue result ↔ IsRightBehindImport (source_of file.now) number }
+{
+    number > 0 && ends_import(file, number - 1, file.offset(number))
+}
+
+/// A name with some bytes before it and a space behind it.
+fn spaced(alloc: Global, before: &[u8], name: &[u8]) -> Result<FileText, AllocError>
+    ensures { IfOk result (λ text. text ≡ before.now ++ (name.now ++ 32 ∷ [])) }
+{
+    let mut text = Vec::from_slice(alloc, before)?;
+    text.extend_from_slice(name)?;
+    text.push(b' ')?;
+    FileText::new(alloc, text)
+}
+
+/// The name of an import, with the spaces that part it from what stands round it.
+fn name_before(
+    alloc: Global,
+    file: &FileTree,
+    number: usize,
+    name: &[u8],
+) -> Result<FileText, AllocError>
+    ensures { IfOk result (λ text. IsNameBefore (source_of file.now) number name.now text) }
+{
+    if is_behind_import(file, number) {
+        spaced(alloc, b" ", name)
+    } else {
+        spaced(alloc, b"", name)
+    }
+}
+
+/// Adds the insertion before a token, if that is the literal.
+fn add_insertion(
+    alloc: Global,
+    edits: &mut Vec<Edit>,
+    file: &FileTree,
+    number: usize,
+    token: Piece,
+    renamed: &Renamed,
+) -> Result<(), AllocError>
+    requires at { slice_get (tokens_in (source_of file.now).cut) number ≡ Some token }
+    requires order { EndBy edits.old.items token.span.start }
+    ensures order { OnOk result (EndBy edits.new.items token.span.start) }
+    ensures adds { OnOk result (AddsAll edits.old.items edits.new.items (InsertsName (source_of file.now) renamed.now number)) }
+{
+    if is_literal(&renamed.literal, file.path(), number) {
+        let start = token.span.start;
+        let text = name_before(alloc, file, number, renamed.name.bytes())?;
+        edits.push(Edit {
+            span: Span { start, end: start },
+            text,
+        })?;
+    }
+    Ok(())
+}
+
+/// Adds the replacement of a token, if that is one of the identifiers.
+fn add_replacement(
+    edits: &mut Vec<Edit>,
+    file: &FileTree,
+    number: usize,
+    token: Piece,
+    renamed: &Renamed,
+) -> Result<(), AllocError>
+    requires sorted { IsStrictlySortedBy place_cmp renamed.now.places }
+    requires at { slice_get (tokens_in (source_of file.now).cut) number ≡ Some token }
+    requires span { token.span.start ≤ token.span.end }
+    requires order { EndBy edits.old.items token.span.start }
+    ensures order { OnOk result (EndBy edits.new.items token.span.end) }
+    ensures adds { OnOk result (AddsAll edits.old.items edits.new.items (ReplacesName (source_of file.now) renamed.now number)) }
+{
+    if token.class == Class::Name
+        && is_among(renamed.places.as_slice(), file.path(), token.span.start)
+    {
+        let text = renamed.name.clone()?;
+        edits.push(Edit {
+            span: token.span,
+            text,
+        })?;
+    }
+    Ok(())
+}
+
+/// Adds the edits of a token.
+fn add_edits(
+    alloc: Global,
+    edits: &mut Vec<Edit>,
+    file: &FileTree,
+    number: usize,
+    token: Piece,
+    renamed: &Renamed,
+) -> Result<(), AllocError>
+    requires sorted { IsStrictlySortedBy place_cmp renamed.now.places }
+    requires at { slice_get (tokens_in (source_of file.now).cut) number ≡ Some token }
+    requires span { token.span.start ≤ token.span.end }
+    requires order { EndBy edits.old.items token.span.start }
+    ensures order { OnOk result (EndBy edits.new.items token.span.end) }
+    ensures adds { OnOk result (AddsAll edits.old.items edits.new.items (IsEditAt (source_of file.now) renamed.now number)) }
+{
+    add_insertion(alloc, edits, file, number, token, renamed)?;
+    add_replacement(edits, file, number, token, renamed)
+}
+
+/// The edits of a file, in the order of its tokens.
+pub fn edits_of(alloc: Global, file: &FileTree, renamed: &Renamed) -> Result<Vec<Edit>, AllocError>
+    requires { IsStrictlySortedBy place_cmp renamed.now.places }
+    ensures { IfOk result (λ edits. AreFileEdits (source_of file.now) renamed.now edits.items) }
+{
+    let tokens = file.pieces().tokens();
+    let mut edits = Vec::new(alloc);
+    for number in 0..tokens.len() {
+        add_edits(alloc, &mut edits, file, number, tokens[number], renamed)?;
+    }
+    Ok(edits)
+}

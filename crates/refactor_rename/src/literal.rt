@@ -1,0 +1,127 @@
+//! The path literal of an import without a name, which stands for its declaration.
+ghost use Rattle.std.specs.Prelude.{◌<◌, ◌↔◌, length, map, slice_get, IsTrue, IfOk};
+ghost use Rattle.base_files.specs.Packages.{package_paths};
+ghost use Rattle.go_ast.specs.SourceFile.{source_of};
+ghost use Rattle.types_declared.specs.Package.{Package as Checked};
+ghost use Rattle.types_declared.specs.PackageView.{package_of};
+ghost use Rattle.types_declared.specs.InterfacesView.{interface_in};
+ghost use Rattle.types_info.specs.PackageOf.{package_in};
+ghost use Rattle.refs_binding.specs.declared.declaration.Declaration.TheVariants.{Declared};
+ghost use Rattle.refs_binding.specs.Uses.{IsPackage};
+ghost use Rattle.refs_binding.specs.Workspaces.{IsSound, IsPackageAt, known_in};
+ghost use Rattle.refactor_rename.specs.Literals.{IsTokenOf, IsUnnamed, IsLiteralIn, IsLiteralOf, IsLiteralFound};
+
+use crate::renamed::Literal;
+use go_ast::FileTree;
+use go_scope::table::ScopeTable;
+use refs_binding::{Declaration, laid_table, path_of, trees};
+use std::alloc::{AllocError, Global};
+use types_declared::{Interfaces, Package, is_import};
+use types_expr::symbol::SharedPath;
+use workspace_check::{Findings, seen};
+use workspace_graph::Graph;
+
+/// Whether a declaration is an import without a name.
+fn is_unnamed(unit: Package<'_>, d: usize) -> bool
+    requires { d < length unit.table.now.sites }
+    ensures { IsTrue result ↔ IsUnnamed (package_of unit.entry) d }
+{
+    is_import(unit.table, d) && types_declared::literal_of(unit.table, d) == d
+}
+
+/// A token of a file of some files, if there is one.
+fn token_of(files: &[FileTree], file: usize, token: usize) -> Result<Option<Literal>, AllocError>
+    ensures { IfOk result (IsLiteralFound (IsTokenOf (slice_get (map source_of files.now) file) token)) }
+{
+    match files.get(file) {
+        None => Ok(None),
+        Some(tree) => Ok(Some(Literal {
+            path: tree.path().clone()?,
+            token,
+        })),
+    }
+}
+
+/// The literal of a declaration of a package that is an import without a name.
+fn literal_in(unit: Package<'_>, d: usize) -> Result<Option<Literal>, AllocError>
+    ensures { IfOk result (IsLiteralFound (IsLiteralIn (package_of unit.entry) d)) }
+{
+    if d < unit.table.len() && is_unnamed(unit, d) {
+        let at = unit.table.place(d);
+        token_of(unit.files, at.file, at.index)
+    } else {
+        Ok(None)
+    }
+}
+
+/// The same of the package of a path.
+fn literal_by(
+    path: &SharedPath,
+    files: &[FileTree],
+    table: &ScopeTable<'_>,
+    interfaces: &Interfaces,
+    d: usize,
+) -> Result<Option<Literal>, AllocError>
+    ensures { let p = package_in path.now (map source_of files.now) table.now (interface_in interfaces.now) in
+        IfOk result (IsLiteralFound (IsLiteralIn p d)) }
+{
+    let unit = Package {
+        path,
+        files,
+        table,
+        interfaces,
+    };
+    literal_in(unit, d)
+}
+
+/// The same of the package of a number.
+fn literal_at(
+    alloc: Global,
+    graph: &Graph,
+    found: &Findings,
+    number: usize,
+    d: usize,
+) -> Result<Option<Literal>, AllocError>
+    requires in_range { number < length (package_paths graph.now) }
+    requires sound { IsSound graph.now found.now }
+    ensures { (p : Checked) → IsPackageAt graph.now (known_in found.now) number p → IfOk result (IsLiteralFound (IsLiteralIn p d)) }
+{
+    let files = trees(graph, found, number);
+    let seen = seen(alloc, graph, number, &found.interfaces)?;
+    let table = laid_table(alloc, files, &seen)?;
+    let path = path_of(graph, found, number);
+    literal_by(path, files, &table, &seen, d)
+}
+
+/// The same of the package of a path, if there is one.
+fn literal_under(
+    alloc: Global,
+    graph: &Graph,
+    found: &Findings,
+    path: &SharedPath,
+    d: usize,
+) -> Result<Option<Literal>, AllocError>
+    requires { IsSound graph.now found.now }
+    ensures { IfOk result (IsLiteralFound (IsLiteralOf (IsPackage graph.now (known_in found.now)) (Declared path.now d))) }
+{
+    match graph.number_of(path.path()) {
+        None => Ok(None),
+        Some(number) => literal_at(alloc, graph, found, number, d),
+    }
+}
+
+/// The literal of a declaration that is an import without a name.
+pub fn literal_of(
+    alloc: Global,
+    graph: &Graph,
+    found: &Findings,
+    declaration: &Declaration,
+) -> Result<Option<Literal>, AllocError>
+    requires { IsSound graph.now found.now }
+    ensures { IfOk result (IsLiteralFound (IsLiteralOf (IsPackage graph.now (known_in found.now)) declaration.now)) }
+{
+    match declaration {
+        Declaration::Declared(path, d) => literal_under(alloc, graph, found, path, *d),
+        Declaration::Predeclared(_) | Declaration::Field(_) | Declaration::Method(_) => Ok(None),
+    }
+}

@@ -1,0 +1,244 @@
+//! Whether a declaration may have a name.
+ghost use Rattle.std.specs.Prelude.{ℕ, ◌≡◌, ◌<◌, ◌↔◌, ◌⊎◌, List, length, map, slice_index_or, MatchOption, IsTrue, codes};
+ghost use Rattle.base_files.specs.Packages.{package_paths};
+ghost use Rattle.go_ast.specs.SourceFile.{source_of};
+ghost use Rattle.go_scope.specs.Bindings.{IsPackageLevel, IsImport};
+ghost use Rattle.types_info.specs.PackageOf.{package_in};
+ghost use Rattle.types_declared.specs.InterfacesView.{interface_in};
+ghost use Rattle.types_declared.specs.Package.{Package as Checked, spelled};
+ghost use Rattle.types_declared.specs.PackageView.{package_of};
+ghost use Rattle.refs_binding.specs.declared.declaration.Declaration.TheVariants.{Declared, Field, Method};
+ghost use Rattle.refs_binding.specs.Uses.{IsPackage};
+ghost use Rattle.refs_binding.specs.Workspaces.{IsSound, IsPackageAt, known_in};
+ghost use Rattle.refactor_rename.specs.NewName.{IsReserved};
+ghost use Rattle.refactor_rename.specs.Naming.{RefusesFor, RefusesNameIn, RefusesNameOf, RefusesName};
+
+use crate::new_name::is_reserved;
+use base_files::Refusal;
+use go_ast::FileTree;
+use go_scope::model::{Block, Position};
+use go_scope::table::ScopeTable;
+use refs_binding::{Declaration, field_places, laid_table, method_places, path_of, trees};
+use std::alloc::Global;
+use types_declared::{Index, Interfaces, Package, is_import};
+use types_expr::symbol::{SharedPath, Symbol};
+use workspace_check::{Findings, seen};
+use workspace_graph::Graph;
+
+/// Whether a package's block has a declaration.
+fn is_package_level(unit: Package<'_>, d: usize) -> bool
+    requires { d < length unit.table.now.sites }
+    ensures { IsTrue result ↔ IsPackageLevel (package_of unit.entry).layout d }
+{
+    match unit.table.role(d).block() {
+        Block::Package => true,
+        Block::Universe | Block::File(_) | Block::Inner(_, _, _) => false,
+    }
+}
+
+/// Refuses a name that a declaration has.
+fn refuse_same(own: &[u8], name: &[u8]) -> Result<(), Refusal>
+    ensures { RefusesFor ⊥ ⊥ (own.now ≡ name.now) result }
+{
+    if own == name {
+        Err(Refusal::Same)
+    } else {
+        Ok(())
+    }
+}
+
+/// Whether a declaration is `main` of a package's block.
+fn is_main(unit: Package<'_>, d: usize) -> bool
+    requires { d < length unit.table.now.sites }
+    ensures { IsTrue result ↔ (IsPackageLevel (package_of unit.entry).layout d × ((package_of unit.entry).names d ≡ codes "main")) }
+{
+    is_package_level(unit, d) && unit.table.name(d) == b"main".as_slice()
+}
+
+/// Whether a package's block has a declaration, or it is an import.
+fn is_top_level(unit: Package<'_>, d: usize) -> bool
+    requires { d < length unit.table.now.sites }
+    ensures { IsTrue result ↔ (IsPackageLevel (package_of unit.entry).layout d ⊎ IsImport (package_of unit.entry).layout d) }
+{
+    is_package_level(unit, d) || is_import(unit.table, d)
+}
+
+/// Refuses a name to a declaration of a package's scopes.
+fn refuse_in_scopes(unit: Package<'_>, d: usize, name: &[u8]) -> Result<(), Refusal>
+    requires { d < length unit.table.now.sites }
+    ensures { let p = package_of unit.entry in
+        RefusesFor (IsPackageLevel p.layout d × (p.names d ≡ codes "main")) ((IsPackageLevel p.layout d ⊎ IsImport p.layout d) × IsReserved name.now) (p.names d ≡ name.now) result }
+{
+    if is_main(unit, d) {
+        return Err(Refusal::NotRenamable);
+    }
+    if is_top_level(unit, d) && is_reserved(name) {
+        return Err(Refusal::BadName);
+    }
+    refuse_same(unit.table.name(d), name)
+}
+
+/// The same of any number.
+fn refuse_number(unit: Package<'_>, d: usize, name: &[u8]) -> Result<(), Refusal>
+    ensures { (path : List ℕ) → RefusesNameIn (package_of unit.entry) (Declared path d) name.now result }
+{
+    if d < unit.table.len() {
+        refuse_in_scopes(unit, d, name)
+    } else {
+        Ok(())
+    }
+}
+
+/// Refuses the name that stands at a place of a package.
+fn refuse_at(unit: Package<'_>, at: Option<Position>, name: &[u8]) -> Result<(), Refusal>
+    ensures { MatchOption at (RefusesFor ⊥ ⊥ ⊥ result) (λ a. RefusesFor ⊥ ⊥ (spelled (package_of unit.entry) a.file a.index ≡ name.now) result) }
+{
+    match at {
+        None => Ok(()),
+        Some(at) => refuse_same(unit.spelling(at.file, at.index), name),
+    }
+}
+
+/// The place that a list has for a rank.
+fn place_at(places: &[Option<Position>], rank: usize) -> Option<Position>
+    ensures { result ≡ slice_index_or places.now rank None }
+{
+    *places.get(rank)?
+}
+
+/// Refuses a name to a field of a package.
+fn refuse_field(
+    alloc: Global,
+    unit: Package<'_>,
+    symbol: &Symbol,
+    name: &[u8],
+) -> Result<(), Refusal>
+    ensures { RefusesNameIn (package_of unit.entry) (Field symbol.now) name.now result }
+{
+    let index = Index::of(alloc, unit)?;
+    let places = field_places(alloc, unit, &index)?;
+    refuse_at(unit, place_at(&places, symbol.rank), name)
+}
+
+/// Refuses a name to a method of a package.
+fn refuse_method(
+    alloc: Global,
+    unit: Package<'_>,
+    symbol: &Symbol,
+    name: &[u8],
+) -> Result<(), Refusal>
+    ensures { RefusesNameIn (package_of unit.entry) (Method symbol.now) name.now result }
+{
+    let index = Index::of(alloc, unit)?;
+    let places = method_places(alloc, unit, &index)?;
+    refuse_at(unit, place_at(&places, symbol.rank), name)
+}
+
+/// Refuses a name to a declaration of a package.
+fn refuse_in_unit(
+    alloc: Global,
+    unit: Package<'_>,
+    declaration: &Declaration,
+    name: &[u8],
+) -> Result<(), Refusal>
+    ensures { RefusesNameIn (package_of unit.entry) declaration.now name.now result }
+{
+    match declaration {
+        Declaration::Predeclared(_) => Ok(()),
+        Declaration::Declared(_, d) => refuse_number(unit, *d, name),
+        Declaration::Field(symbol) => refuse_field(alloc, unit, symbol, name),
+        Declaration::Method(symbol) => refuse_method(alloc, unit, symbol, name),
+    }
+}
+
+/// A declaration, and the name that it is to get.
+#[derive(Clone, Copy)]
+struct NamedDeclaration<'d, 'n> {
+    declaration: &'d Declaration,
+    name: &'n [u8],
+}
+
+/// Refuses a name to a declaration of the package of a path.
+fn refuse_by(
+    alloc: Global,
+    path: &SharedPath,
+    files: &[FileTree],
+    table: &ScopeTable<'_>,
+    interfaces: &Interfaces,
+    asked: &NamedDeclaration<'_, '_>,
+) -> Result<(), Refusal>
+    ensures { let p = package_in path.now (map source_of files.now) table.now (interface_in interfaces.now) in
+        RefusesNameIn p asked.now.declaration.now asked.now.name.now result }
+{
+    let unit = Package {
+        path,
+        files,
+        table,
+        interfaces,
+    };
+    refuse_in_unit(alloc, unit, asked.declaration, asked.name)
+}
+
+/// Refuses a name to a declaration of the package of a number.
+fn refuse_in_package(
+    alloc: Global,
+    graph: &Graph,
+    found: &Findings,
+    number: usize,
+    declaration: &Declaration,
+    name: &[u8],
+) -> Result<(), Refusal>
+    requires in_range { number < length (package_paths graph.now) }
+    requires sound { IsSound graph.now found.now }
+    ensures { (p : Checked) → IsPackageAt graph.now (known_in found.now) number p → RefusesNameIn p declaration.now name.now result }
+{
+    let files = trees(graph, found, number);
+    let seen = seen(alloc, graph, number, &found.interfaces)?;
+    let table = laid_table(alloc, files, &seen)?;
+    let path = path_of(graph, found, number);
+    let asked = NamedDeclaration { declaration, name };
+    refuse_by(alloc, path, files, &table, &seen, &asked)
+}
+
+/// Refuses a name to a declaration of the package of a path, if there is one.
+fn refuse_in_path(
+    alloc: Global,
+    graph: &Graph,
+    found: &Findings,
+    path: &SharedPath,
+    declaration: &Declaration,
+    name: &[u8],
+) -> Result<(), Refusal>
+    requires { IsSound graph.now found.now }
+    ensures { RefusesNameOf (IsPackage graph.now (known_in found.now)) path.now declaration.now name.now result }
+{
+    match graph.number_of(path.path()) {
+        None => Ok(()),
+        Some(number) => refuse_in_package(alloc, graph, found, number, declaration, name),
+    }
+}
+
+/// Refuses a name that a declaration may not have, or that it has already.
+pub fn refuse_name(
+    alloc: Global,
+    graph: &Graph,
+    found: &Findings,
+    declaration: &Declaration,
+    name: &[u8],
+) -> Result<(), Refusal>
+    requires { IsSound graph.now found.now }
+    ensures { RefusesName (IsPackage graph.now (known_in found.now)) declaration.now name.now result }
+{
+    match declaration {
+        Declaration::Predeclared(_) => Err(Refusal::NotRenamable),
+        Declaration::Declared(path, _) => {
+            refuse_in_path(alloc, graph, found, path, declaration, name)
+        }
+        Declaration::Field(symbol) => {
+            refuse_in_path(alloc, graph, found, &symbol.package, declaration, name)
+        }
+        Declaration::Method(symbol) => {
+            refuse_in_path(alloc, graph, found, &symbol.package, declaration, name)
+        }
+    }
+}

@@ -1,0 +1,72 @@
+//! Which names may be given.
+ghost use Rattle.std.specs.Prelude.{◌≡◌, ◌↔◌, IsTrue};
+ghost use Rattle.std.specs.List.{list_all};
+ghost use Rattle.std.specs.Str.{chars};
+ghost use Rattle.go_scanner.specs.Characters.{continues_name};
+ghost use Rattle.go_scanner.specs.Keywords.{keyword_spelling, all_keywords};
+ghost use Rattle.go_scanner.specs.Words.{IsWord};
+ghost use Rattle.go_scanner.specs.declared.piece.Class.TheVariants.{Name};
+ghost use Rattle.go_scanner.specs.Pieces.{IsPiece};
+ghost use Rattle.refactor_rename.specs.NewName.{IsNewName, IsReserved, begins_with_letter, is_other_text};
+
+use crate::characters::{continues_name, is_letter};
+use go_scanner::Keyword;
+
+/// Whether a text begins with a letter.
+fn begins_with_letter(name: &str) -> bool
+    ensures { result ≡ begins_with_letter (chars name.now) }
+{
+    match name.chars().next() {
+        None => false,
+        Some(c) => is_letter(c),
+    }
+}
+
+/// Whether each character of a text may stand in a name.
+fn all_continue(name: &str) -> bool
+    ensures { result ≡ list_all continues_name (chars name.now) }
+{
+    name.chars().all(|c| continues_name(c))
+}
+
+/// Whether a text is a letter and then letters and decimal numbers.
+fn is_word(name: &str) -> bool
+    ensures { IsTrue result ↔ IsWord name.now }
+{
+    begins_with_letter(name) && all_continue(name)
+}
+
+/// Whether a text is not that of a keyword.
+fn is_other(k: Keyword, name: &str) -> bool
+    ensures { result ≡ is_other_text (keyword_spelling k) name.now }
+{
+    k.spelling() != name.as_bytes()
+}
+
+/// Whether a text is that of no keyword.
+fn is_no_keyword(name: &str) -> bool
+    ensures { result ≡ list_all (λ k. is_other_text (keyword_spelling k) name.now) all_keywords }
+{
+    Keyword::ALL.iter().all(|k| is_other(*k, name))
+}
+
+/// Whether a text is an identifier.
+fn is_name(name: &str) -> bool
+    ensures { IsTrue result ↔ IsPiece Name name.now }
+{
+    is_word(name) && is_no_keyword(name)
+}
+
+/// Whether a name may be given to a declaration, by its form.
+pub fn is_new_name(name: &str) -> bool
+    ensures { IsTrue result ↔ IsNewName name.now }
+{
+    name.len() <= 255 && name != "_" && is_name(name)
+}
+
+/// Whether a name is none for what a package's block or a file's declares.
+pub(crate) fn is_reserved(name: &[u8]) -> bool
+    ensures { IsTrue result ↔ IsReserved name.now }
+{
+    name == b"init".as_slice() || name == b"main".as_slice()
+}

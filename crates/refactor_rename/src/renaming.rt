@@ -1,0 +1,77 @@
+//! The edit set that gives a declaration another name.
+ghost use Rattle.std.specs.Prelude.{◌≡◌, IfOk};
+ghost use Rattle.std.specs.List.Sorted.{IsStrictlySortedBy};
+ghost use Rattle.base_edits.specs.Fits.{Fits};
+ghost use Rattle.refs_binding.specs.Places.{place_cmp};
+ghost use Rattle.refs_binding.specs.Workspaces.{IsSound, known_in};
+ghost use Rattle.refactor_rename.specs.RenameEdits.{IsRenamedBy, AreEditsOf, AreRenameEdits};
+
+use crate::changes::changes_of;
+use crate::literal::literal_of;
+use crate::renamed::Renamed;
+use base_edits::EditSet;
+use base_files::FileText;
+use refs_binding::Declaration;
+use refs_uses::list_uses;
+use std::alloc::{AllocError, Global};
+use workspace_check::Findings;
+use workspace_graph::Graph;
+
+/// A text of some bytes.
+fn text_of(alloc: Global, bytes: &[u8]) -> Result<FileText, AllocError>
+    ensures { IfOk result (λ text. text ≡ bytes.now) }
+{
+    FileText::new(alloc, Vec::from_slice(alloc, bytes)?)
+}
+
+/// What gets the new name of a declaration.
+fn renamed_by(
+    alloc: Global,
+    graph: &Graph,
+    found: &Findings,
+    declaration: &Declaration,
+    name: &[u8],
+) -> Result<Renamed, AllocError>
+    requires { IsSound graph.now found.now }
+    ensures { IfOk result (IsRenamedBy graph.now (known_in found.now) declaration.now name.now) }
+{
+    Ok(Renamed {
+        places: list_uses(alloc, graph, found, declaration)?,
+        literal: literal_of(alloc, graph, found, declaration)?,
+        name: text_of(alloc, name)?,
+    })
+}
+
+/// The edits of all files.
+fn edits_by(
+    alloc: Global,
+    graph: &Graph,
+    found: &Findings,
+    renamed: &Renamed,
+) -> Result<EditSet, AllocError>
+    requires sound { IsSound graph.now found.now }
+    requires sorted { IsStrictlySortedBy place_cmp renamed.now.places }
+    ensures edits { IfOk result (AreEditsOf graph.now (known_in found.now) renamed.now) }
+    ensures fits { IfOk result (λ edits. Fits edits graph.now) }
+{
+    let changed = changes_of(alloc, graph, found, renamed)?;
+    let added = Vec::new(alloc);
+    let edits = EditSet::new(changed, added);
+    Ok(edits)
+}
+
+/// The edits that give a declaration another name, with all that is bound to it. The workspace has no fault.
+pub fn rename_edits(
+    alloc: Global,
+    graph: &Graph,
+    found: &Findings,
+    declaration: &Declaration,
+    name: &[u8],
+) -> Result<EditSet, AllocError>
+    requires { IsSound graph.now found.now }
+    ensures edits { IfOk result (AreRenameEdits graph.now (known_in found.now) declaration.now name.now) }
+    ensures fits { IfOk result (λ edits. Fits edits graph.now) }
+{
+    let renamed = renamed_by(alloc, graph, found, declaration, name)?;
+    edits_by(alloc, graph, found, &renamed)
+}

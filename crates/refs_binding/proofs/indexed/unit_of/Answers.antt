@@ -1,0 +1,26 @@
+-- The answers to the goals of `indexed::unit_of`.
+use Rattle.std.proofs.Common.{List, ap, sym, subst, ◌∙◌}
+use Rattle.std.specs.Prelude.{map, Some}
+use Rattle.base_files.specs.Packages.{package_paths}
+use Rattle.go_ast.specs.SourceFile.{source_of, FileParts}
+use Rattle.types_declared.specs.InterfacesView.{interface_in}
+use Rattle.types_info.proofs.BoundLists.{slice_get_some}
+use Rattle.types_info.specs.PackageOf.{package_in}
+use Rattle.refs_binding.specs.Workspaces.{known_in, IsPackageAt}
+use Rattle.refs_binding.proofs.indexed.unit_of.Goals as goal
+
+pub path_of-path-requires-clause-in_range : goal.path_of-path-requires-clause-in_range
+path_of-path-requires-clause-in_range c = c.requires.numbered.in_range
+
+pub path_of-path-requires-clause-sound : goal.path_of-path-requires-clause-sound
+path_of-path-requires-clause-sound c = c.requires.numbered.sound
+
+pub returns : goal.returns
+returns c =
+    let w = c.args.at.graph.now in
+    let known = known_in c.args.at.found.now in
+    let n = c.args.at.number in
+    let path = c.path_of-path.result.now in
+    let x = slice_get_some (package_paths w) n c.requires.numbered.in_range in
+    subst (λ (fs : List FileParts). IsPackageAt w known n (package_in path (map source_of fs) c.args.table.now (interface_in c.args.seen.now)))
+    (sym c.files-files.ensures) (c.requires.table path (x.1 ∙ ap Some (sym (c.path_of-path.ensures x.0 x.1))))

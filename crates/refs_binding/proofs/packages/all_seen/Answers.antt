@@ -1,0 +1,24 @@
+-- One package further.
+use Rattle.std.proofs.Common.{◌≡◌, length, subst, arith}
+use Rattle.base_files.specs.Packages.{package_paths}
+use Rattle.refs_binding.specs.Packages.{HoldsOfEach, IsSeenBy}
+use Rattle.refs_binding.specs.Workspaces.{known_in}
+use Rattle.refs_binding.proofs.Each.{none_yet, one_more}
+use Rattle.refs_binding.proofs.packages.all_seen.Goals as goal
+
+pub loop-number-init : goal.loop-number-init
+loop-number-init c = none_yet (IsSeenBy c.args.graph.now (known_in c.args.found.now)) c.new-all.result.items c.new-all.ensures.items
+
+pub seen-requires-clause-whole : goal.seen-requires-clause-whole
+seen-requires-clause-whole c = c.requires.findings.whole
+
+pub loop-number-preserved : goal.loop-number-preserved
+loop-number-preserved c =
+    one_more (IsSeenBy c.args.graph.now (known_in c.args.found.now)) c.loop-number.number c.loop-number.all.items c.push.new.self.items _
+    c.in_ok-push.ensures.items c.in_ok-seen.ensures.seen c.loop-number.invariant
+
+pub returns : goal.returns
+returns c =
+    let w = c.args.graph.now in
+    let end : c.loop-number.number ≡ length (package_paths w) = omega arith in
+    subst (λ n. HoldsOfEach (IsSeenBy w (known_in c.args.found.now)) n c.loop-number.all.items) end c.loop-number.invariant

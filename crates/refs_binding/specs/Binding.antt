@@ -1,0 +1,102 @@
+-- What the identifiers of a package without faults are bound to: a declaration of its own scopes, a name that another package
+-- exports, a field or a method.
+use Rattle.std.specs.Prelude.{ℕ, ◌≡◌, ◌<◌, List, length, Contains, Some}
+use Rattle.go_scope.specs.declared.model.Position.{Position}
+use Rattle.go_scope.specs.Bindings.{IsBoundTo}
+use Rattle.go_scope.specs.FileSites.{universe}
+use Rattle.go_scope.specs.Table.{StandsAt}
+use Rattle.types_expr.specs.Judge.{MemberUse}
+use Rattle.types_expr.specs.World.{Member, AField, AMethod, ABrokenMethod}
+use Rattle.types_declared.specs.Package.{Package, function_place}
+use Rattle.types_check.specs.Interfaces.{IsSeen}
+use Rattle.types_declared.specs.Definitions.{PlacedField}
+use Rattle.types_members.specs.MembersView.{CountsAsField, CountsAsMethod}
+use Rattle.types_info.specs.MemberUses.{AreUsesIn}
+use Rattle.types_info.specs.Qualified.{IsBehindPackage}
+use Rattle.refs_binding.specs.declared.declaration.Declaration.{Declaration}
+use Rattle.refs_binding.specs.declared.declaration.Declaration.TheVariants.{Predeclared, Declared, Field, Method}
+
+-- By scopes
+
+-- the predeclared names have the first numbers, in each package the same
+abbrev pub IsPredeclared : ℕ → Type 0
+IsPredeclared d = d < length universe
+
+-- the scopes of the package bind u to the declaration, which is predeclared or one of the package's own
+abbrev pub BindsByScope : Package → ℕ → Declaration → Type 0
+BindsByScope p u (Predeclared d) = IsPredeclared d × IsBoundTo p.layout p.names u d
+BindsByScope p u (Declared path d) = (path ≡ p.path) × (IsPredeclared d → ⊥) × IsBoundTo p.layout p.names u d
+BindsByScope p u (Field s) = ⊥
+BindsByScope p u (Method s) = ⊥
+
+-- Behind the name of a package
+
+-- u stands behind the name of another package, which declares and exports d under the name that u has
+pub record IsExportedUse (IsPackage : Package → Type 0) (p : Package) (u : ℕ) (path : List ℕ) (d : ℕ) : Type 0 where
+  pub behind : IsBehindPackage p u path
+  pub other : Package
+  pub is_package : IsPackage other
+  pub of_path : other.path ≡ path
+  pub seen : IsSeen other d
+  pub named : other.names d ≡ p.names u
+
+abbrev pub BindsByPackage : (IsPackage : Package → Type 0) → Package → ℕ → Declaration → Type 0
+BindsByPackage IsPackage p u (Predeclared d) = ⊥
+BindsByPackage IsPackage p u (Declared path d) = IsExportedUse IsPackage p u path d
+BindsByPackage IsPackage p u (Field s) = ⊥
+BindsByPackage IsPackage p u (Method s) = ⊥
+
+-- As a member
+
+abbrev pub declaration_of : Member → Declaration
+declaration_of (AField s t) = Field s
+declaration_of (AMethod s on_pointer signature) = Method s
+declaration_of (ABrokenMethod s) = Method s
+
+-- the name at a token, behind a dot or as a key, is the member of the type that was found before it
+pub record IsMemberAt (p : Package) (file token : ℕ) (d : Declaration) : Type 0 where
+  pub uses : List MemberUse
+  pub judged : AreUsesIn p file uses
+  pub found : MemberUse
+  pub is_use : Contains uses found
+  pub at : found.place ≡ token
+  pub member : Member
+  pub is_member : judged.world.member token found.before ≡ Some member
+  pub declares : declaration_of member ≡ d
+
+abbrev pub BindsByMember : Package → ℕ → Declaration → Type 0
+BindsByMember p u d = IsMemberAt p (p.layout.place u).file (p.layout.place u).index d
+
+-- As the name by which a member is declared
+
+abbrev pub field_place : PlacedField → Position
+field_place f = record { file = f.file; index = f.name }
+
+-- the field of that rank counts, and its name stands at that place
+pub record IsFieldAt (p : Package) (rank : ℕ) (at : Position) : Type 0 where
+  pub counts : CountsAsField p rank
+  pub named_at : field_place counts.field ≡ at
+
+-- the same of a method
+pub record IsMethodAt (p : Package) (rank : ℕ) (at : Position) : Type 0 where
+  pub counts : CountsAsMethod p rank
+  pub named_at : function_place counts.method ≡ at
+
+-- u is the name of the member of that rank
+pub record IsNameOf (IsAt : (rank : ℕ) → Position → Type 0) (p : Package) (u : ℕ) (rank : ℕ) : Type 0 where
+  pub at : Position
+  pub is_at : IsAt rank at
+  pub stands : StandsAt p.layout at u
+
+abbrev pub BindsByName : Package → ℕ → Declaration → Type 0
+BindsByName p u (Predeclared d) = ⊥
+BindsByName p u (Declared path d) = ⊥
+BindsByName p u (Field s) = (s.package ≡ p.path) × IsNameOf (IsFieldAt p) p u s.rank
+BindsByName p u (Method s) = (s.package ≡ p.path) × IsNameOf (IsMethodAt p) p u s.rank
+
+-- The identifier u of the package p is bound to the declaration. IsPackage: the packages of the workspace, as they are checked.
+pub data Binds (IsPackage : Package → Type 0) (p : Package) (u : ℕ) (d : Declaration) : Type 0 where
+  by_scope : BindsByScope p u d → Binds IsPackage p u d
+  by_package : BindsByPackage IsPackage p u d → Binds IsPackage p u d
+  by_member : BindsByMember p u d → Binds IsPackage p u d
+  by_name : BindsByName p u d → Binds IsPackage p u d

@@ -1,0 +1,58 @@
+-- The identifiers of a workspace that are bound, each with its declaration.
+use Rattle.std.specs.Prelude.{ℕ, ◌↔◌, ◌⊎◌, List, Contains}
+use Rattle.std.specs.List.Sorted.{IsSortedBy}
+use Rattle.std.specs.Ordering.{is_lt}
+use Rattle.base_files.specs.Workspace.{Workspace}
+use Rattle.base_files.specs.declared.place.Place.{Place}
+use Rattle.types_declared.specs.Package.{Package}
+use Rattle.workspace_check.specs.Verdicts.{Verdicts}
+use Rattle.refs_binding.specs.declared.bound_spot.BoundSpot.{BoundSpot}
+use Rattle.refs_binding.specs.declared.declaration.Declaration.{Declaration}
+use Rattle.refs_binding.specs.declared.spot.Spot.{Spot}
+use Rattle.refs_binding.specs.Places.{place_cmp}
+use Rattle.refs_binding.specs.Steps.{UsesIn, place_of}
+use Rattle.refs_binding.specs.Uses.{IsUseOf, IsBoundTo}
+use Rattle.refs_binding.specs.Workspaces.{IsPackageAt}
+
+-- the new list holds what the old one does, and what P tells, and nothing else
+pub record AddsAll {X : Type 0} (old new : List X) (P : X → Type 0) : Type 0 where
+  pub keeps : (x : X) → Contains old x → Contains new x
+  pub holds : (x : X) → P x → Contains new x
+  pub only : (x : X) → Contains new x → Contains old x ⊎ P x
+
+-- a place with a declaration
+abbrev pub bound_to : Declaration → Spot → BoundSpot
+bound_to d s = record { spot = s; declaration = d }
+
+abbrev pub place_at : BoundSpot → Place
+place_at b = place_of b.spot
+
+-- an identifier of the package begins there, and is bound to the declaration in a way of which K tells
+abbrev pub BoundIn : Package → (ℕ → Declaration → Type 0) → BoundSpot → Type 0
+BoundIn p K b = UsesIn p (λ u. K u b.declaration) (place_at b)
+
+-- the same in the package of a number
+pub record IsBoundAt (w : Workspace) (known : Verdicts) (number : ℕ) (b : BoundSpot) : Type 0 where
+  pub used_in : Package
+  pub is_package : IsPackageAt w known number used_in
+  pub bound : BoundIn used_in (IsBoundTo w known used_in) b
+
+-- the same in some package
+abbrev pub IsBound : Workspace → Verdicts → BoundSpot → Type 0
+IsBound w known b = IsUseOf w known b.declaration (place_at b)
+
+-- the same in the package of one of some numbers
+pub record IsBoundAmong (w : Workspace) (known : Verdicts) (IsOf : ℕ → Type 0) (b : BoundSpot) : Type 0 where
+  pub number : ℕ
+  pub is_of : IsOf number
+  pub bound : IsBoundAt w known number b
+
+-- all bound identifiers of a workspace, in the order of their places
+pub record AreBindings (w : Workspace) (known : Verdicts) (list : List BoundSpot) : Type 0 where
+  pub in_order : IsSortedBy (λ a b. is_lt (place_cmp (place_at a) (place_at b))) list
+  pub each : (b : BoundSpot) → Contains list b ↔ IsBound w known b
+
+-- the bound identifiers of the packages of some numbers, in the order of their places
+pub record AreBindingsAmong (w : Workspace) (known : Verdicts) (IsOf : ℕ → Type 0) (list : List BoundSpot) : Type 0 where
+  pub in_order : IsSortedBy (λ a b. is_lt (place_cmp (place_at a) (place_at b))) list
+  pub each : (b : BoundSpot) → Contains list b ↔ IsBoundAmong w known IsOf b

@@ -1,0 +1,44 @@
+-- The packages of a workspace without faults as they are read: what each sees of others, and its table.
+use Rattle.std.specs.Prelude.{ℕ, ◌≡◌, List, Some, length, map, slice_get}
+use Rattle.base_files.specs.Packages.{package_paths}
+use Rattle.base_files.specs.Workspace.{Workspace}
+use Rattle.go_ast.specs.SourceFile.{source_of}
+use Rattle.workspace_graph.specs.Graphs.{OfPackage}
+use Rattle.go_scope.specs.Scoped.{ScopedPackage}
+use Rattle.types_info.specs.PackageOf.{package_in}
+use Rattle.types_declared.specs.InterfacesView.{name_in, interface_in}
+use Rattle.types_declared.specs.declared.interfaces.Interfaces.{Interfaces}
+use Rattle.workspace_check.specs.declared.findings.Findings.{Findings}
+use Rattle.workspace_check.specs.Verdicts.{Verdicts, AreSeen}
+use Rattle.refs_binding.specs.declared.packages.Packages.{Packages}
+use Rattle.refs_binding.specs.Workspaces.{IsSound, known_in, IsPackageAt}
+
+-- so many things, of each of which P holds with its number
+pub record HoldsOfEach {X : Type 0} (P : ℕ → X → Type 0) (count : ℕ) (list : List X) : Type 0 where
+  pub size : length list ≡ count
+  pub each : (n : ℕ) (x : X) → slice_get list n ≡ Some x → P n x
+
+-- what the package of a number sees of others
+abbrev pub IsSeenBy : Workspace → Verdicts → ℕ → Interfaces → Type 0
+IsSeenBy w known n seen = OfPackage w n (λ p. AreSeen w known p (name_in seen) (interface_in seen))
+
+abbrev pub AreAllSeen : Workspace → Verdicts → List Interfaces → Type 0
+AreAllSeen w known all = HoldsOfEach (IsSeenBy w known) (length (package_paths w)) all
+
+-- the package of a number has this table and sees this, where imports without a name declare the names of the packages that it sees
+abbrev pub IsTableAs : Workspace → Verdicts → ℕ → ScopedPackage → Interfaces → Type 0
+IsTableAs w known n table seen =
+    OfPackage w n (λ path. IsPackageAt w known n (package_in path (map source_of table.files) table (interface_in seen)))
+
+-- the table of the package of a number, by what all see
+abbrev pub IsTableOf : Workspace → Verdicts → List Interfaces → ℕ → ScopedPackage → Type 0
+IsTableOf w known all n table = (seen : Interfaces) → slice_get all n ≡ Some seen → IsTableAs w known n table seen
+
+-- a workspace without faults, and what its packages see, and their tables
+pub record AreRead (w : Workspace) (found : Findings) (all : List Interfaces) (list : List ScopedPackage) : Type 0 where
+  pub sound : IsSound w found
+  pub seen : AreAllSeen w (known_in found) all
+  pub tables : HoldsOfEach (IsTableOf w (known_in found) all) (length (package_paths w)) list
+
+abbrev pub ArePackages : Packages → Type 0
+ArePackages p = AreRead p.graph.now p.found.now p.seen.now p.tables.items

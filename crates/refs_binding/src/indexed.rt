@@ -1,0 +1,64 @@
+//! A package of a number, and what is known of its identifiers.
+ghost use Rattle.types_declared.specs.PackageView.{package_of, IsIndexOf};
+ghost use Rattle.refs_binding.specs.Packages.{IsTableAs};
+ghost use Rattle.refs_binding.specs.Workspaces.{known_in};
+ghost use Rattle.refs_binding.specs.Indexed.{IsNumbered, IsUnitAt, IsIndexed};
+
+use crate::reading::{members_of, own_of, path_of};
+use go_scope::table::ScopeTable;
+use types_declared::{Index, Interfaces, Package};
+use types_expr::found::MemberUse;
+use types_expr::world::Definition;
+use workspace_check::Findings;
+use workspace_graph::Graph;
+
+/// A package of a workspace in which nothing is a fault, by its number.
+#[derive(Clone, Copy)]
+pub struct Numbered<'a> {
+    pub graph: &'a Graph,
+    pub found: &'a Findings,
+    pub number: usize,
+}
+
+/// A package with what is found once in it, its own type definitions, and the uses of members in its files.
+#[derive(Clone, Copy)]
+pub struct Indexed<'a> {
+    pub unit: Package<'a>,
+    pub index: &'a Index<'a>,
+    pub own: &'a [Definition],
+    pub members: &'a [Vec<MemberUse>],
+}
+
+/// The package of a number, by what it sees and by its table.
+pub fn unit_of<'a>(at: Numbered<'a>, seen: &'a Interfaces, table: &'a ScopeTable<'a>) -> Package<'a>
+    requires numbered { IsNumbered at }
+    requires table { IsTableAs at.graph.now (known_in at.found.now) at.number table.now seen.now }
+    ensures { IsUnitAt at.entry (package_of result) }
+{
+    let path = path_of(at.graph, at.found, at.number);
+    let files = table.files();
+    Package {
+        path,
+        files,
+        table,
+        interfaces: seen,
+    }
+}
+
+/// The package of a number with what is known of it.
+pub fn known_of<'a>(at: Numbered<'a>, unit: Package<'a>, index: &'a Index<'a>) -> Indexed<'a>
+    requires numbered { IsNumbered at }
+    requires unit { IsUnitAt at (package_of unit) }
+    requires index { IsIndexOf (package_of unit) index.now }
+    ensures unit { IsUnitAt at.entry (package_of result.unit) }
+    ensures indexed { IsIndexed result }
+{
+    let own = own_of(at.graph, at.found, at.number);
+    let members = members_of(at.graph, at.found, at.number);
+    Indexed {
+        unit,
+        index,
+        own,
+        members,
+    }
+}

@@ -1,0 +1,95 @@
+//! The places of the names by which a package's own fields and methods are declared.
+ghost use Rattle.std.specs.Prelude.{◌≡◌, Some, None, slice_index_or, if◌then◌else◌, IfOk};
+ghost use Rattle.types_members.specs.MembersView.{AreCountingMethods};
+ghost use Rattle.types_declared.specs.PackageView.{package_of, IsIndexOf};
+ghost use Rattle.refs_binding.specs.Binding.{IsFieldAt, IsMethodAt};
+ghost use Rattle.refs_binding.specs.Steps.{ArePlaces};
+
+use go_scope::model::Position;
+use std::alloc::{AllocError, Global};
+use types_declared::{Index, Package};
+use types_expr::symbol::Symbol;
+use types_members::{counting_fields, counting_methods, fields, owners, underlying_types};
+
+/// A place, where a mark says that it counts.
+fn marked(mark: bool, at: Position) -> Option<Position>
+    ensures { result ≡ (if mark then Some at else None) }
+{
+    if mark { Some(at) } else { None }
+}
+
+/// Where the name of each field of a package stands that counts, by the field's rank.
+pub fn field_places(
+    alloc: Global,
+    unit: Package<'_>,
+    index: &Index<'_>,
+) -> Result<Vec<Option<Position>>, AllocError>
+    requires { IsIndexOf (package_of unit) index.now }
+    ensures { IfOk result (λ places. ArePlaces (IsFieldAt (package_of unit.entry)) places.items) }
+{
+    let fields = fields(alloc, unit, index)?;
+    let marks = counting_fields(alloc, unit, &fields)?;
+    let mut places = Vec::new(alloc);
+    for rank in 0..fields.len() {
+        let field = fields[rank];
+        let at = Position {
+            file: field.file,
+            index: field.name,
+        };
+        places.push(marked(marks[rank], at))?;
+    }
+    Ok(places)
+}
+
+/// Which functions of a package are methods that count, by their ranks.
+fn method_marks(
+    alloc: Global,
+    unit: Package<'_>,
+    index: &Index<'_>,
+) -> Result<Vec<bool>, AllocError>
+    requires { IsIndexOf (package_of unit) index.now }
+    ensures { IfOk result (λ marks. AreCountingMethods (package_of unit.entry) marks.items) }
+{
+    let fields = fields(alloc, unit, index)?;
+    let owners = owners(alloc, unit, index)?;
+    let underlying = underlying_types(alloc, unit, index)?;
+    counting_methods(alloc, unit, index, &fields, &owners, &underlying)
+}
+
+/// Where the name of each method of a package stands that counts, by the rank of the function.
+pub fn method_places(
+    alloc: Global,
+    unit: Package<'_>,
+    index: &Index<'_>,
+) -> Result<Vec<Option<Position>>, AllocError>
+    requires { IsIndexOf (package_of unit) index.now }
+    ensures { IfOk result (λ places. ArePlaces (IsMethodAt (package_of unit.entry)) places.items) }
+{
+    let marks = method_marks(alloc, unit, index)?;
+    let functions = &index.declared.functions;
+    let mut places = Vec::new(alloc);
+    for rank in 0..functions.len() {
+        let function = functions[rank];
+        let at = Position {
+            file: function.file,
+            index: function.func.name,
+        };
+        places.push(marked(marks[rank], at))?;
+    }
+    Ok(places)
+}
+
+/// The place that a list has for a rank.
+pub fn place_of(places: &[Option<Position>], rank: usize) -> Option<Position>
+    ensures { result ≡ slice_index_or places.now rank None }
+{
+    *places.get(rank)?
+}
+
+/// A field or method of a package.
+pub fn symbol(unit: Package<'_>, rank: usize) -> Result<Symbol, AllocError>
+    ensures { IfOk result (λ s. (s.package ≡ unit.entry.path.now) × (s.rank ≡ rank)) }
+{
+    let package = unit.path.clone()?;
+    Ok(Symbol { package, rank })
+}

@@ -1,0 +1,131 @@
+//! The packages of a workspace without faults, each read once: what it sees of others, and its table.
+ghost use Rattle.std.specs.Prelude.{◌≡◌, ◌<◌, length, IfOk};
+ghost use Rattle.base_files.specs.Packages.{package_paths};
+ghost use Rattle.types_declared.specs.PackageView.{package_of};
+ghost use Rattle.refs_binding.specs.Packages.{AreAllSeen, ArePackages, HoldsOfEach, IsSeenBy, IsTableAs, IsTableOf};
+ghost use Rattle.refs_binding.specs.Workspaces.{IsSound, known_in, IsPackageAt};
+
+use crate::reading::{laid_table, path_of, trees};
+use go_scope::table::ScopeTable;
+use std::alloc::{AllocError, Global};
+use types_declared::{Interfaces, Package};
+use workspace_check::{Findings, seen};
+use workspace_graph::Graph;
+
+/// What each package of a workspace sees of others, by the packages' numbers.
+pub fn all_seen(
+    alloc: Global,
+    graph: &Graph,
+    found: &Findings,
+) -> Result<Vec<Interfaces>, AllocError>
+    requires { IsSound graph.now found.now }
+    ensures { IfOk result (λ all. AreAllSeen graph.now (known_in found.now) all.items) }
+{
+    let mut all = Vec::new(alloc);
+    for number in 0..graph.len() {
+        all.push(seen(alloc, graph, number, &found.interfaces)?)?;
+    }
+    Ok(all)
+}
+
+/// The table of the package of a number, by what this sees.
+pub fn read_table<'a>(
+    alloc: Global,
+    graph: &'a Graph,
+    found: &Findings,
+    seen: &'a Interfaces,
+    number: usize,
+) -> Result<ScopeTable<'a>, AllocError>
+    requires in_range { number < length (package_paths graph.now) }
+    requires sound { IsSound graph.now found.now }
+    requires seen { IsSeenBy graph.now (known_in found.now) number seen.now }
+    ensures { IfOk result (λ table. IsTableAs graph.now (known_in found.now) number table seen.now) }
+{
+    let files = trees(graph, found, number);
+    laid_table(alloc, files, seen)
+}
+
+/// The table of the package of a number, by what all see.
+fn table_of<'a>(
+    alloc: Global,
+    graph: &'a Graph,
+    found: &Findings,
+    all: &'a [Interfaces],
+    number: usize,
+) -> Result<ScopeTable<'a>, AllocError>
+    requires in_range { number < length (package_paths graph.now) }
+    requires sound { IsSound graph.now found.now }
+    requires seen { AreAllSeen graph.now (known_in found.now) all.now }
+    ensures { IfOk result (IsTableOf graph.now (known_in found.now) all.now number) }
+{
+    read_table(alloc, graph, found, &all[number], number)
+}
+
+/// The tables of all packages, by the packages' numbers.
+fn all_tables<'a>(
+    alloc: Global,
+    graph: &'a Graph,
+    found: &Findings,
+    all: &'a [Interfaces],
+) -> Result<Vec<ScopeTable<'a>>, AllocError>
+    requires sound { IsSound graph.now found.now }
+    requires seen { AreAllSeen graph.now (known_in found.now) all.now }
+    ensures { IfOk result (λ tables. HoldsOfEach (IsTableOf graph.now (known_in found.now) all.now) (length (package_paths graph.now)) tables.items) }
+{
+    let mut tables = Vec::new(alloc);
+    for number in 0..graph.len() {
+        tables.push(table_of(alloc, graph, found, all, number)?)?;
+    }
+    Ok(tables)
+}
+
+/// The packages of a workspace in which nothing is a fault: what each sees of others, and its table, in which imports without a
+/// name declare the names of the packages that it sees.
+#[derive(Drop)]
+pub struct Packages<'a> {
+    pub graph: &'a Graph,
+    pub found: &'a Findings,
+    pub seen: &'a [Interfaces],
+    pub tables: Vec<ScopeTable<'a>>,
+}
+
+impl<'a> Packages<'a> {
+    /// Reads all packages, by what each of them sees.
+    pub fn of(
+        alloc: Global,
+        graph: &'a Graph,
+        found: &'a Findings,
+        seen: &'a [Interfaces],
+    ) -> Result<Packages<'a>, AllocError>
+        requires sound { IsSound graph.now found.now }
+        requires seen { AreAllSeen graph.now (known_in found.now) seen.now }
+        ensures workspace { IfOk result (λ packages. packages.graph.now ≡ graph.now) }
+        ensures found { IfOk result (λ packages. packages.found.now ≡ found.now) }
+        ensures read { IfOk result (λ packages. ArePackages packages) }
+    {
+        let tables = all_tables(alloc, graph, found, seen)?;
+        Ok(Packages {
+            graph,
+            found,
+            seen,
+            tables,
+        })
+    }
+
+    /// The package of a number.
+    pub fn unit(&self, number: usize) -> Package<'_>
+        requires in_range { number < length (package_paths self.now.graph.now) }
+        requires read { ArePackages self.now }
+        ensures { IsPackageAt self.now.graph.now (known_in self.now.found.now) number (package_of result) }
+    {
+        let path = path_of(self.graph, self.found, number);
+        let table = &self.tables[number];
+        let interfaces = &self.seen[number];
+        Package {
+            path,
+            files: table.files(),
+            table,
+            interfaces,
+        }
+    }
+}

@@ -1,0 +1,96 @@
+//! A package of a workspace without faults, read again: its trees, its table, its type definitions, its uses of members and its qualified
+//! identifiers.
+ghost use Rattle.std.specs.Prelude.{◌≡◌, ◌<◌, [], length, map, IfOk};
+ghost use Rattle.base_files.specs.Packages.{package_paths, package_files};
+ghost use Rattle.workspace_graph.specs.Graphs.{OfPackage};
+ghost use Rattle.workspace_graph.specs.Parsed.{AreParsed};
+ghost use Rattle.go_ast.specs.SourceFile.{source_of};
+ghost use Rattle.go_scope.specs.Scoped.{scoped};
+ghost use Rattle.types_declared.specs.PackageNames.{IsLaidOver};
+ghost use Rattle.types_expr.specs.WorldView.{definitions_at};
+ghost use Rattle.types_declared.specs.InterfacesView.{name_in};
+ghost use Rattle.types_info.specs.MemberUses.{AreMemberUses, uses_in};
+ghost use Rattle.types_declared.specs.Package.{Package as Checked};
+ghost use Rattle.types_info.specs.Qualified.{AreQualified};
+ghost use Rattle.refs_binding.specs.Members.{KnowsOwn, definitions_or_none};
+ghost use Rattle.refs_binding.specs.Workspaces.{IsSound, known_in, IsPackageAt};
+
+use go_ast::FileTree;
+use go_scope::declare::declare;
+use go_scope::table::ScopeTable;
+use std::alloc::{AllocError, Global};
+use types_declared::{Interfaces, lay_names};
+use types_expr::found::MemberUse;
+use types_expr::symbol::SharedPath;
+use types_expr::world::{Definition, Definitions};
+use types_info::Qualified;
+use workspace_check::Findings;
+use workspace_graph::Graph;
+
+/// The trees of a package's files, each of which has one.
+pub fn trees<'a>(graph: &'a Graph, found: &Findings, number: usize) -> &'a [FileTree]
+    requires in_range { number < length (package_paths graph.now) }
+    requires sound { IsSound graph.now found.now }
+    ensures { OfPackage graph.now number (λ p. AreParsed (package_files graph.now p) result.now []) }
+{
+    &graph.package(number).trees
+}
+
+/// The path of a package.
+pub fn path_of<'a>(graph: &Graph, found: &'a Findings, number: usize) -> &'a SharedPath
+    requires in_range { number < length (package_paths graph.now) }
+    requires sound { IsSound graph.now found.now }
+    ensures { OfPackage graph.now number (λ p. result.now ≡ p) }
+{
+    &found.packages[number].get().path
+}
+
+/// The table of a package in which imports without a name declare the names of the packages that it sees.
+pub fn laid_table<'a>(
+    alloc: Global,
+    files: &'a [FileTree],
+    seen: &'a Interfaces,
+) -> Result<ScopeTable<'a>, AllocError>
+    ensures { IfOk result (λ laid. IsLaidOver (map source_of files.now) (name_in seen.now) (scoped files.now) laid) }
+{
+    let plain = declare(alloc, files)?;
+    lay_names(alloc, &plain, files, seen)
+}
+
+/// The type definitions that are known of the package of a path.
+fn definitions_of<'a>(all: &'a Definitions, path: &[u8]) -> &'a [Definition]
+    ensures { result.now ≡ definitions_or_none (definitions_at all.now path.now) }
+{
+    match all.of(path) {
+        None => &[],
+        Some(definitions) => definitions,
+    }
+}
+
+/// The type definitions of a package.
+pub fn own_of<'a>(graph: &Graph, found: &'a Findings, number: usize) -> &'a [Definition]
+    requires in_range { number < length (package_paths graph.now) }
+    requires sound { IsSound graph.now found.now }
+    ensures { (p : Checked) → IsPackageAt graph.now (known_in found.now) number p → KnowsOwn p result.now }
+{
+    let path = path_of(graph, found, number).path();
+    definitions_of(found.interfaces.definitions(), path)
+}
+
+/// The uses of members in the files of a package.
+pub fn members_of<'a>(graph: &Graph, found: &'a Findings, number: usize) -> &'a [Vec<MemberUse>]
+    requires in_range { number < length (package_paths graph.now) }
+    requires sound { IsSound graph.now found.now }
+    ensures { (p : Checked) → IsPackageAt graph.now (known_in found.now) number p → AreMemberUses p (map uses_in result.now) }
+{
+    &found.packages[number].get().members
+}
+
+/// The qualified identifiers of a package, by the paths of the packages behind whose names they stand.
+pub fn qualified_of<'a>(graph: &Graph, found: &'a Findings, number: usize) -> &'a [Qualified]
+    requires in_range { number < length (package_paths graph.now) }
+    requires sound { IsSound graph.now found.now }
+    ensures { (p : Checked) → IsPackageAt graph.now (known_in found.now) number p → AreQualified p result.now }
+{
+    &found.packages[number].get().qualified
+}

@@ -1,0 +1,36 @@
+//! What the scopes of a package bind an identifier to.
+ghost use Rattle.std.specs.Prelude.{ℕ, ◌<◌, Some, length, IfOk};
+ghost use Rattle.go_scope.specs.Bindings.{IsBoundTo};
+ghost use Rattle.types_declared.specs.PackageView.{package_of};
+ghost use Rattle.refs_binding.specs.Binding.{BindsByScope};
+ghost use Rattle.refs_binding.specs.Steps.{IsDeclarationFound};
+
+use crate::declaration::Declaration;
+use std::alloc::AllocError;
+use types_declared::Package;
+
+/// How many names are predeclared: they have the first numbers in the table of each package.
+const PREDECLARED: usize = 11;
+
+/// The declaration that has a number in the table of a package.
+fn numbered(unit: Package<'_>, d: usize) -> Result<Declaration, AllocError>
+    ensures { let p = package_of unit.entry in
+        IfOk result (λ x. (u : ℕ) → IsBoundTo p.layout p.names u d → BindsByScope p u x) }
+{
+    if d < PREDECLARED {
+        Ok(Declaration::Predeclared(d))
+    } else {
+        Ok(Declaration::Declared(unit.path.clone()?, d))
+    }
+}
+
+/// What the scopes of a package bind an identifier to.
+pub fn declaration_in_scope(unit: Package<'_>, u: usize) -> Result<Option<Declaration>, AllocError>
+    requires { u < length unit.table.now.sites }
+    ensures { IfOk result (IsDeclarationFound (BindsByScope (package_of unit.entry) u)) }
+{
+    match unit.table.binding(u) {
+        None => Ok(None),
+        Some(d) => Ok(Some(numbered(unit, d)?)),
+    }
+}

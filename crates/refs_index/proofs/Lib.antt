@@ -1,0 +1,4 @@
+-- The lemmas of this crate.
+pub mod Importing
+pub mod InOrder
+pub mod Becoming

@@ -1,0 +1,173 @@
+//! Bound identifiers of packages, and of a workspace, by their places.
+ghost use Rattle.std.specs.Prelude.{◌≡◌, ◌<◌, ◌↔◌, Bool, List, [], length, Contains, IfOk, OnOk, MatchOption};
+ghost use Rattle.std.specs.List.Sorted.{IsSortedBy};
+ghost use Rattle.std.specs.Ordering.{is_lt};
+ghost use Rattle.base_files.specs.Packages.{package_paths};
+ghost use Rattle.base_files.specs.Workspace.{Workspace};
+ghost use Rattle.workspace_graph.specs.Search.{IsMarked};
+ghost use Rattle.types_declared.specs.PackageView.{package_of, IsIndexOf};
+ghost use Rattle.workspace_check.specs.Verdicts.{Verdicts};
+ghost use Rattle.refs_binding.specs.declared.bound_spot.BoundSpot.{BoundSpot as Bound};
+ghost use Rattle.refs_binding.specs.declared.declaration.Declaration.{Declaration as Declared};
+ghost use Rattle.refs_binding.specs.Bindings.{AddsAll, IsBoundAt, IsBoundAmong, IsBound, AreBindings, AreBindingsAmong, place_at};
+ghost use Rattle.refs_index.specs.KnownExports.{KnowsExports};
+ghost use Rattle.refs_binding.specs.Packages.{IsTableAs};
+ghost use Rattle.refs_binding.specs.Places.{place_cmp};
+ghost use Rattle.refs_binding.specs.Uses.{IsUseOf};
+ghost use Rattle.refs_binding.specs.Workspaces.{known_in, IsPackageAt};
+
+use crate::bound_unit::bind_unit;
+use crate::known_exports::KnownExports;
+use base_files::Place;
+use go_scope::table::ScopeTable;
+use refs_binding::bindings::find;
+use refs_binding::indexed::{Numbered, known_of, unit_of};
+use refs_binding::{BoundSpot, Declaration};
+use std::alloc::{AllocError, Global};
+use std::marker::Model;
+use types_declared::{Index, Interfaces, Package};
+
+/// The bound identifiers of a workspace, each by the place at which it begins and with its declaration, in the order of places.
+#[derive(Drop)]
+pub struct Bindings {
+    bound: Vec<BoundSpot>,
+}
+
+impl Model for Bindings {
+    ghost use Rattle.std.specs.Prelude.{List};
+    ghost use Rattle.std.specs.List.Sorted.{IsSortedBy};
+    ghost use Rattle.std.specs.Ordering.{is_lt};
+    ghost use Rattle.refs_binding.specs.declared.bound_spot.BoundSpot.{BoundSpot};
+    ghost use Rattle.refs_binding.specs.Bindings.{place_at};
+    ghost use Rattle.refs_binding.specs.Places.{place_cmp};
+
+    ghost Value = { List BoundSpot };
+
+    ghost view = { λ a. a.bound.items };
+
+    ghost invariant = { λ a. IsSortedBy (λ b c. is_lt (place_cmp (place_at b) (place_at c))) a.bound.items };
+}
+
+/// Adds the bound identifiers of the package of a number, with what was found once in it.
+fn bind_indexed(
+    alloc: Global,
+    bound: &mut Vec<BoundSpot>,
+    exports: &KnownExports<'_>,
+    unit: Package<'_>,
+    index: &Index<'_>,
+    number: usize,
+) -> Result<(), AllocError>
+    requires exports { KnowsExports exports.now }
+    requires numbered { IsPackageAt exports.now.graph.now (known_in exports.now.found.now) number (package_of unit) }
+    requires index { IsIndexOf (package_of unit) index.now }
+    ensures { OnOk result (AddsAll bound.old.items bound.new.items (IsBoundAt exports.now.graph.now (known_in exports.now.found.now) number)) }
+{
+    let at = Numbered {
+        graph: exports.graph,
+        found: exports.found,
+        number,
+    };
+    let of = known_of(at, unit, index);
+    bind_unit(alloc, bound, exports, &of)
+}
+
+/// Sorts bound identifiers by their places. Those of each package come in few runs, and packages in nearly the order of their
+/// files, which this sort makes use of.
+fn sort_runs(bound: &mut Vec<BoundSpot>) -> Result<(), AllocError>
+    ensures order { OnOk result (IsSortedBy (λ a b. is_lt (place_cmp (place_at a) (place_at b))) bound.new.items) }
+    ensures same { (b : Bound) → Contains bound.new.items b ↔ Contains bound.old.items b }
+{
+    bound.sort_by(|a, b| a.spot.cmp(&b.spot))
+}
+
+/// Adds the bound identifiers of one package in the order of their places, so that those of all come in about one run for each package.
+fn add_in_order(bound: &mut Vec<BoundSpot>, own: Vec<BoundSpot>) -> Result<(), AllocError>
+    ensures { OnOk result (AddsAll bound.old.items bound.new.items (Contains own.items)) }
+{
+    let mut own = own;
+    sort_runs(&mut own)?;
+    bound.append(&mut own)?;
+    Ok(())
+}
+
+/// Adds the bound identifiers of a package that has a number, by what was found once in it; asked as `bind_indexed` is, whose
+/// identifiers it puts in order first.
+pub fn bind_numbered(
+    alloc: Global,
+    bound: &mut Vec<BoundSpot>,
+    exports: &KnownExports<'_>,
+    unit: Package<'_>,
+    index: &Index<'_>,
+    number: usize,
+) -> Result<(), AllocError>
+    requires exports { KnowsExports exports.now }
+    requires numbered { IsPackageAt exports.now.graph.now (known_in exports.now.found.now) number (package_of unit) }
+    requires index { IsIndexOf (package_of unit) index.now }
+    ensures { OnOk result (AddsAll bound.old.items bound.new.items (IsBoundAt exports.now.graph.now (known_in exports.now.found.now) number)) }
+{
+    let mut own = Vec::new(alloc);
+    bind_indexed(alloc, &mut own, exports, unit, index, number)?;
+    add_in_order(bound, own)
+}
+
+/// Adds the bound identifiers of the package of a number, by what this sees and its table.
+pub fn bind_laid(
+    alloc: Global,
+    bound: &mut Vec<BoundSpot>,
+    exports: &KnownExports<'_>,
+    seen: &Interfaces,
+    table: &ScopeTable<'_>,
+    number: usize,
+) -> Result<(), AllocError>
+    requires in_range { number < length (package_paths exports.now.graph.now) }
+    requires exports { KnowsExports exports.now }
+    requires table { IsTableAs exports.now.graph.now (known_in exports.now.found.now) number table.now seen.now }
+    ensures { OnOk result (AddsAll bound.old.items bound.new.items (IsBoundAt exports.now.graph.now (known_in exports.now.found.now) number)) }
+{
+    let at = Numbered {
+        graph: exports.graph,
+        found: exports.found,
+        number,
+    };
+    let unit = unit_of(at, seen, table);
+    let index = Index::of(alloc, unit)?;
+    bind_numbered(alloc, bound, exports, unit, &index, number)
+}
+
+impl Bindings {
+    /// Bound identifiers, which are put in the order of their places.
+    pub fn of(bound: Vec<BoundSpot>) -> Result<Bindings, AllocError>
+        ensures { IfOk result (λ all. (w : Workspace) → (known : Verdicts) → AddsAll [] bound.items (IsBound w known) → AreBindings w known all) }
+    {
+        let mut bound = bound;
+        sort_runs(&mut bound)?;
+        Ok(Bindings { bound })
+    }
+
+    /// Bound identifiers of marked packages, which are put in the same order.
+    pub fn among(bound: Vec<BoundSpot>) -> Result<Bindings, AllocError>
+        ensures { IfOk result (λ all. (w : Workspace) → (known : Verdicts) → (marks : List Bool) → AddsAll [] bound.items (IsBoundAmong w known (IsMarked marks)) → AreBindingsAmong w known (IsMarked marks) all) }
+    {
+        let mut bound = bound;
+        sort_runs(&mut bound)?;
+        Ok(Bindings { bound })
+    }
+
+    /// The bound identifiers in the order of their places.
+    pub fn as_slice(&self) -> &[BoundSpot]
+        ensures { result.now ≡ self.now }
+    {
+        self.bound.as_slice()
+    }
+
+    /// The declaration to which the identifier that begins at a place is bound.
+    pub fn at(&self, place: &Place) -> Option<&Declaration>
+        ensures { (w : Workspace) → (known : Verdicts) → AreBindings w known self.now →
+            MatchOption result ((d : Declared) → IsUseOf w known d place.now → ⊥) (λ d. IsUseOf w known d.now place.now) }
+    {
+        match find(&self.bound, place) {
+            None => None,
+            Some(b) => Some(&b.declaration),
+        }
+    }
+}

@@ -1,0 +1,62 @@
+//! Places at which bound identifiers begin, each with the declaration.
+ghost use Rattle.std.specs.Prelude.{◌≡◌, ◌<◌, ◌++◌, OnOk, length, map};
+ghost use Rattle.types_declared.specs.PackageView.{package_of, IsIndexOf};
+ghost use Rattle.refs_binding.specs.Bindings.{AddsAll, bound_to, place_at};
+ghost use Rattle.refs_binding.specs.Identifiers.{BeginsAt};
+ghost use Rattle.refs_binding.specs.Steps.{AtToken};
+
+use go_scope::model::Position;
+use refs_binding::identifiers::{add_identifier, add_token};
+use refs_binding::{BoundSpot, Declaration, Spot};
+use std::alloc::{AllocError, Global};
+use types_declared::{Index, Package};
+
+/// Adds places with the declaration to which what begins there is bound.
+fn attach(
+    found: &mut Vec<BoundSpot>,
+    spots: Vec<Spot>,
+    declaration: &Declaration,
+) -> Result<(), AllocError>
+    ensures { OnOk result (found.new.items ≡ found.old.items ++ map (bound_to declaration.now) spots.items) }
+{
+    for spot in spots {
+        let declaration = declaration.copy()?;
+        found.push(BoundSpot { spot, declaration })?;
+    }
+    Ok(())
+}
+
+/// Adds the place of an identifier with its declaration.
+pub fn bind_identifier(
+    alloc: Global,
+    found: &mut Vec<BoundSpot>,
+    unit: Package<'_>,
+    u: usize,
+    declaration: &Declaration,
+) -> Result<(), AllocError>
+    requires { u < length unit.table.now.sites }
+    ensures { let p = package_of unit.entry in
+        OnOk result (AddsAll found.old.items found.new.items (λ b. BeginsAt p (place_at b).path (place_at b).offset u × (b.declaration ≡ declaration.now))) }
+{
+    let mut spots = Vec::new(alloc);
+    add_identifier(&mut spots, unit, u)?;
+    attach(found, spots, declaration)
+}
+
+/// Adds the place of a token with its declaration, if an identifier stands there.
+pub fn bind_token(
+    alloc: Global,
+    found: &mut Vec<BoundSpot>,
+    unit: Package<'_>,
+    index: &Index<'_>,
+    at: Position,
+    declaration: &Declaration,
+) -> Result<(), AllocError>
+    requires { IsIndexOf (package_of unit) index.now }
+    ensures { let p = package_of unit.entry in
+        OnOk result (AddsAll found.old.items found.new.items (λ b. AtToken p at (place_at b) × (b.declaration ≡ declaration.now))) }
+{
+    let mut spots = Vec::new(alloc);
+    add_token(&mut spots, unit, index, at)?;
+    attach(found, spots, declaration)
+}

@@ -1,0 +1,262 @@
+//! The bound identifiers of one package, each with its declaration.
+ghost use Rattle.std.specs.Prelude.{ℕ, ◌≡◌, ◌<◌, ◌⊎◌, length, map, slice_index_or, None, OnOk};
+ghost use Rattle.types_expr.specs.Found.{use_of};
+ghost use Rattle.types_declared.specs.Package.{symbol_in};
+ghost use Rattle.types_declared.specs.PackageView.{package_of, IsIndexOf};
+ghost use Rattle.refs_binding.specs.declared.declaration.Declaration.TheVariants.{Field, Method};
+ghost use Rattle.refs_binding.specs.Binding.{BindsByScope, BindsByPackage, BindsByMember, BindsByName, IsFieldAt, IsMethodAt};
+ghost use Rattle.refs_binding.specs.Bindings.{AddsAll, BoundIn, place_at};
+ghost use Rattle.refs_index.specs.KnownExports.{KnowsExports};
+ghost use Rattle.refs_binding.specs.Identifiers.{BeginsAt};
+ghost use Rattle.refs_binding.specs.Indexed.{IsIndexed};
+ghost use Rattle.refs_binding.specs.Members.{definitions_seen, IsMemberUseOf, IsMemberUseAmong};
+ghost use Rattle.refs_binding.specs.Steps.{AtFound, ArePlaces};
+ghost use Rattle.refs_binding.specs.Uses.{IsPackage, IsBoundTo};
+ghost use Rattle.refs_binding.specs.Workspaces.{known_in};
+
+use crate::bound_spot::{bind_identifier, bind_token};
+use crate::known_exports::KnownExports;
+use go_scope::model::Position;
+use refs_binding::indexed::Indexed;
+use refs_binding::own_names::{place_of, symbol};
+use refs_binding::{
+    BoundSpot, Declaration, declaration_in_scope, field_places, member_declaration, method_places,
+};
+use std::alloc::{AllocError, Global};
+use types_declared::{Index, Package};
+use types_expr::found::MemberUse;
+use types_info::{one_world, package_before};
+
+/// Adds an identifier, if the scopes of its package bind it.
+fn bind_by_scope(
+    alloc: Global,
+    bound: &mut Vec<BoundSpot>,
+    unit: Package<'_>,
+    u: usize,
+) -> Result<(), AllocError>
+    requires { u < length unit.table.now.sites }
+    ensures { let p = package_of unit.entry in
+        OnOk result (AddsAll bound.old.items bound.new.items (λ b. BeginsAt p (place_at b).path (place_at b).offset u × BindsByScope p u b.declaration)) }
+{
+    go_scope::laws::bindings_are_unique();
+    unit.table.is_well_formed();
+    match declaration_in_scope(unit, u)? {
+        None => Ok(()),
+        Some(declaration) => bind_identifier(alloc, bound, unit, u, &declaration),
+    }
+}
+
+/// Adds an identifier, if it stands behind the name of a package that exports its name.
+fn bind_by_package(
+    alloc: Global,
+    bound: &mut Vec<BoundSpot>,
+    exports: &KnownExports<'_>,
+    unit: Package<'_>,
+    index: &Index<'_>,
+    u: usize,
+) -> Result<(), AllocError>
+    requires exports { KnowsExports exports.now }
+    requires index { IsIndexOf (package_of unit) index.now }
+    requires in_range { u < length unit.table.now.sites }
+    ensures { let p = package_of unit.entry in
+        OnOk result (AddsAll bound.old.items bound.new.items (λ b. BeginsAt p (place_at b).path (place_at b).offset u × BindsByPackage (IsPackage exports.now.graph.now (known_in exports.now.found.now)) p u b.declaration)) }
+{
+    match package_before(unit, index, u) {
+        None => Ok(()),
+        Some(path) => match exports.exported(alloc, path, unit.table.name(u))? {
+            None => Ok(()),
+            Some(declaration) => bind_identifier(alloc, bound, unit, u, &declaration),
+        },
+    }
+}
+
+/// Adds an identifier, if it is bound to a declaration of a scope, of its package or of another.
+fn bind_number(
+    alloc: Global,
+    bound: &mut Vec<BoundSpot>,
+    exports: &KnownExports<'_>,
+    unit: Package<'_>,
+    index: &Index<'_>,
+    u: usize,
+) -> Result<(), AllocError>
+    requires exports { KnowsExports exports.now }
+    requires index { IsIndexOf (package_of unit) index.now }
+    requires in_range { u < length unit.table.now.sites }
+    ensures { let p = package_of unit.entry in
+        OnOk result (AddsAll bound.old.items bound.new.items
+        (λ b. BeginsAt p (place_at b).path (place_at b).offset u × (BindsByScope p u b.declaration ⊎ BindsByPackage (IsPackage exports.now.graph.now (known_in exports.now.found.now)) p u b.declaration))) }
+{
+    bind_by_scope(alloc, bound, unit, u)?;
+    bind_by_package(alloc, bound, exports, unit, index, u)
+}
+
+/// Adds the identifiers that are bound to a declaration of a scope.
+fn bind_numbers(
+    alloc: Global,
+    bound: &mut Vec<BoundSpot>,
+    exports: &KnownExports<'_>,
+    unit: Package<'_>,
+    index: &Index<'_>,
+) -> Result<(), AllocError>
+    requires exports { KnowsExports exports.now }
+    requires index { IsIndexOf (package_of unit) index.now }
+    ensures { let p = package_of unit.entry in
+        OnOk result (AddsAll bound.old.items bound.new.items (BoundIn p (λ u d. BindsByScope p u d ⊎ BindsByPackage (IsPackage exports.now.graph.now (known_in exports.now.found.now)) p u d))) }
+{
+    for u in 0..unit.table.len() {
+        bind_number(alloc, bound, exports, unit, index, u)?;
+    }
+    Ok(())
+}
+
+/// Adds the place of a member that is used, if the type before it has one.
+fn bind_member(
+    alloc: Global,
+    bound: &mut Vec<BoundSpot>,
+    of: &Indexed<'_>,
+    file: usize,
+    member: &MemberUse,
+) -> Result<(), AllocError>
+    requires { IsIndexed of.now }
+    ensures { let p = package_of of.now.unit in
+        let ds = definitions_seen of.now.unit of.now.own.now in
+        OnOk result (AddsAll bound.old.items bound.new.items (λ b. IsMemberUseOf ds p file b.declaration (use_of member.now) (place_at b))) }
+{
+    match member_declaration(of.unit, of.own, file, member)? {
+        None => Ok(()),
+        Some(declaration) => {
+            let at = Position {
+                file,
+                index: member.place,
+            };
+            bind_token(alloc, bound, of.unit, of.index, at, &declaration)
+        }
+    }
+}
+
+/// Adds the places of the members that are used in a file.
+fn bind_file_members(
+    alloc: Global,
+    bound: &mut Vec<BoundSpot>,
+    of: &Indexed<'_>,
+    file: usize,
+    uses: &[MemberUse],
+) -> Result<(), AllocError>
+    requires { IsIndexed of.now }
+    ensures { let p = package_of of.now.unit in
+        let ds = definitions_seen of.now.unit of.now.own.now in
+        OnOk result (AddsAll bound.old.items bound.new.items (λ b. IsMemberUseAmong ds p file b.declaration (map use_of uses.now) (place_at b))) }
+{
+    for k in 0..uses.len() {
+        bind_member(alloc, bound, of, file, &uses[k])?;
+    }
+    Ok(())
+}
+
+/// Adds the identifiers that are a field or method, behind a dot or as a key.
+fn bind_members(
+    alloc: Global,
+    bound: &mut Vec<BoundSpot>,
+    of: &Indexed<'_>,
+) -> Result<(), AllocError>
+    requires { IsIndexed of.now }
+    ensures { let p = package_of of.now.unit in
+        OnOk result (AddsAll bound.old.items bound.new.items (BoundIn p (BindsByMember p))) }
+{
+    of.unit.table.is_well_formed();
+    one_world(of.unit);
+    for file in 0..of.members.len() {
+        bind_file_members(alloc, bound, of, file, &of.members[file])?;
+    }
+    Ok(())
+}
+
+/// Adds the name of a field or method, if there is one at its rank.
+fn bind_name(
+    alloc: Global,
+    bound: &mut Vec<BoundSpot>,
+    of: &Indexed<'_>,
+    places: &[Option<Position>],
+    rank: usize,
+    declaration: &Declaration,
+) -> Result<(), AllocError>
+    requires { IsIndexed of.now }
+    ensures { let p = package_of of.now.unit in
+        OnOk result (AddsAll bound.old.items bound.new.items (λ b. AtFound p (slice_index_or places.now rank None) (place_at b) × (b.declaration ≡ declaration.now))) }
+{
+    match place_of(places, rank) {
+        None => Ok(()),
+        Some(at) => bind_token(alloc, bound, of.unit, of.index, at, declaration),
+    }
+}
+
+/// Adds the names of the fields of a package.
+fn bind_fields(
+    alloc: Global,
+    bound: &mut Vec<BoundSpot>,
+    of: &Indexed<'_>,
+    places: &[Option<Position>],
+) -> Result<(), AllocError>
+    requires indexed { IsIndexed of.now }
+    requires places { ArePlaces (IsFieldAt (package_of of.now.unit)) places.now }
+    ensures { let p = package_of of.now.unit in
+        OnOk result (AddsAll bound.old.items bound.new.items (λ b. (rank : ℕ) × (AtFound p (slice_index_or places.now rank None) (place_at b) × (b.declaration ≡ Field (symbol_in p rank))))) }
+{
+    for rank in 0..places.len() {
+        let declaration = Declaration::Field(symbol(of.unit, rank)?);
+        bind_name(alloc, bound, of, places, rank, &declaration)?;
+    }
+    Ok(())
+}
+
+/// Adds the names of the methods of a package.
+fn bind_methods(
+    alloc: Global,
+    bound: &mut Vec<BoundSpot>,
+    of: &Indexed<'_>,
+    places: &[Option<Position>],
+) -> Result<(), AllocError>
+    requires indexed { IsIndexed of.now }
+    requires places { ArePlaces (IsMethodAt (package_of of.now.unit)) places.now }
+    ensures { let p = package_of of.now.unit in
+        OnOk result (AddsAll bound.old.items bound.new.items (λ b. (rank : ℕ) × (AtFound p (slice_index_or places.now rank None) (place_at b) × (b.declaration ≡ Method (symbol_in p rank))))) }
+{
+    for rank in 0..places.len() {
+        let declaration = Declaration::Method(symbol(of.unit, rank)?);
+        bind_name(alloc, bound, of, places, rank, &declaration)?;
+    }
+    Ok(())
+}
+
+/// Adds the names by which a package's own fields and methods are declared.
+fn bind_own_names(
+    alloc: Global,
+    bound: &mut Vec<BoundSpot>,
+    of: &Indexed<'_>,
+) -> Result<(), AllocError>
+    requires { IsIndexed of.now }
+    ensures { let p = package_of of.now.unit in
+        OnOk result (AddsAll bound.old.items bound.new.items (BoundIn p (BindsByName p))) }
+{
+    let fields = field_places(alloc, of.unit, of.index)?;
+    let methods = method_places(alloc, of.unit, of.index)?;
+    bind_fields(alloc, bound, of, &fields)?;
+    bind_methods(alloc, bound, of, &methods)
+}
+
+/// Adds the bound identifiers of a package.
+pub fn bind_unit(
+    alloc: Global,
+    bound: &mut Vec<BoundSpot>,
+    exports: &KnownExports<'_>,
+    of: &Indexed<'_>,
+) -> Result<(), AllocError>
+    requires exports { KnowsExports exports.now }
+    requires indexed { IsIndexed of.now }
+    ensures { let p = package_of of.now.unit in
+        OnOk result (AddsAll bound.old.items bound.new.items (BoundIn p (IsBoundTo exports.now.graph.now (known_in exports.now.found.now) p))) }
+{
+    bind_numbers(alloc, bound, exports, of.unit, of.index)?;
+    bind_members(alloc, bound, of)?;
+    bind_own_names(alloc, bound, of)
+}

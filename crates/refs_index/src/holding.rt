@@ -1,0 +1,86 @@
+//! Where the declarations of a workspace without faults stand, and what its identifiers are bound to, from one package to the next.
+ghost use Rattle.std.specs.Prelude.{◌<◌, ◌+◌, length, IfOk, OnOk};
+ghost use Rattle.base_files.specs.Packages.{package_paths};
+ghost use Rattle.types_declared.specs.PackageView.{package_of};
+ghost use Rattle.refs_binding.specs.Bindings.{AddsAll, IsBoundAt, IsBound};
+ghost use Rattle.refs_binding.specs.Packages.{ArePackages};
+ghost use Rattle.refs_binding.specs.Workspaces.{known_in, IsPackageAt};
+ghost use Rattle.refs_index.specs.KnownExports.{AreSomeExports, KnowsExports};
+ghost use Rattle.refs_places.specs.DeclaredPlaces.{AreDeclaredBelow, AreDeclared};
+
+use crate::{KnownExports, bind_numbered};
+use refs_binding::{BoundSpot, Packages};
+use refs_places::declared_places::{DeclaredPlaces, indexed_places};
+use std::alloc::{AllocError, Global};
+use std::collections::BTreeMap;
+use types_declared::{Index, Package};
+
+/// Adds where the declarations of a package of a number stand, and its bound identifiers.
+fn hold_unit(
+    alloc: Global,
+    places: &mut Vec<DeclaredPlaces>,
+    bound: &mut Vec<BoundSpot>,
+    exports: &KnownExports<'_>,
+    unit: Package<'_>,
+    number: usize,
+) -> Result<(), AllocError>
+    requires exports { KnowsExports exports.now }
+    requires numbered { IsPackageAt exports.now.graph.now (known_in exports.now.found.now) number (package_of unit) }
+    ensures places { OnOk result (AreDeclaredBelow exports.now.graph.now (known_in exports.now.found.now) number places.old.items
+        → AreDeclaredBelow exports.now.graph.now (known_in exports.now.found.now) (number + 1) places.new.items) }
+    ensures bound { OnOk result (AddsAll bound.old.items bound.new.items (IsBoundAt exports.now.graph.now (known_in exports.now.found.now) number)) }
+{
+    let index = Index::of(alloc, unit)?;
+    places.push(indexed_places(alloc, unit, &index)?)?;
+    bind_numbered(alloc, bound, exports, unit, &index, number)
+}
+
+/// The same of the package of a number.
+fn hold_package(
+    alloc: Global,
+    places: &mut Vec<DeclaredPlaces>,
+    bound: &mut Vec<BoundSpot>,
+    packages: &Packages<'_>,
+    numbers: &[Option<BTreeMap<Vec<u8>, usize>>],
+    number: usize,
+) -> Result<(), AllocError>
+    requires in_range { number < length (package_paths packages.now.graph.now) }
+    requires read { ArePackages packages.now }
+    requires exports { AreSomeExports packages.now.graph.now (known_in packages.now.found.now) numbers.now }
+    ensures places { OnOk result (AreDeclaredBelow packages.now.graph.now (known_in packages.now.found.now) number places.old.items
+        → AreDeclaredBelow packages.now.graph.now (known_in packages.now.found.now) (number + 1) places.new.items) }
+    ensures bound { OnOk result (AddsAll bound.old.items bound.new.items (IsBoundAt packages.now.graph.now (known_in packages.now.found.now) number)) }
+{
+    let exports = KnownExports {
+        graph: packages.graph,
+        found: packages.found,
+        numbers,
+    };
+    hold_unit(
+        alloc,
+        places,
+        bound,
+        &exports,
+        packages.unit(number),
+        number,
+    )
+}
+
+/// Where the declarations of all packages stand, by the packages' numbers; adds their bound identifiers.
+pub fn hold_all(
+    alloc: Global,
+    bound: &mut Vec<BoundSpot>,
+    packages: &Packages<'_>,
+    numbers: &[Option<BTreeMap<Vec<u8>, usize>>],
+) -> Result<Vec<DeclaredPlaces>, AllocError>
+    requires read { ArePackages packages.now }
+    requires exports { AreSomeExports packages.now.graph.now (known_in packages.now.found.now) numbers.now }
+    ensures places { IfOk result (λ all. AreDeclared packages.now.graph.now (known_in packages.now.found.now) all.items) }
+    ensures bound { IfOk result (λ all. AddsAll bound.old.items bound.new.items (IsBound packages.now.graph.now (known_in packages.now.found.now))) }
+{
+    let mut all = Vec::new(alloc);
+    for number in 0..packages.graph.len() {
+        hold_package(alloc, &mut all, bound, packages, numbers, number)?;
+    }
+    Ok(all)
+}

@@ -1,0 +1,128 @@
+//! What packages of a workspace export, by name, as far as it is known.
+ghost use Rattle.std.specs.Prelude.{◌<◌, ◌↔◌, length, IsTrue, IfOk, IfSome};
+ghost use Rattle.base_files.specs.Packages.{package_paths};
+ghost use Rattle.workspace_graph.specs.Graphs.{OfPackage};
+ghost use Rattle.workspace_graph.specs.Search.{IsMarked};
+ghost use Rattle.refs_binding.specs.Exports.{AreNumbersAt};
+ghost use Rattle.refs_index.specs.KnownExports.{AreSomeExports, IsImportedAmong, KnowsExports};
+ghost use Rattle.refs_binding.specs.Packages.{ArePackages};
+ghost use Rattle.refs_binding.specs.Steps.{IsDeclarationFound};
+ghost use Rattle.refs_binding.specs.Workspaces.{IsSound, known_in, ExportsAs, IsExportedNumber};
+
+use crate::exports::{named, numbers_at, numbers_of};
+use refs_binding::{Declaration, Packages, path_of};
+use std::alloc::{AllocError, Global};
+use std::collections::BTreeMap;
+use workspace_check::{Findings, is_marked};
+use workspace_graph::Graph;
+
+/// Whether a marked package imports the package of a number.
+fn is_imported(graph: &Graph, marks: &[bool], number: usize) -> bool
+    requires { number < length (package_paths graph.now) }
+    ensures { OfPackage graph.now number (λ path. IsTrue result ↔ IsImportedAmong graph.now (IsMarked marks.now) path) }
+{
+    for importer in graph.importers(number) {
+        if is_marked(marks, *importer) {
+            return true;
+        }
+    }
+    false
+}
+
+/// What the package of a number exports, if a marked package imports it.
+fn imported_numbers(
+    alloc: Global,
+    graph: &Graph,
+    found: &Findings,
+    marks: &[bool],
+    number: usize,
+) -> Result<Option<BTreeMap<Vec<u8>, usize>>, AllocError>
+    requires in_range { number < length (package_paths graph.now) }
+    requires sound { IsSound graph.now found.now }
+    ensures { IfOk result (λ numbers. IfSome numbers (AreNumbersAt graph.now (known_in found.now) number)) }
+{
+    if is_imported(graph, marks, number) {
+        Ok(Some(numbers_at(alloc, graph, found, number)?))
+    } else {
+        Ok(None)
+    }
+}
+
+/// What the packages export that marked packages import, by the packages' numbers. Of the others nothing is read.
+pub fn imported_exports(
+    alloc: Global,
+    graph: &Graph,
+    found: &Findings,
+    marks: &[bool],
+) -> Result<Vec<Option<BTreeMap<Vec<u8>, usize>>>, AllocError>
+    requires { IsSound graph.now found.now }
+    ensures { IfOk result (λ all. AreSomeExports graph.now (known_in found.now) all.items) }
+{
+    let mut all = Vec::new(alloc);
+    for number in 0..graph.len() {
+        all.push(imported_numbers(alloc, graph, found, marks, number)?)?;
+    }
+    Ok(all)
+}
+
+/// What all packages export, by their numbers.
+pub fn all_exports(
+    alloc: Global,
+    packages: &Packages<'_>,
+) -> Result<Vec<Option<BTreeMap<Vec<u8>, usize>>>, AllocError>
+    requires { ArePackages packages.now }
+    ensures { IfOk result (λ all. AreSomeExports packages.now.graph.now (known_in packages.now.found.now) all.items) }
+{
+    let mut all = Vec::new(alloc);
+    for number in 0..packages.graph.len() {
+        all.push(Some(numbers_of(alloc, packages, number)?))?;
+    }
+    Ok(all)
+}
+
+/// What packages export, by their numbers, as far as it is known. A package of which it is not known is read when it is asked for.
+#[derive(Drop)]
+pub struct KnownExports<'a> {
+    pub graph: &'a Graph,
+    pub found: &'a Findings,
+    pub numbers: &'a [Option<BTreeMap<Vec<u8>, usize>>],
+}
+
+impl KnownExports<'_> {
+    /// The number of the declaration that the package of a number exports under a name.
+    fn number(&self, alloc: Global, number: usize, name: &[u8]) -> Result<Option<usize>, AllocError>
+        requires in_range { number < length (package_paths self.now.graph.now) }
+        requires exports { KnowsExports self.now }
+        ensures { IfOk result (IsExportedNumber self.now.graph.now (known_in self.now.found.now) number name.now) }
+    {
+        match &self.numbers[number] {
+            Some(numbers) => Ok(named(numbers, name)),
+            None => {
+                let numbers = numbers_at(alloc, self.graph, self.found, number)?;
+                Ok(named(&numbers, name))
+            }
+        }
+    }
+
+    /// What the package of a path exports under a name.
+    pub fn exported(
+        &self,
+        alloc: Global,
+        path: &[u8],
+        name: &[u8],
+    ) -> Result<Option<Declaration>, AllocError>
+        requires { KnowsExports self.now }
+        ensures { IfOk result (IsDeclarationFound (ExportsAs self.now.graph.now (known_in self.now.found.now) path.now name.now)) }
+    {
+        match self.graph.number_of(path) {
+            None => Ok(None),
+            Some(number) => match self.number(alloc, number, name)? {
+                None => Ok(None),
+                Some(d) => {
+                    let path = path_of(self.graph, self.found, number).clone()?;
+                    Ok(Some(Declaration::Declared(path, d)))
+                }
+            },
+        }
+    }
+}

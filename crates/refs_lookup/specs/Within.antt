@@ -1,0 +1,22 @@
+-- Where the declarations stand that a package can be bound to.
+use Rattle.std.specs.Prelude.{ℕ, List}
+use Rattle.base_files.specs.Path.{folder}
+use Rattle.base_files.specs.Workspace.{Workspace}
+use Rattle.base_files.specs.declared.place.Place.{Place}
+use Rattle.workspace_graph.specs.Packages.{IsInClosure}
+use Rattle.workspace_check.specs.Verdicts.{Verdicts}
+use Rattle.refs_binding.specs.declared.declaration.Declaration.{Declaration}
+use Rattle.refs_binding.specs.declared.declaration.Declaration.TheVariants.{Predeclared}
+use Rattle.refs_binding.specs.Binding.{IsPredeclared}
+use Rattle.refs_binding.specs.Uses.{IsPackage}
+use Rattle.refs_binding.specs.Standing.{IsDeclaredAt}
+
+-- a declaration stands at a place in a file of a package in the closure of p
+pub record StandsWithin (w : Workspace) (known : Verdicts) (p : List ℕ) (d : Declaration) (place : Place) : Type 0 where
+  pub declared : IsDeclaredAt (IsPackage w known) d place
+  pub in_closure : IsInClosure w p (folder place.path)
+
+-- a predeclared name, or a declaration that stands in a package in the closure of p
+pub data IsDeclaredWithin (w : Workspace) (known : Verdicts) (p : List ℕ) : Declaration → Type 0 where
+  predeclared : {n : ℕ} → IsPredeclared n → IsDeclaredWithin w known p (Predeclared n)
+  stands : {d : Declaration} (place : Place) → StandsWithin w known p d place → IsDeclaredWithin w known p d

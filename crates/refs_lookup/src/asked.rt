@@ -1,0 +1,257 @@
+//! The declaration to which an identifier of a workspace is bound.
+ghost use Rattle.std.specs.Prelude.{◌<◌, length, IfOk};
+ghost use Rattle.types_declared.specs.PackageView.{package_of, IsIndexOf};
+ghost use Rattle.refs_binding.specs.declared.declaration.Declaration.{Declaration as Bound};
+ghost use Rattle.refs_binding.specs.Binding.{BindsByScope, BindsByPackage};
+ghost use Rattle.refs_binding.specs.Indexed.{IsNumbered, IsUnitAt, IsIndexed};
+ghost use Rattle.refs_binding.specs.Packages.{IsTableAs};
+ghost use Rattle.refs_binding.specs.Steps.{IsDeclarationFound};
+ghost use Rattle.refs_binding.specs.Uses.{IsPackage, IsBoundTo};
+ghost use Rattle.refs_binding.specs.Workspaces.{IsSound, known_in, ExportsAs, IsExportedNumber, BindsMember, FindsDeclaration, FindsDeclarationAt, FindsDeclarationIn};
+
+use crate::exported::exported_as;
+use crate::holding::{identifier_at, named_by};
+use crate::own_name::declaration_by_name;
+use crate::used_member::declaration_by_member;
+use base_files::{Path, Refusal};
+use go_scope::table::ScopeTable;
+use refs_binding::indexed::{Indexed, Numbered, known_of, unit_of};
+use refs_binding::{Declaration, declaration_in_scope, path_of, read_table};
+use std::alloc::{AllocError, Global};
+use types_declared::{Index, Interfaces, Package};
+use types_info::package_before;
+use workspace_check::{Findings, seen};
+use workspace_graph::Graph;
+
+/// The number of the declaration that the package of a number exports under a name, by what it sees and by its table.
+fn exported_by(
+    at: Numbered<'_>,
+    seen: &Interfaces,
+    table: &ScopeTable<'_>,
+    name: &[u8],
+) -> Option<usize>
+    requires numbered { IsNumbered at }
+    requires table { IsTableAs at.graph.now (known_in at.found.now) at.number table.now seen.now }
+    ensures { IsExportedNumber at.entry.graph.now (known_in at.entry.found.now) at.entry.number name.now result }
+{
+    exported_as(unit_of(at, seen, table), name)
+}
+
+/// The number of the declaration that the package of a number exports under a name.
+fn exported_number(
+    alloc: Global,
+    at: Numbered<'_>,
+    name: &[u8],
+) -> Result<Option<usize>, AllocError>
+    requires { IsNumbered at }
+    ensures { IfOk result (IsExportedNumber at.entry.graph.now (known_in at.entry.found.now) at.entry.number name.now) }
+{
+    let seen = seen(alloc, at.graph, at.number, &at.found.interfaces)?;
+    let table = read_table(alloc, at.graph, at.found, &seen, at.number)?;
+    Ok(exported_by(at, &seen, &table, name))
+}
+
+/// What the package of a path exports under a name.
+fn exported_declaration(
+    alloc: Global,
+    graph: &Graph,
+    found: &Findings,
+    path: &[u8],
+    name: &[u8],
+) -> Result<Option<Declaration>, AllocError>
+    requires { IsSound graph.now found.now }
+    ensures { IfOk result (IsDeclarationFound (ExportsAs graph.now (known_in found.now) path.now name.now)) }
+{
+    match graph.number_of(path) {
+        None => Ok(None),
+        Some(number) => {
+            let at = Numbered {
+                graph,
+                found,
+                number,
+            };
+            match exported_number(alloc, at, name)? {
+                None => Ok(None),
+                Some(d) => {
+                    let path = path_of(graph, found, number).clone()?;
+                    Ok(Some(Declaration::Declared(path, d)))
+                }
+            }
+        }
+    }
+}
+
+/// What another package exports, behind whose name an identifier stands.
+fn declaration_by_package(
+    alloc: Global,
+    graph: &Graph,
+    found: &Findings,
+    unit: Package<'_>,
+    index: &Index<'_>,
+    u: usize,
+) -> Result<Option<Declaration>, AllocError>
+    requires sound { IsSound graph.now found.now }
+    requires index { IsIndexOf (package_of unit) index.now }
+    requires in_range { u < length unit.table.now.sites }
+    ensures { IfOk result (IsDeclarationFound (BindsByPackage (IsPackage graph.now (known_in found.now)) (package_of unit.entry) u)) }
+{
+    match package_before(unit, index, u) {
+        None => Ok(None),
+        Some(path) => exported_declaration(alloc, graph, found, path, unit.table.name(u)),
+    }
+}
+
+/// The field or method that an identifier is, where it is used or where it is declared.
+fn member_declaration(
+    alloc: Global,
+    of: &Indexed<'_>,
+    u: usize,
+) -> Result<Option<Declaration>, AllocError>
+    requires indexed { IsIndexed of.now }
+    requires in_range { u < length of.now.unit.table.now.sites }
+    ensures { IfOk result (IsDeclarationFound (BindsMember (package_of of.now.unit) u)) }
+{
+    match declaration_by_member(of.unit, of.own, of.members, u)? {
+        None => declaration_by_name(alloc, of.unit, of.index, u),
+        Some(declaration) => Ok(Some(declaration)),
+    }
+}
+
+/// The declaration to which an identifier is bound that no scope binds: one of another package, or a field or method.
+fn declaration_beyond(
+    alloc: Global,
+    graph: &Graph,
+    found: &Findings,
+    of: &Indexed<'_>,
+    u: usize,
+) -> Result<Option<Declaration>, AllocError>
+    requires sound { IsSound graph.now found.now }
+    requires indexed { IsIndexed of.now }
+    requires in_range { u < length of.now.unit.table.now.sites }
+    requires unbound { (d : Bound) → BindsByScope (package_of of.now.unit) u d → ⊥ }
+    ensures { IfOk result (IsDeclarationFound (IsBoundTo graph.now (known_in found.now) (package_of of.now.unit) u)) }
+{
+    match declaration_by_package(alloc, graph, found, of.unit, of.index, u)? {
+        Some(declaration) => Ok(Some(declaration)),
+        None => member_declaration(alloc, of, u),
+    }
+}
+
+/// The declaration to which an identifier of a package is bound.
+fn declaration_of(
+    alloc: Global,
+    graph: &Graph,
+    found: &Findings,
+    of: &Indexed<'_>,
+    u: usize,
+) -> Result<Option<Declaration>, AllocError>
+    requires sound { IsSound graph.now found.now }
+    requires indexed { IsIndexed of.now }
+    requires in_range { u < length of.now.unit.table.now.sites }
+    ensures { IfOk result (IsDeclarationFound (IsBoundTo graph.now (known_in found.now) (package_of of.now.unit) u)) }
+{
+    match declaration_in_scope(of.unit, u)? {
+        Some(declaration) => Ok(Some(declaration)),
+        None => declaration_beyond(alloc, graph, found, of, u),
+    }
+}
+
+/// The declaration of what holds a byte of a file of a package.
+pub fn declaration_in_unit(
+    alloc: Global,
+    graph: &Graph,
+    found: &Findings,
+    of: &Indexed<'_>,
+    path: &Path,
+    offset: usize,
+) -> Result<Declaration, Refusal>
+    requires sound { IsSound graph.now found.now }
+    requires indexed { IsIndexed of.now }
+    ensures { FindsDeclarationIn graph.now (known_in found.now) (package_of of.now.unit) path.now offset result }
+{
+    match identifier_at(of.unit, path, offset) {
+        None => Err(Refusal::NoIdentifier),
+        Some(u) => {
+            let name = named_by(of.unit, u);
+            match declaration_of(alloc, graph, found, of, name)? {
+                None => Err(Refusal::NotRenamable),
+                Some(declaration) => Ok(declaration),
+            }
+        }
+    }
+}
+
+/// The declaration of what holds a byte of a file of the package of a number, with what was found once in it.
+fn declaration_found(
+    alloc: Global,
+    at: Numbered<'_>,
+    unit: Package<'_>,
+    index: &Index<'_>,
+    file: &Path,
+    offset: usize,
+) -> Result<Declaration, Refusal>
+    requires numbered { IsNumbered at }
+    requires unit { IsUnitAt at (package_of unit) }
+    requires index { IsIndexOf (package_of unit) index.now }
+    ensures { FindsDeclarationAt at.entry.graph.now (known_in at.entry.found.now) at.entry.number file.now offset result }
+{
+    let of = known_of(at, unit, index);
+    declaration_in_unit(alloc, at.graph, at.found, &of, file, offset)
+}
+
+/// The declaration of what holds a byte of a file of the package of a number, by what it sees and by its table.
+fn declaration_by(
+    alloc: Global,
+    at: Numbered<'_>,
+    seen: &Interfaces,
+    table: &ScopeTable<'_>,
+    file: &Path,
+    offset: usize,
+) -> Result<Declaration, Refusal>
+    requires numbered { IsNumbered at }
+    requires table { IsTableAs at.graph.now (known_in at.found.now) at.number table.now seen.now }
+    ensures { FindsDeclarationAt at.entry.graph.now (known_in at.entry.found.now) at.entry.number file.now offset result }
+{
+    let unit = unit_of(at, seen, table);
+    let index = Index::of(alloc, unit)?;
+    declaration_found(alloc, at, unit, &index, file, offset)
+}
+
+/// The declaration of what holds a byte of a file of the package of a number.
+fn declaration_in(
+    alloc: Global,
+    at: Numbered<'_>,
+    file: &Path,
+    offset: usize,
+) -> Result<Declaration, Refusal>
+    requires { IsNumbered at }
+    ensures { FindsDeclarationAt at.entry.graph.now (known_in at.entry.found.now) at.entry.number file.now offset result }
+{
+    let seen = seen(alloc, at.graph, at.number, &at.found.interfaces)?;
+    let table = read_table(alloc, at.graph, at.found, &seen, at.number)?;
+    declaration_by(alloc, at, &seen, &table, file, offset)
+}
+
+/// The declaration of what holds a byte of a file.
+pub fn declaration_at(
+    alloc: Global,
+    graph: &Graph,
+    found: &Findings,
+    path: &Path,
+    offset: usize,
+) -> Result<Declaration, Refusal>
+    requires { IsSound graph.now found.now }
+    ensures { FindsDeclaration graph.now (known_in found.now) path.now offset result }
+{
+    match graph.number_of(path.folder()) {
+        None => Err(Refusal::NoIdentifier),
+        Some(number) => {
+            let at = Numbered {
+                graph,
+                found,
+                number,
+            };
+            declaration_in(alloc, at, path, offset)
+        }
+    }
+}

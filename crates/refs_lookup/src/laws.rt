@@ -1,0 +1,62 @@
+//! The laws of the places and bytes of identifiers, and of the ways to be bound.
+ghost use Rattle.std.specs.Prelude.{ℕ, ◌≡◌, ◌<◌, List};
+ghost use Rattle.base_files.specs.Workspace.{Workspace};
+ghost use Rattle.types_declared.specs.Package.{Package};
+ghost use Rattle.workspace_check.specs.Verdicts.{Verdicts};
+ghost use Rattle.refs_binding.specs.declared.declaration.Declaration.{Declaration};
+ghost use Rattle.refs_binding.specs.Binding.{BindsByScope, BindsByPackage, BindsByMember, BindsByName};
+ghost use Rattle.refs_binding.specs.Identifiers.{Stands, BeginsAt, HoldsByte};
+ghost use Rattle.refs_binding.specs.Uses.{IsPackage, IsAskedIn};
+
+/// One identifier of a package, at most, begins at a place.
+pub fn one_identifier_begins()
+    ensures { (w : Workspace) → (known : Verdicts) → (p : Package) → IsPackage w known p → (path : List ℕ) → (offset u v : ℕ) → BeginsAt p path offset u → BeginsAt p path offset v → u ≡ v }
+{}
+
+/// One identifier of a package, at most, holds a byte.
+pub fn one_identifier_holds()
+    ensures { (w : Workspace) → (known : Verdicts) → (p : Package) → IsPackage w known p → (path : List ℕ) → (offset u v : ℕ) → HoldsByte p path offset u → HoldsByte p path offset v → u ≡ v }
+{}
+
+/// One identifier of one package, at most, is asked for at a byte of a file.
+pub fn one_identifier_is_asked()
+    ensures { (w : Workspace) → (known : Verdicts) → (path : List ℕ) → (offset : ℕ) → (p q : Package) → (u v : ℕ) → IsAskedIn w known path p → IsAskedIn w known path q →
+        HoldsByte p path offset u → HoldsByte q path offset v → (p ≡ q) × (u ≡ v) }
+{}
+
+/// By scopes an identifier is bound to one declaration at most.
+pub fn one_declaration_by_scope()
+    ensures { (w : Workspace) → (known : Verdicts) → (p : Package) → IsPackage w known p → (u : ℕ) → (d e : Declaration) → BindsByScope p u d → BindsByScope p u e → d ≡ e }
+{}
+
+/// Behind the name of a package an identifier is bound to one declaration at most.
+pub fn one_declaration_by_package()
+    ensures { (w : Workspace) → (known : Verdicts) → (p : Package) → IsPackage w known p → (u : ℕ) → (d e : Declaration) →
+        BindsByPackage (IsPackage w known) p u d → BindsByPackage (IsPackage w known) p u e → d ≡ e }
+{}
+
+/// What is bound by scopes does not stand behind the name of a package.
+pub fn scopes_exclude_packages()
+    ensures { (w : Workspace) → (known : Verdicts) → (p : Package) → (u : ℕ) → (d e : Declaration) → BindsByScope p u d → BindsByPackage (IsPackage w known) p u e → ⊥ }
+{}
+
+/// The name by which a field or a method is declared is bound by no scope, and does not stand behind the name of a package.
+pub fn member_names_exclude_other_ways()
+    ensures scopes { (w : Workspace) → (known : Verdicts) → (p : Package) → IsPackage w known p → (u : ℕ) → (d e : Declaration) → u < p.size →
+        BindsByName p u d → BindsByScope p u e → ⊥ }
+    ensures packages { (w : Workspace) → (known : Verdicts) → (p : Package) → IsPackage w known p → (u : ℕ) → (d e : Declaration) → u < p.size →
+        BindsByName p u d → BindsByPackage (IsPackage w known) p u e → ⊥ }
+{}
+
+/// As a member that is used an identifier is bound to one declaration at most.
+pub fn one_declaration_by_member()
+    ensures { (w : Workspace) → (known : Verdicts) → (p : Package) → IsPackage w known p → (u : ℕ) → (d e : Declaration) → BindsByMember p u d → BindsByMember p u e → d ≡ e }
+{}
+
+/// A member that is used is bound by no scope, and is not the name by which a field or a method is declared.
+pub fn used_members_exclude_other_ways()
+    ensures scopes { (w : Workspace) → (known : Verdicts) → (p : Package) → IsPackage w known p → (u : ℕ) → (d e : Declaration) → Stands p u →
+        BindsByMember p u d → BindsByScope p u e → ⊥ }
+    ensures names { (w : Workspace) → (known : Verdicts) → (p : Package) → IsPackage w known p → (u : ℕ) → (d e : Declaration) → Stands p u →
+        BindsByMember p u d → BindsByName p u e → ⊥ }
+{}

@@ -1,0 +1,92 @@
+//! The field or method of the package itself that an identifier declares.
+ghost use Rattle.std.specs.Prelude.{ℕ, ◌≡◌, ◌<◌, ◌↔◌, Some, None, length, slice_index_or, IsTrue, IfOk, MatchOption};
+ghost use Rattle.go_scope.specs.Bindings.{IsIdentifier};
+ghost use Rattle.types_declared.specs.PackageView.{package_of, IsIndexOf};
+ghost use Rattle.refs_binding.specs.Binding.{BindsByName};
+ghost use Rattle.refs_binding.specs.Steps.{IsDeclarationFound, NamesField, NamesMethod};
+
+use go_scope::model::Position;
+use refs_binding::own_names::{place_of, symbol};
+use refs_binding::{Declaration, field_places, method_places};
+use std::alloc::{AllocError, Global};
+use types_declared::{Index, Package};
+
+/// Whether a place was found, and is this one.
+fn is_place(found: Option<Position>, at: Position) -> bool
+    ensures { IsTrue result ↔ (found ≡ Some at) }
+{
+    match found {
+        None => false,
+        Some(place) => place.file == at.file && place.index == at.index,
+    }
+}
+
+/// The rank for which a list has a place.
+fn rank_at(places: &[Option<Position>], at: Position) -> Option<usize>
+    ensures { MatchOption result ((rank : ℕ) → slice_index_or places.now rank None ≡ Some at → ⊥) (λ rank. slice_index_or places.now rank None ≡ Some at) }
+{
+    for rank in 0..places.len() {
+        if is_place(place_of(places, rank), at) {
+            return Some(rank);
+        }
+    }
+    None
+}
+
+/// The field that an identifier declares.
+fn own_field(
+    alloc: Global,
+    unit: Package<'_>,
+    index: &Index<'_>,
+    u: usize,
+) -> Result<Option<Declaration>, AllocError>
+    requires index { IsIndexOf (package_of unit) index.now }
+    requires in_range { u < length unit.table.now.sites }
+    requires stands { IsIdentifier (package_of unit).layout u }
+    ensures { IfOk result (IsDeclarationFound (NamesField (package_of unit.entry) u)) }
+{
+    let places = field_places(alloc, unit, index)?;
+    match rank_at(&places, unit.table.place(u)) {
+        None => Ok(None),
+        Some(rank) => Ok(Some(Declaration::Field(symbol(unit, rank)?))),
+    }
+}
+
+/// The method that an identifier declares.
+fn own_method(
+    alloc: Global,
+    unit: Package<'_>,
+    index: &Index<'_>,
+    u: usize,
+) -> Result<Option<Declaration>, AllocError>
+    requires index { IsIndexOf (package_of unit) index.now }
+    requires in_range { u < length unit.table.now.sites }
+    requires stands { IsIdentifier (package_of unit).layout u }
+    ensures { IfOk result (IsDeclarationFound (NamesMethod (package_of unit.entry) u)) }
+{
+    let places = method_places(alloc, unit, index)?;
+    match rank_at(&places, unit.table.place(u)) {
+        None => Ok(None),
+        Some(rank) => Ok(Some(Declaration::Method(symbol(unit, rank)?))),
+    }
+}
+
+/// The field or method that an identifier declares.
+pub fn declaration_by_name(
+    alloc: Global,
+    unit: Package<'_>,
+    index: &Index<'_>,
+    u: usize,
+) -> Result<Option<Declaration>, AllocError>
+    requires index { IsIndexOf (package_of unit) index.now }
+    requires in_range { u < length unit.table.now.sites }
+    ensures { IfOk result (IsDeclarationFound (BindsByName (package_of unit.entry) u)) }
+{
+    if unit.table.role(u).is_implied() {
+        return Ok(None);
+    }
+    match own_field(alloc, unit, index, u)? {
+        None => own_method(alloc, unit, index, u),
+        Some(declaration) => Ok(Some(declaration)),
+    }
+}

@@ -1,0 +1,74 @@
+//! The laws of what identifiers are bound to.
+ghost use Rattle.std.specs.Prelude.{ℕ, ◌≡◌, ◌⊎◌, true, List, [], Some, Result, Err, slice_get};
+ghost use Rattle.base_files.specs.Workspace.{Workspace};
+ghost use Rattle.base_files.specs.declared.place.Place.{Place};
+ghost use Rattle.base_files.specs.declared.refusal.Refusal.{Refusal};
+ghost use Rattle.base_files.specs.declared.refusal.Refusal.TheVariants.{Memory};
+ghost use Rattle.go_scope.specs.Bindings.{MayDeclare, is_use};
+ghost use Rattle.go_scope.specs.Table.{StandsAt};
+ghost use Rattle.types_declared.specs.Definitions.{PlacedField, package_fields, IsMethodOf};
+ghost use Rattle.types_declared.specs.Package.{Package, PlacedFunction, function_place};
+ghost use Rattle.workspace_check.specs.FaultLists.{ListsFaults};
+ghost use Rattle.workspace_check.specs.Verdicts.{Verdicts, AreVerdicts};
+ghost use Rattle.refs_binding.specs.declared.declaration.Declaration.{Declaration};
+ghost use Rattle.refs_binding.specs.declared.declaration.Declaration.TheVariants.{Declared};
+ghost use Rattle.types_info.specs.Qualified.{IsBehindPackage};
+ghost use Rattle.refs_binding.specs.Binding.{BindsByPackage, BindsByMember, BindsByName, field_place};
+ghost use Rattle.refs_binding.specs.Identifiers.{Stands};
+ghost use Rattle.refs_binding.specs.Uses.{IsPackage, IsBoundTo, IsUseOf, HasDeclaration, ListsUses, TellsUses};
+
+/// A member that is used does not stand behind the name of a package.
+pub fn used_members_exclude_packages()
+    ensures { (w : Workspace) → (known : Verdicts) → (p : Package) → IsPackage w known p → (u : ℕ) → (d e : Declaration) → Stands p u →
+        BindsByMember p u d → BindsByPackage (IsPackage w known) p u e → ⊥ }
+{}
+
+/// The name by which a field or a method is declared declares one.
+pub fn one_declaration_by_name()
+    ensures { (w : Workspace) → (known : Verdicts) → (p : Package) → IsPackage w known p → (u : ℕ) → (d e : Declaration) →
+        BindsByName p u d → BindsByName p u e → d ≡ e }
+{}
+
+/// An identifier that stands in a file is bound to one declaration at most, by whatever way.
+pub fn one_declaration()
+    ensures { (w : Workspace) → (known : Verdicts) → (p : Package) → IsPackage w known p → (u : ℕ) → Stands p u → (d e : Declaration) →
+        IsBoundTo w known p u d → IsBoundTo w known p u e → d ≡ e }
+{}
+
+/// What begins at a place of a workspace is bound to one declaration at most, and so is what holds a byte of it.
+pub fn one_declaration_at_a_place()
+    ensures begins { (w : Workspace) → (known : Verdicts) → (place : Place) → (d e : Declaration) → IsUseOf w known d place → IsUseOf w known e place → d ≡ e }
+    ensures holds { (w : Workspace) → (known : Verdicts) → (path : List ℕ) → (offset : ℕ) → (d e : Declaration) →
+        HasDeclaration w known path offset d → HasDeclaration w known path offset e → d ≡ e }
+{}
+
+/// The uses that are told of a byte are one list, and of the answers that are not for want of memory one at most is right.
+pub fn uses_are_unique()
+    ensures lists { (w : Workspace) → (path : List ℕ) → (offset : ℕ) → (places others : List Place) →
+        ListsUses w path offset places → ListsUses w path offset others → places ≡ others }
+    ensures answers { (w : Workspace) → (path : List ℕ) → (offset : ℕ) → (r s : Result (List Place) Refusal) →
+        TellsUses w path offset r → TellsUses w path offset s → (r ≡ Err Memory → ⊥) → (s ≡ Err Memory → ⊥) → r ≡ s }
+{}
+
+/// In a workspace without faults no identifier that declares or is a lexical use is bound to nothing.
+pub fn lexical_names_are_bound()
+    ensures { (w : Workspace) → ListsFaults w [] → (known : Verdicts) → AreVerdicts w known → (p : Package) → IsPackage w known p → (u : ℕ) → Stands p u →
+        MayDeclare p.layout u ⊎ (is_use (p.layout.role u) ≡ true) → ((d : Declaration) → IsBoundTo w known p u d → ⊥) → ⊥ }
+{}
+
+/// In a workspace without faults no name by which a field is declared, or a method of a definition of the package, is bound to
+/// nothing.
+pub fn declared_members_are_bound()
+    ensures fields { (w : Workspace) → ListsFaults w [] → (known : Verdicts) → AreVerdicts w known → (p : Package) → IsPackage w known p →
+        (rank : ℕ) → (f : PlacedField) → slice_get (package_fields p) rank ≡ Some f → (u : ℕ) → StandsAt p.layout (field_place f) u →
+        ((d : Declaration) → IsBoundTo w known p u d → ⊥) → ⊥ }
+    ensures methods { (w : Workspace) → ListsFaults w [] → (known : Verdicts) → AreVerdicts w known → (p : Package) → IsPackage w known p →
+        (definition rank : ℕ) → (name : List ℕ) → (f : PlacedFunction) → IsMethodOf p definition name rank f →
+        (u : ℕ) → StandsAt p.layout (function_place f) u → ((d : Declaration) → IsBoundTo w known p u d → ⊥) → ⊥ }
+{}
+
+/// In a workspace without faults a name behind the name of a package is bound to a declaration of that package.
+pub fn names_behind_packages_are_bound()
+    ensures { (w : Workspace) → ListsFaults w [] → (known : Verdicts) → AreVerdicts w known → (p : Package) → IsPackage w known p → (u : ℕ) → Stands p u →
+        (path : List ℕ) → IsBehindPackage p u path → (d : ℕ) × IsBoundTo w known p u (Declared path d) }
+{}

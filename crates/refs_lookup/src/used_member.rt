@@ -1,0 +1,79 @@
+//! The member that an identifier is where it is used: behind a dot, or as a key of a literal.
+ghost use Rattle.std.specs.Prelude.{◌≡◌, ◌<◌, Some, [], length, map, slice_get, IfOk};
+ghost use Rattle.types_expr.specs.Found.{use_of};
+ghost use Rattle.types_info.specs.MemberUses.{AreMemberUses, uses_in};
+ghost use Rattle.types_declared.specs.PackageView.{package_of};
+ghost use Rattle.refs_binding.specs.Binding.{BindsByMember};
+ghost use Rattle.refs_binding.specs.Steps.{IsDeclarationFound};
+ghost use Rattle.refs_binding.specs.Members.{definitions_seen, uses_or_none, IsMemberIf, IsMemberIn, KnowsOwn};
+
+use refs_binding::{Declaration, member_declaration};
+use std::alloc::AllocError;
+use types_declared::Package;
+use types_expr::found::MemberUse;
+use types_expr::world::Definition;
+use types_info::one_world;
+
+/// The declaration of the member that is used, if it stands at a token.
+fn declaration_if(
+    unit: Package<'_>,
+    own: &[Definition],
+    file: usize,
+    found: &MemberUse,
+    token: usize,
+) -> Result<Option<Declaration>, AllocError>
+    ensures { IfOk result (IsDeclarationFound (IsMemberIf (definitions_seen unit.entry own.now) (package_of unit.entry) file token (use_of found.now))) }
+{
+    if found.place == token {
+        member_declaration(unit, own, file, found)
+    } else {
+        Ok(None)
+    }
+}
+
+/// The declaration of the member that is used at a token, by the member uses of its file.
+fn declaration_among(
+    unit: Package<'_>,
+    own: &[Definition],
+    file: usize,
+    uses: &[MemberUse],
+    token: usize,
+) -> Result<Option<Declaration>, AllocError>
+    ensures { IfOk result (IsDeclarationFound (IsMemberIn (definitions_seen unit.entry own.now) (package_of unit.entry) file (map use_of uses.now) token)) }
+{
+    for k in 0..uses.len() {
+        match declaration_if(unit, own, file, &uses[k], token)? {
+            None => {}
+            Some(declaration) => return Ok(Some(declaration)),
+        }
+    }
+    Ok(None)
+}
+
+/// The member uses of a file.
+fn uses_of(members: &[Vec<MemberUse>], file: usize) -> &[MemberUse]
+    ensures { result.now ≡ uses_or_none (slice_get members.now file) }
+{
+    match members.get(file) {
+        None => &[],
+        Some(uses) => uses,
+    }
+}
+
+/// The field or method that an identifier is, behind a dot or as a key.
+pub fn declaration_by_member(
+    unit: Package<'_>,
+    own: &[Definition],
+    members: &[Vec<MemberUse>],
+    u: usize,
+) -> Result<Option<Declaration>, AllocError>
+    requires own { KnowsOwn (package_of unit) own.now }
+    requires members { AreMemberUses (package_of unit) (map uses_in members.now) }
+    requires in_range { u < length unit.table.now.sites }
+    ensures { IfOk result (IsDeclarationFound (BindsByMember (package_of unit.entry) u)) }
+{
+    unit.table.is_well_formed();
+    one_world(unit);
+    let at = unit.table.place(u);
+    declaration_among(unit, own, at.file, uses_of(members, at.file), at.index)
+}

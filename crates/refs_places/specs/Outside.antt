@@ -1,0 +1,22 @@
+-- Declarations of packages that are not marked.
+use Rattle.std.specs.Prelude.{ℕ, ◌≡◌, Bool, List, Option, Some, None, slice_get}
+use Rattle.base_files.specs.Packages.{package_paths}
+use Rattle.base_files.specs.Workspace.{Workspace}
+use Rattle.workspace_graph.specs.Search.{IsMarked}
+use Rattle.refs_binding.specs.declared.declaration.Declaration.{Declaration}
+use Rattle.refs_binding.specs.declared.declaration.Declaration.TheVariants.{Predeclared, Declared, Field, Method}
+
+-- the path of the package of a declaration; none where it is predeclared
+abbrev pub path_by : Declaration → Option (List ℕ)
+path_by (Predeclared n) = None
+path_by (Declared path n) = Some path
+path_by (Field s) = Some s.package
+path_by (Method s) = Some s.package
+
+-- the package of the declaration is there, and is not marked
+pub record IsOutside (w : Workspace) (marks : List Bool) (d : Declaration) : Type 0 where
+  pub path : List ℕ
+  pub of_path : path_by d ≡ Some path
+  pub number : ℕ
+  pub has_number : slice_get (package_paths w) number ≡ Some path
+  pub unmarked : IsMarked marks number → ⊥

@@ -1,0 +1,158 @@
+//! The bound identifiers that begin at a place.
+ghost use Rattle.std.specs.Prelude.{◌≡◌, ◌↔◌, ◌≤◌, IsTrue, Contains, not, true, false, length};
+ghost use Rattle.std.specs.List.{AllWithin};
+ghost use Rattle.std.specs.List.Sorted.{IsSortedBy, IsPartitionedBy, IsPartitionPoint};
+ghost use Rattle.std.specs.Ordering.{is_lt, is_gt};
+ghost use Rattle.refs_binding.specs.declared.bound_spot.BoundSpot.{BoundSpot as Bound};
+ghost use Rattle.refs_binding.specs.Bindings.{place_at};
+ghost use Rattle.refs_binding.specs.Places.{place_cmp};
+ghost use Rattle.refs_places.specs.Beginnings.{BeginsAmong, place_of};
+
+use crate::places::NameStart;
+use base_files::Place;
+use refs_binding::BoundSpot;
+use refs_binding::bindings::compare;
+use std::cmp::Ordering;
+
+/// Whether an identifier begins before a place.
+fn is_before(bound: &BoundSpot, place: &Place) -> bool
+    ensures { result ≡ is_lt (place_cmp (place_at bound.now) place.now) }
+{
+    compare(bound, place).is_lt()
+}
+
+/// Whether an identifier begins behind a place.
+fn is_behind(bound: &BoundSpot, place: &Place) -> bool
+    ensures { result ≡ is_gt (place_cmp (place_at bound.now) place.now) }
+{
+    compare(bound, place).is_gt()
+}
+
+/// Whether all in front of a number begin before a place.
+fn are_before(bound: &[BoundSpot], number: usize, place: &Place) -> bool
+    requires parted { IsPartitionedBy (λ b. is_lt (place_cmp (place_at b) place.now)) bound.now }
+    requires within { number ≤ length bound.now }
+    ensures { IsTrue result → AllWithin (λ b. is_lt (place_cmp (place_at b) place.now) ≡ true) bound.now 0 number }
+{
+    number == 0 || is_before(&bound[number - 1], place)
+}
+
+/// Whether none from a number on begins before a place.
+fn is_none_before(bound: &[BoundSpot], number: usize, place: &Place) -> bool
+    requires { IsPartitionedBy (λ b. is_lt (place_cmp (place_at b) place.now)) bound.now }
+    ensures { IsTrue result → AllWithin (λ b. is_lt (place_cmp (place_at b) place.now) ≡ false) bound.now number (length bound.now) }
+{
+    number >= bound.len() || !is_before(&bound[number], place)
+}
+
+/// Whether none in front of a number begins behind a place.
+fn is_none_behind(bound: &[BoundSpot], number: usize, place: &Place) -> bool
+    requires parted { IsPartitionedBy (λ b. not (is_gt (place_cmp (place_at b) place.now))) bound.now }
+    requires within { number ≤ length bound.now }
+    ensures { IsTrue result → AllWithin (λ b. not (is_gt (place_cmp (place_at b) place.now)) ≡ true) bound.now 0 number }
+{
+    number == 0 || !is_behind(&bound[number - 1], place)
+}
+
+/// Whether all from a number on begin behind a place.
+fn are_behind(bound: &[BoundSpot], number: usize, place: &Place) -> bool
+    requires { IsPartitionedBy (λ b. not (is_gt (place_cmp (place_at b) place.now))) bound.now }
+    ensures { IsTrue result → AllWithin (λ b. not (is_gt (place_cmp (place_at b) place.now)) ≡ false) bound.now number (length bound.now) }
+{
+    number >= bound.len() || is_behind(&bound[number], place)
+}
+
+/// Whether those that don't begin behind a place are as many as a number.
+fn is_end(bound: &[BoundSpot], number: usize, place: &Place) -> bool
+    requires parted { IsPartitionedBy (λ b. not (is_gt (place_cmp (place_at b) place.now))) bound.now }
+    requires within { number ≤ length bound.now }
+    ensures { IsTrue result → IsPartitionPoint (λ b. not (is_gt (place_cmp (place_at b) place.now)) ≡ true) (λ b. not (is_gt (place_cmp (place_at b) place.now)) ≡ false) bound.now number }
+{
+    is_none_behind(bound, number, place) && are_behind(bound, number, place)
+}
+
+/// How many begin before a place. Where it is asked near the last answer, this takes no search.
+fn first_near(bound: &[BoundSpot], near: usize, place: &Place) -> usize
+    requires { IsPartitionedBy (λ b. is_lt (place_cmp (place_at b) place.now)) bound.now }
+    ensures within { result ≤ length bound.now }
+    ensures point { IsPartitionPoint (λ b. is_lt (place_cmp (place_at b) place.now) ≡ true) (λ b. is_lt (place_cmp (place_at b) place.now) ≡ false) bound.now result }
+{
+    if near <= bound.len() && are_before(bound, near, place) && is_none_before(bound, near, place) {
+        return near;
+    }
+    bound.partition_point(|b| is_before(b, place))
+}
+
+/// How many don't begin behind a place. Where none or one begins there, this takes no search.
+fn end_near(bound: &[BoundSpot], first: usize, place: &Place) -> usize
+    requires parted { IsPartitionedBy (λ b. not (is_gt (place_cmp (place_at b) place.now))) bound.now }
+    requires within { first ≤ length bound.now }
+    ensures within { result ≤ length bound.now }
+    ensures point { IsPartitionPoint (λ b. not (is_gt (place_cmp (place_at b) place.now)) ≡ true) (λ b. not (is_gt (place_cmp (place_at b) place.now)) ≡ false) bound.now result }
+{
+    if first < bound.len() && is_end(bound, first + 1, place) {
+        return first + 1;
+    }
+    if is_end(bound, first, place) {
+        return first;
+    }
+    bound.partition_point(|b| !is_behind(b, place))
+}
+
+/// The bound identifiers that begin at a place, among those in the order of their places. They are looked for first where those
+/// found last end: places in order are found without a search.
+pub fn bound_here<'a>(bound: &'a [BoundSpot], near: &mut usize, place: &Place) -> &'a [BoundSpot]
+    requires { IsSortedBy (λ a b. is_lt (place_cmp (place_at a) (place_at b))) bound.now }
+    ensures { (b : Bound) → Contains result.now b ↔ (Contains bound.now b × (place_at b ≡ place.now)) }
+{
+    let first = first_near(bound, *near, place);
+    let end = end_near(bound, first, place);
+    *near = end;
+    &bound[first..end]
+}
+
+/// Whether a bound identifier begins where a name does.
+fn begins(bound: &BoundSpot, at: NameStart<'_>) -> bool
+    ensures { IsTrue result ↔ (place_at bound.now ≡ place_of at.entry) }
+{
+    bound.spot.offset == at.offset && bound.spot.path == *at.path
+}
+
+/// Whether the bound identifier of a number begins where a name does.
+fn begins_there(bound: &[BoundSpot], number: usize, at: NameStart<'_>) -> bool
+    ensures { IsTrue result → BeginsAmong bound.now (place_of at.entry) }
+{
+    number < bound.len() && begins(&bound[number], at)
+}
+
+/// How a bound identifier compares with the beginning of a name.
+fn compare_start(bound: &BoundSpot, at: NameStart<'_>) -> Ordering {
+    let by_path = bound.spot.path.cmp(at.path);
+    by_path.then(bound.spot.offset.cmp(&at.offset))
+}
+
+/// Whether one of the bound identifiers begins where a name does, by a search. The number is that at which it was found.
+fn search(bound: &[BoundSpot], near: &mut usize, at: NameStart<'_>) -> bool
+    ensures { IsTrue result → BeginsAmong bound.now (place_of at.entry) }
+{
+    match bound.binary_search_by(|b| compare_start(b, at)) {
+        Ok(number) => *near = number,
+        Err(number) => *near = number,
+    }
+    begins_there(bound, *near, at)
+}
+
+/// Whether one of the bound identifiers, which are in the order of their places, begins where a name does. It is looked for first
+/// where the one before it was found.
+pub fn is_bound(bound: &[BoundSpot], near: &mut usize, at: NameStart<'_>) -> bool
+    ensures { IsTrue result → BeginsAmong bound.now (place_of at.entry) }
+{
+    if begins_there(bound, *near, at) {
+        return true;
+    }
+    *near = near.saturating_add(1);
+    if begins_there(bound, *near, at) {
+        return true;
+    }
+    search(bound, near, at)
+}

@@ -1,0 +1,270 @@
+//! Where the declarations of a workspace without faults stand.
+ghost use Rattle.std.specs.Prelude.{◌≡◌, ◌<◌, ◌↔◌, None, Some, length, map, slice_get, slice_index_or, Contains, IsTrue, IfOk, MatchOption};
+ghost use Rattle.std.specs.Option.{option_copied};
+ghost use Rattle.base_files.specs.Packages.{package_paths};
+ghost use Rattle.go_ast.specs.SourceFile.{source_of};
+ghost use Rattle.go_scope.specs.Bindings.{Counts};
+ghost use Rattle.go_scope.specs.Scoped.{layout_in, names_in};
+ghost use Rattle.types_declared.specs.Package.{Package as Checked};
+ghost use Rattle.types_declared.specs.PackageView.{package_of, IsIndexOf};
+ghost use Rattle.base_files.specs.declared.place.Place.{Place as At};
+ghost use Rattle.workspace_check.specs.Verdicts.{Verdicts};
+ghost use Rattle.refs_binding.specs.Steps.{ArePlaces};
+ghost use Rattle.refs_binding.specs.Uses.{IsPackage};
+ghost use Rattle.refs_binding.specs.Packages.{ArePackages};
+ghost use Rattle.refs_binding.specs.Workspaces.{known_in};
+ghost use Rattle.refs_binding.specs.Standing.{InPackage, IsScopeAt, StandsIn, IsDeclaredAt};
+ghost use Rattle.refs_places.specs.Outside.{path_by};
+ghost use Rattle.refs_places.specs.DeclaredPlaces.{IsFound, IsFoundIn, BeginsIn, ArePlacesOf, AreDeclaredIn, AreDeclaredAt, AreDeclared, IsPlaceIn};
+
+use crate::places::place_of;
+use base_files::Place;
+use go_ast::FileTree;
+use go_scope::model::Position;
+use go_scope::table::ScopeTable;
+use refs_binding::{Declaration, Packages, field_places, method_places};
+use std::alloc::{AllocError, Global};
+use types_declared::{Index, Package, literal_of};
+use types_expr::symbol::SharedPath;
+use workspace_graph::Graph;
+
+/// How many names are predeclared: they have the first numbers in the table of each package.
+const PREDECLARED: usize = 11;
+
+/// Where the declarations of a package stand that count: those of its scopes by their numbers, the fields and the methods by
+/// their ranks.
+#[derive(Drop)]
+pub struct DeclaredPlaces {
+    pub names: Vec<Option<Place>>,
+    pub fields: Vec<Option<Place>>,
+    pub methods: Vec<Option<Place>>,
+}
+
+/// Whether an identifier declares, and this counts.
+fn counts(table: &ScopeTable<'_>, d: usize) -> bool
+    requires { d < length table.now.sites }
+    ensures { IsTrue result ↔ Counts (layout_in table.now) (names_in table.now) d }
+{
+    if !table.declares(d) {
+        return false;
+    }
+    match table.binding(d) {
+        None => false,
+        Some(_) => true,
+    }
+}
+
+/// Where a declaration of a package's own scopes stands: an import at its path literal.
+fn position_in(unit: Package<'_>, d: usize) -> Option<Position>
+    requires { d < length unit.table.now.sites }
+    ensures { IsFound (IsScopeAt (package_of unit.entry) d) result }
+{
+    if d < PREDECLARED {
+        return None;
+    }
+    if counts(unit.table, d) {
+        Some(unit.table.place(literal_of(unit.table, d)))
+    } else {
+        None
+    }
+}
+
+/// The same of each number.
+fn name_places(alloc: Global, unit: Package<'_>) -> Result<Vec<Option<Position>>, AllocError>
+    ensures { IfOk result (λ places. ArePlaces (IsScopeAt (package_of unit.entry)) places.items) }
+{
+    let mut places = Vec::new(alloc);
+    for d in 0..unit.table.len() {
+        places.push(position_in(unit, d))?;
+    }
+    Ok(places)
+}
+
+/// Where the token begins at a position that was found.
+fn found_place(files: &[FileTree], at: Option<Position>) -> Result<Option<Place>, AllocError>
+    ensures { IfOk result (IsFound (BeginsIn (map source_of files.now) at)) }
+{
+    match at {
+        None => Ok(None),
+        Some(at) => place_of(files, at),
+    }
+}
+
+/// Where the tokens begin at some positions.
+fn places_of(
+    alloc: Global,
+    files: &[FileTree],
+    positions: &[Option<Position>],
+) -> Result<Vec<Option<Place>>, AllocError>
+    ensures { IfOk result (λ places. ArePlacesOf (map source_of files.now) positions.now places.items) }
+{
+    let mut places = Vec::new(alloc);
+    for at in positions {
+        places.push(found_place(files, *at)?)?;
+    }
+    Ok(places)
+}
+
+/// Where the declarations of a package stand, by what was found once in it.
+pub fn indexed_places(
+    alloc: Global,
+    unit: Package<'_>,
+    index: &Index<'_>,
+) -> Result<DeclaredPlaces, AllocError>
+    requires { IsIndexOf (package_of unit) index.now }
+    ensures { IfOk result (AreDeclaredIn (package_of unit.entry)) }
+{
+    let names = name_places(alloc, unit)?;
+    let fields = field_places(alloc, unit, index)?;
+    let methods = method_places(alloc, unit, index)?;
+    Ok(DeclaredPlaces {
+        names: places_of(alloc, unit.files, &names)?,
+        fields: places_of(alloc, unit.files, &fields)?,
+        methods: places_of(alloc, unit.files, &methods)?,
+    })
+}
+
+/// The same of a package in which nothing was found yet.
+pub fn unit_places(alloc: Global, unit: Package<'_>) -> Result<DeclaredPlaces, AllocError>
+    ensures { IfOk result (AreDeclaredIn (package_of unit.entry)) }
+{
+    let index = Index::of(alloc, unit)?;
+    indexed_places(alloc, unit, &index)
+}
+
+/// The same of the package of a number.
+fn places_at(
+    alloc: Global,
+    packages: &Packages<'_>,
+    number: usize,
+) -> Result<DeclaredPlaces, AllocError>
+    requires in_range { number < length (package_paths packages.now.graph.now) }
+    requires read { ArePackages packages.now }
+    ensures { IfOk result (AreDeclaredAt packages.now.graph.now (known_in packages.now.found.now) number) }
+{
+    let unit = packages.unit(number);
+    unit_places(alloc, unit)
+}
+
+/// Where the declarations of all packages stand, by the packages' numbers.
+pub fn declared_places(
+    alloc: Global,
+    packages: &Packages<'_>,
+) -> Result<Vec<DeclaredPlaces>, AllocError>
+    requires { ArePackages packages.now }
+    ensures { IfOk result (λ all. AreDeclared packages.now.graph.now (known_in packages.now.found.now) all.items) }
+{
+    let mut all = Vec::new(alloc);
+    for number in 0..packages.graph.len() {
+        all.push(places_at(alloc, packages, number)?)?;
+    }
+    Ok(all)
+}
+
+/// The place that a list has for a number.
+fn listed(places: &[Option<Place>], number: usize) -> Option<&Place>
+    ensures { option_copied result ≡ slice_index_or places.now number None }
+{
+    match places.get(number) {
+        None => None,
+        Some(place) => place.as_ref(),
+    }
+}
+
+impl DeclaredPlaces {
+    /// Where a declaration of the package stands. A predeclared one stands nowhere.
+    pub fn at(&self, declaration: &Declaration) -> Option<&Place>
+        ensures { (p : Checked) → AreDeclaredIn p self.now → IsPlaceIn p declaration.now result }
+    {
+        match declaration {
+            Declaration::Predeclared(_) => None,
+            Declaration::Declared(_, d) => listed(&self.names, *d),
+            Declaration::Field(symbol) => listed(&self.fields, symbol.rank),
+            Declaration::Method(symbol) => listed(&self.methods, symbol.rank),
+        }
+    }
+}
+
+/// The path of the package of a declaration; none where it is predeclared.
+pub fn package_path(declaration: &Declaration) -> Option<&SharedPath>
+    ensures { option_copied result ≡ path_by declaration.now }
+{
+    match declaration {
+        Declaration::Predeclared(_) => None,
+        Declaration::Declared(path, _) => Some(path),
+        Declaration::Field(symbol) => Some(&symbol.package),
+        Declaration::Method(symbol) => Some(&symbol.package),
+    }
+}
+
+/// Whether the package of a number has a path.
+fn has_path(graph: &Graph, number: usize, path: &[u8]) -> bool
+    ensures { IsTrue result → slice_get (package_paths graph.now) number ≡ Some path.now }
+{
+    number < graph.len() && graph.package(number).path.as_slice() == path
+}
+
+/// The number of the package that has a path. It is looked for first where the one before it was found.
+fn number_near(graph: &Graph, near: &mut usize, path: &[u8]) -> Option<usize>
+    ensures { MatchOption result (Contains (package_paths graph.now) path.now → ⊥) (λ number. slice_get (package_paths graph.now) number ≡ Some path.now) }
+{
+    if has_path(graph, *near, path) {
+        return Some(*near);
+    }
+    let found = graph.number_of(path);
+    *near = found.unwrap_or(0);
+    found
+}
+
+/// Where a declaration of the package of a path stands.
+fn declared_under<'a>(
+    graph: &Graph,
+    all: &'a [DeclaredPlaces],
+    near: &mut usize,
+    path: &SharedPath,
+    declaration: &Declaration,
+) -> Option<&'a Place>
+    ensures { (known : Verdicts) → AreDeclared graph.now known all.now → IsFoundIn (λ (place : At). InPackage (IsPackage graph.now known) path.now (λ p. StandsIn p declaration.now place)) result }
+{
+    match number_near(graph, near, path.path()) {
+        None => None,
+        Some(number) => match all.get(number) {
+            None => None,
+            Some(places) => places.at(declaration),
+        },
+    }
+}
+
+/// Where a declaration of a workspace stands. A predeclared one stands nowhere. Its package is looked for first where the one before
+/// it was found.
+pub fn declared_near<'a>(
+    graph: &Graph,
+    all: &'a [DeclaredPlaces],
+    near: &mut usize,
+    declaration: &Declaration,
+) -> Option<&'a Place>
+    ensures { (known : Verdicts) → AreDeclared graph.now known all.now → IsFoundIn (IsDeclaredAt (IsPackage graph.now known) declaration.now) result }
+{
+    match declaration {
+        Declaration::Predeclared(_) => None,
+        Declaration::Declared(path, _) => declared_under(graph, all, near, path, declaration),
+        Declaration::Field(symbol) => {
+            declared_under(graph, all, near, &symbol.package, declaration)
+        },
+        Declaration::Method(symbol) => {
+            declared_under(graph, all, near, &symbol.package, declaration)
+        },
+    }
+}
+
+/// The same of one declaration alone.
+pub fn declared_at<'a>(
+    graph: &Graph,
+    all: &'a [DeclaredPlaces],
+    declaration: &Declaration,
+) -> Option<&'a Place>
+    ensures { (known : Verdicts) → AreDeclared graph.now known all.now → IsFoundIn (IsDeclaredAt (IsPackage graph.now known) declaration.now) result }
+{
+    let mut near = 0;
+    declared_near(graph, all, &mut near, declaration)
+}

@@ -1,0 +1,76 @@
+//! The places at which the identifiers of a workspace without faults begin.
+ghost use Rattle.std.specs.Prelude.{ℕ, ◌<◌, ◌↔◌, length, Contains, IfOk, OnOk};
+ghost use Rattle.base_files.specs.Packages.{package_paths};
+ghost use Rattle.base_files.specs.declared.place.Place.{Place as At};
+ghost use Rattle.types_declared.specs.PackageView.{package_of};
+ghost use Rattle.refs_binding.specs.Bindings.{AddsAll};
+ghost use Rattle.refs_binding.specs.Identifiers.{BeginsAt};
+ghost use Rattle.refs_binding.specs.Packages.{ArePackages};
+ghost use Rattle.refs_binding.specs.Workspaces.{known_in};
+ghost use Rattle.refs_places.specs.Identified.{IsIdentifierAt};
+ghost use Rattle.refs_places.specs.Identified.{BeginsInNumber};
+
+use crate::places::beginning;
+use base_files::Place;
+use refs_binding::Packages;
+use std::alloc::{AllocError, Global};
+use types_declared::Package;
+
+/// Adds the place at which an identifier begins, if it stands in a file and is no literal.
+fn add_beginning(found: &mut Vec<Place>, unit: Package<'_>, u: usize) -> Result<(), AllocError>
+    requires { u < length unit.table.now.sites }
+    ensures { OnOk result (AddsAll found.old.items found.new.items (λ (place : At). BeginsAt (package_of unit.entry) place.path place.offset u)) }
+{
+    match beginning(unit, u)? {
+        None => Ok(()),
+        Some(place) => {
+            found.push(place)?;
+            Ok(())
+        }
+    }
+}
+
+/// Adds the places at which the identifiers of a package begin.
+pub fn add_unit(found: &mut Vec<Place>, unit: Package<'_>) -> Result<(), AllocError>
+    ensures { OnOk result (AddsAll found.old.items found.new.items (λ (place : At). (u : ℕ) × BeginsAt (package_of unit.entry) place.path place.offset u)) }
+{
+    for u in 0..unit.table.len() {
+        add_beginning(found, unit, u)?;
+    }
+    Ok(())
+}
+
+/// The same of the package of a number.
+fn add_package(
+    places: &mut Vec<Place>,
+    packages: &Packages<'_>,
+    number: usize,
+) -> Result<(), AllocError>
+    requires in_range { number < length (package_paths packages.now.graph.now) }
+    requires read { ArePackages packages.now }
+    ensures { OnOk result (AddsAll places.old.items places.new.items (BeginsInNumber packages.now.graph.now (known_in packages.now.found.now) number)) }
+{
+    let unit = packages.unit(number);
+    add_unit(places, unit)
+}
+
+/// The same of all packages.
+fn add_all(places: &mut Vec<Place>, packages: &Packages<'_>) -> Result<(), AllocError>
+    requires { ArePackages packages.now }
+    ensures { OnOk result (AddsAll places.old.items places.new.items (IsIdentifierAt packages.now.graph.now (known_in packages.now.found.now))) }
+{
+    for number in 0..packages.graph.len() {
+        add_package(places, packages, number)?;
+    }
+    Ok(())
+}
+
+/// The places at which identifiers begin that are no literals.
+pub fn identifier_places(alloc: Global, packages: &Packages<'_>) -> Result<Vec<Place>, AllocError>
+    requires { ArePackages packages.now }
+    ensures { IfOk result (λ places. (place : At) → Contains places.items place ↔ IsIdentifierAt packages.now.graph.now (known_in packages.now.found.now) place) }
+{
+    let mut places = Vec::new(alloc);
+    add_all(&mut places, packages)?;
+    Ok(places)
+}

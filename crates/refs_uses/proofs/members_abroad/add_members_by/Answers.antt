@@ -1,0 +1,44 @@
+-- The answers to the goals of `members_abroad::add_members_by`.
+use Rattle.std.proofs.Common.{◌≡◌, map, ap, sym, subst, ◌∙◌}
+use Rattle.std.proofs.lemmas.Result.{on_ok_weaker}
+use Rattle.go_ast.specs.SourceFile.{source_of}
+use Rattle.types_declared.specs.Definitions.{AreDefinitions}
+use Rattle.types_declared.specs.InterfacesView.{name_in, interface_in}
+use Rattle.types_declared.specs.Package.{Package}
+use Rattle.workspace_check.proofs.OnePackage.{one_sources}
+use Rattle.workspace_check.proofs.OneSeen.{one_interfaces}
+use Rattle.refs_binding.specs.Members.{definitions_by}
+use Rattle.refs_binding.specs.Workspaces.{known_in}
+use Rattle.refs_binding.proofs.MemberParts.{known_definitions}
+use Rattle.refs_binding.proofs.Units.{package_there}
+use Rattle.refs_uses.proofs.MembersUsed.{members_used}
+use Rattle.refs_uses.proofs.members_abroad.add_members_by.Goals as goal
+
+pub returns : goal.returns
+returns c =
+    let w = c.args.at.graph.now in
+    let found = c.args.at.found.now in
+    let known = known_in found in
+    let n = c.args.at.number in
+    let seen = c.args.seen.now in
+    let there = package_there w found c.requires.numbered.sound n c.requires.numbered.in_range in
+    let p = there.0 in
+    let is = there.1 in
+    let checked = is.is_package.is_checked in
+    let own = c.own_of.result.now in
+    let path : c.path_of.result.now ≡ p.path = c.path_of.ensures p.path is.has_number in
+    let sees : p.interface_of ≡ interface_in seen =
+    ap (λ (x : Package). x.interface_of) checked.is_package.is_package ∙
+    one_interfaces w known p.path checked.name_of (name_in seen) checked.interface_of (interface_in seen) checked.are_seen
+    (c.requires.seen p.path is.has_number) in
+    let definitions : AreDefinitions p (definitions_by c.path_of.result.now own c.definitions.result.now) =
+    subst (λ i. AreDefinitions p (definitions_by c.path_of.result.now own i)) (sym c.definitions.ensures)
+    (subst (λ q. AreDefinitions p (definitions_by q own seen.definitions)) (sym path) (known_definitions p own seen (c.own_of.ensures p is) sees)) in
+    on_ok_weaker c.add_known_members.result (λ adds name. members_used w known n p is c.args.declaration.now c.requires.abroad name c.args.spots.now.items
+    c.add_known_members.new.spots.items (adds w known p (record {
+      is_package = checked;
+      files = one_sources (c.trees.ensures p.path is.has_number) checked.parsed ∙ sym (ap (λ (x : Package). x.files) checked.is_package.is_package);
+      path = path;
+      definitions = definitions;
+      members = c.members_of.ensures p is;
+    }))) c.add_known_members.ensures

@@ -1,0 +1,13 @@
+-- A declaration whose uses are sought.
+use Rattle.base_files.specs.Workspace.{Workspace}
+use Rattle.go_scope.specs.Named.{name_value}
+use Rattle.workspace_check.specs.Verdicts.{Verdicts}
+use Rattle.refs_binding.specs.Workspaces.{IsHome, IsExportedUnder}
+use Rattle.refs_uses.specs.Importing.{AreImporting}
+use Rattle.refs_uses.specs.declared.may_use.Sought.{Sought}
+
+-- a declaration has that name abroad, and its package that number, and those that import it are marked
+pub record IsSought (w : Workspace) (known : Verdicts) (sought : Sought) : Type 0 where
+  pub name : IsExportedUnder w known sought.declaration.now (name_value sought.name)
+  pub home : IsHome w sought.declaration.now sought.home
+  pub importing : AreImporting w sought.home sought.importing.now

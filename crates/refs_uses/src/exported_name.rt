@@ -1,0 +1,109 @@
+//! The name under which the package of a declaration exports it.
+ghost use Rattle.std.specs.Prelude.{option_map, IfOk, Some};
+ghost use Rattle.types_declared.specs.PackageView.{package_of};
+ghost use Rattle.refs_binding.specs.declared.declaration.Declaration.TheVariants.{Declared};
+ghost use Rattle.refs_binding.specs.Indexed.{IsNumbered};
+ghost use Rattle.refs_binding.specs.Packages.{IsTableAs};
+ghost use Rattle.refs_binding.specs.Steps.{IsExportedBy};
+ghost use Rattle.refs_binding.specs.Workspaces.{IsSound, known_in, bytes_of, IsExportedUnder, IsNameAt};
+ghost use Rattle.go_scope.specs.Named.{name_value};
+
+use go_scope::table::ScopeTable;
+use refs_binding::indexed::{Numbered, unit_of};
+use refs_binding::{Declaration, read_table};
+use std::alloc::{AllocError, Global};
+use types_check::is_seen;
+use types_declared::{Interfaces, Package};
+use types_expr::symbol::SharedPath;
+use workspace_check::{Findings, seen};
+use workspace_graph::Graph;
+
+/// The name under which a package exports a declaration of its own.
+pub(crate) fn own_name(
+    alloc: Global,
+    unit: Package<'_>,
+    d: usize,
+) -> Result<Option<Vec<u8>>, AllocError>
+    ensures { IfOk result (λ name. IsExportedBy (package_of unit.entry) d (option_map bytes_of name)) }
+{
+    match exported_name(unit, d) {
+        None => Ok(None),
+        Some(name) => Ok(Some(Vec::from_slice(alloc, name)?)),
+    }
+}
+
+/// The name under which the package of a number exports a declaration of its own, by what it sees and by its table.
+fn name_by(
+    alloc: Global,
+    at: Numbered<'_>,
+    seen: &Interfaces,
+    table: &ScopeTable<'_>,
+    d: usize,
+) -> Result<Option<Vec<u8>>, AllocError>
+    requires numbered { IsNumbered at }
+    requires table { IsTableAs at.graph.now (known_in at.found.now) at.number table.now seen.now }
+    ensures { IfOk result (λ name. IsNameAt at.entry.graph.now (known_in at.entry.found.now) at.entry.number d (option_map bytes_of name)) }
+{
+    own_name(alloc, unit_of(at, seen, table), d)
+}
+
+/// The name under which the package of a number exports a declaration of its own.
+fn name_at(alloc: Global, at: Numbered<'_>, d: usize) -> Result<Option<Vec<u8>>, AllocError>
+    requires { IsNumbered at }
+    ensures { IfOk result (λ name. IsNameAt at.entry.graph.now (known_in at.entry.found.now) at.entry.number d (option_map bytes_of name)) }
+{
+    let seen = seen(alloc, at.graph, at.number, &at.found.interfaces)?;
+    let table = read_table(alloc, at.graph, at.found, &seen, at.number)?;
+    name_by(alloc, at, &seen, &table, d)
+}
+
+/// The name under which the package of a declaration of a scope exports it.
+pub(crate) fn declared_name(
+    alloc: Global,
+    graph: &Graph,
+    found: &Findings,
+    path: &SharedPath,
+    d: usize,
+) -> Result<Option<Vec<u8>>, AllocError>
+    requires { IsSound graph.now found.now }
+    ensures { IfOk result (λ name. IsExportedUnder graph.now (known_in found.now) (Declared path.now d) (option_map bytes_of name)) }
+{
+    match graph.number_of(path.path()) {
+        None => Ok(None),
+        Some(number) => {
+            let at = Numbered {
+                graph,
+                found,
+                number,
+            };
+            name_at(alloc, at, d)
+        }
+    }
+}
+
+/// The name under which the package of a declaration exports it.
+pub(crate) fn exported_under(
+    alloc: Global,
+    graph: &Graph,
+    found: &Findings,
+    declaration: &Declaration,
+) -> Result<Option<Vec<u8>>, AllocError>
+    requires { IsSound graph.now found.now }
+    ensures { IfOk result (λ name. IsExportedUnder graph.now (known_in found.now) declaration.now (option_map bytes_of name)) }
+{
+    match declaration {
+        Declaration::Declared(path, d) => declared_name(alloc, graph, found, path, *d),
+        Declaration::Predeclared(_) | Declaration::Field(_) | Declaration::Method(_) => Ok(None),
+    }
+}
+
+/// The name under which a package exports a declaration, by its number.
+pub fn exported_name<'a>(unit: Package<'a>, d: usize) -> Option<&'a [u8]>
+    ensures { IsExportedBy (package_of unit.entry) d (name_value result) }
+{
+    if d < unit.table.len() && is_seen(unit, d) {
+        Some(unit.table.name(d))
+    } else {
+        None
+    }
+}

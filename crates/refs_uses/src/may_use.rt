@@ -1,0 +1,140 @@
+//! Which packages may use a declaration, by what they import and by the members that are used in them.
+ghost use Rattle.std.specs.Prelude.{ℕ, ◌≡◌, ◌≢◌, ◌<◌, ◌↔◌, [], false, length, slice_get, IfOk, IsTrue};
+ghost use Rattle.base_files.specs.declared.place.Place.{Place};
+ghost use Rattle.base_files.specs.Packages.{package_paths};
+ghost use Rattle.go_scope.specs.Named.{name_value};
+ghost use Rattle.workspace_graph.specs.Graphs.{OfPackage};
+ghost use Rattle.workspace_graph.specs.Packages.{PackageImports};
+ghost use Rattle.workspace_graph.specs.Reaching.{MarkImporting};
+ghost use Rattle.types_declared.specs.Package.{Package as Checked};
+ghost use Rattle.refs_binding.specs.declared.declaration.Declaration.{Declaration as Bound};
+ghost use Rattle.refs_binding.specs.Binding.{IsMemberAt};
+ghost use Rattle.refs_binding.specs.Members.{uses_or_none};
+ghost use Rattle.refs_uses.specs.Importing.{AreImporting};
+ghost use Rattle.refs_binding.specs.Workspaces.{IsSound, IsPackageAt, known_in, home_path, IsHome, IsUseAt};
+
+use refs_binding::{Declaration, members_of};
+use std::alloc::{AllocError, Global};
+use types_expr::found::MemberUse;
+use workspace_check::{Findings, is_marked};
+use workspace_graph::{Graph, is_among};
+
+/// A declaration that is sought, with the name under which it is exported and the number of its package, if it has them, and marks for
+/// the packages that import that one.
+#[derive(Clone, Copy)]
+pub struct Sought<'a> {
+    pub declaration: &'a Declaration,
+    pub name: Option<&'a [u8]>,
+    pub home: Option<usize>,
+    pub importing: &'a [bool],
+}
+
+/// Marks for the packages that import that of a number, directly or indirectly, if there is one.
+fn importing_number(alloc: Global, graph: &Graph, number: usize) -> Result<Vec<bool>, AllocError>
+    ensures { IfOk result (λ marks. OfPackage graph.now number (λ q. MarkImporting graph.now q marks.items)) }
+{
+    if number < graph.len() {
+        graph.importing(alloc, number)
+    } else {
+        Ok(Vec::new(alloc))
+    }
+}
+
+/// Marks for the packages that import that of a declaration, directly or indirectly, if it has one.
+pub(crate) fn importing_home(
+    alloc: Global,
+    graph: &Graph,
+    home: Option<usize>,
+) -> Result<Vec<bool>, AllocError>
+    ensures { IfOk result (λ marks. AreImporting graph.now home marks.items) }
+{
+    match home {
+        None => Ok(Vec::new(alloc)),
+        Some(number) => importing_number(alloc, graph, number),
+    }
+}
+
+/// Whether a package imports another directly.
+fn imports(graph: &Graph, number: usize, other: usize) -> bool
+    requires { number < length (package_paths graph.now) }
+    ensures { OfPackage graph.now number (λ p. OfPackage graph.now other (λ q. IsTrue result ↔ PackageImports graph.now p q)) }
+{
+    is_among(graph.imports(number), other)
+}
+
+/// Whether a member is used in one of some files.
+fn uses_members(members: &[Vec<MemberUse>]) -> bool
+    ensures { result ≡ false → (file : ℕ) → uses_or_none (slice_get members.now file) ≡ [] }
+{
+    for uses in members {
+        if !uses.is_empty() {
+            return true;
+        }
+    }
+    false
+}
+
+/// Whether a member of the package of another number may be used in a package. Those are marked that import that one.
+fn may_use_member(
+    graph: &Graph,
+    found: &Findings,
+    number: usize,
+    home: usize,
+    importing: &[bool],
+) -> bool
+    requires in_range { number < length (package_paths graph.now) }
+    requires sound { IsSound graph.now found.now }
+    requires importing { OfPackage graph.now home (λ q. MarkImporting graph.now q importing.now) }
+    ensures { (p : Checked) → IsPackageAt graph.now (known_in found.now) number p → (file token : ℕ) (d : Bound) → IsMemberAt p file token d → slice_get (package_paths graph.now) home ≡ home_path d → IsTrue result }
+{
+    is_marked(importing, number) && uses_members(members_of(graph, found, number))
+}
+
+/// Whether a declaration of the package of another number may be used in a package.
+fn may_use_other(
+    graph: &Graph,
+    found: &Findings,
+    number: usize,
+    home: usize,
+    sought: &Sought<'_>,
+) -> bool
+    requires in_range { number < length (package_paths graph.now) }
+    requires sound { IsSound graph.now found.now }
+    requires home { slice_get (package_paths graph.now) home ≡ home_path sought.now.declaration.now }
+    requires other { home ≢ number }
+    requires importing { OfPackage graph.now home (λ q. MarkImporting graph.now q sought.now.importing.now) }
+    ensures { (place : Place) → IsUseAt graph.now (known_in found.now) sought.now.declaration.now (name_value sought.now.name) number place → IsTrue result }
+{
+    match sought.declaration {
+        Declaration::Predeclared(_) => true,
+        Declaration::Declared(_, _) => sought.name.is_some() && imports(graph, number, home),
+        Declaration::Field(_) => may_use_member(graph, found, number, home, sought.importing),
+        Declaration::Method(_) => may_use_member(graph, found, number, home, sought.importing),
+    }
+}
+
+/// The number of the package of a declaration, if it has one.
+pub(crate) fn home_of(graph: &Graph, declaration: &Declaration) -> Option<usize>
+    ensures { IsHome graph.now declaration.now result }
+{
+    match declaration {
+        Declaration::Predeclared(_) => None,
+        Declaration::Declared(path, _) => graph.number_of(path.path()),
+        Declaration::Field(symbol) => graph.number_of(symbol.package.path()),
+        Declaration::Method(symbol) => graph.number_of(symbol.package.path()),
+    }
+}
+
+/// Whether an identifier of a package may be bound to a declaration.
+pub(crate) fn may_use(graph: &Graph, found: &Findings, number: usize, sought: &Sought<'_>) -> bool
+    requires in_range { number < length (package_paths graph.now) }
+    requires sound { IsSound graph.now found.now }
+    requires home { IsHome graph.now sought.now.declaration.now sought.now.home }
+    requires importing { AreImporting graph.now sought.now.home sought.now.importing.now }
+    ensures { (place : Place) → IsUseAt graph.now (known_in found.now) sought.now.declaration.now (name_value sought.now.name) number place → IsTrue result }
+{
+    match sought.home {
+        None => true,
+        Some(home) => home == number || may_use_other(graph, found, number, home, sought),
+    }
+}

@@ -1,0 +1,183 @@
+//! Where a field or method of another package is used: told by the uses of members that are known of a package, by its trees and by the
+//! type definitions that it knows, so that this is not read.
+ghost use Rattle.std.specs.Prelude.{ℕ, ◌≡◌, ◌↔◌, Some, Option, List, map, option_map, IsTrue, OnOk};
+ghost use Rattle.base_files.specs.Workspace.{Workspace};
+ghost use Rattle.types_expr.specs.Found.{use_of};
+ghost use Rattle.types_expr.specs.View.{type_of};
+ghost use Rattle.types_expr.specs.World.{member_by};
+ghost use Rattle.types_declared.specs.Package.{Package as Checked};
+ghost use Rattle.workspace_check.specs.Verdicts.{Verdicts};
+ghost use Rattle.refs_binding.specs.Binding.{declaration_of, BindsByMember};
+ghost use Rattle.refs_binding.specs.Indexed.{IsNumbered};
+ghost use Rattle.refs_binding.specs.Members.{definitions_known, member_at, IsMemberUseOf, IsMemberUseAmong};
+ghost use Rattle.refs_binding.specs.Packages.{IsSeenBy};
+ghost use Rattle.refs_binding.specs.Steps.{Adds, UsesIn};
+ghost use Rattle.refs_binding.specs.Workspaces.{known_in, IsUseAt};
+ghost use Rattle.refs_uses.specs.MembersAbroad.{IsKnownOf, IsMemberAbroad};
+
+use crate::abroad::{is_home, spelling_at};
+use go_ast::FileTree;
+use go_scope::model::Position;
+use refs_binding::identifiers::add_place;
+use refs_binding::indexed::Numbered;
+use refs_binding::member_uses::{KnownTypes, known_member};
+use refs_binding::{Declaration, Spot, members_of, own_of, path_of, trees};
+use std::alloc::{AllocError, Global};
+use types_declared::Interfaces;
+use types_expr::found::MemberUse;
+use types_expr::types::GoType;
+use types_expr::world::Name;
+use workspace_check::seen;
+
+/// What is known of a package that is not read: its trees, the type definitions that it knows, and its uses of members.
+#[derive(Clone, Copy)]
+pub(crate) struct KnownUses<'a> {
+    pub(crate) files: &'a [FileTree],
+    pub(crate) types: KnownTypes<'a>,
+    pub(crate) members: &'a [Vec<MemberUse>],
+}
+
+/// Whether a name is for a type the member of a declaration.
+fn is_member(
+    types: KnownTypes<'_>,
+    spelling: &[u8],
+    before: &GoType,
+    declaration: &Declaration,
+) -> bool
+    ensures { IsTrue result ↔ (option_map declaration_of (member_by (definitions_known types.entry) types.entry.path.now spelling.now (type_of before.now)) ≡ Some declaration.now) }
+{
+    let name = Name {
+        bound: None,
+        spelling,
+    };
+    let names = [name];
+    match known_member(types, names.as_slice(), before) {
+        None => false,
+        Some(member) => declaration.is_of(member),
+    }
+}
+
+/// Whether the member that is used is that of a declaration.
+fn is_use(of: &KnownUses<'_>, file: usize, member: &MemberUse, declaration: &Declaration) -> bool
+    ensures { (w : Workspace) → (known : Verdicts) → (p : Checked) → IsKnownOf w known p of.now →
+        IsTrue result ↔ (member_at (definitions_known of.now.types) p file member.now.place (type_of member.now.before) ≡ Some declaration.now) }
+{
+    let at = Position {
+        file,
+        index: member.place,
+    };
+    is_member(
+        of.types,
+        spelling_at(of.files, at),
+        &member.before,
+        declaration,
+    )
+}
+
+/// Adds the place of the member that is used, if it is that of a declaration.
+fn add_use(
+    spots: &mut Vec<Spot>,
+    of: &KnownUses<'_>,
+    file: usize,
+    member: &MemberUse,
+    declaration: &Declaration,
+) -> Result<(), AllocError>
+    ensures { OnOk result ((w : Workspace) → (known : Verdicts) → (p : Checked) → IsKnownOf w known p of.now →
+        Adds spots.old.items spots.new.items (IsMemberUseOf (definitions_known of.now.types) p file declaration.now (use_of member.now))) }
+{
+    if is_use(of, file, member, declaration) {
+        let at = Position {
+            file,
+            index: member.place,
+        };
+        add_place(spots, of.files, at)
+    } else {
+        Ok(())
+    }
+}
+
+/// Adds the places of the members that are used in a file, where they are that of a declaration.
+fn add_file_uses(
+    spots: &mut Vec<Spot>,
+    of: &KnownUses<'_>,
+    file: usize,
+    uses: &[MemberUse],
+    declaration: &Declaration,
+) -> Result<(), AllocError>
+    ensures { OnOk result ((w : Workspace) → (known : Verdicts) → (p : Checked) → IsKnownOf w known p of.now →
+        Adds spots.old.items spots.new.items (IsMemberUseAmong (definitions_known of.now.types) p file declaration.now (map use_of uses.now))) }
+{
+    for k in 0..uses.len() {
+        add_use(spots, of, file, &uses[k], declaration)?;
+    }
+    Ok(())
+}
+
+/// Adds the places of the identifiers of a package that are a member, behind a dot or as a key.
+fn add_known_members(
+    spots: &mut Vec<Spot>,
+    of: &KnownUses<'_>,
+    declaration: &Declaration,
+) -> Result<(), AllocError>
+    ensures { OnOk result ((w : Workspace) → (known : Verdicts) → (p : Checked) → IsKnownOf w known p of.now →
+        Adds spots.old.items spots.new.items (UsesIn p (λ u. BindsByMember p u declaration.now))) }
+{
+    for file in 0..of.members.len() {
+        add_file_uses(spots, of, file, &of.members[file], declaration)?;
+    }
+    Ok(())
+}
+
+/// Adds the places of the identifiers of a package that are bound to a field or method of another one, by what it sees.
+fn add_members_by(
+    spots: &mut Vec<Spot>,
+    at: Numbered<'_>,
+    seen: &Interfaces,
+    declaration: &Declaration,
+) -> Result<(), AllocError>
+    requires numbered { IsNumbered at }
+    requires seen { IsSeenBy at.graph.now (known_in at.found.now) at.number seen.now }
+    requires abroad { IsMemberAbroad at.graph.now (known_in at.found.now) at.number declaration.now }
+    ensures { OnOk result ((name : Option (List ℕ)) → Adds spots.old.items spots.new.items
+        (IsUseAt at.entry.graph.now (known_in at.entry.found.now) declaration.now name at.entry.number)) }
+{
+    let types = KnownTypes {
+        path: path_of(at.graph, at.found, at.number),
+        own: own_of(at.graph, at.found, at.number),
+        imported: seen.definitions(),
+    };
+    let of = KnownUses {
+        files: trees(at.graph, at.found, at.number),
+        types,
+        members: members_of(at.graph, at.found, at.number),
+    };
+    add_known_members(spots, &of, declaration)
+}
+
+/// Adds the places of the identifiers of a package that are bound to a field or method of another one.
+pub(crate) fn add_members_abroad(
+    alloc: Global,
+    spots: &mut Vec<Spot>,
+    at: Numbered<'_>,
+    declaration: &Declaration,
+) -> Result<(), AllocError>
+    requires numbered { IsNumbered at }
+    requires abroad { IsMemberAbroad at.graph.now (known_in at.found.now) at.number declaration.now }
+    ensures { OnOk result ((name : Option (List ℕ)) → Adds spots.old.items spots.new.items
+        (IsUseAt at.entry.graph.now (known_in at.entry.found.now) declaration.now name at.entry.number)) }
+{
+    let seen = seen(alloc, at.graph, at.number, &at.found.interfaces)?;
+    add_members_by(spots, at, &seen, declaration)
+}
+
+/// Whether a declaration is a field or method of another package than that of the number.
+pub(crate) fn is_member_abroad(at: Numbered<'_>, declaration: &Declaration) -> bool
+    requires { IsNumbered at }
+    ensures { IsTrue result → IsMemberAbroad at.entry.graph.now (known_in at.entry.found.now) at.entry.number declaration.now }
+{
+    match declaration {
+        Declaration::Predeclared(_) | Declaration::Declared(_, _) => false,
+        Declaration::Field(symbol) => !is_home(at, &symbol.package),
+        Declaration::Method(symbol) => !is_home(at, &symbol.package),
+    }
+}

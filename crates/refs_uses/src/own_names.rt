@@ -1,0 +1,97 @@
+//! The name by which the field or method of a declaration is declared.
+ghost use Rattle.std.specs.Prelude.{◌≡◌, ◌↔◌, Some, None, slice_index_or, IsTrue, OnOk};
+ghost use Rattle.types_declared.specs.PackageView.{package_of, IsIndexOf};
+ghost use Rattle.refs_binding.specs.declared.declaration.Declaration.TheVariants.{Field, Method};
+ghost use Rattle.refs_binding.specs.Binding.{BindsByName};
+ghost use Rattle.refs_binding.specs.Steps.{Adds, UsesIn, AtFound};
+
+use go_scope::model::Position;
+use refs_binding::identifiers::add_token;
+use refs_binding::own_names::{place_of, symbol};
+use refs_binding::{Declaration, Spot, field_places, method_places};
+use std::alloc::{AllocError, Global};
+use types_declared::{Index, Package};
+use types_expr::symbol::{SharedPath, Symbol};
+
+/// Adds the places of the identifiers that stand where a list has a place for a rank.
+fn add_named(
+    found: &mut Vec<Spot>,
+    unit: Package<'_>,
+    index: &Index<'_>,
+    places: &[Option<Position>],
+    rank: usize,
+) -> Result<(), AllocError>
+    requires { IsIndexOf (package_of unit) index.now }
+    ensures { OnOk result (Adds found.old.items found.new.items (AtFound (package_of unit.entry) (slice_index_or places.now rank None))) }
+{
+    match place_of(places, rank) {
+        None => Ok(()),
+        Some(at) => add_token(found, unit, index, at),
+    }
+}
+
+/// Whether a path is that of a package.
+pub(crate) fn is_own(unit: Package<'_>, path: &SharedPath) -> bool
+    ensures { IsTrue result ↔ (path.now ≡ unit.entry.path.now) }
+{
+    path.path() == unit.path.path()
+}
+
+/// Adds the place of the name of a field, by its symbol.
+fn add_own_field(
+    alloc: Global,
+    found: &mut Vec<Spot>,
+    unit: Package<'_>,
+    index: &Index<'_>,
+    symbol: &Symbol,
+) -> Result<(), AllocError>
+    requires { IsIndexOf (package_of unit) index.now }
+    ensures { let p = package_of unit.entry in
+        OnOk result (Adds found.old.items found.new.items (UsesIn p (λ u. BindsByName p u (Field symbol.now)))) }
+{
+    if is_own(unit, &symbol.package) {
+        let places = field_places(alloc, unit, index)?;
+        add_named(found, unit, index, &places, symbol.rank)
+    } else {
+        Ok(())
+    }
+}
+
+/// Adds the place of the name of a method, by its symbol.
+fn add_own_method(
+    alloc: Global,
+    found: &mut Vec<Spot>,
+    unit: Package<'_>,
+    index: &Index<'_>,
+    symbol: &Symbol,
+) -> Result<(), AllocError>
+    requires { IsIndexOf (package_of unit) index.now }
+    ensures { let p = package_of unit.entry in
+        OnOk result (Adds found.old.items found.new.items (UsesIn p (λ u. BindsByName p u (Method symbol.now)))) }
+{
+    if is_own(unit, &symbol.package) {
+        let places = method_places(alloc, unit, index)?;
+        add_named(found, unit, index, &places, symbol.rank)
+    } else {
+        Ok(())
+    }
+}
+
+/// Adds the place of the name by which a field or method is declared, if this is its package.
+pub fn add_own_names(
+    alloc: Global,
+    found: &mut Vec<Spot>,
+    unit: Package<'_>,
+    index: &Index<'_>,
+    declaration: &Declaration,
+) -> Result<(), AllocError>
+    requires { IsIndexOf (package_of unit) index.now }
+    ensures { let p = package_of unit.entry in
+        OnOk result (Adds found.old.items found.new.items (UsesIn p (λ u. BindsByName p u declaration.now))) }
+{
+    match declaration {
+        Declaration::Predeclared(_) | Declaration::Declared(_, _) => Ok(()),
+        Declaration::Field(symbol) => add_own_field(alloc, found, unit, index, symbol),
+        Declaration::Method(symbol) => add_own_method(alloc, found, unit, index, symbol),
+    }
+}

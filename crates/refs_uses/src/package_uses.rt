@@ -1,0 +1,97 @@
+//! Where a declaration is used behind the name of its package.
+ghost use Rattle.std.specs.Prelude.{◌≡◌, ◌<◌, ◌↔◌, Some, length, IsTrue, OnOk};
+ghost use Rattle.go_scope.specs.Named.{name_value};
+ghost use Rattle.types_declared.specs.PackageView.{package_of, IsIndexOf};
+ghost use Rattle.types_info.specs.Qualified.{IsBehindPackage};
+ghost use Rattle.refs_binding.specs.Identifiers.{BeginsAt};
+ghost use Rattle.refs_binding.specs.Steps.{Adds, UsesIn, BindsAs};
+
+use refs_binding::identifiers::add_identifier;
+use refs_binding::{Declaration, Spot};
+use refs_lookup::has_name;
+use std::alloc::AllocError;
+use types_declared::{Index, Package};
+use types_info::package_before;
+
+/// Whether a path was found, and is this one.
+fn is_path(found: Option<&[u8]>, path: &[u8]) -> bool
+    ensures { IsTrue result ↔ (name_value found.entry ≡ Some path.now) }
+{
+    match found {
+        None => false,
+        Some(other) => other == path,
+    }
+}
+
+/// Whether an identifier stands behind the name of the package of a path, and has a name.
+fn is_package_use(unit: Package<'_>, index: &Index<'_>, path: &[u8], name: &[u8], u: usize) -> bool
+    requires index { IsIndexOf (package_of unit) index.now }
+    requires in_range { u < length unit.table.now.sites }
+    ensures { let p = package_of unit.entry in
+        IsTrue result ↔ (IsBehindPackage p u path.now × (p.names u ≡ name.now)) }
+{
+    has_name(unit, u, name) && is_path(package_before(unit, index, u), path)
+}
+
+/// Adds the place of an identifier if it stands behind the name of the package of a path, and has a name.
+fn add_package_use(
+    found: &mut Vec<Spot>,
+    unit: Package<'_>,
+    index: &Index<'_>,
+    path: &[u8],
+    name: &[u8],
+    u: usize,
+) -> Result<(), AllocError>
+    requires index { IsIndexOf (package_of unit) index.now }
+    requires in_range { u < length unit.table.now.sites }
+    ensures { let p = package_of unit.entry in
+        OnOk result (Adds found.old.items found.new.items (λ place. BeginsAt p place.path place.offset u × (IsBehindPackage p u path.now × (p.names u ≡ name.now)))) }
+{
+    if is_package_use(unit, index, path, name, u) {
+        add_identifier(found, unit, u)
+    } else {
+        Ok(())
+    }
+}
+
+/// Adds the places of the identifiers that stand behind the name of the package of a path, and have a name.
+fn add_package_uses(
+    found: &mut Vec<Spot>,
+    unit: Package<'_>,
+    index: &Index<'_>,
+    path: &[u8],
+    name: &[u8],
+) -> Result<(), AllocError>
+    requires { IsIndexOf (package_of unit) index.now }
+    ensures { let p = package_of unit.entry in
+        OnOk result (Adds found.old.items found.new.items (UsesIn p (λ u. IsBehindPackage p u path.now × (p.names u ≡ name.now)))) }
+{
+    for u in 0..unit.table.len() {
+        add_package_use(found, unit, index, path, name, u)?;
+    }
+    Ok(())
+}
+
+/// Adds the places of the identifiers that stand behind the name of a declaration's package, and have the name under which
+/// it is exported there, if it is.
+pub fn add_exported_uses(
+    found: &mut Vec<Spot>,
+    unit: Package<'_>,
+    index: &Index<'_>,
+    declaration: &Declaration,
+    name: Option<&[u8]>,
+) -> Result<(), AllocError>
+    requires { IsIndexOf (package_of unit) index.now }
+    ensures { let p = package_of unit.entry in
+        OnOk result (Adds found.old.items found.new.items (UsesIn p (BindsAs p declaration.now (name_value name.entry)))) }
+{
+    match name {
+        None => Ok(()),
+        Some(name) => match declaration {
+            Declaration::Declared(path, _) => {
+                add_package_uses(found, unit, index, path.path(), name)
+            }
+            Declaration::Predeclared(_) | Declaration::Field(_) | Declaration::Method(_) => Ok(()),
+        },
+    }
+}

@@ -1,0 +1,490 @@
+//! The identifiers of a workspace that are bound to the same declaration.
+ghost use Rattle.std.specs.Prelude.{◌≡◌, ◌<◌, Some, length, option_map, slice_get, IfOk, OnOk};
+ghost use Rattle.base_files.specs.Packages.{package_paths};
+ghost use Rattle.base_files.specs.Path.{folder};
+ghost use Rattle.go_scope.specs.Named.{name_value};
+ghost use Rattle.types_declared.specs.PackageView.{package_of, IsIndexOf};
+ghost use Rattle.workspace_check.specs.Found.{AreFindings};
+ghost use Rattle.refs_binding.specs.declared.declaration.Declaration.TheVariants.{Declared};
+ghost use Rattle.refs_binding.specs.Indexed.{IsNumbered, IsUnitAt, IsIndexed};
+ghost use Rattle.refs_uses.specs.Sought.{IsSought};
+ghost use Rattle.refs_binding.specs.Packages.{IsTableAs};
+ghost use Rattle.refs_binding.specs.Steps.{Adds};
+ghost use Rattle.refs_binding.specs.Uses.{IsUseOf, TellsUses, TellsUsesAt};
+ghost use Rattle.refs_binding.specs.Workspaces.{IsSound, known_in, bytes_of, IsExportedUnder, IsUseAt, ListsFound, TellsUsesIn};
+
+use crate::abroad::{add_abroad, path_abroad};
+use crate::exported_name::{declared_name, exported_under, own_name};
+use crate::may_use::{Sought, home_of, importing_home, may_use};
+use crate::members_abroad::{add_members_abroad, is_member_abroad};
+use crate::own_names::is_own;
+use crate::places::Places;
+use crate::sorting::places;
+use crate::unit_uses::add_unit_uses;
+use base_files::{Path, Refusal};
+use go_scope::table::ScopeTable;
+use refs_binding::indexed::{Indexed, Numbered, known_of, unit_of};
+use refs_binding::{Declaration, Spot, read_table, refuse_faults};
+use refs_lookup::declaration_in_unit;
+use std::alloc::{AllocError, Global};
+use types_declared::{Index, Interfaces, Package};
+use types_expr::symbol::SharedPath;
+use workspace_check::{Findings, seen};
+use workspace_graph::Graph;
+
+/// Adds the places of the identifiers of the package of a number that are bound to a declaration.
+fn add_known_uses(
+    alloc: Global,
+    spots: &mut Vec<Spot>,
+    at: Numbered<'_>,
+    of: &Indexed<'_>,
+    sought: &Sought<'_>,
+) -> Result<(), AllocError>
+    requires unit { IsUnitAt at (package_of of.now.unit) }
+    requires indexed { IsIndexed of.now }
+    ensures { OnOk result (Adds spots.old.items spots.new.items
+        (IsUseAt at.entry.graph.now (known_in at.entry.found.now) sought.now.declaration.now (name_value sought.now.name) at.entry.number)) }
+{
+    add_unit_uses(alloc, spots, of, sought)
+}
+
+/// The same by what was found once in the package.
+fn add_indexed_uses(
+    alloc: Global,
+    spots: &mut Vec<Spot>,
+    at: Numbered<'_>,
+    unit: Package<'_>,
+    index: &Index<'_>,
+    sought: &Sought<'_>,
+) -> Result<(), AllocError>
+    requires numbered { IsNumbered at }
+    requires unit { IsUnitAt at (package_of unit) }
+    requires index { IsIndexOf (package_of unit) index.now }
+    ensures { OnOk result (Adds spots.old.items spots.new.items
+        (IsUseAt at.entry.graph.now (known_in at.entry.found.now) sought.now.declaration.now (name_value sought.now.name) at.entry.number)) }
+{
+    let of = known_of(at, unit, index);
+    add_known_uses(alloc, spots, at, &of, sought)
+}
+
+/// The same by what the package sees and by its table.
+fn add_uses_by(
+    alloc: Global,
+    spots: &mut Vec<Spot>,
+    at: Numbered<'_>,
+    seen: &Interfaces,
+    table: &ScopeTable<'_>,
+    sought: &Sought<'_>,
+) -> Result<(), AllocError>
+    requires numbered { IsNumbered at }
+    requires table { IsTableAs at.graph.now (known_in at.found.now) at.number table.now seen.now }
+    ensures { OnOk result (Adds spots.old.items spots.new.items
+        (IsUseAt at.entry.graph.now (known_in at.entry.found.now) sought.now.declaration.now (name_value sought.now.name) at.entry.number)) }
+{
+    let unit = unit_of(at, seen, table);
+    let index = Index::of(alloc, unit)?;
+    add_indexed_uses(alloc, spots, at, unit, &index, sought)
+}
+
+/// The same of a package that is read for it.
+fn add_package_uses(
+    alloc: Global,
+    spots: &mut Vec<Spot>,
+    at: Numbered<'_>,
+    sought: &Sought<'_>,
+) -> Result<(), AllocError>
+    requires { IsNumbered at }
+    ensures { OnOk result (Adds spots.old.items spots.new.items
+        (IsUseAt at.entry.graph.now (known_in at.entry.found.now) sought.now.declaration.now (name_value sought.now.name) at.entry.number)) }
+{
+    let seen = seen(alloc, at.graph, at.number, &at.found.interfaces)?;
+    let table = read_table(alloc, at.graph, at.found, &seen, at.number)?;
+    add_uses_by(alloc, spots, at, &seen, &table, sought)
+}
+
+/// The same of a package that is not read where the declaration is a field or method of another one.
+fn add_members_or_read(
+    alloc: Global,
+    spots: &mut Vec<Spot>,
+    at: Numbered<'_>,
+    sought: &Sought<'_>,
+) -> Result<(), AllocError>
+    requires { IsNumbered at }
+    ensures { OnOk result (Adds spots.old.items spots.new.items
+        (IsUseAt at.entry.graph.now (known_in at.entry.found.now) sought.now.declaration.now (name_value sought.now.name) at.entry.number)) }
+{
+    if is_member_abroad(at, sought.declaration) {
+        add_members_abroad(alloc, spots, at, sought.declaration)
+    } else {
+        add_package_uses(alloc, spots, at, sought)
+    }
+}
+
+/// The same of a package that may use the declaration. Where that is declared in another one, it is not read.
+fn add_where_used(
+    alloc: Global,
+    spots: &mut Vec<Spot>,
+    at: Numbered<'_>,
+    sought: &Sought<'_>,
+) -> Result<(), AllocError>
+    requires { IsNumbered at }
+    ensures { OnOk result (Adds spots.old.items spots.new.items
+        (IsUseAt at.entry.graph.now (known_in at.entry.found.now) sought.now.declaration.now (name_value sought.now.name) at.entry.number)) }
+{
+    match path_abroad(at, sought.declaration) {
+        None => add_members_or_read(alloc, spots, at, sought),
+        Some(path) => add_abroad(spots, at, path, sought.name),
+    }
+}
+
+/// The same of a package that is not read where it cannot use the declaration.
+fn add_if_used(
+    alloc: Global,
+    spots: &mut Vec<Spot>,
+    at: Numbered<'_>,
+    sought: &Sought<'_>,
+) -> Result<(), AllocError>
+    requires numbered { IsNumbered at }
+    requires sought { IsSought at.graph.now (known_in at.found.now) sought.now }
+    ensures { OnOk result (Adds spots.old.items spots.new.items
+        (IsUseAt at.entry.graph.now (known_in at.entry.found.now) sought.now.declaration.now (name_value sought.now.name) at.entry.number)) }
+{
+    if may_use(at.graph, at.found, at.number, sought) {
+        add_where_used(alloc, spots, at, sought)
+    } else {
+        Ok(())
+    }
+}
+
+/// Adds the places of the identifiers of all packages that are bound to a declaration.
+fn add_all_uses(
+    alloc: Global,
+    spots: &mut Vec<Spot>,
+    graph: &Graph,
+    found: &Findings,
+    sought: &Sought<'_>,
+) -> Result<(), AllocError>
+    requires sound { IsSound graph.now found.now }
+    requires sought { IsSought graph.now (known_in found.now) sought.now }
+    ensures { OnOk result (Adds spots.old.items spots.new.items (IsUseOf graph.now (known_in found.now) sought.now.declaration.now)) }
+{
+    for number in 0..graph.len() {
+        let at = Numbered {
+            graph,
+            found,
+            number,
+        };
+        add_if_used(alloc, spots, at, sought)?;
+    }
+    Ok(())
+}
+
+/// Adds the places of the identifiers of the package of a number that are bound to a declaration. One package was read.
+fn add_uses_at(
+    alloc: Global,
+    spots: &mut Vec<Spot>,
+    read: Numbered<'_>,
+    of: &Indexed<'_>,
+    number: usize,
+    sought: &Sought<'_>,
+) -> Result<(), AllocError>
+    requires numbered { IsNumbered read }
+    requires unit { IsUnitAt read (package_of of.now.unit) }
+    requires indexed { IsIndexed of.now }
+    requires in_range { number < length (package_paths read.graph.now) }
+    requires sought { IsSought read.graph.now (known_in read.found.now) sought.now }
+    ensures { OnOk result (Adds spots.old.items spots.new.items
+        (IsUseAt read.entry.graph.now (known_in read.entry.found.now) sought.now.declaration.now (name_value sought.now.name) number)) }
+{
+    if number == read.number {
+        return add_known_uses(alloc, spots, read, of, sought);
+    }
+    let at = Numbered {
+        graph: read.graph,
+        found: read.found,
+        number,
+    };
+    add_if_used(alloc, spots, at, sought)
+}
+
+/// Adds the places of the identifiers of all packages that are bound to a declaration. One package was read.
+fn add_uses_beyond(
+    alloc: Global,
+    spots: &mut Vec<Spot>,
+    read: Numbered<'_>,
+    of: &Indexed<'_>,
+    sought: &Sought<'_>,
+) -> Result<(), AllocError>
+    requires numbered { IsNumbered read }
+    requires unit { IsUnitAt read (package_of of.now.unit) }
+    requires indexed { IsIndexed of.now }
+    requires sought { IsSought read.graph.now (known_in read.found.now) sought.now }
+    ensures { OnOk result (Adds spots.old.items spots.new.items (IsUseOf read.entry.graph.now (known_in read.entry.found.now) sought.now.declaration.now)) }
+{
+    for number in 0..read.graph.len() {
+        add_uses_at(alloc, spots, read, of, number, sought)?;
+    }
+    Ok(())
+}
+
+/// The name under which the package of a declaration of a scope exports it. One package was read.
+fn scope_name(
+    alloc: Global,
+    read: Numbered<'_>,
+    unit: Package<'_>,
+    path: &SharedPath,
+    d: usize,
+) -> Result<Option<Vec<u8>>, AllocError>
+    requires numbered { IsNumbered read }
+    requires unit { IsUnitAt read (package_of unit) }
+    ensures { IfOk result (λ name. IsExportedUnder read.entry.graph.now (known_in read.entry.found.now) (Declared path.now d) (option_map bytes_of name)) }
+{
+    if is_own(unit, path) {
+        own_name(alloc, unit, d)
+    } else {
+        declared_name(alloc, read.graph, read.found, path, d)
+    }
+}
+
+/// The name under which the package of a declaration exports it. One package was read.
+fn name_by_read(
+    alloc: Global,
+    read: Numbered<'_>,
+    unit: Package<'_>,
+    declaration: &Declaration,
+) -> Result<Option<Vec<u8>>, AllocError>
+    requires numbered { IsNumbered read }
+    requires unit { IsUnitAt read (package_of unit) }
+    ensures { IfOk result (λ name. IsExportedUnder read.entry.graph.now (known_in read.entry.found.now) declaration.now (option_map bytes_of name)) }
+{
+    match declaration {
+        Declaration::Declared(path, d) => scope_name(alloc, read, unit, path, *d),
+        Declaration::Predeclared(_) | Declaration::Field(_) | Declaration::Method(_) => Ok(None),
+    }
+}
+
+/// The bytes of a name.
+fn bytes(name: &Option<Vec<u8>>) -> Option<&[u8]>
+    ensures { name_value result ≡ option_map bytes_of name.now }
+{
+    match name {
+        None => None,
+        Some(name) => Some(name.as_slice()),
+    }
+}
+
+/// The places of all uses of a declaration, in order. It is exported under a name, if it is, and one package was read.
+fn list_named(
+    alloc: Global,
+    read: Numbered<'_>,
+    of: &Indexed<'_>,
+    declaration: &Declaration,
+    name: Option<&[u8]>,
+) -> Result<Places, AllocError>
+    requires numbered { IsNumbered read }
+    requires unit { IsUnitAt read (package_of of.now.unit) }
+    requires indexed { IsIndexed of.now }
+    requires name { IsExportedUnder read.graph.now (known_in read.found.now) declaration.now (name_value name) }
+    ensures { IfOk result (ListsFound read.entry.graph.now (known_in read.entry.found.now) declaration.now) }
+{
+    let home = home_of(read.graph, declaration);
+    let importing = importing_home(alloc, read.graph, home)?;
+    let sought = Sought {
+        declaration,
+        name,
+        home,
+        importing: &importing,
+    };
+    let mut spots = Vec::new(alloc);
+    add_uses_beyond(alloc, &mut spots, read, of, &sought)?;
+    Ok(Places::new(places(alloc, spots)?))
+}
+
+/// The places of all uses of a declaration, in order. One package was read.
+fn list_from(
+    alloc: Global,
+    read: Numbered<'_>,
+    of: &Indexed<'_>,
+    declaration: &Declaration,
+) -> Result<Places, AllocError>
+    requires numbered { IsNumbered read }
+    requires unit { IsUnitAt read (package_of of.now.unit) }
+    requires indexed { IsIndexed of.now }
+    ensures { IfOk result (ListsFound read.entry.graph.now (known_in read.entry.found.now) declaration.now) }
+{
+    let name = name_by_read(alloc, read, of.unit, declaration)?;
+    list_named(alloc, read, of, declaration, bytes(&name))
+}
+
+/// The places of all uses of a declaration, in order. It is exported under a name, if it is.
+fn list_everywhere(
+    alloc: Global,
+    graph: &Graph,
+    found: &Findings,
+    declaration: &Declaration,
+    name: Option<&[u8]>,
+) -> Result<Places, AllocError>
+    requires sound { IsSound graph.now found.now }
+    requires name { IsExportedUnder graph.now (known_in found.now) declaration.now (name_value name) }
+    ensures { IfOk result (ListsFound graph.now (known_in found.now) declaration.now) }
+{
+    let home = home_of(graph, declaration);
+    let importing = importing_home(alloc, graph, home)?;
+    let sought = Sought {
+        declaration,
+        name,
+        home,
+        importing: &importing,
+    };
+    let mut spots = Vec::new(alloc);
+    add_all_uses(alloc, &mut spots, graph, found, &sought)?;
+    Ok(Places::new(places(alloc, spots)?))
+}
+
+/// The places of all uses of a declaration, in order. Packages that cannot use it are not read.
+pub fn list_uses(
+    alloc: Global,
+    graph: &Graph,
+    found: &Findings,
+    declaration: &Declaration,
+) -> Result<Places, AllocError>
+    requires { IsSound graph.now found.now }
+    ensures { IfOk result (ListsFound graph.now (known_in found.now) declaration.now) }
+{
+    let name = exported_under(alloc, graph, found, declaration)?;
+    list_everywhere(alloc, graph, found, declaration, bytes(&name))
+}
+
+/// The uses of what holds a byte of a file of a package.
+fn uses_known(
+    alloc: Global,
+    at: Numbered<'_>,
+    of: &Indexed<'_>,
+    path: &Path,
+    offset: usize,
+) -> Result<Places, Refusal>
+    requires numbered { IsNumbered at }
+    requires folder { slice_get (package_paths at.graph.now) at.number ≡ Some (folder path.now) }
+    requires unit { IsUnitAt at (package_of of.now.unit) }
+    requires indexed { IsIndexed of.now }
+    ensures { TellsUsesAt at.entry.graph.now path.now offset result }
+{
+    match declaration_in_unit(alloc, at.graph, at.found, of, path, offset) {
+        Err(refusal) => Err(refusal),
+        Ok(declaration) => Ok(list_from(alloc, at, of, &declaration)?),
+    }
+}
+
+/// The same by what was found once in the package.
+fn uses_indexed(
+    alloc: Global,
+    at: Numbered<'_>,
+    unit: Package<'_>,
+    index: &Index<'_>,
+    path: &Path,
+    offset: usize,
+) -> Result<Places, Refusal>
+    requires numbered { IsNumbered at }
+    requires folder { slice_get (package_paths at.graph.now) at.number ≡ Some (folder path.now) }
+    requires unit { IsUnitAt at (package_of unit) }
+    requires index { IsIndexOf (package_of unit) index.now }
+    ensures { TellsUsesAt at.entry.graph.now path.now offset result }
+{
+    let of = known_of(at, unit, index);
+    uses_known(alloc, at, &of, path, offset)
+}
+
+/// The same by what the package sees and by its table.
+fn uses_by(
+    alloc: Global,
+    at: Numbered<'_>,
+    seen: &Interfaces,
+    table: &ScopeTable<'_>,
+    path: &Path,
+    offset: usize,
+) -> Result<Places, Refusal>
+    requires numbered { IsNumbered at }
+    requires folder { slice_get (package_paths at.graph.now) at.number ≡ Some (folder path.now) }
+    requires table { IsTableAs at.graph.now (known_in at.found.now) at.number table.now seen.now }
+    ensures { TellsUsesAt at.entry.graph.now path.now offset result }
+{
+    let unit = unit_of(at, seen, table);
+    let index = Index::of(alloc, unit)?;
+    uses_indexed(alloc, at, unit, &index, path, offset)
+}
+
+/// The uses of what holds a byte of a file of a package, which is read once.
+fn uses_of_package(
+    alloc: Global,
+    at: Numbered<'_>,
+    path: &Path,
+    offset: usize,
+) -> Result<Places, Refusal>
+    requires numbered { IsNumbered at }
+    requires folder { slice_get (package_paths at.graph.now) at.number ≡ Some (folder path.now) }
+    ensures { TellsUsesAt at.entry.graph.now path.now offset result }
+{
+    let seen = seen(alloc, at.graph, at.number, &at.found.interfaces)?;
+    let table = read_table(alloc, at.graph, at.found, &seen, at.number)?;
+    uses_by(alloc, at, &seen, &table, path, offset)
+}
+
+/// The uses of what holds a byte of a file. The workspace has no fault.
+fn uses_at(
+    alloc: Global,
+    graph: &Graph,
+    found: &Findings,
+    path: &Path,
+    offset: usize,
+) -> Result<Places, Refusal>
+    requires { IsSound graph.now found.now }
+    ensures { TellsUsesAt graph.now path.now offset result }
+{
+    match graph.number_of(path.folder()) {
+        None => Err(Refusal::NoIdentifier),
+        Some(number) => {
+            let at = Numbered {
+                graph,
+                found,
+                number,
+            };
+            uses_of_package(alloc, at, path, offset)
+        }
+    }
+}
+
+/// The uses of what holds a byte of a file, or the first fault of the workspace.
+fn uses_in(
+    alloc: Global,
+    graph: &Graph,
+    found: &Findings,
+    path: &Path,
+    offset: usize,
+) -> Result<Places, Refusal>
+    requires { AreFindings graph.now found.now }
+    ensures { TellsUsesIn graph.now path.now offset result }
+{
+    match refuse_faults(alloc, graph, found) {
+        Err(refusal) => Err(refusal),
+        Ok(()) => uses_at(alloc, graph, found, path, offset),
+    }
+}
+
+/// The places of the identifiers of a workspace that are bound to the same declaration as the one at a byte of a file, by
+/// path and offset, by what was found in its packages.
+pub fn uses(
+    alloc: Global,
+    graph: &Graph,
+    found: &Findings,
+    path: &str,
+    offset: usize,
+) -> Result<Places, Refusal>
+    requires { AreFindings graph.now found.now }
+    ensures { TellsUses graph.now path.now offset result }
+{
+    let path = Path::read(alloc, path, 2)?;
+    if graph.files().get(&path).is_none() {
+        return Err(Refusal::NoFile);
+    }
+    uses_in(alloc, graph, found, &path, offset)
+}

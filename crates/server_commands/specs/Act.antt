@@ -1,0 +1,126 @@
+-- What a command does.
+use Rattle.std.specs.Prelude.{◌≡◌, ◌⊎◌, ℕ, List, ⊤, Option, Some, None, IfSome, Result, Ok, Err}
+use Rattle.base_files.specs.Path.{IsPath}
+use Rattle.base_files.specs.declared.place.Place.{Place}
+use Rattle.base_files.specs.declared.refusal.Refusal.{Refusal}
+use Rattle.base_files.specs.declared.refusal.Refusal.TheVariants.{Memory, BadPath, TooLarge, Moved}
+use Rattle.refactor_plan.specs.MovePlan.{PlansMove}
+use Rattle.refactor_plan.specs.Plan.{PlansRename}
+use Rattle.workspace_snapshot.specs.Plan.{PlansPut, PlansDel}
+use Rattle.history_machine.specs.declared.view.View.{View}
+use Rattle.workspace_snapshot.specs.declared.change.Change.{Change}
+use Rattle.history_machine.specs.declared.event.Event.{Event}
+use Rattle.history_machine.specs.declared.event.Event.TheVariants.{Look, Log, Commit, Undo, Redo}
+use Rattle.history_machine.specs.declared.event.Reply.{Reply}
+use Rattle.history_machine.specs.declared.event.Reply.TheVariants.{Looked, Logged, Done, Taken, Refused, Back}
+use Rattle.refs_binding.specs.Uses.{TellsUses}
+use Rattle.workspace_check.specs.FaultLists.{ListsFaults}
+use Rattle.workspace_check.specs.declared.fault.FileFault.{FileFault}
+use Rattle.server_commands.specs.Queries.{Cats, TellsObject}
+use Rattle.server_commands.specs.Wait.{WaitLaw, Waits}
+use Rattle.server_commands.specs.Work.{Works}
+use Rattle.server_read.specs.Commands.{basis_of}
+use Rattle.server_read.specs.declared.command.Command.{Command}
+use Rattle.server_read.specs.declared.command.Command.TheVariants as command
+use Rattle.server_read.specs.declared.command.StateCommand.{StateCommand}
+use Rattle.server_read.specs.declared.command.StateCommand.TheVariants as state
+use Rattle.server_commands.specs.declared.response.Response.{Response}
+use Rattle.server_commands.specs.declared.response.Response.TheVariants as response
+
+-- the command is meant for the state that the view shows
+abbrev pub FitsView : View → StateCommand → Type 0
+FitsView view asked = IfSome (basis_of asked) (λ basis. basis ≡ view.snapshot.number)
+
+-- a put whose body was not kept, and so is over the limit of a file if its path is one
+abbrev pub PlansDropped : List ℕ → Result Change Refusal → Type 0
+PlansDropped path (Err BadPath) = ¬ (IsPath 2 path)
+PlansDropped path (Err TooLarge) = IsPath 2 path
+PlansDropped path (Err Memory) = ⊤
+PlansDropped path (Err refusal) = ⊥
+PlansDropped path (Ok change) = ⊥
+
+abbrev pub PlansBody : View → List ℕ → Option (List ℕ) → Result Change Refusal → Type 0
+PlansBody view path None planned = PlansDropped path planned
+PlansBody view path (Some text) planned = PlansPut view.snapshot path text planned
+
+-- the files of the view, or want of memory to share them
+abbrev pub TellsFiles : View → Response → Type 0
+TellsFiles view answer = (answer ≡ response.Listing view.snapshot.number view.snapshot.files) ⊎ (answer ≡ response.Refused Memory)
+
+-- the answer that tells a reply without a Job
+abbrev pub TellsReply : Reply → Response → Type 0
+TellsReply (Looked view) answer = answer ≡ response.Steps view.snapshot.number view.undo view.redo
+TellsReply (Logged current line) answer = answer ≡ response.Entry current line
+TellsReply (Done number) answer = answer ≡ response.Done number
+TellsReply (Taken job) answer = ⊥
+TellsReply (Refused refusal) answer = answer ≡ response.Refused refusal
+TellsReply (Back refusal job unit) answer = ⊥
+
+abbrev pub file_response : ℕ → Result (List ℕ) Refusal → Response
+file_response number (Ok text) = response.File number text
+file_response number (Err refusal) = response.Refused refusal
+
+abbrev pub places_response : ℕ → Result (List Place) Refusal → Response
+places_response number (Ok places) = response.Places number places
+places_response number (Err refusal) = response.Refused refusal
+
+-- the faults of the view's files, or want of memory for them
+abbrev pub AnswersFaults : View → Response → Type 0
+AnswersFaults view answer =
+    ((list : List FileFault) × ListsFaults view.snapshot.files list × (answer ≡ response.Faults view.snapshot.number list))
+    ⊎ (answer ≡ response.Refused Memory)
+
+module _ {D : Type 0} (steps : D → Event → Reply → D → Type 0) where
+  -- one event
+  abbrev pub Sends : D → Event → Response → D → Type 0
+  Sends old event answer new = (reply : Reply) × steps old event reply new × TellsReply reply answer
+
+  -- a change that was planned, or why there is none
+  abbrev pub Commits : D → ℕ → Result Change Refusal → Response → D → Type 0
+  Commits old basis (Ok change) answer new = Sends old (Commit basis change) answer new
+  Commits old basis (Err refusal) answer new = (answer ≡ response.Refused refusal) × (new ≡ old)
+
+  -- a command that is meant for the state of the view
+  abbrev pub ActsOn : D → View → StateCommand → Response → D → Type 0
+  ActsOn old view state.Look answer new = TellsReply (Looked view) answer × (new ≡ old)
+  ActsOn old view (state.Put basis path body) answer new =
+      (planned : Result Change Refusal) × PlansBody view path body planned × Commits old basis planned answer new
+  ActsOn old view (state.Del basis path) answer new =
+      (planned : Result Change Refusal) × PlansDel view.snapshot path planned × Commits old basis planned answer new
+  ActsOn old view (state.Rename basis path offset name) answer new =
+      (planned : Result Change Refusal) × PlansRename view.snapshot path offset name planned × Commits old basis planned answer new
+  ActsOn old view (state.Move basis from to) answer new =
+      (planned : Result Change Refusal) × PlansMove view.snapshot from to planned × Commits old basis planned answer new
+  ActsOn old view (state.Undo basis) answer new = Sends old (Undo basis) answer new
+  ActsOn old view (state.Redo basis) answer new = Sends old (Redo basis) answer new
+  ActsOn old view (state.Cat path) answer new =
+      ((found : Result (List ℕ) Refusal) × Cats view path found × (answer ≡ file_response view.snapshot.number found)) × (new ≡ old)
+  ActsOn old view (state.Uses path offset) answer new =
+      ((found : Result (List Place) Refusal) × TellsUses view.snapshot.files path offset found × (answer ≡ places_response view.snapshot.number found))
+      × (new ≡ old)
+  ActsOn old view state.List answer new = TellsFiles view answer × (new ≡ old)
+  ActsOn old view state.Faults answer new = AnswersFaults view answer × (new ≡ old)
+  ActsOn old view (state.Object path) answer new =
+      ((found : Result (List ℕ) Refusal) × TellsObject view path found × (answer ≡ file_response view.snapshot.number found)) × (new ≡ old)
+  ActsOn old view state.Work answer new = Works steps old answer new
+
+  -- the command after its look has shown this view: it is refused where it is meant for another state
+  abbrev pub ActsAfter : D → View → StateCommand → Response → D → Type 0
+  ActsAfter old view asked answer new =
+      (¬ (FitsView view asked) × (answer ≡ response.Refused (Moved view.snapshot.number)) × (new ≡ old))
+      ⊎ (FitsView view asked × ActsOn old view asked answer new)
+
+  -- the command after the reply to its look
+  abbrev pub Continues : D → Reply → StateCommand → Response → D → Type 0
+  Continues old (Looked view) asked answer new = ActsAfter old view asked answer new
+  Continues old reply asked answer new = TellsReply reply answer × (new ≡ old)
+
+  -- a command that begins with a look
+  abbrev pub Looks : D → StateCommand → Response → D → Type 0
+  Looks old asked answer new = (reply : Reply) × (mid : D) × steps old Look reply mid × Continues mid reply asked answer new
+
+  -- one command: one about the current state begins with a look, a wait is what the desk says of it, and a log is one event alone
+  abbrev pub Acts : WaitLaw D → D → Command → Response → D → Type 0
+  Acts waits old (command.OnState asked) answer new = Looks old asked answer new
+  Acts waits old command.Wait answer new = Waits waits old answer new
+  Acts waits old (command.Log number) answer new = Sends old (Log number) answer new

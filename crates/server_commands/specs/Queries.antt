@@ -1,0 +1,38 @@
+-- What a view answers.
+use Rattle.std.specs.Prelude.{◌≡◌, List, ℕ, ⊤, Some, None, Result, Ok, Err}
+use Rattle.std.specs.List.{Contains}
+use Rattle.std.specs.FinMap as map
+use Rattle.base_files.specs.Packages.{package_paths}
+use Rattle.base_files.specs.Path.{IsPath}
+use Rattle.base_files.specs.declared.refusal.Refusal.{Refusal}
+use Rattle.base_files.specs.declared.refusal.Refusal.TheVariants.{Memory, BadPath, NoFile, NoPackage, Pending, Faulty}
+use Rattle.build_unit.specs.Builds.{result_of}
+use Rattle.build_unit.specs.declared.unit.Unit.{Unit as PackageUnit}
+use Rattle.build_carry.specs.Finished.{IsFinished}
+use Rattle.history_machine.specs.declared.view.View.{View}
+
+-- reading one file
+abbrev pub Cats : View → List ℕ → Result (List ℕ) Refusal → Type 0
+Cats view path (Ok text) = IsPath 2 path × (map.get view.snapshot.files path ≡ Some text)
+Cats view path (Err BadPath) = ¬ (IsPath 2 path)
+Cats view path (Err NoFile) = IsPath 2 path × (map.get view.snapshot.files path ≡ None)
+Cats view path (Err Memory) = ⊤
+Cats view path (Err refusal) = ⊥
+
+-- the package of the path is finished in the view, and this is its unit
+abbrev pub HasUnit : View → List ℕ → PackageUnit → Type 0
+HasUnit view path unit = IsFinished view.snapshot.files view.finished path unit
+
+abbrev pub IsPackagePath : View → List ℕ → Type 0
+IsPackagePath view path = IsPath 1 path × Contains (package_paths view.snapshot.files) path
+
+-- the object of a package, or why there is none: no path, no package there, not finished, or its first fault
+abbrev pub TellsObject : View → List ℕ → Result (List ℕ) Refusal → Type 0
+TellsObject view path (Ok text) = IsPath 1 path × ((unit : PackageUnit) × HasUnit view path unit × (result_of unit ≡ Ok text))
+TellsObject view path (Err BadPath) = ¬ (IsPath 1 path)
+TellsObject view path (Err NoPackage) = IsPath 1 path × ¬ (Contains (package_paths view.snapshot.files) path)
+TellsObject view path (Err (Pending folder)) = (folder ≡ path) × IsPackagePath view path × ((unit : PackageUnit) → HasUnit view path unit → ⊥)
+TellsObject view path (Err (Faulty place kind)) = IsPath 1 path ×
+    ((unit : PackageUnit) × HasUnit view path unit × (result_of unit ≡ Err (record { place = place; kind = kind })))
+TellsObject view path (Err Memory) = ⊤
+TellsObject view path (Err refusal) = ⊥

@@ -1,0 +1,495 @@
+//! One command. One about the current state begins with a look, and what it does is planned on the view that the look gave.
+ghost use Rattle.std.specs.Prelude.{◌≡◌, ◌↔◌, ℕ, IfOk, IsTrue, List, Result};
+ghost use Rattle.base_files.specs.declared.place.Place.{Place};
+ghost use Rattle.base_files.specs.declared.refusal.Refusal.{Refusal as WhyRefused};
+ghost use Rattle.refactor_plan.specs.MovePlan.{PlansMove};
+ghost use Rattle.refactor_plan.specs.Plan.{PlansRename};
+ghost use Rattle.refactor_preserve.specs.Planned.{change_in};
+ghost use Rattle.workspace_check.specs.FaultLists.{ListsFaults};
+ghost use Rattle.workspace_check.specs.Found.{AreFindings, IsFound, KnowsVerdicts};
+ghost use Rattle.refs_binding.specs.Uses.{TellsUses};
+ghost use Rattle.history_book.specs.Questions.{changing_event};
+ghost use Rattle.history_machine.specs.declared.event.Event.TheVariants.{Commit, Log, Redo, Undo};
+ghost use Rattle.workspace_snapshot.specs.Plan.{PlansDel};
+ghost use Rattle.workspace_snapshot.specs.declared.change.Change.{Change as PlannedChange};
+ghost use Rattle.server_commands.specs.Act.{
+  Acts,
+  ActsAfter,
+  ActsOn,
+  AnswersFaults,
+  Commits,
+  FitsView,
+  Looks,
+  PlansBody,
+  Sends,
+  TellsFiles,
+  file_response,
+  places_response,
+};
+ghost use Rattle.server_commands.specs.Wait.{Waits};
+ghost use Rattle.server_commands.specs.Queries.{Cats, TellsObject};
+
+use crate::desk::Desk;
+use crate::queries::{cat, found, object};
+use crate::response::{FaultList, Response};
+use crate::working::work;
+use base_files::{FileText, Path, Refusal};
+use history_book::{Changing, Logging};
+use history_machine::View;
+use refactor_plan::{plan_move, plan_rename};
+use refactor_preserve::Planned;
+use refs_uses::{Places, uses};
+use server_read::{Command, StateCommand, Word};
+use std::alloc::{AllocError, Global};
+use workspace_check::{Findings, Found, Known, faults};
+use workspace_graph::Graph;
+use workspace_snapshot::{MadeChange, plan_del, plan_put};
+
+/// Whether the command is meant for the state that the view shows.
+fn fits_view(view: &View, command: &StateCommand) -> bool
+    ensures { IsTrue result ↔ FitsView view.now command.now }
+{
+    match command.basis() {
+        Some(basis) => basis == view.snapshot.number(),
+        None => true,
+    }
+}
+
+/// The change of a put. A body that was not kept is over the limit of a file, if its path is one.
+fn plan_body(
+    alloc: Global,
+    view: &View,
+    path: &str,
+    body: Option<FileText>,
+) -> Result<MadeChange, Refusal>
+    ensures { PlansBody view.now path.now body result }
+{
+    match body {
+        Some(text) => plan_put(alloc, view.snapshot.get(), path, text),
+        None => {
+            let path = Path::read(alloc, path, 2)?;
+            drop(path);
+            Err(Refusal::TooLarge)
+        }
+    }
+}
+
+/// Sends what changes the workspace.
+fn send<D: Desk>(desk: &mut D, asked: Changing) -> Response
+    ensures { Sends D.steps desk.old (changing_event asked) result desk.new }
+{
+    match desk.step(asked) {
+        Ok(number) => Response::Done { number },
+        Err(refusal) => Response::Refused { refusal },
+    }
+}
+
+fn undo<D: Desk>(desk: &mut D, basis: u64) -> Response
+    ensures { Sends D.steps desk.old (Undo basis) result desk.new }
+{
+    send(desk, Changing::Undo(basis))
+}
+
+fn redo<D: Desk>(desk: &mut D, basis: u64) -> Response
+    ensures { Sends D.steps desk.old (Redo basis) result desk.new }
+{
+    send(desk, Changing::Redo(basis))
+}
+
+/// Sends a change of files that a look has shown.
+fn send_change<D: Desk>(desk: &mut D, basis: u64, change: MadeChange) -> Response
+    requires { D.sees desk.old change.base }
+    ensures { Sends D.steps desk.old (Commit basis change) result desk.new }
+{
+    match desk.commit(basis, change) {
+        Ok(number) => Response::Done { number },
+        Err(refusal) => Response::Refused { refusal },
+    }
+}
+
+/// Commits a change that was planned.
+fn commit<D: Desk>(desk: &mut D, basis: u64, planned: Result<MadeChange, Refusal>) -> Response
+    requires { IfOk planned (λ change. D.sees desk.old change.base) }
+    ensures { Commits D.steps desk.old basis planned result desk.new }
+{
+    match planned {
+        Ok(change) => send_change(desk, basis, change),
+        Err(refusal) => Response::Refused { refusal },
+    }
+}
+
+/// Commits a change, and has the desk learn what is known of its files, which are these, if it is admitted.
+fn commit_learning<D: Desk>(
+    desk: &mut D,
+    basis: u64,
+    change: MadeChange,
+    files: &Graph,
+    known: Known,
+) -> Response
+    requires seen { D.sees desk.old change.base }
+    requires files { files.now ≡ change.files }
+    requires known { KnowsVerdicts files.now known }
+    ensures { Sends D.steps desk.old (Commit basis change) result desk.new }
+{
+    match desk.commit(basis, change) {
+        Ok(number) => {
+            desk.learn(files, known);
+            Response::Done { number }
+        }
+        Err(refusal) => Response::Refused { refusal },
+    }
+}
+
+/// Commits a planned change. The desk learns what is known of its files, unless a clone of these finds no memory.
+fn commit_planned<D: Desk>(desk: &mut D, basis: u64, planned: Planned) -> Response
+    requires seen { D.sees desk.old planned.change.base }
+    requires known { KnowsVerdicts planned.change.files planned.known }
+    ensures { Sends D.steps desk.old (Commit basis planned.change) result desk.new }
+{
+    let Planned { change, known } = planned;
+    match change.get().files.clone() {
+        Ok(files) => commit_learning(desk, basis, change, &files, known),
+        Err(_) => send_change(desk, basis, change),
+    }
+}
+
+/// Commits a change that was planned with what is known of its files.
+fn commit_known<D: Desk>(desk: &mut D, basis: u64, planned: Result<Planned, Refusal>) -> Response
+    requires seen { IfOk planned (λ p. D.sees desk.old p.change.base) }
+    requires known { IfOk planned (λ p. KnowsVerdicts p.change.files p.known) }
+    ensures { Commits D.steps desk.old basis (change_in planned) result desk.new }
+{
+    match planned {
+        Ok(planned) => commit_planned(desk, basis, planned),
+        Err(refusal) => Response::Refused { refusal },
+    }
+}
+
+/// The change that a put asks for, committed.
+fn put<D: Desk>(
+    alloc: Global,
+    desk: &mut D,
+    view: &View,
+    basis: u64,
+    path: Word,
+    body: Option<FileText>,
+) -> Response
+    requires { D.sees desk.old view.now.snapshot.files }
+    ensures { (planned : Result PlannedChange WhyRefused) × PlansBody view.now path body planned × Commits D.steps desk.old basis planned result desk.new }
+{
+    let planned = plan_body(alloc, view, path.as_str(), body);
+    commit(desk, basis, planned)
+}
+
+/// The change that a del asks for, committed.
+fn del<D: Desk>(alloc: Global, desk: &mut D, view: &View, basis: u64, path: Word) -> Response
+    requires { D.sees desk.old view.now.snapshot.files }
+    ensures { (planned : Result PlannedChange WhyRefused) × PlansDel view.now.snapshot path planned × Commits D.steps desk.old basis planned result desk.new }
+{
+    let planned = plan_del(alloc, view.snapshot.get(), path.as_str());
+    commit(desk, basis, planned)
+}
+
+/// What is found in the packages of a view's files. The desk learns of it.
+fn find<D: Desk>(alloc: Global, desk: &mut D, view: &View) -> Result<Findings, AllocError>
+    requires { D.sees desk.old view.now.snapshot.files }
+    ensures findings { IfOk result (AreFindings view.now.snapshot.files) }
+    ensures same { desk.new ≡ desk.old }
+{
+    let Found { findings, known } = found(alloc, view)?;
+    desk.learn(view.snapshot.files(), known);
+    Ok(findings)
+}
+
+/// Has a desk learn what was found in the packages of a view's files.
+fn learn<D: Desk>(desk: &mut D, view: &View, found: Found)
+    requires seen { D.sees desk.old view.now.snapshot.files }
+    requires found { IsFound view.now.snapshot.files found }
+    ensures { desk.new ≡ desk.old }
+{
+    let Found { findings, known } = found;
+    drop(findings);
+    desk.learn(view.snapshot.files(), known);
+}
+
+/// The change that a rename asks for. The desk learns what was found for it.
+fn plan_name<D: Desk>(
+    alloc: Global,
+    desk: &mut D,
+    view: &View,
+    path: &str,
+    offset: usize,
+    name: &str,
+) -> Result<Planned, Refusal>
+    requires { D.sees desk.old view.now.snapshot.files }
+    ensures planned { PlansRename view.now.snapshot path.now offset name.now (change_in result) }
+    ensures known { IfOk result (λ p. KnowsVerdicts p.change.files p.known) }
+    ensures same { desk.new ≡ desk.old }
+{
+    let found = found(alloc, view)?;
+    let planned = plan_rename(alloc, view.snapshot.get(), &found, path, offset, name);
+    learn(desk, view, found);
+    planned
+}
+
+/// A byte of a file, as a command names it.
+#[derive(Drop)]
+struct NamedByte {
+    path: Word,
+    offset: usize,
+}
+
+/// The change that a rename asks for, committed.
+fn rename<D: Desk>(
+    alloc: Global,
+    desk: &mut D,
+    view: &View,
+    basis: u64,
+    at: NamedByte,
+    name: Word,
+) -> Response
+    requires { D.sees desk.old view.now.snapshot.files }
+    ensures { (planned : Result PlannedChange WhyRefused) × PlansRename view.now.snapshot at.path at.offset name planned × Commits D.steps desk.old basis planned result desk.new }
+{
+    let planned = plan_name(
+        alloc,
+        desk,
+        view,
+        at.path.as_str(),
+        at.offset,
+        name.as_str(),
+    );
+    commit_known(desk, basis, planned)
+}
+
+/// The change that a move asks for. The desk learns what was found for it.
+fn plan_target<D: Desk>(
+    alloc: Global,
+    desk: &mut D,
+    view: &View,
+    from: &str,
+    to: &str,
+) -> Result<Planned, Refusal>
+    requires { D.sees desk.old view.now.snapshot.files }
+    ensures planned { PlansMove view.now.snapshot from.now to.now (change_in result) }
+    ensures known { IfOk result (λ p. KnowsVerdicts p.change.files p.known) }
+    ensures same { desk.new ≡ desk.old }
+{
+    let found = found(alloc, view)?;
+    let planned = plan_move(alloc, view.snapshot.get(), &found, from, to);
+    learn(desk, view, found);
+    planned
+}
+
+/// The change that a move asks for, committed.
+fn move_to<D: Desk>(
+    alloc: Global,
+    desk: &mut D,
+    view: &View,
+    basis: u64,
+    from: Word,
+    to: Word,
+) -> Response
+    requires { D.sees desk.old view.now.snapshot.files }
+    ensures { (planned : Result PlannedChange WhyRefused) × PlansMove view.now.snapshot from to planned × Commits D.steps desk.old basis planned result desk.new }
+{
+    let planned = plan_target(alloc, desk, view, from.as_str(), to.as_str());
+    commit_known(desk, basis, planned)
+}
+
+fn file_response(number: u64, found: Result<FileText, Refusal>) -> Response
+    ensures { result ≡ file_response number found }
+{
+    match found {
+        Ok(text) => Response::File { number, text },
+        Err(refusal) => Response::Refused { refusal },
+    }
+}
+
+fn places_response(number: u64, found: Result<Places, Refusal>) -> Response
+    ensures { result ≡ places_response number found }
+{
+    match found {
+        Ok(places) => Response::Places { number, places },
+        Err(refusal) => Response::Refused { refusal },
+    }
+}
+
+fn tell_file(alloc: Global, view: &View, path: Word) -> Response
+    ensures { (found : Result (List ℕ) WhyRefused) × Cats view.now path found × (result ≡ file_response view.now.snapshot.number found) }
+{
+    let found = cat(alloc, view, path.as_str());
+    file_response(view.snapshot.number(), found)
+}
+
+fn tell_object(alloc: Global, view: &View, path: Word) -> Response
+    ensures { (found : Result (List ℕ) WhyRefused) × TellsObject view.now path found × (result ≡ file_response view.now.snapshot.number found) }
+{
+    let found = object(alloc, view, path.as_str());
+    file_response(view.snapshot.number(), found)
+}
+
+/// The uses of what holds a byte of a file.
+fn find_uses<D: Desk>(
+    alloc: Global,
+    desk: &mut D,
+    view: &View,
+    path: &str,
+    offset: usize,
+) -> Result<Places, Refusal>
+    requires { D.sees desk.old view.now.snapshot.files }
+    ensures uses { TellsUses view.now.snapshot.files path.now offset result }
+    ensures same { desk.new ≡ desk.old }
+{
+    let found = find(alloc, desk, view)?;
+    uses(alloc, view.snapshot.files(), &found, path, offset)
+}
+
+fn tell_uses<D: Desk>(
+    alloc: Global,
+    desk: &mut D,
+    view: &View,
+    path: Word,
+    offset: usize,
+) -> Response
+    requires { D.sees desk.old view.now.snapshot.files }
+    ensures told { (found : Result (List Place) WhyRefused) × TellsUses view.now.snapshot.files path offset found × (result ≡ places_response view.now.snapshot.number found) }
+    ensures same { desk.new ≡ desk.old }
+{
+    let found = find_uses(alloc, desk, view, path.as_str(), offset);
+    places_response(view.snapshot.number(), found)
+}
+
+/// All files of a view. They are shared.
+fn tell_list(view: &View) -> Response
+    ensures { TellsFiles view.now result }
+{
+    match view.snapshot.files().clone() {
+        Ok(files) => Response::Listing {
+            number: view.snapshot.number(),
+            files,
+        },
+        Err(_) => Response::Refused {
+            refusal: Refusal::Memory,
+        },
+    }
+}
+
+/// The faults of a view's files, in the order of packages, paths, offsets and kinds.
+fn find_faults<D: Desk>(alloc: Global, desk: &mut D, view: &View) -> Result<FaultList, AllocError>
+    requires { D.sees desk.old view.now.snapshot.files }
+    ensures faults { IfOk result (ListsFaults view.now.snapshot.files) }
+    ensures same { desk.new ≡ desk.old }
+{
+    let found = find(alloc, desk, view)?;
+    let faults = faults(alloc, &found)?;
+    Ok(FaultList::new(faults))
+}
+
+fn tell_faults<D: Desk>(alloc: Global, desk: &mut D, view: &View) -> Response
+    requires { D.sees desk.old view.now.snapshot.files }
+    ensures told { AnswersFaults view.now result }
+    ensures same { desk.new ≡ desk.old }
+{
+    match find_faults(alloc, desk, view) {
+        Ok(faults) => Response::Faults {
+            number: view.snapshot.number(),
+            faults,
+        },
+        Err(_) => Response::Refused {
+            refusal: Refusal::Memory,
+        },
+    }
+}
+
+/// Acts on a command that is meant for the state of the view.
+fn act_on<D: Desk>(alloc: Global, desk: &mut D, view: &View, command: StateCommand) -> Response
+    requires { D.sees desk.old view.now.snapshot.files }
+    ensures { ActsOn D.steps desk.old view.now command result desk.new }
+{
+    match command {
+        StateCommand::Look => Response::Steps {
+            number: view.snapshot.number(),
+            undo: view.undo,
+            redo: view.redo,
+        },
+        StateCommand::Put { basis, path, body } => put(alloc, desk, view, basis, path, body),
+        StateCommand::Del { basis, path } => del(alloc, desk, view, basis, path),
+        StateCommand::Rename {
+            basis,
+            path,
+            offset,
+            name,
+        } => rename(alloc, desk, view, basis, NamedByte { path, offset }, name),
+        StateCommand::Move { basis, from, to } => move_to(alloc, desk, view, basis, from, to),
+        StateCommand::Undo { basis } => undo(desk, basis),
+        StateCommand::Redo { basis } => redo(desk, basis),
+        StateCommand::Cat { path } => tell_file(alloc, view, path),
+        StateCommand::Uses { path, offset } => tell_uses(alloc, desk, view, path, offset),
+        StateCommand::Object { path } => tell_object(alloc, view, path),
+        StateCommand::Work => work(alloc, desk),
+        StateCommand::List => tell_list(view),
+        StateCommand::Faults => tell_faults(alloc, desk, view),
+    }
+}
+
+/// Acts on a command after its look has shown the view.
+fn act_after<D: Desk>(alloc: Global, desk: &mut D, view: &View, command: StateCommand) -> Response
+    requires { D.sees desk.old view.now.snapshot.files }
+    ensures { ActsAfter D.steps desk.old view.now command result desk.new }
+{
+    if fits_view(view, &command) {
+        act_on(alloc, desk, view, command)
+    } else {
+        drop(command);
+        Response::Refused {
+            refusal: Refusal::Moved {
+                current: view.snapshot.number(),
+            },
+        }
+    }
+}
+
+/// Acts on a command about the current state, which begins with a look.
+fn act_looking<D: Desk>(alloc: Global, desk: &mut D, command: StateCommand) -> Response
+    ensures { Looks D.steps desk.old command result desk.new }
+{
+    match desk.look() {
+        Ok(view) => act_after(alloc, desk, &view, command),
+        Err(refusal) => Response::Refused { refusal },
+    }
+}
+
+/// Waits until every package is finished.
+fn wait<D: Desk>(desk: &mut D) -> Response
+    ensures { Waits D.waits desk.old result desk.new }
+{
+    match desk.wait() {
+        Ok(number) => Response::Done { number },
+        Err(refusal) => Response::Refused { refusal },
+    }
+}
+
+/// Shows an entry of the journal. No look comes before it.
+fn log<D: Desk>(desk: &mut D, number: u64) -> Response
+    ensures { Sends D.steps desk.old (Log number) result desk.new }
+{
+    match desk.step(Logging(number)) {
+        Ok((current, line)) => Response::Entry {
+            number: current,
+            line,
+        },
+        Err(refusal) => Response::Refused { refusal },
+    }
+}
+
+/// Acts on one command.
+pub fn act<D: Desk>(alloc: Global, desk: &mut D, command: Command) -> Response
+    ensures { Acts D.steps D.waits desk.old command result desk.new }
+{
+    match command {
+        Command::OnState(command) => act_looking(alloc, desk, command),
+        Command::Wait => wait(desk),
+        Command::Log { number } => log(desk, number),
+    }
+}

@@ -1,0 +1,86 @@
+//! What a command is answered: data, and no bytes of a reply.
+ghost use Rattle.std.specs.Prelude.{◌≡◌};
+
+use base_files::{FileText, Refusal};
+use history_machine::Line;
+use refs_uses::Places;
+use std::marker::Model;
+use types_expr::symbol::SharedPath;
+use workspace_check::FileFault;
+use workspace_graph::Graph;
+
+/// Some faults of files.
+#[derive(Drop)]
+pub struct FaultList {
+    items: Vec<FileFault>,
+}
+
+impl Model for FaultList {
+    ghost use Rattle.std.specs.Prelude.{List};
+    ghost use Rattle.workspace_check.specs.declared.fault.FileFault.{FileFault};
+
+    ghost Value = { List FileFault };
+
+    ghost view = { λ a. a.items.items };
+}
+
+impl FaultList {
+    pub fn new(items: Vec<FileFault>) -> FaultList
+        ensures { result ≡ items.items }
+    {
+        FaultList { items }
+    }
+
+    pub fn as_slice(&self) -> &[FileFault]
+        ensures { result.now ≡ self.now }
+    {
+        self.items.as_slice()
+    }
+}
+
+/// The answer to a command. The number is that of the current state after it.
+#[derive(Drop)]
+pub enum Response {
+    Done {
+        number: u64,
+    },
+    /// How many steps undo and redo can make.
+    Steps {
+        number: u64,
+        undo: usize,
+        redo: usize,
+    },
+    /// The text of one file, or an object.
+    File {
+        number: u64,
+        text: FileText,
+    },
+    /// All files, with their graph, which shares them.
+    Listing {
+        number: u64,
+        files: Graph,
+    },
+    /// The identifiers that are bound to one declaration.
+    Places {
+        number: u64,
+        places: Places,
+    },
+    /// The faults of all files.
+    Faults {
+        number: u64,
+        faults: FaultList,
+    },
+    /// An entry of the journal, or None past its end.
+    Entry {
+        number: u64,
+        line: Option<Line>,
+    },
+    /// The package that was built.
+    Built {
+        number: u64,
+        package: SharedPath,
+    },
+    Refused {
+        refusal: Refusal,
+    },
+}

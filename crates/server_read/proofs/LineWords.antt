@@ -1,0 +1,194 @@
+-- The words of a command line.
+use Rattle.std.proofs.Common.{◌≡◌, ◌≢◌, ℕ, ◌+◌, ◌*◌, ◌<◌, List, [], ◌∷◌, ◌++◌, Option, None, Some, refl, sym, ap, ◌∙◌, arith, decimal, codes}
+use Rattle.std.specs.List.{AllByRecursion}
+use Rattle.server_read.specs.declared.parse.CommandLine.{CommandLine}
+use Rattle.server_read.specs.declared.parse.CommandLine.TheVariants.{Look, Put, Del, Rename, Move, Undo, Redo, Cat, Uses, End}
+use Rattle.server_read.specs.declared.parse.CommandLine.TheVariants as line
+use Rattle.server_read.specs.Words.{HasNoSpace, spaced}
+use Rattle.server_read.specs.Lines.{verb_of, args_of, place_word, FitsLine, IsCommandLine}
+use Rattle.server_read.specs.Parsing.{HasWords, ParsesArgs, ParsesLine, IsSpaced}
+use Rattle.server_read.proofs.Words.{split_unique, no_space, decimal_word}
+use Rattle.server_read.proofs.Places.{place_word_no_space}
+
+abbrev HaveNoSpace : List (List ℕ) → Type 0
+HaveNoSpace = AllByRecursion HasNoSpace
+
+is_letters : (n : ℕ) → 32 < n → n ≢ 32
+is_letters n h = λ e. absurd (omega (arith, h, e))
+
+three : (a b c : ℕ) → 32 < a → 32 < b → 32 < c → HasNoSpace (a ∷ b ∷ c ∷ [])
+three a b c h i j = (is_letters a h, (is_letters b i, (is_letters c j, tt)))
+
+four : (a b c d : ℕ) → 32 < a → 32 < b → 32 < c → 32 < d → HasNoSpace (a ∷ b ∷ c ∷ d ∷ [])
+four a b c d h i j k = (is_letters a h, (is_letters b i, (is_letters c j, (is_letters d k, tt))))
+
+six : (a b c d e f : ℕ) → 32 < a → 32 < b → 32 < c → 32 < d → 32 < e → 32 < f → HasNoSpace (a ∷ b ∷ c ∷ d ∷ e ∷ f ∷ [])
+six a b c d e f h i j k l m = (is_letters a h, (is_letters b i, (is_letters c j, (is_letters d k, (is_letters e l, (is_letters f m, tt))))))
+
+pub verb_no_space : (command : CommandLine) → HasNoSpace (verb_of command)
+verb_no_space Look = four 108 111 111 107 (omega arith) (omega arith) (omega arith) (omega arith)
+verb_no_space (Put basis path size) = three 112 117 116 (omega arith) (omega arith) (omega arith)
+verb_no_space (Del basis path) = three 100 101 108 (omega arith) (omega arith) (omega arith)
+verb_no_space (Rename basis path offset name) = six 114 101 110 97 109 101 (omega arith) (omega arith) (omega arith) (omega arith) (omega arith) (omega arith)
+verb_no_space (Move basis from to) = four 109 111 118 101 (omega arith) (omega arith) (omega arith) (omega arith)
+verb_no_space (Undo basis) = four 117 110 100 111 (omega arith) (omega arith) (omega arith) (omega arith)
+verb_no_space (Redo basis) = four 114 101 100 111 (omega arith) (omega arith) (omega arith) (omega arith)
+verb_no_space (Cat path) = three 99 97 116 (omega arith) (omega arith) (omega arith)
+verb_no_space (Uses path offset) = four 117 115 101 115 (omega arith) (omega arith) (omega arith) (omega arith)
+verb_no_space line.List = four 108 105 115 116 (omega arith) (omega arith) (omega arith) (omega arith)
+verb_no_space line.Faults = six 102 97 117 108 116 115 (omega arith) (omega arith) (omega arith) (omega arith) (omega arith) (omega arith)
+verb_no_space (line.Object path) = six 111 98 106 101 99 116 (omega arith) (omega arith) (omega arith) (omega arith) (omega arith) (omega arith)
+verb_no_space line.Work = four 119 111 114 107 (omega arith) (omega arith) (omega arith) (omega arith)
+verb_no_space line.Wait = four 119 97 105 116 (omega arith) (omega arith) (omega arith) (omega arith)
+verb_no_space (line.Log number) = three 108 111 103 (omega arith) (omega arith) (omega arith)
+verb_no_space End = three 101 110 100 (omega arith) (omega arith) (omega arith)
+
+args_no_space : (command : CommandLine) → FitsLine command → HaveNoSpace (args_of command)
+args_no_space Look h = tt
+args_no_space (Put basis path size) h = (decimal_word basis h.0, (h.1.1, (decimal_word size (omega (arith, h.2)), tt)))
+args_no_space (Del basis path) h = (decimal_word basis h.0, (h.1.1, tt))
+args_no_space (Rename basis path offset name) h = (decimal_word basis h.0, (place_word_no_space path offset h.1.0 h.1.1, (h.2.1, tt)))
+args_no_space (Move basis from to) h = (decimal_word basis h.0, (h.1.1, (h.2.1, tt)))
+args_no_space (Undo basis) h = (decimal_word basis h, tt)
+args_no_space (Redo basis) h = (decimal_word basis h, tt)
+args_no_space (Cat path) h = (h.1, tt)
+args_no_space (Uses path offset) h = (place_word_no_space path offset h.0 h.1, tt)
+args_no_space line.List h = tt
+args_no_space line.Faults h = tt
+args_no_space (line.Object path) h = (h.1, tt)
+args_no_space line.Work h = tt
+args_no_space line.Wait h = tt
+args_no_space (line.Log number) h = (decimal_word number h, tt)
+args_no_space End h = tt
+
+-- a line has its words in one way
+spaced_unique : (v : List ℕ) (vs : List (List ℕ)) (w : List ℕ) (ws : List (List ℕ)) → HasNoSpace v → HaveNoSpace vs → HasNoSpace w → HaveNoSpace ws
+    → spaced v vs ≡ spaced w ws → (v ≡ w) × (vs ≡ ws)
+spaced_unique v [] w [] h hs k ks e = (e, refl)
+spaced_unique v [] w (b ∷ ws) h hs k ks e = absurd (no_space v w (spaced b ws) h e)
+spaced_unique v (a ∷ vs) w [] h hs k ks e = absurd (no_space w v (spaced a vs) k (sym e))
+spaced_unique v (a ∷ vs) w (b ∷ ws) h hs k ks e =
+    let first = split_unique v (spaced a vs) w (spaced b ws) h k e in
+    let others = spaced_unique a vs b ws hs.0 hs.1 ks.0 ks.1 first.1 in
+    (first.0, ap (λ x. x ∷ vs) others.0 ∙ ap (λ xs. b ∷ xs) others.1)
+
+pub same_words : (text : List ℕ) (a b : CommandLine) → IsCommandLine text a → IsCommandLine text b → (verb_of a ≡ verb_of b) × (args_of a ≡ args_of b)
+same_words text a b h k =
+    spaced_unique (verb_of a) (args_of a) (verb_of b) (args_of b) (verb_no_space a) (args_no_space a h.fits) (verb_no_space b) (args_no_space b k.fits)
+    (sym h.spelled ∙ k.spelled)
+
+-- equal words have equal weights
+abbrev weight : List ℕ → ℕ
+weight [] = 0
+weight (x ∷ xs) = x + 256 * weight xs
+
+-- which lines begin with a word
+pub only_put : (command : CommandLine) (P : CommandLine → Type 0) → verb_of command ≡ codes "put" →
+    ((basis : ℕ) (path : List ℕ) (size : ℕ) → P (Put basis path size)) → P command
+only_put (Put basis path size) P e h = h basis path size
+only_put command P e h = absurd (omega (arith, ap weight e))
+
+pub only_del : (command : CommandLine) (P : CommandLine → Type 0) → verb_of command ≡ codes "del" → ((basis : ℕ) (path : List ℕ) → P (Del basis path)) →
+    P command
+only_del (Del basis path) P e h = h basis path
+only_del command P e h = absurd (omega (arith, ap weight e))
+
+pub only_rename : (command : CommandLine) (P : CommandLine → Type 0) → verb_of command ≡ codes "rename" →
+    ((basis : ℕ) (path : List ℕ) (offset : ℕ) (name : List ℕ) → P (Rename basis path offset name)) → P command
+only_rename (Rename basis path offset name) P e h = h basis path offset name
+only_rename command P e h = absurd (omega (arith, ap weight e))
+
+pub only_move : (command : CommandLine) (P : CommandLine → Type 0) → verb_of command ≡ codes "move" →
+    ((basis : ℕ) (from to : List ℕ) → P (Move basis from to)) → P command
+only_move (Move basis from to) P e h = h basis from to
+only_move command P e h = absurd (omega (arith, ap weight e))
+
+pub only_undo : (command : CommandLine) (P : CommandLine → Type 0) → verb_of command ≡ codes "undo" → ((basis : ℕ) → P (Undo basis)) → P command
+only_undo (Undo basis) P e h = h basis
+only_undo command P e h = absurd (omega (arith, ap weight e))
+
+pub only_redo : (command : CommandLine) (P : CommandLine → Type 0) → verb_of command ≡ codes "redo" → ((basis : ℕ) → P (Redo basis)) → P command
+only_redo (Redo basis) P e h = h basis
+only_redo command P e h = absurd (omega (arith, ap weight e))
+
+pub only_cat : (command : CommandLine) (P : CommandLine → Type 0) → verb_of command ≡ codes "cat" → ((path : List ℕ) → P (Cat path)) → P command
+only_cat (Cat path) P e h = h path
+only_cat command P e h = absurd (omega (arith, ap weight e))
+
+pub only_uses : (command : CommandLine) (P : CommandLine → Type 0) → verb_of command ≡ codes "uses" →
+    ((path : List ℕ) (offset : ℕ) → P (Uses path offset)) → P command
+only_uses (Uses path offset) P e h = h path offset
+only_uses command P e h = absurd (omega (arith, ap weight e))
+
+pub only_look : (command : CommandLine) (P : CommandLine → Type 0) → verb_of command ≡ codes "look" → P Look → P command
+only_look Look P e h = h
+only_look command P e h = absurd (omega (arith, ap weight e))
+
+pub only_list : (command : CommandLine) (P : CommandLine → Type 0) → verb_of command ≡ codes "list" → P line.List → P command
+only_list line.List P e h = h
+only_list command P e h = absurd (omega (arith, ap weight e))
+
+pub only_faults : (command : CommandLine) (P : CommandLine → Type 0) → verb_of command ≡ codes "faults" → P line.Faults → P command
+only_faults line.Faults P e h = h
+only_faults command P e h = absurd (omega (arith, ap weight e))
+
+pub only_object : (command : CommandLine) (P : CommandLine → Type 0) → verb_of command ≡ codes "object" → ((path : List ℕ) → P (line.Object path)) → P command
+only_object (line.Object path) P e h = h path
+only_object command P e h = absurd (omega (arith, ap weight e))
+
+pub only_work : (command : CommandLine) (P : CommandLine → Type 0) → verb_of command ≡ codes "work" → P line.Work → P command
+only_work line.Work P e h = h
+only_work command P e h = absurd (omega (arith, ap weight e))
+
+pub only_wait : (command : CommandLine) (P : CommandLine → Type 0) → verb_of command ≡ codes "wait" → P line.Wait → P command
+only_wait line.Wait P e h = h
+only_wait command P e h = absurd (omega (arith, ap weight e))
+
+pub only_log : (command : CommandLine) (P : CommandLine → Type 0) → verb_of command ≡ codes "log" → ((number : ℕ) → P (line.Log number)) → P command
+only_log (line.Log number) P e h = h number
+only_log command P e h = absurd (omega (arith, ap weight e))
+
+pub only_end : (command : CommandLine) (P : CommandLine → Type 0) → verb_of command ≡ codes "end" → P End → P command
+only_end End P e h = h
+only_end command P e h = absurd (omega (arith, ap weight e))
+
+-- what stands behind the first word
+pub put_words : (words : List ℕ) → ((basis : ℕ) (path : List ℕ) (size : ℕ) → FitsLine (Put basis path size) →
+    words ≡ decimal basis ++ 32 ∷ (path ++ 32 ∷ decimal size) → ⊥)
+    → (command : CommandLine) → HasWords (codes "put") words command → ⊥
+put_words words never command h = only_put command (λ c. FitsLine c → IsSpaced (args_of c) words → ⊥) h.first never h.fits h.others
+
+pub del_words : (words : List ℕ) → ((basis : ℕ) (path : List ℕ) → FitsLine (Del basis path) → words ≡ decimal basis ++ 32 ∷ path → ⊥)
+    → (command : CommandLine) → HasWords (codes "del") words command → ⊥
+del_words words never command h = only_del command (λ c. FitsLine c → IsSpaced (args_of c) words → ⊥) h.first never h.fits h.others
+
+pub rename_words : (words : List ℕ)
+    → ((basis : ℕ) (path : List ℕ) (offset : ℕ) (name : List ℕ) → FitsLine (Rename basis path offset name) →
+    words ≡ decimal basis ++ 32 ∷ (place_word path offset ++ 32 ∷ name) → ⊥)
+    → (command : CommandLine) → HasWords (codes "rename") words command → ⊥
+rename_words words never command h = only_rename command (λ c. FitsLine c → IsSpaced (args_of c) words → ⊥) h.first never h.fits h.others
+
+pub move_words : (words : List ℕ) → ((basis : ℕ) (from to : List ℕ) → FitsLine (Move basis from to) → words ≡ decimal basis ++ 32 ∷ (from ++ 32 ∷ to) → ⊥)
+    → (command : CommandLine) → HasWords (codes "move") words command → ⊥
+move_words words never command h = only_move command (λ c. FitsLine c → IsSpaced (args_of c) words → ⊥) h.first never h.fits h.others
+
+-- a line with a space has other words
+spelled_by : (text verb words first : List ℕ) (others : List (List ℕ)) → text ≡ verb ++ 32 ∷ words → first ≡ verb → IsSpaced others words →
+    text ≡ spaced first others
+spelled_by text verb words first [] e f h = absurd h
+spelled_by text verb words first (a ∷ others) e f h = e ∙ ap (λ v. v ++ 32 ∷ words) (sym f) ∙ ap (λ l. first ++ 32 ∷ l) h
+
+words_of_split : (text verb words first : List ℕ) (others : List (List ℕ)) → text ≡ verb ++ 32 ∷ words → HasNoSpace verb → HasNoSpace first →
+    text ≡ spaced first others
+    → (first ≡ verb) × IsSpaced others words
+words_of_split text verb words first [] e h k f = absurd (no_space first verb words k (sym f ∙ e))
+words_of_split text verb words first (a ∷ others) e h k f =
+    let same = split_unique verb words first (spaced a others) h k (sym e ∙ f) in
+    (sym same.0, same.1)
+
+pub split_line : (text verb words : List ℕ) (r : Option CommandLine) → text ≡ verb ++ 32 ∷ words → HasNoSpace verb → ParsesArgs verb words r → ParsesLine text r
+split_line text verb words None e h p = λ command k.
+    let w = words_of_split text verb words (verb_of command) (args_of command) e h (verb_no_space command) k.spelled in
+    p command (record { first = w.0; fits = k.fits; others = w.1 })
+split_line text verb words (Some command) e h p =
+    record { spelled = spelled_by text verb words (verb_of command) (args_of command) e p.first p.others; fits = p.fits }

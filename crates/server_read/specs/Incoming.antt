@@ -1,0 +1,23 @@
+-- What reading a line of the input does. `before` and `after` are what the reader has left.
+use Rattle.std.specs.Prelude.{◌≡◌, ◌≢◌, ◌<◌, ◌≤◌, ℕ, List, [], ◌∷◌, length, Option, None, Some, IfSome, Result, Ok, Err}
+use Rattle.std.specs.Io.KnownBytes.{Consumes, Keeps, IsAtEnd}
+use Rattle.server_read.specs.Stops.{StopsInLine}
+use Rattle.server_read.specs.Limit.{line_of, after_line}
+use Rattle.server_read.specs.declared.input.ReadLine.{ReadLine}
+use Rattle.server_read.specs.declared.input.ReadLine.TheVariants.{Nothing, Whole, TooLong}
+use Rattle.server_read.specs.declared.input.InputFault.{InputFault}
+
+-- one byte is taken, or at the end of the input none
+abbrev pub TakesByte : (before after : Option (List ℕ)) → Result (Option ℕ) InputFault → Type 0
+TakesByte before after (Ok (Some byte)) = Consumes before after (byte ∷ [])
+TakesByte before after (Ok None) = Keeps before after × IsAtEnd after
+TakesByte before after (Err fault) = Keeps before after
+
+-- the first line is read; `line` is what is kept of it
+abbrev pub ReadsLine : ℕ → (before after : Option (List ℕ)) → List ℕ → Result ReadLine InputFault → Type 0
+ReadsLine limit before after line (Ok Nothing) = IfSome before (λ input. (input ≡ []) × (after ≡ Some []))
+ReadsLine limit before after line (Ok Whole) = IfSome before (λ input.
+    (input ≢ []) × (length line ≤ limit) × (line ≡ line_of input) × (after ≡ Some (after_line input)))
+ReadsLine limit before after line (Ok TooLong) = IfSome before (λ input.
+    (input ≢ []) × (limit < length (line_of input)) × (after ≡ Some (after_line input)))
+ReadsLine limit before after line (Err fault) = StopsInLine before after

@@ -1,0 +1,22 @@
+//! Lines, the commands in them, and the next message of a stream.
+#![tactic(auto)]
+
+mod body;
+mod command;
+mod input;
+mod laws;
+mod message;
+mod next;
+mod parse;
+mod stream;
+mod word;
+
+pub use body::{Body, read_body, skip};
+pub use command::{Command, StateCommand};
+pub use input::{InputFault, ReadLine, read_line};
+pub use laws::begins_one_way;
+pub use message::Message;
+pub use next::{LineBuffer, Next, read_command};
+pub use parse::{Argument, CommandLine, parse_command_line};
+pub use stream::{ByteSource, ReadFailed, Reading, Sink, WriteFailed, Writing};
+pub use word::Word;

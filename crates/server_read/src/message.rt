@@ -1,0 +1,28 @@
+//! What a session reads.
+ghost use Rattle.std.specs.Prelude.{◌≡◌};
+
+use crate::command::Command;
+
+/// What one line, and the bytes that it announces, say.
+#[derive(Drop)]
+pub enum Message {
+    Ask(Command),
+    /// A line that is no command.
+    Unknown,
+    /// The input ended within the bytes that a line announced.
+    CutShort,
+}
+
+impl Message {
+    ghost use Rattle.server_read.specs.Last.{is_last};
+
+    /// Whether the session ends after this message.
+    pub fn is_last(&self) -> bool
+        ensures { result ≡ is_last self.now }
+    {
+        match self {
+            Message::CutShort => true,
+            _ => false,
+        }
+    }
+}

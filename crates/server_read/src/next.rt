@@ -1,0 +1,246 @@
+//! The next message of an input. A later command is an arm of `command_after` and a case of
+//! `SaysCommand` in server_read's specs/Wire.antt.
+ghost use Rattle.std.specs.Prelude.{◌≡◌, ◌+◌, ◌^◌, ◌≤◌, ◌<◌, IfOk, vec_capacity};
+ghost use Rattle.server_read.specs.Failures.{CountsReadFault};
+ghost use Rattle.server_read.specs.NextMessage.{ReadsNext};
+ghost use Rattle.server_read.specs.Puts.{ReadsPut, ReadsAfter, put_next, TellsKept};
+ghost use Rattle.server_read.specs.Parsing.{ReadsLineText};
+
+use crate::{
+    Body, ByteSource, Command, CommandLine, InputFault, Message, ReadLine, Sink, StateCommand,
+    Word, parse_command_line, read_body, read_line, skip,
+};
+use base_files::{Limits, Path, Refusal};
+use std::alloc::{AllocError, Global};
+
+/// What comes next in an input.
+#[derive(Drop)]
+pub enum Next {
+    /// The end of the session.
+    End,
+    Message(Message),
+    /// A command that there was no memory to keep.
+    NoRoom,
+}
+
+/// Room for the longest command line.
+#[derive(Drop)]
+pub struct LineBuffer {
+    bytes: Vec<u8>,
+    ghost room: { 1024 ≤ vec_capacity bytes },
+}
+
+impl LineBuffer {
+    pub fn new(alloc: Global) -> Result<LineBuffer, AllocError> {
+        let bytes = Vec::with_capacity(alloc, 1024)?;
+        Ok(LineBuffer { bytes })
+    }
+}
+
+/// Whether the body of a put is kept: its path is one of a file, and it is within the limit of a file.
+fn is_kept(alloc: Global, path: &str, size: u32, limits: &Limits) -> Result<bool, AllocError>
+    ensures { IfOk result (TellsKept limits.now path.now size) }
+{
+    if size as usize > limits.file_bytes {
+        return Ok(false);
+    }
+    match Path::read(alloc, path, 2) {
+        Ok(path) => {
+            drop(path);
+            Ok(true)
+        }
+        Err(Refusal::Memory) => Err(AllocError),
+        Err(_) => Ok(false),
+    }
+}
+
+/// The message of a line `put` and its body.
+fn put_message(basis: u64, path: Word, body: Body) -> Next
+    ensures { result ≡ put_next basis path body }
+{
+    let body = match body {
+        Body::Kept(text) => Some(text),
+        Body::Dropped => None,
+        Body::NoRoom => return Next::NoRoom,
+        Body::Short => return Next::Message(Message::CutShort),
+    };
+    ask(StateCommand::Put { basis, path, body })
+}
+
+/// The word of a put, and whether its body is kept.
+fn prepare_put(
+    alloc: Global,
+    path: &str,
+    size: u32,
+    limits: &Limits,
+) -> Result<(Word, bool), AllocError>
+    ensures { IfOk result (λ put. (put.0 ≡ path.now) × TellsKept limits.now path.now size put.1) }
+{
+    let is_kept = is_kept(alloc, path, size, limits)?;
+    Ok((Word::new(alloc, path)?, is_kept))
+}
+
+/// What a line `put` says.
+#[derive(Clone, Copy)]
+struct PutLine<'a> {
+    basis: u64,
+    path: &'a str,
+    size: u32,
+}
+
+/// Reads the body that a line announces, and makes the command.
+fn read_put<S: ByteSource>(
+    alloc: Global,
+    source: &mut S,
+    reads_left: &mut u64,
+    line: PutLine<'_>,
+    limits: &Limits,
+) -> Result<Next, InputFault>
+    requires reads { S.reads source.old + reads_left.old < 2 ^ 64 }
+    ensures put { ReadsPut limits.now line.entry.basis line.entry.path.now line.entry.size (S.remaining source.old) (S.remaining source.new) result }
+    ensures counted { CountsReadFault (S.failures source.old) (S.failures source.new) result }
+    ensures turns { IfOk result (λ _. reads_left.new ≤ reads_left.old) }
+    ensures reads { S.reads source.new + reads_left.new ≡ S.reads source.old + reads_left.old }
+    ensures turns_over { result ≡ Err InputFault.Turns → reads_left.new ≡ 0 }
+{
+    match prepare_put(alloc, line.path, line.size, limits) {
+        Err(_) => {
+            let is_whole = skip(source, reads_left, line.size as usize)?;
+            Ok(if is_whole {
+                Next::NoRoom
+            } else {
+                Next::Message(Message::CutShort)
+            })
+        }
+        Ok((path, is_kept)) => {
+            let body = read_body(alloc, source, reads_left, line.size as usize, is_kept)?;
+            Ok(put_message(line.basis, path, body))
+        }
+    }
+}
+
+/// A command about the current state, as a message.
+fn ask(command: StateCommand) -> Next
+    ensures { result ≡ Next.Message (Message.Ask (Command.OnState command)) }
+{
+    Next::Message(Message::Ask(Command::OnState(command)))
+}
+
+/// The words of two arguments.
+fn two_words(alloc: Global, one: &str, other: &str) -> Result<(Word, Word), AllocError>
+    ensures { IfOk result (λ words. (words.0 ≡ one.now) × (words.1 ≡ other.now)) }
+{
+    let one = Word::new(alloc, one)?;
+    Ok((one, Word::new(alloc, other)?))
+}
+
+/// What a command line says, once the bytes that it announces are read.
+fn command_after<S: ByteSource>(
+    alloc: Global,
+    source: &mut S,
+    reads_left: &mut u64,
+    line: CommandLine<'_>,
+    limits: &Limits,
+) -> Result<Next, InputFault>
+    requires reads { S.reads source.old + reads_left.old < 2 ^ 64 }
+    ensures line { ReadsAfter limits.now line.entry (S.remaining source.old) (S.remaining source.new) result }
+    ensures counted { CountsReadFault (S.failures source.old) (S.failures source.new) result }
+    ensures turns { IfOk result (λ _. reads_left.new ≤ reads_left.old) }
+    ensures reads { S.reads source.new + reads_left.new ≡ S.reads source.old + reads_left.old }
+    ensures turns_over { result ≡ Err InputFault.Turns → reads_left.new ≡ 0 }
+{
+    match line {
+        CommandLine::Put { basis, path, size } => {
+            let path = path.as_str();
+            let line = PutLine { basis, path, size };
+            read_put(alloc, source, reads_left, line, limits)
+        }
+        CommandLine::End => Ok(Next::End),
+        CommandLine::Look => Ok(ask(StateCommand::Look)),
+        CommandLine::List => Ok(ask(StateCommand::List)),
+        CommandLine::Faults => Ok(ask(StateCommand::Faults)),
+        CommandLine::Work => Ok(ask(StateCommand::Work)),
+        CommandLine::Wait => Ok(Next::Message(Message::Ask(Command::Wait))),
+        CommandLine::Log { number } => Ok(Next::Message(Message::Ask(Command::Log { number }))),
+        CommandLine::Undo { basis } => Ok(ask(StateCommand::Undo { basis })),
+        CommandLine::Redo { basis } => Ok(ask(StateCommand::Redo { basis })),
+        CommandLine::Del { basis, path } => match Word::new(alloc, path.as_str()) {
+            Ok(path) => Ok(ask(StateCommand::Del { basis, path })),
+            Err(_) => Ok(Next::NoRoom),
+        },
+        CommandLine::Rename {
+            basis,
+            path,
+            offset,
+            name,
+        } => match two_words(alloc, path.as_str(), name.as_str()) {
+            Ok((path, name)) => Ok(ask(StateCommand::Rename {
+                basis,
+                path,
+                offset: offset as usize,
+                name,
+            })),
+            Err(_) => Ok(Next::NoRoom),
+        },
+        CommandLine::Move { basis, from, to } => {
+            match two_words(alloc, from.as_str(), to.as_str()) {
+                Ok((from, to)) => Ok(ask(StateCommand::Move { basis, from, to })),
+                Err(_) => Ok(Next::NoRoom),
+            }
+        }
+        CommandLine::Cat { path } => match Word::new(alloc, path.as_str()) {
+            Ok(path) => Ok(ask(StateCommand::Cat { path })),
+            Err(_) => Ok(Next::NoRoom),
+        },
+        CommandLine::Object { path } => match Word::new(alloc, path.as_str()) {
+            Ok(path) => Ok(ask(StateCommand::Object { path })),
+            Err(_) => Ok(Next::NoRoom),
+        },
+        CommandLine::Uses { path, offset } => match Word::new(alloc, path.as_str()) {
+            Ok(path) => Ok(ask(StateCommand::Uses {
+                path,
+                offset: offset as usize,
+            })),
+            Err(_) => Ok(Next::NoRoom),
+        },
+    }
+}
+
+/// The command line that a line is, or None.
+fn command_line_of(line: &[u8]) -> Option<CommandLine<'_>>
+    ensures { ReadsLineText line.now result }
+{
+    match str::from_utf8(line) {
+        Ok(text) => parse_command_line(text),
+        Err(_) => None,
+    }
+}
+
+/// Reads the next message whole, and nothing beyond it. A read is taken from `reads_left` for each read of the source.
+/// Each read may wait for the other side, so all that was written to the sink has to be sent before.
+pub fn read_command<S: ByteSource, T: Sink>(
+    alloc: Global,
+    source: &mut S,
+    _sink: &T,
+    reads_left: &mut u64,
+    line: &mut LineBuffer,
+    limits: &Limits,
+) -> Result<Next, InputFault>
+    requires reads { S.reads source.old + reads_left.old < 2 ^ 64 }
+    requires sent { T.sent _sink.now }
+    ensures next { ReadsNext limits.now (S.remaining source.old) (S.remaining source.new) result }
+    ensures counted { CountsReadFault (S.failures source.old) (S.failures source.new) result }
+    ensures turns { IfOk result (λ _. reads_left.new < reads_left.old) }
+    ensures reads { S.reads source.new + reads_left.new ≡ S.reads source.old + reads_left.old }
+    ensures turns_over { result ≡ Err InputFault.Turns → reads_left.new ≡ 0 }
+{
+    match read_line(source, reads_left, &mut line.bytes, limits.command_bytes) {
+        Err(fault) => Err(fault),
+        Ok(ReadLine::Nothing) => Ok(Next::End),
+        Ok(ReadLine::TooLong) => Ok(Next::Message(Message::Unknown)),
+        Ok(ReadLine::Whole) => match command_line_of(&line.bytes) {
+            None => Ok(Next::Message(Message::Unknown)),
+            Some(command) => command_after(alloc, source, reads_left, command, limits),
+        },
+    }
+}

@@ -1,0 +1,284 @@
+//! The form of a command line. A later command is a variant of `CommandLine`, a case of each function
+//! in specs/Lines.antt, and an arm here.
+ghost use Rattle.std.specs.Prelude.{◌≡◌, ◌^◌, codes, MatchBool};
+ghost use Rattle.server_read.specs.Words.{HasNoSpace};
+ghost use Rattle.server_read.specs.Parsing.{SplitsWord, SplitsPlace, ReadsNumber, ReadsPart, ReadsArgument, ReadsPlace, ParsesBare, ParsesArgs, ParsesLine};
+
+use itoa::Buffer;
+use std::marker::Model;
+
+/// A word of a command line that names something, or the part of one before an offset.
+#[derive(Drop)]
+pub struct Argument<'a> {
+    text: &'a str,
+}
+
+impl<'a> Model for Argument<'a> {
+    ghost use Rattle.std.specs.Prelude.{List, ℕ};
+
+    ghost Value = { List ℕ };
+
+    ghost view = { λ a. a.text.now };
+}
+
+impl<'a> Argument<'a> {
+    pub fn as_str(&self) -> &str
+        ensures { result.now ≡ self.now }
+    {
+        self.text
+    }
+}
+
+/// A command line, before the bytes that it announces are read.
+#[derive(Drop)]
+pub enum CommandLine<'a> {
+    Look,
+    Put {
+        basis: u64,
+        path: Argument<'a>,
+        size: u32,
+    },
+    Del {
+        basis: u64,
+        path: Argument<'a>,
+    },
+    Rename {
+        basis: u64,
+        path: Argument<'a>,
+        offset: u32,
+        name: Argument<'a>,
+    },
+    Move {
+        basis: u64,
+        from: Argument<'a>,
+        to: Argument<'a>,
+    },
+    Undo {
+        basis: u64,
+    },
+    Redo {
+        basis: u64,
+    },
+    Cat {
+        path: Argument<'a>,
+    },
+    Uses {
+        path: Argument<'a>,
+        offset: u32,
+    },
+    List,
+    Faults,
+    Object {
+        path: Argument<'a>,
+    },
+    Work,
+    Wait,
+    Log {
+        number: u64,
+    },
+    End,
+}
+
+/// A number below 2^64, as it is printed.
+fn parse_u64(text: &str) -> Option<u64>
+    ensures { ReadsNumber (2 ^ 64) text.now result }
+{
+    let number = text.parse::<u64>().ok()?;
+    let mut digits = Buffer::new();
+    if digits.format(number) == text {
+        Some(number)
+    } else {
+        None
+    }
+}
+
+/// A number below 2^32, as it is printed.
+fn parse_u32(text: &str) -> Option<u32>
+    ensures { ReadsNumber (2 ^ 32) text.now result }
+{
+    u32::try_from(parse_u64(text)?).ok()
+}
+
+/// What stands before the first space, and after it.
+fn split_word(text: &str) -> Option<(&str, &str)>
+    ensures { SplitsWord text.now result }
+{
+    text.split_once(' ')
+}
+
+fn has_no_space(text: &str) -> bool
+    ensures { MatchBool result (HasNoSpace text.now) (HasNoSpace text.now → ⊥) }
+{
+    split_word(text).is_none()
+}
+
+/// What stands before the last `:#`, and after it.
+#[tactic(auto, using(crate::proofs::Places::last_mark))]
+fn split_place(text: &str) -> Option<(&str, &str)>
+    ensures { SplitsPlace text.now result }
+{
+    text.rsplit_once(":#")
+}
+
+/// What names something within a word.
+fn parse_part(text: &str) -> Option<Argument<'_>>
+    ensures { ReadsPart text.now result }
+{
+    if has_no_space(text) {
+        Some(Argument { text })
+    } else {
+        None
+    }
+}
+
+fn parse_argument(text: &str) -> Option<Argument<'_>>
+    ensures { ReadsArgument text.now result }
+{
+    if !text.is_empty() && has_no_space(text) {
+        Some(Argument { text })
+    } else {
+        None
+    }
+}
+
+/// A path and an offset, with the signs :# between.
+fn parse_place(text: &str) -> Option<(Argument<'_>, u32)>
+    ensures { ReadsPlace text.now result }
+{
+    let (path, offset) = split_place(text)?;
+    Some((parse_part(path)?, parse_u32(offset)?))
+}
+
+fn parse_put(words: &str) -> Option<CommandLine<'_>>
+    ensures { ParsesArgs (codes "put") words.now result }
+{
+    let (basis, rest) = split_word(words)?;
+    let (path, size) = split_word(rest)?;
+    Some(CommandLine::Put {
+        basis: parse_u64(basis)?,
+        path: parse_argument(path)?,
+        size: parse_u32(size)?,
+    })
+}
+
+fn parse_del(words: &str) -> Option<CommandLine<'_>>
+    ensures { ParsesArgs (codes "del") words.now result }
+{
+    let (basis, path) = split_word(words)?;
+    Some(CommandLine::Del {
+        basis: parse_u64(basis)?,
+        path: parse_argument(path)?,
+    })
+}
+
+fn parse_rename(words: &str) -> Option<CommandLine<'_>>
+    ensures { ParsesArgs (codes "rename") words.now result }
+{
+    let (basis, rest) = split_word(words)?;
+    let (place, name) = split_word(rest)?;
+    let (path, offset) = parse_place(place)?;
+    Some(CommandLine::Rename {
+        basis: parse_u64(basis)?,
+        path,
+        offset,
+        name: parse_argument(name)?,
+    })
+}
+
+fn parse_move(words: &str) -> Option<CommandLine<'_>>
+    ensures { ParsesArgs (codes "move") words.now result }
+{
+    let (basis, rest) = split_word(words)?;
+    let (from, to) = split_word(rest)?;
+    Some(CommandLine::Move {
+        basis: parse_u64(basis)?,
+        from: parse_argument(from)?,
+        to: parse_argument(to)?,
+    })
+}
+
+fn parse_undo(words: &str) -> Option<CommandLine<'_>>
+    ensures { ParsesArgs (codes "undo") words.now result }
+{
+    let basis = parse_u64(words)?;
+    Some(CommandLine::Undo { basis })
+}
+
+fn parse_redo(words: &str) -> Option<CommandLine<'_>>
+    ensures { ParsesArgs (codes "redo") words.now result }
+{
+    let basis = parse_u64(words)?;
+    Some(CommandLine::Redo { basis })
+}
+
+fn parse_cat(words: &str) -> Option<CommandLine<'_>>
+    ensures { ParsesArgs (codes "cat") words.now result }
+{
+    let path = parse_argument(words)?;
+    Some(CommandLine::Cat { path })
+}
+
+fn parse_object(words: &str) -> Option<CommandLine<'_>>
+    ensures { ParsesArgs (codes "object") words.now result }
+{
+    let path = parse_argument(words)?;
+    Some(CommandLine::Object { path })
+}
+
+fn parse_uses(words: &str) -> Option<CommandLine<'_>>
+    ensures { ParsesArgs (codes "uses") words.now result }
+{
+    let (path, offset) = parse_place(words)?;
+    Some(CommandLine::Uses { path, offset })
+}
+
+fn parse_log(words: &str) -> Option<CommandLine<'_>>
+    ensures { ParsesArgs (codes "log") words.now result }
+{
+    let number = parse_u64(words)?;
+    Some(CommandLine::Log { number })
+}
+
+/// A command line of one word.
+fn parse_bare(verb: &str) -> Option<CommandLine<'_>>
+    ensures { ParsesBare verb.now result }
+{
+    match verb {
+        "look" => Some(CommandLine::Look),
+        "list" => Some(CommandLine::List),
+        "faults" => Some(CommandLine::Faults),
+        "work" => Some(CommandLine::Work),
+        "wait" => Some(CommandLine::Wait),
+        "end" => Some(CommandLine::End),
+        _ => None,
+    }
+}
+
+/// A command line of several words, by its first word and the others.
+fn parse_verb<'a>(verb: &str, words: &'a str) -> Option<CommandLine<'a>>
+    ensures { ParsesArgs verb.now words.now result }
+{
+    match verb {
+        "put" => parse_put(words),
+        "del" => parse_del(words),
+        "rename" => parse_rename(words),
+        "move" => parse_move(words),
+        "undo" => parse_undo(words),
+        "redo" => parse_redo(words),
+        "cat" => parse_cat(words),
+        "uses" => parse_uses(words),
+        "object" => parse_object(words),
+        "log" => parse_log(words),
+        _ => None,
+    }
+}
+
+/// A command line, or None where the text is none.
+pub fn parse_command_line(text: &str) -> Option<CommandLine<'_>>
+    ensures { ParsesLine text.now result }
+{
+    match split_word(text) {
+        None => parse_bare(text),
+        Some((verb, words)) => parse_verb(verb, words),
+    }
+}

@@ -1,0 +1,28 @@
+-- The law of a session.
+use Rattle.std.specs.Prelude.{◌≡◌, ℕ, List, [], ◌∷◌, ◌++◌}
+use Rattle.base_files.specs.declared.limits.Limits.{Limits}
+use Rattle.history_machine.specs.declared.event.Event.{Event}
+use Rattle.history_machine.specs.declared.event.Reply.{Reply}
+use Rattle.history_machine.specs.Machine.{Machine}
+use Rattle.history_machine.specs.Step.{Step}
+use Rattle.history_machine.specs.Run.{Run}
+use Rattle.server_commands.specs.Wait.{RefusesWait}
+use Rattle.server_session.specs.Transcript.{Exchange, CutsOff}
+
+-- A list of events that grows by each event, with its reply, and knows nothing else. As what a desk does it says which events the
+-- commands send, and which answers they make of the replies.
+abbrev pub Notes : List (Event × Reply) → Event → Reply → List (Event × Reply) → Type 0
+Notes old event reply new = new ≡ old ++ (event, reply) ∷ []
+
+-- What is exchanged over a book is a run of its machine, whose events are those that the messages send, in their order; and the
+-- text is that of the answers that the messages make of these events' replies.
+abbrev pub RunsTheMachine : Type 0
+RunsTheMachine = (limits : Limits) (input rest : List ℕ) (old new : Machine) (text : List ℕ)
+    → Exchange Step RefusesWait limits input rest old new text
+    → (events : List (Event × Reply)) × Run old events new × Exchange Notes RefusesWait limits input rest [] events text
+
+-- the same where the writer fails
+abbrev pub RunsUntilCutOff : Type 0
+RunsUntilCutOff = (limits : Limits) (input rest : List ℕ) (old new : Machine) (text : List ℕ)
+    → CutsOff Step RefusesWait limits input rest old new text
+    → (events : List (Event × Reply)) × Run old events new × CutsOff Notes RefusesWait limits input rest [] events text

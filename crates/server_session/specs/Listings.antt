@@ -1,0 +1,51 @@
+-- How files, places, faults, entries of the journal and packages are written, each on a line of its own.
+use Rattle.std.specs.Prelude.{ℕ, List, [], ◌∷◌, ◌++◌, length, codes, decimal, Option, Some, None}
+use Rattle.std.specs.List.{flat_map}
+use Rattle.std.specs.FinMap as map
+use Rattle.base_files.specs.PlaceText.{place_text, fault_line}
+use Rattle.base_files.specs.Workspace.{Workspace}
+use Rattle.base_files.specs.declared.place.Place.{Place}
+use Rattle.workspace_check.specs.declared.fault.FileFault.{FileFault}
+use Rattle.history_machine.specs.Kinds.{kind_name, refusal_of}
+use Rattle.history_machine.specs.declared.entry.Line.{Line}
+use Rattle.history_machine.specs.declared.entry.Told.{Told}
+use Rattle.history_machine.specs.declared.entry.Told.TheVariants.{Done, Refused}
+use Rattle.server_session.specs.Refusals.{code_of}
+
+-- a path, a space, the size of its text in bytes, and a newline
+abbrev pub file_line : List ℕ → List ℕ → List ℕ
+file_line path text = path ++ 32 ∷ (decimal (length text) ++ 10 ∷ [])
+
+-- a line for each file, by the bytes of the paths
+abbrev pub listing : Workspace → List ℕ
+listing files = flat_map (λ e. file_line e.0 e.1) (map.entries files)
+
+-- a line for each place
+abbrev pub place_lines : List Place → List ℕ
+place_lines = flat_map (λ place. place_text place ++ 10 ∷ [])
+
+-- a line for each fault
+abbrev pub fault_lines : List FileFault → List ℕ
+fault_lines = flat_map (λ f. fault_line f.place f.kind)
+
+-- the path of a package, and a newline
+abbrev pub package_line : List ℕ → List ℕ
+package_line path = path ++ 10 ∷ []
+
+abbrev pub told_word : Told → List ℕ
+told_word (Done number) = codes "ok "
+told_word (Refused reason) = codes "no "
+
+-- the number of the state, or that of the refusal
+abbrev pub told_number : Told → ℕ
+told_number (Done number) = number
+told_number (Refused reason) = code_of (refusal_of reason)
+
+-- the kind of the event, its basis, and how it was answered
+abbrev pub entry_line : Line → List ℕ
+entry_line line = kind_name line.kind ++ 32 ∷ [] ++ decimal line.basis ++ 32 ∷ [] ++ told_word line.out ++ decimal (told_number line.out) ++ 10 ∷ []
+
+-- the line of an entry, or nothing past the end of the journal
+abbrev pub entry_text : Option Line → List ℕ
+entry_text None = []
+entry_text (Some line) = entry_line line

@@ -1,0 +1,53 @@
+//! The line of an entry of the journal.
+ghost use Rattle.std.specs.Prelude.{◌≡◌};
+ghost use Rattle.server_session.specs.Listings.{entry_line, entry_text, told_number, told_word};
+
+use crate::refusal::{LONGEST_BODY, refusal_code};
+use arrayvec::ArrayString;
+use history_machine::{Line, Told};
+use itoa::Buffer;
+
+fn told_word(out: Told) -> &'static str
+    ensures { result.now ≡ told_word out }
+{
+    match out {
+        Told::Done(_) => "ok ",
+        Told::Refused(_) => "no ",
+    }
+}
+
+/// The number of the state, or that of the refusal.
+fn told_number(out: Told) -> u64
+    ensures { result ≡ told_number out }
+{
+    match out {
+        Told::Done(number) => number,
+        Told::Refused(reason) => u64::from(refusal_code(&reason.refusal())),
+    }
+}
+
+/// The line of an entry.
+fn entry_line(line: Line) -> ArrayString<LONGEST_BODY>
+    ensures { result.bytes ≡ entry_line line }
+{
+    let mut digits = Buffer::new();
+    let mut text = ArrayString::new();
+    text.push_str(line.kind.name());
+    text.push_str(" ");
+    text.push_str(digits.format(line.basis));
+    text.push_str(" ");
+    text.push_str(told_word(line.out));
+    text.push_str(digits.format(told_number(line.out)));
+    text.push_str("\n");
+    text
+}
+
+/// The line of an entry, or nothing where there is none. It takes no memory.
+pub(crate) fn entry_text(line: Option<Line>) -> ArrayString<LONGEST_BODY>
+    ensures { result.bytes ≡ entry_text line }
+{
+    match line {
+        Some(line) => entry_line(line),
+        None => ArrayString::new(),
+    }
+}

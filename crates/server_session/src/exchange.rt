@@ -1,0 +1,165 @@
+//! A session: it reads messages, has them answered, and writes the replies.
+ghost use Rattle.std.specs.Prelude.{◌≡◌, ◌+◌, ◌^◌, ◌≤◌, ◌<◌, IfOk, OnOk, IsTrue};
+ghost use Rattle.server_read.specs.Failures.{CountsFailure, WritesText};
+ghost use Rattle.server_session.specs.Replies.{reply_text};
+ghost use Rattle.server_session.specs.Answers.{Answered};
+ghost use Rattle.server_session.specs.Awaits.{AwaitsNext, LeavesSent, StepLeavesSent};
+ghost use Rattle.server_session.specs.Transcript.{SessionEnds, CountsFaults, StepEnds};
+
+use crate::written::{WrittenReply, print_reply};
+use base_files::{Limits, Refusal};
+use server_commands::{Desk, act};
+use server_read::{
+    ByteSource, InputFault, LineBuffer, Message, Next, Sink, WriteFailed, read_command,
+};
+use std::alloc::Global;
+
+/// Why a session ended before its input did.
+#[derive(Clone, Copy, Debug, PartialEq, Eq)]
+pub enum SessionFault {
+    /// There is no memory for a session.
+    Memory,
+    /// The reader failed.
+    Read,
+    /// The writer failed.
+    Write,
+    /// All reads that a session may make are used up.
+    Turns,
+}
+
+impl From<WriteFailed> for SessionFault {
+    ghost use Rattle.server_session.specs.declared.exchange.SessionFault.TheVariants.{Write};
+
+    ghost from_gives = { λ _ result. result ≡ Write };
+
+    fn from(_failed: WriteFailed) -> SessionFault {
+        SessionFault::Write
+    }
+}
+
+/// Has a message answered, and makes what takes memory to be written.
+fn answer<D: Desk>(alloc: Global, desk: &mut D, message: Message) -> WrittenReply
+    ensures { Answered D.steps D.waits desk.old message result desk.new }
+{
+    match message {
+        Message::Ask(command) => WrittenReply::of(alloc, act(alloc, desk, command)),
+        Message::Unknown => WrittenReply::refuse(alloc, Refusal::BadCommand),
+        Message::CutShort => WrittenReply::refuse(alloc, Refusal::BodyShort),
+    }
+}
+
+/// What reading uses up: the room for a line, and the reads that are left.
+#[derive(Drop)]
+struct Allowance {
+    line: LineBuffer,
+    reads_left: u64,
+}
+
+/// Has all sent that was written, since a read may wait for the other side, and reads the next message.
+fn await_message<S: ByteSource, T: Sink>(
+    alloc: Global,
+    source: &mut S,
+    sink: &mut T,
+    reading: &mut Allowance,
+    limits: &Limits,
+) -> Result<Next, SessionFault>
+    requires reads { S.reads source.old + reading.old.reads_left < 2 ^ 64 }
+    ensures awaits { AwaitsNext limits.now (S.remaining source.old) (S.remaining source.new)
+        (T.contents sink.old) (T.contents sink.new) result }
+    ensures sent { LeavesSent (T.sent sink.new) result }
+    ensures counted { CountsFaults (S.failures source.old) (S.failures source.new)
+        (T.failures sink.old) (T.failures sink.new) result }
+    ensures turns { IfOk result (λ _. reading.new.reads_left < reading.old.reads_left) }
+    ensures turns_over { result ≡ Err SessionFault.Turns → reading.new.reads_left ≡ 0 }
+    ensures reads { S.reads source.new + reading.new.reads_left ≡ S.reads source.old + reading.old.reads_left }
+{
+    sink.flush()?;
+    match read_command(
+        alloc,
+        source,
+        sink,
+        &mut reading.reads_left,
+        &mut reading.line,
+        limits,
+    ) {
+        Ok(next) => Ok(next),
+        Err(InputFault::Read) => Err(SessionFault::Read),
+        Err(InputFault::Turns) => Err(SessionFault::Turns),
+    }
+}
+
+/// Writes a reply, and has it sent where it is the last one.
+fn send_reply<T: Sink>(sink: &mut T, reply: &WrittenReply, is_last: bool) -> Result<(), WriteFailed>
+    ensures written { WritesText (T.contents sink.old) (T.contents sink.new) (reply_text reply.now) result }
+    ensures sent { OnOk result (IsTrue is_last → T.sent sink.new) }
+    ensures counted { CountsFailure (T.failures sink.old) (T.failures sink.new) result }
+{
+    print_reply(sink, reply)?;
+    if is_last { sink.flush() } else { Ok(()) }
+}
+
+/// Reads the next message, has it answered, and writes the reply. It is false where the session ends.
+fn serve_next<S: ByteSource, T: Sink, D: Desk>(
+    alloc: Global,
+    source: &mut S,
+    sink: &mut T,
+    desk: &mut D,
+    reading: &mut Allowance,
+    limits: &Limits,
+) -> Result<bool, SessionFault>
+    requires reads { S.reads source.old + reading.old.reads_left < 2 ^ 64 }
+    ensures step { StepEnds D.steps D.waits limits.now (S.remaining source.old) (S.remaining source.new)
+        (T.contents sink.old) (T.contents sink.new) desk.old desk.new result }
+    ensures sent { StepLeavesSent (T.sent sink.new) result }
+    ensures counted { CountsFaults (S.failures source.old) (S.failures source.new)
+        (T.failures sink.old) (T.failures sink.new) result }
+    ensures turns { IfOk result (λ _. reading.new.reads_left < reading.old.reads_left) }
+    ensures turns_over { result ≡ Err SessionFault.Turns → reading.new.reads_left ≡ 0 }
+    ensures reads { S.reads source.new + reading.new.reads_left ≡ S.reads source.old + reading.old.reads_left }
+{
+    match await_message(alloc, source, sink, reading, limits)? {
+        Next::End => Ok(false),
+        Next::NoRoom => {
+            let refused = WrittenReply::refuse(alloc, Refusal::Memory);
+            print_reply(sink, &refused)?;
+            Ok(true)
+        }
+        Next::Message(message) => {
+            let is_last = message.is_last();
+            let reply = answer(alloc, desk, message);
+            send_reply(sink, &reply, is_last)?;
+            Ok(!is_last)
+        }
+    }
+}
+
+/// Serves one session: reads commands to the end, has each answered, and writes the replies.
+/// What was done before a fault stands. Each reply is sent before the next message is waited for, and the last at the end.
+pub fn session<S: ByteSource, T: Sink, D: Desk>(
+    alloc: Global,
+    source: &mut S,
+    sink: &mut T,
+    desk: &mut D,
+    limits: Limits,
+) -> Result<(), SessionFault>
+    requires { S.reads source.old + limits.reads < 2 ^ 64 }
+    ensures session { SessionEnds D.steps D.waits limits (S.remaining source.old) (S.remaining source.new)
+        (T.contents sink.old) (T.contents sink.new) desk.old desk.new result }
+    ensures sent { LeavesSent (T.sent sink.new) result }
+    ensures counted { CountsFaults (S.failures source.old) (S.failures source.new)
+        (T.failures sink.old) (T.failures sink.new) result }
+    ensures memory_first { result ≡ Err SessionFault.Memory → S.reads source.new ≡ S.reads source.old }
+    ensures few_reads { S.reads source.new ≤ S.reads source.old + limits.reads }
+    ensures turns { result ≡ Err SessionFault.Turns → S.reads source.new ≡ S.reads source.old + limits.reads }
+{
+    let line = match LineBuffer::new(alloc) {
+        Ok(line) => line,
+        Err(_) => return Err(SessionFault::Memory),
+    };
+    let mut reading = Allowance {
+        line,
+        reads_left: limits.reads,
+    };
+    while serve_next(alloc, source, sink, desk, &mut reading, &limits)? {}
+    Ok(())
+}

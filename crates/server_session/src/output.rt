@@ -1,0 +1,137 @@
+//! Writing replies. A later form of answer is a case of `body_of` and `number_of` in specs/Replies.antt,
+//! and an arm of `print_response`, and where its body takes memory also one of `made_body` in written.rt.
+ghost use Rattle.std.specs.Prelude.{◌≡◌, ◌++◌, ◌≤◌, true, length};
+ghost use Rattle.server_session.specs.Listings.{package_line};
+ghost use Rattle.server_session.specs.Replies.{head_of, made_body, reply_text, steps_line};
+ghost use Rattle.server_read.specs.Failures.{CountsFailure, WritesText};
+
+use crate::entries::entry_text;
+use crate::refusal::{LONGEST_BODY, refusal_body, refusal_code};
+use arrayvec::ArrayString;
+use itoa::Buffer;
+use server_commands::Response;
+use server_read::{Sink, WriteFailed};
+
+/// The longest first line: a word, two numbers of at most 20 digits, a space and a newline.
+const LONGEST_HEAD: usize = 48;
+
+/// The longest reply that is written at once.
+const LONGEST_SHORT: usize = 700;
+
+/// Writes all bytes, in as many writes as it takes.
+fn write_whole<T: Sink>(sink: &mut T, bytes: &[u8]) -> Result<(), WriteFailed>
+    ensures written { WritesText (T.contents sink.old) (T.contents sink.new) bytes.now result }
+    ensures counted { CountsFailure (T.failures sink.old) (T.failures sink.new) result }
+{
+    let mut rest = bytes;
+    while !rest.is_empty() {
+        let count = sink.write(rest)?;
+        rest = &rest[count..];
+    }
+    Ok(())
+}
+
+/// The first line of a reply, which takes no memory.
+fn head(is_done: bool, number: u64, body_len: usize) -> ArrayString<LONGEST_HEAD>
+    ensures { result.bytes ≡ head_of is_done number body_len }
+{
+    let mut digits = Buffer::new();
+    let mut head = ArrayString::new();
+    head.push_str(if is_done { "ok " } else { "no " });
+    head.push_str(digits.format(number));
+    head.push_str(" ");
+    head.push_str(digits.format(body_len));
+    head.push_str("\n");
+    head
+}
+
+/// How many steps undo and redo can make, as a line.
+fn steps_text(undo: usize, redo: usize) -> ArrayString<LONGEST_BODY>
+    ensures { result.bytes ≡ steps_line undo redo }
+{
+    let mut digits = Buffer::new();
+    let mut text = ArrayString::new();
+    text.push_str("undo ");
+    text.push_str(digits.format(undo));
+    text.push_str(" redo ");
+    text.push_str(digits.format(redo));
+    text.push_str("\n");
+    text
+}
+
+/// Writes all of two texts, one behind the other.
+fn write_both<T: Sink>(sink: &mut T, first: &[u8], second: &[u8]) -> Result<(), WriteFailed>
+    ensures written { WritesText (T.contents sink.old) (T.contents sink.new) (first.now ++ second.now) result }
+    ensures counted { CountsFailure (T.failures sink.old) (T.failures sink.new) result }
+{
+    write_whole(sink, first)?;
+    write_whole(sink, second)
+}
+
+/// Writes a reply whose body may be long.
+fn print_parts<T: Sink>(sink: &mut T, number: u64, body: &[u8]) -> Result<(), WriteFailed>
+    ensures written { WritesText (T.contents sink.old) (T.contents sink.new) (head_of true number (length body.now) ++ body.now) result }
+    ensures counted { CountsFailure (T.failures sink.old) (T.failures sink.new) result }
+{
+    let first_line = head(true, number, body.len());
+    write_both(sink, first_line.as_str().as_bytes(), body)
+}
+
+/// Writes a reply whose body is one line, that of a package.
+fn print_line<T: Sink>(sink: &mut T, number: u64, path: &[u8]) -> Result<(), WriteFailed>
+    ensures written { WritesText (T.contents sink.old) (T.contents sink.new) (head_of true number (length (package_line path.now)) ++ package_line path.now) result }
+    ensures counted { CountsFailure (T.failures sink.old) (T.failures sink.new) result }
+{
+    let first_line = head(true, number, path.len() + 1);
+    write_whole(sink, first_line.as_str().as_bytes())?;
+    write_both(sink, path, b"\n")
+}
+
+/// Writes a reply with a short body at once.
+fn print_short<T: Sink>(
+    sink: &mut T,
+    is_done: bool,
+    number: u64,
+    body: &str,
+) -> Result<(), WriteFailed>
+    requires { length body.now ≤ LONGEST_BODY }
+    ensures written { WritesText (T.contents sink.old) (T.contents sink.new) (head_of is_done number (length body.now) ++ body.now) result }
+    ensures counted { CountsFailure (T.failures sink.old) (T.failures sink.new) result }
+{
+    let mut text: ArrayString<LONGEST_SHORT> = ArrayString::new();
+    text.push_str(head(is_done, number, body.len()).as_str());
+    text.push_str(body);
+    write_whole(sink, text.as_str().as_bytes())
+}
+
+/// Writes a response, whose body was made where that takes memory. On an `Err` a first part of it is written.
+pub(crate) fn print_response<T: Sink>(
+    sink: &mut T,
+    response: &Response,
+    made: &[u8],
+) -> Result<(), WriteFailed>
+    requires { made.now ≡ made_body response.now }
+    ensures written { WritesText (T.contents sink.old) (T.contents sink.new) (reply_text response.now) result }
+    ensures counted { CountsFailure (T.failures sink.old) (T.failures sink.new) result }
+{
+    match response {
+        Response::Done { number } => print_short(sink, true, *number, ""),
+        Response::Steps { number, undo, redo } => {
+            print_short(sink, true, *number, steps_text(*undo, *redo).as_str())
+        }
+        Response::File { number, text } => print_parts(sink, *number, text.bytes()),
+        Response::Listing { number, .. }
+        | Response::Places { number, .. }
+        | Response::Faults { number, .. } => print_parts(sink, *number, made),
+        Response::Entry { number, line } => {
+            print_short(sink, true, *number, entry_text(*line).as_str())
+        }
+        Response::Built { number, package } => print_line(sink, *number, package.path()),
+        Response::Refused { refusal } => print_short(
+            sink,
+            false,
+            u64::from(refusal_code(refusal)),
+            refusal_body(refusal).as_str(),
+        ),
+    }
+}

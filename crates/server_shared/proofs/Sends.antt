@@ -1,0 +1,174 @@
+-- A shared book may be shared by threads, and a seat may go to another thread.
+use denote.RattleType.{RattleType}
+use denote.Param.Send.{IsSend, IsSync, sendable}
+use Rattle.std.specs.declared.sync.ledger.Ledger.{Ghosts as Ledger}
+use Rattle.std.specs.declared.cmp.Ord as ord
+use Rattle.std.specs.declared.cmp.PartialEq as eq
+use Rattle.std.specs.declared.cmp.PartialOrd as partial
+use Rattle.std.proofs.Crossing.{crosses, frees, send as Global-send, sync as Global-sync}
+use Rattle.std.proofs.MapsCrossing.{crosses as maps}
+use Rattle.std.proofs.MapsCrossingOver.{BTreeSet-send, BTreeSet-sync}
+use Rattle.std.specs.contracts.collections.BTreeSet as BTreeSet
+use Rattle.std.specs.contracts.alloc.Global as Heap
+use Rattle.std.specs.contracts.prelude.GlobalAllocator.TheImpl.{ghosts}
+use Rattle.std.proofs.sync.ledger.Book.TheSendSync.{the_send as Count-send}
+use Rattle.std.proofs.sync.ledger.Share.TheSendSync.{the_send as Share-send}
+use Rattle.workspace_graph.specs.contracts.package.ParsedPackage.{the_row as folder, the_field as folder_field}
+use Rattle.workspace_graph.specs.contracts.shared_package.PackageParts.{the_row as package_parts}
+use Rattle.workspace_graph.specs.contracts.shared_package.SharedPackage.{the_row as shared_package}
+use Rattle.workspace_graph.specs.contracts.graph.Parts.{the_row as graph_parts}
+use Rattle.workspace_graph.specs.contracts.graph.Graph.{the_row as graph}
+use Rattle.workspace_check.specs.contracts.earlier.EarlierParts.{the_row as earlier_parts}
+use Rattle.workspace_check.specs.contracts.earlier.Earlier.{the_row as earlier}
+use Rattle.workspace_check.specs.contracts.known.Known.{the_row as known}
+use Rattle.workspace_check.specs.contracts.shared_known.SharedKnown.{the_row as shared_known}
+use Rattle.build_unit.specs.contracts.unit.Compiled.{the_row as compiled}
+use Rattle.build_unit.specs.contracts.unit.Unit.{the_row as unit}
+use Rattle.build_carry.specs.contracts.finished.Finished.{the_row as finished}
+use Rattle.history_machine.specs.contracts.state.State.{the_row as state}
+use Rattle.history_book.specs.contracts.history.History.{the_field as history_field}
+use Rattle.history_book.specs.contracts.content.Content.{the_row as content}
+use Rattle.history_book.specs.contracts.book.Book.{the_row as book}
+use Rattle.server_shared.specs.contracts.seat.Seat.{the_row as seat}
+use Rattle.server_shared.specs.contracts.shared.Shared.{the_row as shared}
+use Rattle.server_shared.specs.contracts.locked.Locked.{the_row as locked}
+use Rattle.server_shared.specs.declared.opening.Opening.{Ghosts as Opening}
+use Rattle.base_chunks.proofs.list.SharedList.TheSendSync.{the_send as SharedList-send, the_sync as SharedList-sync}
+use Rattle.base_files.proofs.file_text.FileText.TheSendSync.{the_send as FileText-send, the_sync as FileText-sync}
+use Rattle.base_files.proofs.files.Files.TheSendSync.{the_send as Files-send, the_sync as Files-sync}
+use Rattle.base_files.proofs.limits.Limits.TheSendSync.{the_send as Limits-send, the_sync as Limits-sync}
+use Rattle.workspace_graph.proofs.faulty_file.FaultyFile.TheSendSync.{the_send as FaultyFile-send, the_sync as FaultyFile-sync}
+use Rattle.workspace_graph.proofs.shared_links.SharedLinks.TheSendSync.{the_send as SharedLinks-send, the_sync as SharedLinks-sync}
+use Rattle.build_unit.proofs.out.Out.TheSendSync.{the_send as Out-send}
+use Rattle.history_machine.proofs.entry.Entry.TheSendSync.{the_send as Entry-send}
+use Rattle.server_shared.proofs.seat.Seat.TheSendSync.{the_send as Seat-send}
+use Rattle.server_shared.proofs.SendsFound.{file_fault_sent, file_fault_shared, interface_sent, interface_shared, verdict_sent}
+use Rattle.server_shared.proofs.SendsFound.{verdict_shared}
+use Rattle.types_expr.proofs.types.GoType.TheLaws.TheKnot.{crosses as type_crosses}
+use Rattle.server_shared.proofs.SendsTrees.{file_tree_sent, file_tree_shared}
+
+-- a set of owned keys at the heap
+module _ (K : RattleType) (o : ord.Ghosts K.Denot) (e : eq.Ghosts K.Denot) (p : partial.Ghosts K.Denot) where
+  set_sent : IsSend K → IsSend (BTreeSet.the_field K Heap.the_row o e p ghosts).row
+  set_sent sent = BTreeSet-send K Heap.the_row o e p ghosts sent Global-send frees
+
+  set_shared : IsSync K → IsSync (BTreeSet.the_field K Heap.the_row o e p ghosts).row
+  set_shared shared = BTreeSet-sync K Heap.the_row o e p ghosts shared Global-sync
+
+-- owned values, and what each of the crates below shows of its own types
+ruleset owned = (
+  sendable,
+  crosses,
+  maps,
+  set_sent,
+  set_shared,
+  Global-send,
+  Global-sync,
+  FileText-send,
+  FileText-sync,
+  Files-send,
+  Files-sync,
+  Limits-send,
+  Limits-sync,
+  FaultyFile-send,
+  FaultyFile-sync,
+  SharedLinks-send,
+  SharedLinks-sync,
+)
+
+pub folder_sent : IsSend folder
+folder_sent = search (owned, file_tree_sent) depth 30 fits 50000
+
+pub folder_shared : IsSync folder
+folder_shared = search (owned, file_tree_shared) depth 30 fits 50000
+
+-- the same of a package as a field, whose row is not compared with the other by `search`: that takes too many steps
+folder_field_sent : IsSend folder_field.row
+folder_field_sent = search (owned, file_tree_sent) depth 30 fits 50000
+
+folder_field_shared : IsSync folder_field.row
+folder_field_shared = search (owned, file_tree_shared) depth 30 fits 50000
+
+pub package_parts_sent : IsSend package_parts
+package_parts_sent = search (sendable, crosses, maps, set_sent, set_shared, folder_field_sent) depth 30 fits 50000
+
+pub package_parts_shared : IsSync package_parts
+package_parts_shared = search (sendable, crosses, maps, set_sent, set_shared, folder_field_shared) depth 30 fits 50000
+
+pub shared_package_sent : IsSend shared_package
+shared_package_sent = search (owned, package_parts_sent, package_parts_shared) depth 30 fits 50000
+
+pub shared_package_shared : IsSync shared_package
+shared_package_shared = search (owned, package_parts_sent, package_parts_shared) depth 30 fits 50000
+
+pub graph_parts_sent : IsSend graph_parts
+graph_parts_sent = search (owned, shared_package_sent) depth 30 fits 50000
+
+pub graph_parts_shared : IsSync graph_parts
+graph_parts_shared = search (owned, shared_package_shared) depth 30 fits 50000
+
+pub graph_sent : IsSend graph
+graph_sent = search (owned, graph_parts_sent, graph_parts_shared) depth 30 fits 50000
+
+pub graph_shared : IsSync graph
+graph_shared = search (owned, graph_parts_sent, graph_parts_shared) depth 30 fits 50000
+
+-- what is known of packages, and what was known of them in another graph
+
+pub earlier_parts_sent : IsSend earlier_parts
+earlier_parts_sent = search (owned, graph_sent, verdict_sent) depth 30 fits 50000
+
+pub earlier_parts_shared : IsSync earlier_parts
+earlier_parts_shared = search (owned, graph_shared, verdict_shared) depth 30 fits 50000
+
+pub earlier_sent : IsSend earlier
+earlier_sent = search (owned, earlier_parts_sent, earlier_parts_shared) depth 30 fits 50000
+
+pub earlier_shared : IsSync earlier
+earlier_shared = search (owned, earlier_parts_sent, earlier_parts_shared) depth 30 fits 50000
+
+pub known_sent : IsSend known
+known_sent = search (owned, verdict_sent, earlier_sent) depth 30 fits 50000
+
+pub known_shared : IsSync known
+known_shared = search (owned, verdict_shared, earlier_shared) depth 30 fits 50000
+
+pub shared_known_sent : IsSend shared_known
+shared_known_sent = search (owned, known_sent, known_shared) depth 30 fits 50000
+
+pub compiled_sent : IsSend compiled
+compiled_sent = search (owned, type_crosses, file_fault_sent, interface_sent, interface_shared) depth 30 fits 50000
+
+pub compiled_shared : IsSync compiled
+compiled_shared = search (owned, type_crosses, file_fault_shared, interface_sent, interface_shared) depth 30 fits 50000
+
+pub unit_sent : IsSend unit
+unit_sent = search (owned, compiled_sent, compiled_shared) depth 30 fits 50000
+
+pub unit_shared : IsSync unit
+unit_shared = search (owned, compiled_sent, compiled_shared) depth 30 fits 50000
+
+pub finished_sent : IsSend finished
+finished_sent = search (owned, SharedList-send, SharedList-sync, unit_sent, unit_shared) depth 30 fits 50000
+
+pub state_sent : IsSend state
+state_sent = search (owned, graph_sent, finished_sent, shared_known_sent) depth 30 fits 50000
+
+-- as a field, as a package is above
+history_field_sent : IsSend history_field.row
+history_field_sent = search (owned, state_sent) depth 30 fits 50000
+
+pub content_sent : IsSend content
+content_sent = search (owned, history_field_sent, Out-send) depth 30 fits 50000
+
+pub book_sent : IsSend book
+book_sent = search (owned, content_sent, Entry-send) depth 30 fits 50000
+
+pub locked_sent : (L : RattleType) (o : Opening L.Denot) (l : Ledger L.Denot) → IsSend (locked L o l)
+locked_sent L o l = search (owned, book_sent, Count-send, Share-send) depth 30 fits 50000
+
+pub shared_shared : (L : RattleType) (o : Opening L.Denot) (l : Ledger L.Denot) → IsSync (shared L o l)
+shared_shared L o l = search (owned, locked_sent) depth 30 fits 50000
+
+pub seat_sent : (L : RattleType) (o : Opening L.Denot) (l : Ledger L.Denot) → IsSend (seat L o l)
+seat_sent L o l = search (owned, Seat-send) depth 30 fits 50000

@@ -1,0 +1,126 @@
+-- What was found in packages may go to other threads, and may be shared by them.
+use denote.Param.Send.{IsSend, IsSync, sendable}
+use Rattle.std.proofs.Crossing.{crosses}
+use Rattle.std.proofs.MapsCrossing.{crosses as maps}
+use Rattle.types_expr.specs.contracts.types.GoType.{the_row as go_type}
+use Rattle.types_expr.specs.contracts.symbol.Symbol.{the_row as symbol}
+use Rattle.types_expr.specs.contracts.types.Signature.{the_row as signature}
+use Rattle.types_expr.specs.contracts.world.Field.{the_row as field}
+use Rattle.types_expr.specs.contracts.world.Method.{the_row as method}
+use Rattle.types_expr.specs.contracts.world.Definition.{the_row as definition}
+use Rattle.types_expr.specs.contracts.found.MemberUse.{the_row as member_use}
+use Rattle.types_expr.specs.contracts.interfaces.Export.{the_row as exported}
+use Rattle.types_expr.specs.contracts.interfaces.PackageScope.{the_row as scope}
+use Rattle.types_expr.specs.contracts.interfaces.Interface.{the_row as interface}
+use Rattle.types_declared.specs.contracts.interfaces.Interfaces.{the_row as interfaces}
+use Rattle.types_declared.specs.contracts.known_interface.KnownInterface.{the_row as known_interface}
+use Rattle.workspace_check.specs.contracts.fault.FileFault.{the_row as file_fault}
+use Rattle.workspace_check.specs.contracts.finding.Finding.{the_row as finding}
+use Rattle.workspace_check.specs.contracts.finding.SharedFinding.{the_row as shared_finding}
+use Rattle.workspace_check.specs.contracts.known.KnownVerdict.{the_row as verdict}
+use Rattle.base_files.proofs.path.Path.TheSendSync.{the_send as Path-send, the_sync as Path-sync}
+use Rattle.base_files.proofs.shared_path.SharedPath.TheSendSync.{the_send as SharedPath-send, the_sync as SharedPath-sync}
+use Rattle.types_expr.proofs.types.Basic.TheSendSync.{the_send as Basic-send, the_sync as Basic-sync}
+use Rattle.types_expr.proofs.symbol.Symbol.TheSendSync.{the_send as Symbol-send, the_sync as Symbol-sync}
+use Rattle.types_info.proofs.lists.Qualified.TheSendSync.{the_send as Qualified-send, the_sync as Qualified-sync}
+use Rattle.workspace_check.proofs.fault.FileFault.TheSendSync.{the_send as FileFault-send, the_sync as FileFault-sync}
+use Rattle.types_expr.proofs.types.GoType.TheLaws.TheKnot.{crosses as type_crosses}
+
+-- owned values, and what each of the crates below shows of its own types
+pub ruleset owned = (sendable, crosses, maps, Path-send, Path-sync, SharedPath-send, SharedPath-sync, Basic-send, Basic-sync)
+
+pub go_type_sent : IsSend go_type
+go_type_sent = search (owned, type_crosses) depth 30 fits 50000
+
+pub go_type_shared : IsSync go_type
+go_type_shared = search (owned, type_crosses) depth 30 fits 50000
+
+pub symbol_sent : IsSend symbol
+symbol_sent = Symbol-send
+
+pub symbol_shared : IsSync symbol
+symbol_shared = Symbol-sync
+
+pub signature_sent : IsSend signature
+signature_sent = search (owned, go_type_sent) depth 30 fits 50000
+
+pub signature_shared : IsSync signature
+signature_shared = search (owned, go_type_shared) depth 30 fits 50000
+
+pub field_sent : IsSend field
+field_sent = search (owned, type_crosses) depth 30 fits 50000
+
+pub field_shared : IsSync field
+field_shared = search (owned, type_crosses) depth 30 fits 50000
+
+pub method_sent : IsSend method
+method_sent = search (owned, signature_sent) depth 30 fits 50000
+
+pub method_shared : IsSync method
+method_shared = search (owned, signature_shared) depth 30 fits 50000
+
+pub definition_sent : IsSend definition
+definition_sent = search (owned, type_crosses, field_sent, method_sent) depth 30 fits 50000
+
+pub definition_shared : IsSync definition
+definition_shared = search (owned, type_crosses, field_shared, method_shared) depth 30 fits 50000
+
+pub member_use_sent : IsSend member_use
+member_use_sent = search (owned, type_crosses, symbol_sent) depth 30 fits 50000
+
+pub member_use_shared : IsSync member_use
+member_use_shared = search (owned, type_crosses, symbol_shared) depth 30 fits 50000
+
+pub exported_sent : IsSend exported
+exported_sent = search (owned, type_crosses, go_type_sent) depth 30 fits 50000
+
+pub exported_shared : IsSync exported
+exported_shared = search (owned, type_crosses, go_type_shared) depth 30 fits 50000
+
+pub scope_sent : IsSend scope
+scope_sent = search (owned, exported_sent) depth 30 fits 50000
+
+pub scope_shared : IsSync scope
+scope_shared = search (owned, exported_shared) depth 30 fits 50000
+
+pub interface_sent : IsSend interface
+interface_sent = search (owned, type_crosses, definition_sent) depth 30 fits 50000
+
+pub interface_shared : IsSync interface
+interface_shared = search (owned, type_crosses, definition_shared) depth 30 fits 50000
+
+pub interfaces_sent : IsSend interfaces
+interfaces_sent = search (owned, type_crosses, interface_sent, interface_shared) depth 30 fits 50000
+
+pub interfaces_shared : IsSync interfaces
+interfaces_shared = search (owned, type_crosses, interface_sent, interface_shared) depth 30 fits 50000
+
+pub file_fault_sent : IsSend file_fault
+file_fault_sent = FileFault-send
+
+pub file_fault_shared : IsSync file_fault
+file_fault_shared = FileFault-sync
+
+pub finding_sent : IsSend finding
+finding_sent = search (owned, file_fault_sent, member_use_sent, Qualified-send) depth 30 fits 50000
+
+pub finding_shared : IsSync finding
+finding_shared = search (owned, file_fault_shared, member_use_shared, Qualified-sync) depth 30 fits 50000
+
+pub shared_finding_sent : IsSend shared_finding
+shared_finding_sent = search (owned, finding_sent, finding_shared) depth 30 fits 50000
+
+pub shared_finding_shared : IsSync shared_finding
+shared_finding_shared = search (owned, finding_sent, finding_shared) depth 30 fits 50000
+
+pub known_interface_sent : IsSend known_interface
+known_interface_sent = search (owned, interface_sent, interface_shared) depth 30 fits 50000
+
+pub known_interface_shared : IsSync known_interface
+known_interface_shared = search (owned, interface_sent, interface_shared) depth 30 fits 50000
+
+pub verdict_sent : IsSend verdict
+verdict_sent = search (owned, shared_finding_sent, known_interface_sent) depth 30 fits 50000
+
+pub verdict_shared : IsSync verdict
+verdict_shared = search (owned, shared_finding_shared, known_interface_shared) depth 30 fits 50000

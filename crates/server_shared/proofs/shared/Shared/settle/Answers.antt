@@ -1,0 +1,7 @@
+-- The book that is handed back is the one that was locked.
+use Rattle.std.proofs.Common.{sym, subst}
+use Rattle.server_shared.specs.Steps.{IsReplayed}
+use Rattle.server_shared.proofs.shared.Shared.settle.Goals as goal
+
+pub returns-clause-legal : goal.returns-clause-legal
+returns-clause-legal g c = subst IsReplayed (sym c.settle.ensures.book) c.settle.ensures.legal

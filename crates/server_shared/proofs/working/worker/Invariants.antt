@@ -1,0 +1,7 @@
+-- So far a Take was refused, or a Job was taken and handed in, so often.
+use Rattle.std.proofs.Common.{ℕ}
+use Rattle.server_shared.specs.Working.{WorksOften}
+use Rattle.server_shared.proofs.working.worker.Given as goal
+
+abbrev pub invariant-loop : goal.invariant-loop
+invariant-loop g l = (turns : ℕ) × WorksOften turns l.fn.seat l.seat

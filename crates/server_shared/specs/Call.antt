@@ -1,0 +1,57 @@
+-- What a call leaves at its seat.
+use Rattle.std.specs.Prelude.{◌≡◌, ◌<◌, ℕ, List, [], ◌∷◌, ◌++◌, ◌⊎◌, All, length, slice_get, Option, Some, None, Result, Ok, Err}
+use Rattle.base_files.specs.declared.refusal.Refusal.{Refusal}
+use Rattle.base_files.specs.declared.refusal.Refusal.TheVariants.{Memory, JournalFull}
+use Rattle.base_files.specs.Packages.{package_paths}
+use Rattle.build_unit.specs.declared.unit.Unit.{Unit as PackageUnit}
+use Rattle.build_carry.specs.Finished.{Table}
+use Rattle.history_machine.specs.declared.entry.EntryKind.TheVariants as kind
+use Rattle.history_machine.specs.declared.event.Event.{Event}
+use Rattle.history_machine.specs.declared.event.Event.TheVariants.{Look}
+use Rattle.history_machine.specs.declared.event.Reply.{Reply}
+use Rattle.history_machine.specs.declared.event.Reply.TheVariants.{Looked}
+use Rattle.history_machine.specs.declared.view.View.{View}
+use Rattle.history_machine.specs.Kept.{IsTurnedAway}
+use Rattle.server_shared.specs.declared.receipt.Receipt.{Receipt}
+use Rattle.server_shared.specs.Steps.{IsReceiptOf}
+
+-- The event was one step of a book, at the index that was answered, and the seat has gained its receipt; or the event was turned away, and
+-- the seat has gained none.
+abbrev pub Calls : List Receipt → Event → Reply → Option ℕ → List Receipt → Type 0
+Calls old event reply (Some index) new =
+    (receipt : Receipt) × (receipt.index ≡ index) × IsReceiptOf event reply receipt × (new ≡ old ++ receipt ∷ [])
+Calls old event reply None new = IsTurnedAway event reply × (new ≡ old)
+
+-- the event was called, with this reply
+abbrev pub Replies : List Receipt → Event → Reply → List Receipt → Type 0
+Replies old event reply new = (index : Option ℕ) × Calls old event reply index new
+
+-- want of memory, or of room in the journal
+abbrev pub IsLack : Refusal → Type 0
+IsLack refusal = (refusal ≡ Memory) ⊎ (refusal ≡ JournalFull)
+
+-- The seat has gained a receipt of a look, or none, and the look was turned away.
+abbrev pub Looks : List Receipt → Result View Refusal → List Receipt → Type 0
+Looks old (Ok view) new = (index : ℕ) × Calls old Look (Looked view) (Some index) new
+Looks old (Err refusal) new = IsLack refusal × (new ≡ old)
+
+abbrev pub IsLook : Receipt → Type 0
+IsLook receipt = receipt.entry.line.kind ≡ kind.Look
+
+-- the package of this number is finished
+unfoldable pub HasUnit : Table → ℕ → Type 0
+HasUnit table number = (unit : PackageUnit) × (slice_get table number ≡ Some (Some unit))
+
+-- each package of the view's files, by its number, is finished
+abbrev pub IsBuilt : View → Type 0
+IsBuilt view = (number : ℕ) → number < length (package_paths view.snapshot.files) → HasUnit view.finished number
+
+-- The seat has gained receipts of looks. The last shows that every package is built; or a look was turned away.
+abbrev pub LooksUntilBuilt : List Receipt → Result View Refusal → List Receipt → Type 0
+LooksUntilBuilt old (Ok view) new =
+    (looks : List Receipt) × All IsLook looks × ((index : ℕ) × Calls (old ++ looks) Look (Looked view) (Some index) new) × IsBuilt view
+LooksUntilBuilt old (Err refusal) new = (looks : List Receipt) × All IsLook looks × (new ≡ old ++ looks) × IsLack refusal
+
+-- The seat has gained receipts, each with P.
+abbrev pub Gains : (Receipt → Type 0) → List Receipt → List Receipt → Type 0
+Gains P old new = (gained : List Receipt) × (new ≡ old ++ gained) × All P gained

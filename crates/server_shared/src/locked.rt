@@ -1,0 +1,166 @@
+//! What lies under the lock.
+ghost use Rattle.std.specs.Prelude.{◌≡◌, ◌+◌, ◌<◌, ◌≤◌, ◌↔◌, [], length, vec_len, is_some, IfSome, IsOk, if◌then◌else◌};
+ghost use Rattle.workspace_check.specs.Found.{KnowsVerdicts};
+ghost use Rattle.history_machine.specs.Kept.{IsTurnedAway, StepKept};
+ghost use Rattle.history_machine.specs.MayReply.{MayReply};
+ghost use Rattle.server_shared.specs.Steps.{IsReplayed, IsStepOf, StepsAt};
+ghost use Rattle.server_shared.specs.Outcome.{book_in};
+ghost use Rattle.server_shared.specs.Settled.{IsSettled, receipt_count};
+
+use crate::opening::Opening;
+use crate::receipt::Receipt;
+use crate::seat::Seat;
+use crate::settle::merged;
+use crate::settling::{Unsettled, is_settled};
+use base_files::Refusal;
+use history_book::{Book, Question};
+use history_machine::{Entry, EntryKind, Line, Told};
+use std::alloc::{AllocError, Global};
+use std::sync::ledger::{self, Share};
+use workspace_check::Known;
+use workspace_graph::Graph;
+
+/// A book, and the count of the entries that it gained since it was shared.
+pub struct Locked<L: Opening> {
+    pub book: Book,
+    pub count: ledger::Book<L>,
+    /// The parts of the seats that are still to be had.
+    pub rest: Share<L>,
+    pub free: u64,
+    pub from: u64,
+    pub is_stopped: bool,
+    /// How many events were answered `Done`.
+    pub done: u64,
+    ghost counted: { length book.journal ≡ from + count.total },
+    ghost one_each: { rest.parts ≡ free },
+    ghost none_yet: { rest.amount ≡ 0 },
+    ghost from_is: { from ≡ L.from },
+}
+
+/// One step of a book, with a copy of the entry that it added.
+fn step_book<Q: Question>(book: &mut Book, question: Q) -> (Q::Answer, Option<Entry>)
+    ensures step { StepKept book.old (Q.event question) (Q.reply result.0) result.1 book.new }
+    ensures kind { MayReply (Q.event question) (Q.reply result.0) }
+{
+    book.step_kept(question)
+}
+
+/// What is answered to an event that is turned away, since there is no memory for its receipt.
+pub fn turn_away<Q: Question>(question: Q, error: AllocError) -> Q::Answer
+    ensures turned { IsTurnedAway (Q.event question) (Q.reply result) }
+    ensures kind { MayReply (Q.event question) (Q.reply result) }
+{
+    question.refuse(Refusal::from(error))
+}
+
+/// Whether an entry is of an event that may give others something to do: it changed the workspace, or handed a Job in.
+pub fn is_done(line: &Line) -> bool {
+    match (line.kind, line.out) {
+        (EntryKind::Look | EntryKind::Log | EntryKind::Take, _) => false,
+        (_, Told::Done(_)) => true,
+        (_, Told::Refused(_)) => false,
+    }
+}
+
+impl<L: Opening> Locked<L> {
+    pub fn seat(&mut self, alloc: Global) -> Option<Seat<L>>
+        ensures { IfSome result (λ seat. seat ≡ []) }
+    {
+        if self.free == 0 {
+            return None;
+        }
+        let Locked { rest, free, .. } = self;
+        *free -= 1;
+        Some(Seat::new(alloc, rest.split_off(1, 0)))
+    }
+
+    /// One step of the book, with a receipt of the entry that it added, which counts in the share.
+    pub fn step<Q: Question>(
+        &mut self,
+        share: &mut Share<L>,
+        question: Q,
+    ) -> (Q::Answer, Option<Receipt>)
+        requires { 0 < share.old.parts }
+        ensures step { StepsAt self.old.book (Q.event question) (Q.reply result.0) result.1 self.new.book }
+        ensures kind { MayReply (Q.event question) (Q.reply result.0) }
+        ensures amount { share.new.amount ≡ share.old.amount + (if is_some result.1 then 1 else 0) }
+        ensures parts { share.new.parts ≡ share.old.parts }
+    {
+        let index = self.book.journal().len() as u64;
+        let Locked {
+            book,
+            count,
+            done,
+            ..
+        } = self;
+        let (answer, kept) = step_book(book, question);
+        match kept {
+            None => (answer, None),
+            Some(entry) => {
+                if is_done(&entry.line) {
+                    *done = done.wrapping_add(1);
+                }
+                count.add(share, 1);
+                (answer, Some(Receipt { index, entry }))
+            }
+        }
+    }
+
+    /// The same, for callers who cannot name the book.
+    pub fn call<Q: Question>(
+        &mut self,
+        share: &mut Share<L>,
+        question: Q,
+    ) -> (Q::Answer, Option<Receipt>)
+        requires { 0 < share.old.parts }
+        ensures step { IsStepOf (Q.event question) (Q.reply result.0) result.1 }
+        ensures kind { MayReply (Q.event question) (Q.reply result.0) }
+        ensures amount { share.new.amount ≡ share.old.amount + (if is_some result.1 then 1 else 0) }
+        ensures parts { share.new.parts ≡ share.old.parts }
+    {
+        self.step(share, question)
+    }
+
+    /// The book takes in what was found in packages of these files. It is no event.
+    pub fn learn(&mut self, files: &Graph, known: Known)
+        requires { KnowsVerdicts files.now known }
+        ensures { self.new.book ≡ self.old.book }
+    {
+        self.book.learn(files, known);
+    }
+
+    pub fn stop(&mut self) {
+        self.is_stopped = true;
+    }
+
+    /// Hands the book back. It takes no memory.
+    pub fn settle(self, seats: Vec<Seat<L>>) -> Result<Book, Unsettled>
+        ensures book { book_in result ≡ self.book }
+        ensures legal { IsReplayed self.book }
+        ensures from { self.from ≡ L.from }
+        ensures exact { IsOk result ↔ IsSettled self.from self.book.journal seats.items }
+        ensures count { length self.book.journal ≡ self.from + self.count.total }
+        ensures bound { receipt_count seats.items ≤ self.count.total }
+        ensures whole { vec_len seats ≡ L.parts → receipt_count seats.items ≡ self.count.total }
+    {
+        let Locked {
+            book,
+            mut count,
+            rest,
+            free: _,
+            from,
+            is_stopped: _,
+            done: _,
+        } = self;
+        let settled = is_settled(from, book.journal(), seats.as_slice());
+        let mut all = merged(rest, seats);
+        count.audit(&mut all);
+        drop(all);
+        drop(count);
+        if settled {
+            Ok(book)
+        } else {
+            Err(Unsettled { book })
+        }
+    }
+}

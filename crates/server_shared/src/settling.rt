@@ -1,0 +1,31 @@
+//! Whether the seats' receipts are the entries that a journal gained.
+ghost use Rattle.std.specs.Prelude.{◌↔◌, ◌≤◌, IsTrue, length};
+ghost use Rattle.server_shared.specs.Settled.{IsSettled};
+
+use crate::opening::Opening;
+use crate::seat::Seat;
+use crate::settle::{are_counted, seats_apart, seats_rise, seats_stand};
+use history_book::Book;
+use history_machine::Entry;
+
+/// What was handed in is not what the journal gained. The book is handed back.
+pub struct Unsettled {
+    pub book: Book,
+}
+
+/// Whether the seats' receipts are the entries that the journal gained. It takes no memory, and compares texts last.
+pub(crate) fn is_settled<L: Opening>(from: u64, journal: &[Entry], seats: &[Seat<L>]) -> bool
+    requires { from ≤ length journal.now }
+    ensures { IsTrue result ↔ IsSettled from journal.now seats.now }
+{
+    if !are_counted(from, journal, seats) {
+        return false;
+    }
+    if !seats_rise(seats) {
+        return false;
+    }
+    if !seats_apart(seats) {
+        return false;
+    }
+    seats_stand(seats, journal)
+}

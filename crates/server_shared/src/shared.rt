@@ -1,0 +1,199 @@
+//! A book that threads share.
+ghost use Rattle.std.specs.Prelude.{◌≡◌, ◌+◌, ◌<◌, ◌≤◌, ◌↔◌, [], if◌then◌else◌, length, vec_len, is_some, IfSome, IsOk};
+ghost use Rattle.workspace_check.specs.Found.{KnowsVerdicts};
+ghost use Rattle.history_machine.specs.MayReply.{MayReply};
+ghost use Rattle.server_shared.specs.Outcome.{book_in};
+ghost use Rattle.server_shared.specs.Steps.{IsReplayed, IsStepOf};
+ghost use Rattle.server_shared.specs.Call.{Calls, Looks, LooksUntilBuilt, Replies};
+ghost use Rattle.server_shared.specs.Settled.{IsSettled, receipt_count};
+
+use crate::built::is_built;
+use crate::locked::{Locked, is_done, turn_away};
+use crate::opening::Opening;
+use crate::receipt::Receipt;
+use crate::seat::{Seat, jobs_after, reserve};
+use crate::settling::Unsettled;
+use base_files::Refusal;
+use history_book::{Book, Looking, Question};
+use history_machine::{Line, View};
+use std::alloc::Global;
+use std::sync::ledger::{Blank, Share};
+use std::sync::{Condvar, Mutex, Wait};
+use workspace_check::Known;
+use workspace_graph::Graph;
+
+#[must_use]
+pub struct Shared<L: Opening> {
+    locked: Mutex<Locked<L>>,
+    changed: Condvar,
+    alloc: Global,
+    pub from: u64,
+    ghost from_is: { from ≡ L.from },
+}
+
+impl<L: Opening> Shared<L> {
+    pub fn new(alloc: Global, blank: Blank, book: Book, seats: u64) -> Shared<L>
+        requires name { blank.name ≡ L.name }
+        requires parts { blank.parts ≡ L.parts }
+        requires seats { blank.parts ≡ seats }
+        requires from { length book.journal ≡ L.from }
+        ensures { result.from ≡ length book.journal }
+    {
+        let from = book.journal().len() as u64;
+        let (count, rest) = blank.open::<L>();
+        Shared {
+            locked: Mutex::new(Locked {
+                book,
+                count,
+                rest,
+                free: seats,
+                from,
+                is_stopped: false,
+                done: 0,
+            }),
+            changed: Condvar::new(),
+            alloc,
+            from,
+        }
+    }
+
+    /// A seat that is still to be had.
+    pub fn seat(&mut self) -> Option<Seat<L>>
+        ensures { IfSome result (λ seat. seat ≡ []) }
+    {
+        self.locked.get_mut().seat(self.alloc)
+    }
+
+    /// One event of the book, at a seat. With an answer that the journal keeps comes the index of its entry.
+    pub fn call<R: Wait, Q: Question>(
+        &self,
+        rt: &R,
+        seat: &mut Seat<L>,
+        question: Q,
+    ) -> (Q::Answer, Option<u64>)
+        ensures receipt { Calls seat.old (Q.event question) (Q.reply result.0) result.1 seat.new }
+        ensures kind { MayReply (Q.event question) (Q.reply result.0) }
+    {
+        let needed = match reserve(&mut seat.receipts, seat.jobs, question.kind()) {
+            Err(error) => return (turn_away(question, error), None),
+            Ok(needed) => needed,
+        };
+        let (answer, kept) = self.step(rt, &mut seat.share, question);
+        let Some(receipt) = kept else {
+            return (answer, None);
+        };
+        let index = receipt.index;
+        seat.jobs = jobs_after(seat.jobs, needed, &receipt.entry.line);
+        seat.receipts.push_reserved(receipt);
+        (answer, Some(index))
+    }
+
+    /// One event under the lock. Who waits is told where it was done.
+    fn step<R: Wait, Q: Question>(
+        &self,
+        rt: &R,
+        share: &mut Share<L>,
+        question: Q,
+    ) -> (Q::Answer, Option<Receipt>)
+        requires { 0 < share.old.parts }
+        ensures step { IsStepOf (Q.event question) (Q.reply result.0) result.1 }
+        ensures kind { MayReply (Q.event question) (Q.reply result.0) }
+        ensures amount { share.new.amount ≡ share.old.amount + (if is_some result.1 then 1 else 0) }
+        ensures parts { share.new.parts ≡ share.old.parts }
+    {
+        let (answer, kept) = self.locked.lock(rt).call(share, question);
+        if let Some(receipt) = &kept {
+            self.wake(&receipt.entry.line);
+        }
+        (answer, kept)
+    }
+
+    /// Wakes who waits, where the event of an entry was done.
+    fn wake(&self, line: &Line) {
+        if is_done(line) {
+            self.changed.notify_all();
+        }
+    }
+
+    /// The same, for callers who need no index.
+    pub fn send<R: Wait, Q: Question>(&self, rt: &R, seat: &mut Seat<L>, question: Q) -> Q::Answer
+        ensures replies { Replies seat.old (Q.event question) (Q.reply result) seat.new }
+        ensures kind { MayReply (Q.event question) (Q.reply result) }
+    {
+        let (answer, _index) = self.call(rt, seat, question);
+        answer
+    }
+
+    /// Has the book take in what was found in packages of these files. It is no event, and no seat gains a receipt.
+    pub fn learn<R: Wait>(&self, rt: &R, files: &Graph, known: Known)
+        requires { KnowsVerdicts files.now known }
+    {
+        self.locked.lock(rt).learn(files, known);
+    }
+
+    /// Hands the book back. It takes no memory.
+    pub fn settle(self, seats: Vec<Seat<L>>) -> Result<Book, Unsettled>
+        ensures exact { IsOk result ↔ IsSettled self.from (book_in result).journal seats.items }
+        ensures legal { IsReplayed (book_in result) }
+        ensures bound { self.from + receipt_count seats.items ≤ length (book_in result).journal }
+        ensures whole { vec_len seats ≡ L.parts → length (book_in result).journal ≡ self.from + receipt_count seats.items }
+    {
+        let Shared {
+            locked,
+            changed,
+            alloc: _,
+            from: _,
+        } = self;
+        drop(changed);
+        locked.into_inner().settle(seats)
+    }
+
+    /// How many events were answered `Done`, unless the book was stopped.
+    pub fn done_so_far<R: Wait>(&self, rt: &R) -> Option<u64> {
+        let locked = self.locked.lock(rt);
+        if locked.is_stopped {
+            None
+        } else {
+            Some(locked.done)
+        }
+    }
+
+    /// Waits until more events were answered `Done` than were seen, or the book was stopped.
+    pub fn wait_past<R: Wait>(&self, rt: &R, seen: u64) {
+        let locked = self.changed.wait_while(rt, self.locked.lock(rt), |locked| {
+            locked.done == seen && !locked.is_stopped
+        });
+        drop(locked);
+    }
+
+    /// Lets the workers end.
+    pub fn stop<R: Wait>(&self, rt: &R) {
+        self.locked.lock(rt).stop();
+        self.changed.notify_all();
+    }
+
+    /// Looks, and waits after each look, until one shows that every package is built.
+    pub fn wait_built<R: Wait>(&self, rt: &R, seat: &mut Seat<L>) -> Result<View, Refusal>
+        ensures { LooksUntilBuilt seat.old result seat.new }
+    {
+        for _ in rt.forever() {
+            let seen = self.done_by_now(rt);
+            let view = self.look(rt, seat)?;
+            if is_built(&view) {
+                return Ok(view);
+            }
+            self.wait_past(rt, seen);
+        }
+        unreachable!()
+    }
+
+    pub(crate) fn look<R: Wait>(&self, rt: &R, seat: &mut Seat<L>) -> Result<View, Refusal>
+        ensures { Looks seat.old result seat.new }
+    {
+        self.send(rt, seat, Looking)
+    }
+
+    fn done_by_now<R: Wait>(&self, rt: &R) -> u64 {
+        self.locked.lock(rt).done
+    }
+}

@@ -1,0 +1,56 @@
+-- What a server tells, by what settling tells.
+use Rattle.std.proofs.Common.{◌≡◌, ◌↔◌, ◌+◌, ◌≤◌, ℕ, List, length, Result, Ok, Err, IfOk, IfErr, IsOk, IsErr, subst, sym, zero-add}
+use Rattle.history_machine.specs.Machine.{Machine}
+use Rattle.server_shared.specs.declared.receipt.Receipt.{Receipt}
+use Rattle.server_shared.specs.declared.settling.Unsettled.{Unsettled as Leftover}
+use Rattle.server_shared.specs.Steps.{IsReplayed}
+use Rattle.server_shared.specs.Outcome.{book_in}
+use Rattle.server_shared.specs.Settled.{IsSettled, receipt_count}
+use Rattle.server_socket.specs.declared.fault.ServeFault.{ServeFault}
+use Rattle.server_socket.specs.declared.fault.ServeFault.TheVariants.{Memory, Socket, Unsettled}
+use Rattle.server_socket.specs.Served.{IsHandedBack, Serves, Settles}
+
+-- a settling with all seats
+pub served : (parts : ℕ) (seats : List (List Receipt)) (told : Result ℕ ServeFault) → length seats ≡ parts → Settles parts seats told → Serves parts told
+served parts seats (Ok entries) all h = (seats, all, h)
+served parts seats (Err Unsettled) all h = (seats, all, h)
+served parts seats (Err Memory) all h = tt
+served parts seats (Err Socket) all h = tt
+
+not_both : (settled : Result Machine Leftover) → IsErr settled → IsOk settled → ⊥
+not_both (Ok book) bad good = cc
+not_both (Err left) bad good = cc
+
+handed_back : (parts from : ℕ) (seats : List (List Receipt)) (book : Machine) → from ≡ 0 → IsReplayed book
+    → from + receipt_count seats ≤ length book.journal → (length seats ≡ parts → length book.journal ≡ from + receipt_count seats)
+    → IsHandedBack parts seats book
+handed_back parts from seats book none legal bound whole = record {
+  legal = legal;
+  bound = subst (λ (n : ℕ). n ≤ length book.journal) (zero-add (receipt_count seats))
+      (subst (λ (n : ℕ). n + receipt_count seats ≤ length book.journal) none bound);
+  whole = λ all. subst (λ (n : ℕ). length book.journal ≡ n) (zero-add (receipt_count seats))
+      (subst (λ (n : ℕ). length book.journal ≡ n + receipt_count seats) none (whole all));
+}
+
+-- the length of the journal of a book that is handed back
+pub settles : (parts from : ℕ) (seats : List (List Receipt)) (settled : Result Machine Leftover) (told : Result ℕ ServeFault) → from ≡ 0
+    → IfOk told (λ entries. IsOk settled × (entries ≡ length (book_in settled).journal))
+    → IfErr told (λ fault. IsErr settled × (fault ≡ Unsettled))
+    → (IsOk settled ↔ IsSettled from (book_in settled).journal seats) → IsReplayed (book_in settled)
+    → from + receipt_count seats ≤ length (book_in settled).journal
+    → (length seats ≡ parts → length (book_in settled).journal ≡ from + receipt_count seats)
+    → Settles parts seats told
+settles parts from seats settled (Ok entries) none ok err exact legal bound whole =
+    let book = book_in settled in (
+      book,
+      handed_back parts from seats book none legal bound whole,
+      subst (λ (n : ℕ). IsSettled n book.journal seats) none (exact.0 ok.0),
+      ok.1,
+    )
+settles parts from seats settled (Err fault) none ok err exact legal bound whole =
+    let book = book_in settled in
+    subst (λ (f : ServeFault). Settles parts seats (Err f)) (sym err.1) (
+      book,
+      handed_back parts from seats book none legal bound whole,
+      λ same. not_both settled err.0 (exact.1 (subst (λ (n : ℕ). IsSettled n book.journal seats) (sym none) same)),
+    )

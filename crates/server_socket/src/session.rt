@@ -1,0 +1,33 @@
+//! A session at a seat.
+ghost use Rattle.server_socket.specs.Session.{ConversesAtSeat};
+
+use crate::held::Held;
+use base_files::Limits;
+use server_session::{SessionFault, converse};
+use server_shared::{Opening, Seat, Shared};
+use std::alloc::Global;
+use std::io::{Read, Write};
+use std::sync::Wait;
+
+/// What a session is read from, and what its replies are written to.
+#[derive(Drop)]
+pub struct Connection<I, O> {
+    pub input: I,
+    pub output: O,
+}
+
+/// Serves one session at a seat, from any reader to any writer. It answers how the session ended, and the writer.
+pub fn session_at_seat<L: Opening, W: Wait, I: Read + Drop, O: Write>(
+    rt: &W,
+    alloc: Global,
+    shared: &Shared<L>,
+    seat: &mut Seat<L>,
+    connection: Connection<I, O>,
+    limits: Limits,
+) -> (Result<(), SessionFault>, O)
+    ensures { ConversesAtSeat limits (I.remaining connection.input) (O.contents connection.output) (O.contents result.1) seat.old seat.new result.0 }
+{
+    let Connection { input, output } = connection;
+    let mut held = Held { rt, shared, seat };
+    converse(alloc, input, output, &mut held, limits)
+}

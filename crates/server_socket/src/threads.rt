@@ -1,0 +1,118 @@
+//! The threads of a server.
+use crate::session::{Connection, session_at_seat};
+use crate::turns::Turns;
+use base_files::Limits;
+use server_session::SessionFault;
+use server_shared::{Gate, Opening, Seat, Shared, worker};
+use std::alloc::Global;
+use std::io::{BufReader, BufWriter};
+use std::os::unix::net::UnixStream;
+use std::sync::Wait;
+use std::thread::{Builder, Threads};
+use std::{io, thread};
+
+/// The stack of each thread, whatever limit the server was started with: four times what a file takes at the limit of nesting.
+const STACK_BYTES: usize = 8_388_608;
+
+fn sized() -> Builder {
+    Builder::new().stack_size(STACK_BYTES)
+}
+
+/// Serves the session of one connection.
+fn talk<L: Opening, R: Wait>(
+    rt: &R,
+    alloc: Global,
+    shared: &Shared<L>,
+    seat: &mut Seat<L>,
+    stream: &UnixStream,
+) -> io::Result<Result<(), SessionFault>> {
+    let input = BufReader::new(alloc, stream)?;
+    let output = BufWriter::new(alloc, stream)?;
+    let connection = Connection { input, output };
+    let (ended, _output) = session_at_seat(rt, alloc, shared, seat, connection, Limits::FULL);
+    Ok(ended)
+}
+
+/// Serves one connection after another, until none is accepted any more.
+fn take_turns<L: Opening, R: Wait>(
+    rt: &R,
+    alloc: Global,
+    shared: &Shared<L>,
+    seat: &mut Seat<L>,
+    turns: &Turns,
+) {
+    for _ in rt.forever() {
+        match turns.next(rt) {
+            Some(stream) => {
+                // How a session ends concerns no other.
+                let _ended = talk(rt, alloc, shared, seat, &stream);
+            }
+            None => return,
+        }
+    }
+}
+
+/// Serves sessions in a thread for each seat, until none is accepted any more. None is accepted before all threads are made. It is false
+/// where a thread could not be made.
+fn serve_sessions<L: Opening + Send + Sync, R: Threads + Wait + Sync>(
+    rt: &R,
+    alloc: Global,
+    shared: &Shared<L>,
+    seats: &mut [Seat<L>],
+    turns: &Turns,
+    were_made: bool,
+) -> bool {
+    thread::scope(thread::scope_env(), rt, move |scope| {
+        let mut are_made = were_made;
+        let mut turn = turns.turn.lock(rt);
+        for seat in seats {
+            if sized()
+                .spawn_scoped(scope, move || take_turns(rt, alloc, shared, seat, turns))
+                .is_err()
+            {
+                are_made = false;
+            }
+        }
+        if !are_made {
+            turn.end();
+        }
+        drop(turn);
+        are_made
+    })
+}
+
+/// What the threads of a server keep to: whom each worker's progress is told, and whose turn it is to accept a connection.
+pub(crate) struct Running<'a, G> {
+    pub(crate) gate: &'a G,
+    pub(crate) turns: Turns,
+}
+
+/// Builds packages in as many threads as there are workers, and serves sessions in the others, until none is accepted any more. It is
+/// false where a thread could not be made.
+pub(crate) fn run<L: Opening + Send + Sync, R: Threads + Wait + Sync, G: Gate + Sync>(
+    rt: &R,
+    alloc: Global,
+    shared: &Shared<L>,
+    seats: &mut [Seat<L>],
+    workers: usize,
+    running: &Running<'_, G>,
+) -> bool {
+    let gate = running.gate;
+    let turns = &running.turns;
+    thread::scope(thread::scope_env(), rt, move |scope| {
+        let mut are_made = true;
+        let count = workers.min(seats.len());
+        let (at_work, in_sessions) = seats.split_at_mut(count);
+        for seat in at_work {
+            if sized()
+                .spawn_scoped(scope, move || worker(rt, alloc, shared, seat, gate))
+                .is_err()
+            {
+                are_made = false;
+            }
+        }
+        let are_made = serve_sessions(rt, alloc, shared, in_sessions, turns, are_made);
+        shared.stop(rt);
+        are_made
+    })
+}

@@ -1,0 +1,25 @@
+-- What is told of the faults of a command line.
+use Rattle.std.proofs.Common.{◌≡◌, ◌∙◌, List, Err, sym, subst, inl, inr}
+use Rattle.clap.specs.Words.{HasKind, IsAmong, Text, fault_of, kind_of}
+use Rattle.clap.specs.declared.error.Error.{Error}
+use Rattle.clap.specs.declared.error.kind.ErrorKind.{ErrorKind}
+use Rattle.clap.specs.declared.error.kind.ErrorKind.TheVariants.{DisplayHelp, OutOfMemory}
+use Rattle.server_words.specs.CommandLine.{gorefd}
+use Rattle.server_words.specs.Reads.{ReadsWords, Tells}
+use Rattle.server_words.specs.declared.reading.WordsFault.{WordsFault}
+use Rattle.server_words.specs.declared.reading.WordsFault.TheVariants.{Memory, Help, Usage}
+
+no_help : (kind : ErrorKind) → kind ≡ DisplayHelp → kind ≡ OutOfMemory → ⊥
+no_help kind help memory = let bad : DisplayHelp ≡ OutOfMemory = sym help ∙ memory in absurd cc
+
+pub told_fault : (words : List Text) (error : Error) (fault : WordsFault) → HasKind (fault_of gorefd words) error → Tells (kind_of error) fault
+    → ReadsWords words (Err fault)
+told_fault words error Memory h told = tt
+told_fault words error (Help text) h told = elim h [
+  | inl memory ↦ absurd (no_help (kind_of error) told memory)
+  | inr among ↦ subst (λ kind. IsAmong kind (fault_of gorefd words)) told among
+]
+told_fault words error (Usage text) h told = elim h [
+  | inl memory ↦ absurd (told.1 memory)
+  | inr among ↦ inl (kind_of error, told.0, among)
+]

@@ -1,0 +1,76 @@
+-- All the faults of a package, and what is found when it is checked.
+use Rattle.std.specs.Prelude.{ℕ, ◌≡◌, Bool, List, [], Option, None, Some, is_some, map, MatchOption}
+use Rattle.std.specs.List.Sorted.{IsStrictlySortedBy}
+use Rattle.types_declared.specs.declared.fault.Fault.{Fault}
+use Rattle.types_declared.specs.contracts.fault.FaultOrd.TheImpl as order
+use Rattle.types_declared.specs.Listing.{Lists}
+use Rattle.types_declared.specs.Stage.{HasNone, FirstOf}
+use Rattle.go_ast.specs.SourceFile.{FileParts, source_of}
+use Rattle.go_scope.specs.Scoped.{ScopedPackage, scoped}
+use Rattle.types_declared.specs.PackageNames.{IsLaidOver}
+use Rattle.types_declared.specs.declared.states.ImportState.{ImportState}
+use Rattle.types_resolve.specs.Stages.{IsOuterFault, IsInnerFault, IsFaultIn}
+use Rattle.types_check.specs.declared.checking.Checked.{Checked}
+use Rattle.types_check.specs.declared.checking.CheckedPackage.{CheckedPackage}
+use Rattle.types_declared.specs.Package.{Package, Interface, laid_of}
+use Rattle.types_declared.specs.InterfacesView.{interface_of}
+use Rattle.types_check.specs.Interfaces.{IsInterface}
+use Rattle.types_members.specs.Members.{IsMemberFault}
+use Rattle.types_check.specs.Faults.{IsTypeFault}
+use Rattle.types_info.specs.declared.bounds.Bounds.{Bounds}
+use Rattle.types_info.specs.BoundsView.{AreBounds}
+use Rattle.types_info.specs.MemberUses.{AreMemberUses, uses_in}
+use Rattle.types_info.specs.PackageOf.{IsPackageOf}
+use Rattle.types_info.specs.Qualified.{AreQualified}
+
+-- whether the package of a path exports a name
+abbrev pub exports_in : Package → (path name : List ℕ) → Bool
+exports_in p path name = is_some ((p.interface_of path).exported name)
+
+-- a fault of a package: one of the first stage that has some; state: what each path is that may be imported
+abbrev pub IsPackageFault : (List ℕ → ImportState) → Package → Fault → Type 0
+IsPackageFault state p = IsFaultIn state p.files (exports_in p) (laid_of p) (IsMemberFault p) (IsTypeFault p)
+
+-- What is found of a package whose faults are those of which P tells: all its faults, each once, by file and token; and where
+-- it has none, what other packages see of it, its uses of members, and its qualified identifiers.
+pub record IsCheckedBy (P : Fault → Type 0) (p : Package) (c : Checked) : Type 0 where
+  pub faults : Lists P c.faults.items
+  pub order : IsStrictlySortedBy order.ghosts.cmp c.faults.items
+  pub interface : MatchOption c.interface (c.faults.items ≡ [] → ⊥) (λ i. (c.faults.items ≡ []) × IsInterface p (interface_of p.path i))
+  pub members : c.faults.items ≡ [] → AreMemberUses p (map uses_in c.members.items)
+  pub qualified : c.faults.items ≡ [] → AreQualified p c.qualified.items
+
+abbrev pub IsCheckedPackage : (List ℕ → ImportState) → Package → Checked → Type 0
+IsCheckedPackage state p c = IsCheckedBy (IsPackageFault state p) p c
+
+-- the faults of a package whose clauses and imports have none
+abbrev pub IsLaterFault : Package → Fault → Type 0
+IsLaterFault p = FirstOf (IsInnerFault p.files (exports_in p) (laid_of p)) (FirstOf (IsMemberFault p) (IsTypeFault p))
+
+-- What is found of the files of a package: the faults of their clauses or imports, or where these have none what is found in
+-- the package that they make.
+pub data IsFoundIn (path : List ℕ) (files : List FileParts) (state : List ℕ → ImportState) (name_of : List ℕ → Option (List ℕ))
+    (interface_of : List ℕ → Interface) (c : Checked) : Type 0 where
+  outside : (c.faults.items ≡ [] → ⊥) → Lists (IsOuterFault state (map source_of files)) c.faults.items → c.interface ≡ None →
+      IsFoundIn path files state name_of interface_of c
+  inside : {p : Package} → HasNone (IsOuterFault state (map source_of files)) → IsPackageOf path files name_of interface_of p →
+      IsCheckedBy (IsLaterFault p) p c → IsFoundIn path files state name_of interface_of c
+
+-- what the declarations of p mean, which has no fault
+pub record IsMeant (p : Package) (c : Checked) (b : Bounds) : Type 0 where
+  pub faultless : c.faults.items ≡ []
+  pub bounds : AreBounds p b.list.items b.of.items
+
+-- what the declarations of p mean, if it is handed back
+abbrev pub MayMean : Package → CheckedPackage → Type 0
+MayMean p c = (b : Bounds) → c.bounds ≡ Some b → IsMeant p c.checked b
+
+-- the table of files whose clauses and imports have no faults: their scopes, in which each import without a name declares the name
+-- of its package
+pub record IsLaid (files : List FileParts) (state : List ℕ → ImportState) (name_of : List ℕ → Option (List ℕ)) (table : ScopedPackage) : Type 0 where
+  pub faultless : HasNone (IsOuterFault state (map source_of files))
+  pub is_laid : IsLaidOver (map source_of files) name_of (scoped files) table
+
+-- the table, if there is one
+abbrev pub MayLay : List FileParts → (List ℕ → ImportState) → (List ℕ → Option (List ℕ)) → Option ScopedPackage → Type 0
+MayLay files state name_of found = (table : ScopedPackage) → found ≡ Some table → IsLaid files state name_of table

@@ -1,0 +1,58 @@
+-- What is known of a package, value by value.
+use Rattle.std.specs.Prelude.{ℕ, ◌≡◌, List, map, Option, option_map}
+use Rattle.std.specs.Global.{Vec}
+use Rattle.types_expr.specs.Types.{Underlying}
+use Rattle.types_expr.specs.World as plain
+use Rattle.types_expr.specs.WorldView.{underlying_of, field_of, method_of, known_at}
+use Rattle.types_expr.specs.declared.world.Definition.{Definition}
+use Rattle.types_declared.specs.Package as seen
+use Rattle.types_expr.specs.declared.interfaces.Interface.{Interface}
+use Rattle.types_expr.specs.declared.interfaces.PackageScope.{PackageScope}
+use Rattle.types_declared.specs.declared.interfaces.Interfaces.{Interfaces}
+use Rattle.types_declared.specs.InterfacesView.{export_of, name_in, known_name, interface_in, interface_known}
+
+-- a name with its value
+abbrev pub entry_value : {X Y : Type 0} → (X → Y) → Vec ℕ × X → List ℕ × Y
+entry_value value e = (e.0.items, value e.1)
+
+-- the name of a package, and its exported names in their order
+pub record KnownScope : Type 0 where
+  pub name : List ℕ
+  pub exported : List (List ℕ × seen.Export)
+
+abbrev pub known_scope : PackageScope → KnownScope
+known_scope s = record { name = s.name.items; exported = map (entry_value export_of) s.exported.entries }
+
+-- a type definition, its fields and methods in the order of their names
+pub record KnownDefinition : Type 0 where
+  pub underlying : Underlying
+  pub fields : List (List ℕ × plain.Field)
+  pub methods : List (List ℕ × plain.Method)
+
+abbrev pub known_definition : Definition → KnownDefinition
+known_definition d = record {
+  underlying = underlying_of d.underlying;
+  fields = map (entry_value field_of) d.fields.entries;
+  methods = map (entry_value method_of) d.methods.entries;
+}
+
+-- what is known of a package
+pub record Known : Type 0 where
+  pub scope : KnownScope
+  pub definitions : List KnownDefinition
+
+abbrev pub known_as : Interface → Known
+known_as i = record { scope = known_scope i.scope; definitions = map known_definition i.definitions.items }
+
+-- likewise, if anything is known of it
+abbrev pub known_of : Option Interface → Option Known
+known_of known = option_map known_as known
+
+-- what is known of the package of a path
+abbrev pub known_in : Interfaces → List ℕ → Option Known
+known_in i path = known_of (known_at i.definitions path)
+
+-- the package of a path, of which this is known, has the same name and the same interface as it has there
+pub record IsKnownAlike (known : Option Interface) (all : Interfaces) (path : List ℕ) : Type 0 where
+  pub name : known_name known ≡ name_in all path
+  pub interface : interface_known path known ≡ interface_in all path

@@ -1,0 +1,19 @@
+//! The check of a package: its faults of types, and what other packages see of it; and whether the same is seen of two.
+#![tactic(auto)]
+
+mod alike;
+mod checking;
+mod definitions;
+mod equal_definitions;
+mod exporting;
+pub mod laws;
+mod parts;
+mod scopes;
+mod type_faults;
+mod worlds;
+
+pub use alike::are_alike;
+pub use checking::{Checked, CheckedPackage, check, check_package, packages_are_unique, table_of};
+pub use exporting::{exports_once, is_seen};
+pub use type_faults::Typed;
+pub use worlds::file_world;

@@ -1,0 +1,34 @@
+//! What a file of a package is judged by.
+ghost use Rattle.std.specs.Prelude.{◌≡◌, Some, slice_get};
+ghost use Rattle.go_ast.specs.SourceFile.{SourceFile};
+ghost use Rattle.types_expr.specs.WorldView.{world_of};
+ghost use Rattle.types_stmt.specs.View.{is_init_in};
+ghost use Rattle.types_info.specs.DefinitionsView.{HaveDefinitions};
+ghost use Rattle.types_info.specs.Worlds.{IsWorldOf, is_init};
+ghost use Rattle.types_info.specs.NamesView.{AreNames};
+ghost use Rattle.types_declared.specs.PackageView.{package_of};
+
+use types_declared::Package;
+use types_expr::world::{Bound, Definition, Name, World};
+
+/// What a file is judged by.
+pub fn file_world<'w>(
+    unit: Package<'w>,
+    names: &'w [Name<'w>],
+    bounds: &'w [Bound],
+    definitions: &'w [Definition],
+    file: usize,
+) -> World<'w>
+    requires names { AreNames (package_of unit) file bounds.now names.now }
+    requires definitions { HaveDefinitions (package_of unit) definitions.now }
+    ensures world { (s : SourceFile) → slice_get (package_of unit.entry).files file ≡ Some s → IsWorldOf (package_of unit.entry) file s (world_of result) }
+    ensures init { (s : SourceFile) → slice_get (package_of unit.entry).files file ≡ Some s → is_init_in result ≡ is_init s }
+{
+    World {
+        package: unit.path,
+        names,
+        bounds,
+        own: definitions,
+        imported: unit.interfaces.definitions(),
+    }
+}

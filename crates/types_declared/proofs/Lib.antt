@@ -1,0 +1,22 @@
+-- The lemmas of this crate.
+pub mod Listings
+pub mod Each
+pub mod Ranked
+pub mod Stages
+pub mod PathParts
+pub mod NameParts
+pub mod Appending
+pub mod DeclaredParts
+pub mod AddingDeclared
+pub mod Ranking
+pub mod ByteKeys
+pub mod DeclaredPaths
+pub mod Binding
+pub mod WrittenTypes
+pub mod Naming
+pub mod OneUnderlying
+pub mod Spreading
+pub mod Mentioning
+pub mod Items
+pub mod Breaking
+pub mod AddingInterfaces

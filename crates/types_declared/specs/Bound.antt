@@ -1,0 +1,80 @@
+-- What the names of a package are bound to, as expressions are judged by it.
+use Rattle.std.specs.Prelude.{ℕ, ◌≡◌, true, false, List, [], ◌∷◌, map, Some, slice_get, codes}
+use Rattle.go_ast.specs.Tree.{Item, TypeTree, ParamTree, ResultTree, no_result, one_result, results}
+use Rattle.go_scope.specs.declared.model.Block.TheVariants.{Inner}
+use Rattle.go_scope.specs.Bindings.{block_of, IsPackageLevel}
+use Rattle.std.specs.List.{flat_map}
+use Rattle.types_expr.specs.declared.types.Basic.{Basic}
+use Rattle.types_expr.specs.declared.types.Basic.TheVariants as basic
+use Rattle.types_expr.specs.declared.types.Builtin.{Builtin}
+use Rattle.types_expr.specs.declared.types.Builtin.TheVariants as builtin
+use Rattle.types_expr.specs.Types.{PlainType, BasicType, Defined, Typed, Untyped, Nil, Signature, Meaning, Value, TypeName, Function, BuiltinName}
+use Rattle.types_expr.specs.Types.{Package as PackageName}
+use Rattle.types_expr.specs.World.{Bound, Local, BrokenVariable, BrokenFunction, BrokenType}
+use Rattle.types_expr.specs.World.{Means as Stands}
+use Rattle.types_declared.specs.Package.{Package, PlacedVariable, PlacedFunction, IsRanked, package_variables, package_functions, variable_place}
+use Rattle.types_declared.specs.Package.{function_place, symbol_in}
+use Rattle.types_declared.specs.Written.{IsPredeclared, DeclaresType, ImportsPath, basic_name, IsBroken, IsTypeOf}
+
+-- predeclared values and functions
+
+abbrev pub builtin_name : Builtin → List ℕ
+builtin_name builtin.Append = codes "append"
+builtin_name builtin.Len = codes "len"
+builtin_name builtin.Panic = codes "panic"
+builtin_name builtin.Print = codes "print"
+builtin_name builtin.Println = codes "println"
+
+pub data PredeclaredMeans : List ℕ → Meaning → Type 0 where
+  a_type : (b : Basic) → PredeclaredMeans (basic_name b) (TypeName (BasicType b))
+  a_truth : PredeclaredMeans (codes "true") (Value (Untyped basic.Bool) false)
+  an_untruth : PredeclaredMeans (codes "false") (Value (Untyped basic.Bool) false)
+  a_nil : PredeclaredMeans (codes "nil") (Value Nil false)
+  a_function : (b : Builtin) → PredeclaredMeans (builtin_name b) (BuiltinName b)
+
+-- each Type of a list, in the order in which they are written, is the type beside it
+abbrev pub AreTypesOf : Package → ℕ → List TypeTree → List PlainType → Type 0
+AreTypesOf p file [] [] = Unit {0}
+AreTypesOf p file [] (t ∷ ts) = ⊥
+AreTypesOf p file (x ∷ xs) [] = ⊥
+AreTypesOf p file (x ∷ xs) (t ∷ ts) = IsTypeOf p file x t × AreTypesOf p file xs ts
+
+-- the Types of parameters, once for each name
+abbrev pub parameter_types : List (Item ParamTree) → List TypeTree
+parameter_types ps = flat_map (λ i. map (λ n. i.value.type_use) i.value.names) ps
+
+abbrev pub result_types : ResultTree → List TypeTree
+result_types no_result = []
+result_types (one_result t) = t ∷ []
+result_types (results o ts c) = map (λ i. i.value) ts
+
+pub record HasSignature (p : Package) (f : PlacedFunction) (s : Signature) : Type 0 where
+  pub parameters : AreTypesOf p f.file (parameter_types f.function.params) s.parameters
+  pub results : AreTypesOf p f.file (result_types f.function.result) s.results
+
+-- d is the declaration of the variable of that rank
+abbrev pub DeclaresVariable : Package → (d rank : ℕ) → Type 0
+DeclaresVariable p d rank = IsRanked variable_place (package_variables p) p.layout d rank
+
+-- d is the declaration of the function of that rank
+abbrev pub DeclaresFunction : Package → (d rank : ℕ) → Type 0
+DeclaresFunction p d rank = IsRanked function_place (package_functions p) p.layout d rank
+
+abbrev pub IsVariable : Package → (d : ℕ) → PlacedVariable → Type 0
+IsVariable p d v = IsPackageLevel p.layout d × ((rank : ℕ) × (DeclaresVariable p d rank × (slice_get (package_variables p) rank ≡ Some v)))
+
+abbrev pub IsFunction : Package → (d : ℕ) → PlacedFunction → Type 0
+IsFunction p d f = IsPackageLevel p.layout d × ((rank : ℕ) × (DeclaresFunction p d rank × (slice_get (package_functions p) rank ≡ Some f)))
+
+-- What a declaration means where it is used. Methods and functions `init` are declared in no block, and mean nothing so.
+pub data IsMeantBy (p : Package) (d : ℕ) : Bound → Type 0 where
+  predeclared : {name : List ℕ} {m : Meaning} → IsPredeclared p d name → PredeclaredMeans name m → IsMeantBy p d (Stands m)
+  import_name : {path : List ℕ} → ImportsPath p d path → IsMeantBy p d (Stands PackageName)
+  local : {file from to : ℕ} → block_of (p.layout.role d) ≡ Inner file from to → IsMeantBy p d (Local (p.layout.place d).index)
+  variable : {v : PlacedVariable} {t : PlainType} → IsVariable p d v → IsTypeOf p v.file v.type_use t → IsMeantBy p d (Stands (Value (Typed t) true))
+  broken_variable : {v : PlacedVariable} → IsVariable p d v → ((t : PlainType) → IsTypeOf p v.file v.type_use t → ⊥) → IsMeantBy p d BrokenVariable
+  function : {f : PlacedFunction} {s : Signature} → IsFunction p d f → HasSignature p f s → IsMeantBy p d (Stands (Function s))
+  broken_function : {f : PlacedFunction} → IsFunction p d f → ((s : Signature) → HasSignature p f s → ⊥) → IsMeantBy p d BrokenFunction
+  definition : {rank : ℕ} → IsPackageLevel p.layout d → DeclaresType p d rank → (IsBroken p rank → ⊥) →
+      IsMeantBy p d (Stands (TypeName (Defined (symbol_in p rank))))
+  broken_definition : {rank : ℕ} → IsPackageLevel p.layout d → DeclaresType p d rank → IsBroken p rank → IsMeantBy p d BrokenType

@@ -1,0 +1,20 @@
+-- The definitions of this crate.
+pub mod Listing
+pub mod Stage
+pub mod States
+pub mod Files
+pub mod Laid
+pub mod PackageNames
+pub mod Appending
+pub use Rattle.go_scope.specs.ByToken
+pub mod Spread
+pub mod Package
+pub mod DeclaredView
+pub mod RanksView
+pub mod InterfacesView
+pub mod Written
+pub mod Bound
+pub mod Definitions
+pub mod PackageView
+pub mod WrittenView
+pub mod Broken

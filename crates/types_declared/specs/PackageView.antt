@@ -1,0 +1,45 @@
+-- A package of the program as the plain one, and what is found once in it.
+use Rattle.std.specs.Prelude.{ℕ, ◌≡◌, ◌<◌, List, Option, Some, None, length, map, slice_get, MatchOption}
+use Rattle.std.specs.Global.{Vec}
+use Rattle.go_ast.specs.SourceFile.{source_of}
+use Rattle.go_scope.specs.Scoped.{layout_in, names_in}
+use Rattle.types_declared.specs.declared.unit.Package.{Package}
+use Rattle.types_declared.specs.declared.unit.Index.{Index}
+use Rattle.types_declared.specs.Package as plain
+use Rattle.types_declared.specs.Package.{package_variables, package_types, package_functions, variable_place, type_place, function_place}
+use Rattle.types_declared.specs.Written.{ImportsPath}
+use Rattle.types_declared.specs.ByToken.{number_at, AreIdentifiers}
+use Rattle.types_declared.specs.DeclaredView.{variable_of, type_of, function_of}
+use Rattle.types_declared.specs.RanksView.{AreRanks}
+use Rattle.types_declared.specs.InterfacesView.{interface_in}
+
+abbrev pub package_of : Package → plain.Package
+package_of p = record {
+  path = p.path.now;
+  files = map source_of p.files.now;
+  layout = layout_in p.table.now;
+  names = names_in p.table.now;
+  size = length p.table.now.sites;
+  interface_of = interface_in p.interfaces.now;
+}
+
+abbrev pub path_in : Option (Option (Vec ℕ)) → Option (List ℕ)
+path_in None = None
+path_in (Some None) = None
+path_in (Some (Some v)) = Some v.items
+
+-- the path of each import below n
+pub record ArePaths (p : plain.Package) (n : ℕ) (paths : List (Option (Vec ℕ))) : Type 0 where
+  pub all : length paths ≡ n
+  pub each : (d : ℕ) → d < n → MatchOption (path_in (slice_get paths d)) ((v : List ℕ) → ImportsPath p d v → ⊥) (λ v. ImportsPath p d v)
+
+-- what is found once in a package
+pub record IsIndexOf (p : plain.Package) (index : Index) : Type 0 where
+  pub variables : map variable_of index.declared.variables.items ≡ package_variables p
+  pub types : map type_of index.declared.types.items ≡ package_types p
+  pub functions : map function_of index.declared.functions.items ≡ package_functions p
+  pub variable_ranks : AreRanks variable_place (package_variables p) p.layout p.size index.ranks.variables.items
+  pub type_ranks : AreRanks type_place (package_types p) p.layout p.size index.ranks.types.items
+  pub function_ranks : AreRanks function_place (package_functions p) p.layout p.size index.ranks.functions.items
+  pub identifiers : AreIdentifiers p.layout p.size (number_at index.identifiers)
+  pub paths : ArePaths p p.size index.paths.items

@@ -1,0 +1,171 @@
+//! Which type definitions of a package are broken: a Type that is written in them names no type, or a broken one.
+ghost use Rattle.std.specs.Prelude.{◌≡◌, ◌<◌, ◌↔◌, ℕ, suc, length, map, IsTrue, IfOk, OnOk};
+ghost use Rattle.go_ast.specs.View.{type_view, list_view};
+ghost use Rattle.go_ast.specs.FileView.{field_view, body_view};
+ghost use Rattle.types_declared.specs.Package.{package_types};
+ghost use Rattle.types_declared.specs.Written.{written_types};
+ghost use Rattle.types_declared.specs.Spread.{Leads};
+ghost use Rattle.types_declared.specs.Broken.{AddsLinks, IsTarget, IsOneTarget, IsTargetOfSome, NamesSome, AreMentions, AreBroken};
+ghost use Rattle.types_declared.specs.PackageView.{package_of, IsIndexOf};
+
+use crate::declared::TypeDef;
+use crate::spread::reached;
+use crate::unit::{Index, Package};
+use crate::written::{mentioned, named_type};
+use go_ast::tree::{FieldDecl, Item, TypeBody, TypeExpr};
+use std::alloc::{AllocError, Global};
+
+/// Notes that a definition mentions what has a number.
+pub fn note(links: &mut Vec<Vec<usize>>, to: usize, rank: usize) -> Result<(), AllocError>
+    requires { to < length links.old.items }
+    ensures { OnOk result (AddsLinks links.old.items links.new.items rank (λ a. a ≡ to)) }
+{
+    links[to].push(rank)?;
+    Ok(())
+}
+
+/// Whether a Type names a type.
+fn names_type(
+    alloc: Global,
+    unit: Package<'_>,
+    index: &Index<'_>,
+    file: usize,
+    written: &TypeExpr,
+) -> Result<bool, AllocError>
+    requires { IsIndexOf (package_of unit) index.now }
+    ensures { IfOk result (λ found. IsTrue found ↔ NamesSome (package_of unit.entry) file (type_view written.now)) }
+{
+    let named = named_type(alloc, unit, index, file, written)?;
+    Ok(named.is_some())
+}
+
+/// What a Type mentions: a definition by its rank, or the number behind the last rank where it names no type.
+fn target(
+    alloc: Global,
+    unit: Package<'_>,
+    index: &Index<'_>,
+    file: usize,
+    written: &TypeExpr,
+) -> Result<Option<usize>, AllocError>
+    requires { IsIndexOf (package_of unit) index.now }
+    ensures { IfOk result (IsOneTarget (package_of unit.entry) file (type_view written.now)) }
+{
+    if names_type(alloc, unit, index, file, written)? {
+        Ok(mentioned(unit, index, file, written))
+    } else {
+        Ok(Some(index.declared.types.len()))
+    }
+}
+
+/// A definition, by its rank, and the file that it stands in.
+#[derive(Clone, Copy)]
+struct DefinitionPlace {
+    rank: usize,
+    file: usize,
+}
+
+/// Notes what a Type mentions that is written in a definition.
+fn note_type(
+    alloc: Global,
+    unit: Package<'_>,
+    index: &Index<'_>,
+    links: &mut Vec<Vec<usize>>,
+    at: DefinitionPlace,
+    written: &TypeExpr,
+) -> Result<(), AllocError>
+    requires index { IsIndexOf (package_of unit) index.now }
+    requires size { length links.old.items ≡ suc (length (package_types (package_of unit))) }
+    ensures { OnOk result (AddsLinks links.old.items links.new.items at.rank (IsTarget (package_of unit.entry) at.file (type_view written.now))) }
+{
+    match target(alloc, unit, index, at.file, written)? {
+        None => Ok(()),
+        Some(to) => note(links, to, at.rank),
+    }
+}
+
+/// Notes what the types of fields mention.
+fn note_fields(
+    alloc: Global,
+    unit: Package<'_>,
+    index: &Index<'_>,
+    links: &mut Vec<Vec<usize>>,
+    at: DefinitionPlace,
+    fields: &[Item<FieldDecl>],
+) -> Result<(), AllocError>
+    requires index { IsIndexOf (package_of unit) index.now }
+    requires size { length links.old.items ≡ suc (length (package_types (package_of unit))) }
+    ensures { OnOk result (AddsLinks links.old.items links.new.items at.rank (IsTargetOfSome (package_of unit.entry) at.file (map (λ f. f.value.type_use) (list_view field_view fields.now)))) }
+{
+    for field in fields {
+        note_type(alloc, unit, index, links, at, &field.value.field_type)?;
+    }
+    Ok(())
+}
+
+/// Notes what the Types mention that are written in a definition.
+#[tactic(auto, unfolding(go_ast::specs::FileView::type_spec_view))]
+fn note_definition(
+    alloc: Global,
+    unit: Package<'_>,
+    index: &Index<'_>,
+    links: &mut Vec<Vec<usize>>,
+    rank: usize,
+    definition: &TypeDef<'_>,
+) -> Result<(), AllocError>
+    requires index { IsIndexOf (package_of unit) index.now }
+    requires size { length links.old.items ≡ suc (length (package_types (package_of unit))) }
+    ensures { OnOk result (AddsLinks links.old.items links.new.items rank (IsTargetOfSome (package_of unit.entry) definition.now.file (written_types (body_view definition.now.spec.now.body)))) }
+{
+    let file = definition.file;
+    let at = DefinitionPlace { rank, file };
+    match &definition.spec.body {
+        TypeBody::Type(written) => note_type(alloc, unit, index, links, at, written),
+        TypeBody::Struct { fields, .. } => note_fields(alloc, unit, index, links, at, fields),
+    }
+}
+
+/// No links yet, between so many numbers and one more.
+pub fn no_links(alloc: Global, size: usize) -> Result<Vec<Vec<usize>>, AllocError>
+    ensures size { IfOk result (λ links. length links.items ≡ suc size) }
+    ensures none { IfOk result (λ links. (a b : ℕ) → Leads links.items a b → ⊥) }
+{
+    let mut links = Vec::new(alloc);
+    for _number in 0..size {
+        links.push(Vec::new(alloc))?;
+    }
+    links.push(Vec::new(alloc))?;
+    Ok(links)
+}
+
+/// What the definitions of a package mention.
+fn mentions(
+    alloc: Global,
+    unit: Package<'_>,
+    index: &Index<'_>,
+) -> Result<Vec<Vec<usize>>, AllocError>
+    requires { IsIndexOf (package_of unit) index.now }
+    ensures { IfOk result (λ links. AreMentions (package_of unit.entry) links.items) }
+{
+    let types = &index.declared.types;
+    let mut links = no_links(alloc, types.len())?;
+    for rank in 0..types.len() {
+        note_definition(alloc, unit, index, &mut links, rank, &types[rank])?;
+    }
+    Ok(links)
+}
+
+/// Which type definitions of a package are broken, by their ranks.
+pub fn broken_definitions(
+    alloc: Global,
+    unit: Package<'_>,
+    index: &Index<'_>,
+) -> Result<Vec<bool>, AllocError>
+    requires { IsIndexOf (package_of unit) index.now }
+    ensures { IfOk result (λ broken. AreBroken (package_of unit.entry) broken.items) }
+{
+    let links = mentions(alloc, unit, index)?;
+    let mut begins = vec![in alloc; false; index.declared.types.len()]?;
+    begins.push(true)?;
+    let broken = reached(alloc, &links, &begins)?;
+    Ok(broken)
+}

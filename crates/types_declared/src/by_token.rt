@@ -1,0 +1,28 @@
+//! Numbers that stand at tokens of files: found again in one step.
+ghost use Rattle.std.specs.Prelude.{length, IfOk};
+ghost use Rattle.go_scope.specs.Scoped.{layout_in};
+ghost use Rattle.types_declared.specs.ByToken.{number_at, AreIdentifiers, AreRanksOf};
+
+use go_scope::by_token;
+pub use go_scope::by_token::ByToken;
+use go_scope::model::Position;
+use go_scope::table::ScopeTable;
+use std::alloc::{AllocError, Global};
+
+/// The identifier at each token of a package.
+pub fn identifiers_by_token(alloc: Global, table: &ScopeTable) -> Result<ByToken, AllocError>
+    ensures { IfOk result (λ found. AreIdentifiers (layout_in table.now) (length table.now.sites) (number_at found)) }
+{
+    by_token::identifiers_by_token(alloc, table.identifiers())
+}
+
+/// The ranks of a list of places, by their tokens: the first of each place.
+pub fn ranks_by_token(alloc: Global, places: &[Position]) -> Result<ByToken, AllocError>
+    ensures { IfOk result (λ found. AreRanksOf places.now (length places.now) (number_at found)) }
+{
+    let mut found = ByToken::new(alloc);
+    for rank in 0..places.len() {
+        found.note(alloc, places[rank], rank)?;
+    }
+    Ok(found)
+}

@@ -1,0 +1,34 @@
+//! What a package's files say of their names and imports.
+ghost use Rattle.std.specs.Prelude.{◌≡◌, ℕ, List, IfOk, MatchOption};
+ghost use Rattle.go_ast.specs.SourceFile.{source_of};
+ghost use Rattle.types_declared.specs.Files.{clause_name, HasLiteral};
+
+use go_ast::FileTree;
+use std::alloc::{AllocError, Global};
+
+/// What the string literal at a token stands for; none where no string literal stands there.
+pub fn literal(alloc: Global, file: &FileTree, token: usize) -> Result<Option<Vec<u8>>, AllocError>
+    ensures { IfOk result (λ value. MatchOption value ((v : List ℕ) → HasLiteral (source_of file.now) token v → ⊥) (λ v. HasLiteral (source_of file.now) token v.items)) }
+{
+    let pieces = file.pieces();
+    if token < pieces.tokens().len() {
+        pieces.string_value(alloc, token)
+    } else {
+        Ok(None)
+    }
+}
+
+/// The token of the name in a file's package clause.
+#[tactic(auto, unfolding(go_ast::specs::FileView::file_view))]
+pub fn clause_token(file: &FileTree) -> usize
+    ensures { result ≡ (source_of file.now).tree.name }
+{
+    file.file().name
+}
+
+/// The name in a file's package clause.
+pub fn clause_name(file: &FileTree) -> &[u8]
+    ensures { result.now ≡ clause_name (source_of file.now) }
+{
+    file.spelling(clause_token(file))
+}

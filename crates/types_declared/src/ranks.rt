@@ -1,0 +1,136 @@
+//! The way from a declaration's number in a scope table to its rank among what the package declares.
+ghost use Rattle.std.specs.Prelude.{◌≡◌, ◌<◌, length, map, IfOk};
+ghost use Rattle.go_scope.specs.Scoped.{layout_in};
+ghost use Rattle.types_declared.specs.Package.{variable_place, type_place, function_place};
+ghost use Rattle.types_declared.specs.DeclaredView.{variable_of, type_of, function_of};
+ghost use Rattle.types_declared.specs.ByToken.{number_at, number_of, number_in};
+ghost use Rattle.types_declared.specs.RanksView.{AreRanks};
+
+use crate::by_token::{ByToken, ranks_by_token};
+use crate::declared::{Declared, Function, TypeDef, Variable};
+use go_scope::model::Position;
+use go_scope::table::ScopeTable;
+use std::alloc::{AllocError, Global};
+
+/// For each declaration of a scope table its rank among the variables, the types and the functions of the package.
+#[derive(Drop)]
+pub struct Ranks {
+    variables: Vec<Option<usize>>,
+    types: Vec<Option<usize>>,
+    functions: Vec<Option<usize>>,
+}
+
+/// The number at the token of an identifier.
+fn number_of(table: &ScopeTable, numbers: &ByToken, d: usize) -> Option<usize>
+    requires { d < length table.now.sites }
+    ensures { result ≡ number_of (layout_in table.now) (number_at numbers.now) d }
+{
+    if table.role(d).is_implied() {
+        None
+    } else {
+        numbers.get(table.place(d))
+    }
+}
+
+/// For each identifier of a table the rank of its place in a list of places.
+fn ranks_of(
+    alloc: Global,
+    table: &ScopeTable,
+    places: &[Position],
+) -> Result<Vec<Option<usize>>, AllocError>
+    ensures { IfOk result (λ ranks. AreRanks (λ p. p) places.now (layout_in table.now) (length table.now.sites) ranks.items) }
+{
+    let found = ranks_by_token(alloc, places)?;
+    let mut ranks = Vec::with_capacity(alloc, table.len())?;
+    for d in 0..table.len() {
+        ranks.push(number_of(table, &found, d))?;
+    }
+    Ok(ranks)
+}
+
+/// Where the names of variables are declared.
+fn variable_places(alloc: Global, variables: &[Variable<'_>]) -> Result<Vec<Position>, AllocError>
+    ensures { IfOk result (λ places. places.items ≡ map variable_place (map variable_of variables.now)) }
+{
+    let mut places = Vec::with_capacity(alloc, variables.len())?;
+    for variable in variables {
+        places.push(Position {
+            file: variable.file,
+            index: variable.name,
+        })?;
+    }
+    Ok(places)
+}
+
+/// Where the names of types are declared.
+#[tactic(auto, unfolding(go_ast::specs::FileView::type_spec_view))]
+fn type_places(alloc: Global, types: &[TypeDef<'_>]) -> Result<Vec<Position>, AllocError>
+    ensures { IfOk result (λ places. places.items ≡ map type_place (map type_of types.now)) }
+{
+    let mut places = Vec::with_capacity(alloc, types.len())?;
+    for definition in types {
+        places.push(Position {
+            file: definition.file,
+            index: definition.spec.name,
+        })?;
+    }
+    Ok(places)
+}
+
+/// Where the names of functions are declared.
+#[tactic(auto, unfolding(go_ast::specs::FileView::func_view))]
+fn function_places(alloc: Global, functions: &[Function<'_>]) -> Result<Vec<Position>, AllocError>
+    ensures { IfOk result (λ places. places.items ≡ map function_place (map function_of functions.now)) }
+{
+    let mut places = Vec::with_capacity(alloc, functions.len())?;
+    for function in functions {
+        places.push(Position {
+            file: function.file,
+            index: function.func.name,
+        })?;
+    }
+    Ok(places)
+}
+
+impl Ranks {
+    /// The ranks of a package's declarations.
+    pub fn of(
+        alloc: Global,
+        table: &ScopeTable,
+        declared: &Declared<'_>,
+    ) -> Result<Ranks, AllocError>
+        ensures variables { IfOk result (λ r. AreRanks variable_place (map variable_of declared.now.variables.items) (layout_in table.now) (length table.now.sites) r.variables.items) }
+        ensures types { IfOk result (λ r. AreRanks type_place (map type_of declared.now.types.items) (layout_in table.now) (length table.now.sites) r.types.items) }
+        ensures functions { IfOk result (λ r. AreRanks function_place (map function_of declared.now.functions.items) (layout_in table.now) (length table.now.sites) r.functions.items) }
+    {
+        let variables = variable_places(alloc, &declared.variables)?;
+        let types = type_places(alloc, &declared.types)?;
+        let functions = function_places(alloc, &declared.functions)?;
+        Ok(Ranks {
+            variables: ranks_of(alloc, table, &variables)?,
+            types: ranks_of(alloc, table, &types)?,
+            functions: ranks_of(alloc, table, &functions)?,
+        })
+    }
+
+    /// The rank of a variable, by the number of its declaration; none where that declares no variable.
+    pub fn variable(&self, d: usize) -> Option<usize>
+        ensures { result ≡ number_in self.now.variables.items d }
+    {
+        *self.variables.get(d)?
+    }
+
+    /// The rank of a type definition.
+    pub fn definition(&self, d: usize) -> Option<usize>
+        ensures { result ≡ number_in self.now.types.items d }
+    {
+        *self.types.get(d)?
+    }
+
+    /// The rank of a function.
+    pub fn function(&self, d: usize) -> Option<usize>
+        ensures { result ≡ number_in self.now.functions.items d }
+    {
+        *self.functions.get(d)?
+    }
+}

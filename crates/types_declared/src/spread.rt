@@ -1,0 +1,128 @@
+//! Marks that spread along links: what is marked at first, and all that links lead to from there.
+ghost use Rattle.std.specs.Prelude.{◌≡◌, ◌<◌, ◌↔◌, ℕ, length, slice_get, slice_index_or, IfOk, OnOk};
+ghost use Rattle.types_declared.specs.Spread.{AreLinked, IsMarked, IsListed, IsOrdered, IsOrderOf, Marks, Leads, IsReached, row_of};
+
+use std::alloc::{AllocError, Global};
+
+/// What is marked so far: a mark for each number, and the marked numbers in the order in which they were found.
+#[derive(Drop)]
+struct Spread {
+    marks: Vec<bool>,
+    found: Vec<usize>,
+}
+
+/// What a number leads to.
+pub fn row(links: &[Vec<usize>], from: usize) -> &[usize]
+    ensures { result.now ≡ row_of (slice_get links.now from) }
+{
+    match links.get(from) {
+        None => &[],
+        Some(row) => row,
+    }
+}
+
+impl Spread {
+    /// Nothing marked yet, of so many numbers.
+    fn new(alloc: Global, size: usize) -> Result<Spread, AllocError>
+        ensures listed { IfOk result (λ s. IsListed s.found.items s.marks.items) }
+        ensures size { IfOk result (λ s. length s.marks.items ≡ size) }
+        ensures none { IfOk result (λ s. (q : ℕ) → IsMarked s.marks.items q → ⊥) }
+    {
+        Ok(Spread {
+            marks: vec![in alloc; false; size]?,
+            found: Vec::new(alloc),
+        })
+    }
+
+    /// Marks a number.
+    fn mark(&mut self, number: usize) -> Result<(), AllocError>
+        requires in_range { number < length self.old.marks.items }
+        requires listed { IsListed self.old.found.items self.old.marks.items }
+        ensures listed { OnOk result (IsListed self.new.found.items self.new.marks.items) }
+        ensures marked { OnOk result (Marks self.old.found.items self.old.marks.items self.new.found.items self.new.marks.items (λ q. q ≡ number)) }
+    {
+        if !self.marks[number] {
+            self.found.push(number)?;
+            self.marks[number] = true;
+        }
+        Ok(())
+    }
+
+    /// Marks all that the number found at a place leads to.
+    fn follow(&mut self, links: &[Vec<usize>], place: usize) -> Result<(), AllocError>
+        requires linked { AreLinked links.now }
+        requires size { length self.old.marks.items ≡ length links.now }
+        requires listed { IsListed self.old.found.items self.old.marks.items }
+        requires place { place < length self.old.found.items }
+        ensures listed { OnOk result (IsListed self.new.found.items self.new.marks.items) }
+        ensures marked { OnOk result (Marks self.old.found.items self.old.marks.items self.new.found.items self.new.marks.items (Leads links.now (slice_index_or self.old.found.items place 0))) }
+    {
+        for number in row(links, self.found[place]) {
+            self.mark(*number)?;
+        }
+        Ok(())
+    }
+
+    /// Marks all that is marked in a list.
+    fn begin(&mut self, begins: &[bool]) -> Result<(), AllocError>
+        requires size { length begins.now ≡ length self.old.marks.items }
+        requires listed { IsListed self.old.found.items self.old.marks.items }
+        ensures listed { OnOk result (IsListed self.new.found.items self.new.marks.items) }
+        ensures marked { OnOk result (Marks self.old.found.items self.old.marks.items self.new.found.items self.new.marks.items (IsMarked begins.now)) }
+    {
+        for number in 0..begins.len() {
+            if begins[number] {
+                self.mark(number)?;
+            }
+        }
+        Ok(())
+    }
+
+    /// Marks all that is marked in a list, and all that it leads to along links.
+    fn over(alloc: Global, links: &[Vec<usize>], begins: &[bool]) -> Result<Spread, AllocError>
+        requires linked { AreLinked links.now }
+        requires size { length begins.now ≡ length links.now }
+        ensures size { IfOk result (λ s. length s.marks.items ≡ length links.now) }
+        ensures listed { IfOk result (λ s. IsListed s.found.items s.marks.items) }
+        ensures ordered { IfOk result (λ s. IsOrdered links.now (IsMarked begins.now) s.found.items) }
+        ensures reached { IfOk result (λ s. (q : ℕ) → IsMarked s.marks.items q ↔ IsReached links.now (IsMarked begins.now) q) }
+    {
+        let mut spread = Spread::new(alloc, links.len())?;
+        spread.begin(begins)?;
+        let mut place = 0;
+        while place < spread.found.len() {
+            spread.follow(links, place)?;
+            place += 1;
+        }
+        Ok(spread)
+    }
+}
+
+/// All that is marked in a list, and all that it leads to along links.
+pub fn reached(
+    alloc: Global,
+    links: &[Vec<usize>],
+    begins: &[bool],
+) -> Result<Vec<bool>, AllocError>
+    requires linked { AreLinked links.now }
+    requires size { length begins.now ≡ length links.now }
+    ensures size { IfOk result (λ marks. length marks.items ≡ length links.now) }
+    ensures reached { IfOk result (λ marks. (q : ℕ) → IsMarked marks.items q ↔ IsReached links.now (IsMarked begins.now) q) }
+{
+    let spread = Spread::over(alloc, links, begins)?;
+    Ok(spread.marks)
+}
+
+/// The same as a list, in which each number stands behind one that leads to it.
+pub fn reached_in_order(
+    alloc: Global,
+    links: &[Vec<usize>],
+    begins: &[bool],
+) -> Result<Vec<usize>, AllocError>
+    requires linked { AreLinked links.now }
+    requires size { length begins.now ≡ length links.now }
+    ensures { IfOk result (λ found. IsOrderOf links.now (IsMarked begins.now) found.items) }
+{
+    let spread = Spread::over(alloc, links, begins)?;
+    Ok(spread.found)
+}

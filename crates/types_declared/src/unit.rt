@@ -1,0 +1,153 @@
+//! A package as it is checked, and what is found once in it before its types are looked at.
+ghost use Rattle.std.specs.Prelude.{◌≡◌, ◌<◌, ℕ, List, length, slice_get, IfOk, MatchOption};
+ghost use Rattle.go_scope.specs.Named.{name_value};
+ghost use Rattle.types_declared.specs.Package.{spelled};
+ghost use Rattle.types_declared.specs.Bound.{DeclaresVariable, DeclaresFunction};
+ghost use Rattle.types_declared.specs.Written.{BindsToken, DeclaresType, ImportsPath};
+ghost use Rattle.types_declared.specs.PackageView.{package_of, path_in, IsIndexOf, ArePaths};
+
+use crate::by_token::{ByToken, identifiers_by_token};
+use crate::declared::Declared;
+use crate::interfaces::Interfaces;
+use crate::ranks::Ranks;
+use crate::{is_import, path_of};
+use go_ast::FileTree;
+use go_scope::model::Position;
+use go_scope::table::ScopeTable;
+use std::alloc::{AllocError, Global};
+use types_expr::symbol::SharedPath;
+
+/// A package with the packages that it imports. In the table each import without a name declares the name of the imported
+/// package.
+#[derive(Clone, Copy)]
+pub struct Package<'a> {
+    pub path: &'a SharedPath,
+    pub files: &'a [FileTree],
+    pub table: &'a ScopeTable<'a>,
+    pub interfaces: &'a Interfaces,
+}
+
+/// What is found once in a package: what it declares, with the ranks of its declarations; the identifier at each token; and
+/// for each import its path, by the number of its declaration.
+#[derive(Drop)]
+pub struct Index<'a> {
+    pub declared: Declared<'a>,
+    pub ranks: Ranks,
+    pub identifiers: ByToken,
+    pub paths: Vec<Option<Vec<u8>>>,
+}
+
+/// The path of an import.
+fn import_path(alloc: Global, unit: Package<'_>, d: usize) -> Result<Option<Vec<u8>>, AllocError>
+    requires { d < length unit.table.now.sites }
+    ensures { IfOk result (λ path. MatchOption path ((v : List ℕ) → ImportsPath (package_of unit.entry) d v → ⊥) (λ v. ImportsPath (package_of unit.entry) d v.items)) }
+{
+    if is_import(unit.table, d) {
+        path_of(alloc, unit.table, unit.files, d)
+    } else {
+        Ok(None)
+    }
+}
+
+/// The paths of imports, by the numbers of their declarations.
+fn import_paths(alloc: Global, unit: Package<'_>) -> Result<Vec<Option<Vec<u8>>>, AllocError>
+    ensures { IfOk result (λ paths. ArePaths (package_of unit.entry) (length unit.entry.table.now.sites) paths.items) }
+{
+    let mut paths = Vec::with_capacity(alloc, unit.table.len())?;
+    for d in 0..unit.table.len() {
+        paths.push(import_path(alloc, unit, d)?)?;
+    }
+    Ok(paths)
+}
+
+/// The path that a list has for a number.
+fn path_at(paths: &[Option<Vec<u8>>], d: usize) -> Option<&[u8]>
+    ensures { name_value result ≡ path_in (slice_get paths.now d) }
+{
+    match paths.get(d) {
+        None => None,
+        Some(None) => None,
+        Some(Some(path)) => Some(path),
+    }
+}
+
+impl<'a> Package<'a> {
+    /// How a token of a file is spelled.
+    pub fn spelling(self, file: usize, token: usize) -> &'a [u8]
+        ensures { result.now ≡ spelled (package_of self.entry) file token }
+    {
+        match self.files.get(file) {
+            None => &[],
+            Some(tree) => tree.spelling(token),
+        }
+    }
+}
+
+impl<'a> Index<'a> {
+    /// What is found in a package.
+    pub fn of(alloc: Global, unit: Package<'a>) -> Result<Index<'a>, AllocError>
+        ensures { IfOk result (λ index. IsIndexOf (package_of unit.entry) index) }
+    {
+        let declared = Declared::of(alloc, unit.files)?;
+        let ranks = Ranks::of(alloc, unit.table, &declared)?;
+        Ok(Index {
+            declared,
+            ranks,
+            identifiers: identifiers_by_token(alloc, unit.table)?,
+            paths: import_paths(alloc, unit)?,
+        })
+    }
+
+    /// The declaration to which the identifier at a token is bound.
+    pub fn binding(&self, unit: Package<'_>, file: usize, token: usize) -> Option<usize>
+        requires { IsIndexOf (package_of unit) self.now }
+        ensures bound { MatchOption result ((d : ℕ) → BindsToken (package_of unit.entry) file token d → ⊥) (λ d. BindsToken (package_of unit.entry) file token d) }
+        ensures only { MatchOption result (Unit {0}) (λ d. (e : ℕ) → BindsToken (package_of unit.entry) file token e → e ≡ d) }
+        ensures in_range { MatchOption result (Unit {0}) (λ d. d < length unit.entry.table.now.sites) }
+    {
+        go_scope::laws::bindings_are_unique();
+        unit.table.is_well_formed();
+        match self.identifiers.get(Position { file, index: token }) {
+            None => None,
+            Some(u) => unit.table.binding(u),
+        }
+    }
+
+    /// The variable of the package that a declaration is, by its rank.
+    pub fn variable(&self, unit: Package<'_>, d: usize) -> Option<usize>
+        requires index { IsIndexOf (package_of unit) self.now }
+        requires in_range { d < length unit.table.now.sites }
+        ensures { MatchOption result ((r : ℕ) → DeclaresVariable (package_of unit.entry) d r → ⊥) (λ r. DeclaresVariable (package_of unit.entry) d r) }
+    {
+        self.ranks.variable(d)
+    }
+
+    /// The function that a declaration is, by its rank.
+    pub fn function(&self, unit: Package<'_>, d: usize) -> Option<usize>
+        requires index { IsIndexOf (package_of unit) self.now }
+        requires in_range { d < length unit.table.now.sites }
+        ensures { MatchOption result ((r : ℕ) → DeclaresFunction (package_of unit.entry) d r → ⊥) (λ r. DeclaresFunction (package_of unit.entry) d r) }
+    {
+        self.ranks.function(d)
+    }
+
+    /// The type definition that a declaration is, by its rank.
+    pub fn definition(&self, unit: Package<'_>, d: usize) -> Option<usize>
+        requires index { IsIndexOf (package_of unit) self.now }
+        requires in_range { d < length unit.table.now.sites }
+        ensures { MatchOption result ((r : ℕ) → DeclaresType (package_of unit.entry) d r → ⊥) (λ r. DeclaresType (package_of unit.entry) d r) }
+    {
+        self.ranks.definition(d)
+    }
+
+    /// The path of an import, by the number of its declaration.
+    pub fn path(&self, unit: Package<'_>, d: usize) -> Option<&[u8]>
+        requires index { IsIndexOf (package_of unit) self.now }
+        requires in_range { d < length unit.table.now.sites }
+        ensures { MatchOption result ((v : List ℕ) → ImportsPath (package_of unit.entry) d v → ⊥)
+            (λ v. ImportsPath (package_of unit.entry) d v.now × ((other : List ℕ) → ImportsPath (package_of unit.entry) d other → other ≡ v.now)) }
+    {
+        go_scanner::laws::one_string_value();
+        path_at(&self.paths, d)
+    }
+}

@@ -1,0 +1,216 @@
+//! What the Types that are written in a package name.
+ghost use Rattle.std.specs.Prelude.{◌≡◌, ◌<◌, ◌↔◌, length, option_map, IsTrue, IfOk, MatchOption};
+ghost use Rattle.go_ast.specs.View.{type_view};
+ghost use Rattle.types_expr.specs.declared.types.Basic.{Basic};
+ghost use Rattle.types_expr.specs.Types.{PlainType, Defined, TypeName};
+ghost use Rattle.types_expr.specs.View.{type_of};
+ghost use Rattle.go_ast.specs.Tree.{Local};
+ghost use Rattle.types_declared.specs.Package.{symbol_in};
+ghost use Rattle.types_declared.specs.Written.{IsPredeclared, IsExportOf, IsExportAt, NamesExport, basic_name};
+ghost use Rattle.types_declared.specs.WrittenView.{IsTypeDeclared, IsNamedBy, IsMentionedBy, IsOneExport};
+ghost use Rattle.types_declared.specs.InterfacesView.{export_of};
+ghost use Rattle.types_declared.specs.PackageView.{package_of, IsIndexOf};
+
+use crate::unit::{Index, Package};
+use go_ast::tree::TypeExpr;
+use go_scope::model::Block;
+use std::alloc::{AllocError, Global};
+use types_expr::interfaces::{Export, ExportMeaning};
+use types_expr::symbol::Symbol;
+use types_expr::types::{Basic, GoType};
+
+/// Whether a declaration is the predeclared one of a name.
+fn is_predeclared(unit: Package<'_>, d: usize, name: &[u8]) -> bool
+    requires { d < length unit.table.now.sites }
+    ensures { IsTrue result ↔ IsPredeclared (package_of unit.entry) d name.now }
+{
+    let role = unit.table.role(d);
+    role.is_implied() && role.block().same(Block::Universe) && unit.table.name(d) == name
+}
+
+/// The predeclared type that a declaration is.
+fn basic_type(unit: Package<'_>, d: usize) -> Option<Basic>
+    requires { d < length unit.table.now.sites }
+    ensures { MatchOption result ((b : Basic) → IsPredeclared (package_of unit.entry) d (basic_name b) → ⊥) (λ b. IsPredeclared (package_of unit.entry) d (basic_name b)) }
+{
+    if is_predeclared(unit, d, b"bool".as_slice()) {
+        Some(Basic::Bool)
+    } else if is_predeclared(unit, d, b"int".as_slice()) {
+        Some(Basic::Int)
+    } else if is_predeclared(unit, d, b"string".as_slice()) {
+        Some(Basic::String)
+    } else {
+        None
+    }
+}
+
+/// A type definition of the package, as a type.
+#[tactic(auto, unfolding(types_expr::specs::View::type_of))]
+pub fn defined_type(unit: Package<'_>, rank: usize) -> Result<GoType, AllocError>
+    ensures { IfOk result (λ t. type_of t ≡ Defined (symbol_in (package_of unit.entry) rank)) }
+{
+    let package = unit.path.clone()?;
+    Ok(GoType::Defined(Symbol { package, rank }))
+}
+
+/// The type that a declaration is.
+fn declared_type(
+    unit: Package<'_>,
+    index: &Index<'_>,
+    d: usize,
+) -> Result<Option<GoType>, AllocError>
+    requires index { IsIndexOf (package_of unit) index.now }
+    requires in_range { d < length unit.table.now.sites }
+    ensures { IfOk result (λ t. IsTypeDeclared (package_of unit.entry) d (option_map type_of t)) }
+{
+    if let Some(basic) = basic_type(unit, d) {
+        return Ok(Some(GoType::Basic(basic)));
+    }
+    match index.definition(unit, d) {
+        None => Ok(None),
+        Some(rank) => Ok(Some(defined_type(unit, rank)?)),
+    }
+}
+
+/// The type that a name alone names.
+fn local_type(
+    unit: Package<'_>,
+    index: &Index<'_>,
+    file: usize,
+    name: usize,
+) -> Result<Option<GoType>, AllocError>
+    requires { IsIndexOf (package_of unit) index.now }
+    ensures { IfOk result (λ t. IsNamedBy (package_of unit.entry) file (Local name) (option_map type_of t)) }
+{
+    match index.binding(unit, file, name) {
+        None => Ok(None),
+        Some(d) => declared_type(unit, index, d),
+    }
+}
+
+/// What the package that an import names exports as the name at a token.
+fn export_of_import<'a>(
+    unit: Package<'a>,
+    index: &Index<'_>,
+    d: usize,
+    file: usize,
+    name: usize,
+) -> Option<&'a Export>
+    requires index { IsIndexOf (package_of unit) index.now }
+    requires in_range { d < length unit.table.now.sites }
+    ensures { IsOneExport (IsExportOf (package_of unit.entry) d file name) result }
+{
+    match index.path(unit, d) {
+        None => None,
+        Some(path) => unit.interfaces.export(path, unit.spelling(file, name)),
+    }
+}
+
+/// What a name behind another name and a dot is, where that is bound to an import.
+pub fn export_at<'a>(
+    unit: Package<'a>,
+    index: &Index<'_>,
+    file: usize,
+    qualifier: usize,
+    name: usize,
+) -> Option<&'a Export>
+    requires { IsIndexOf (package_of unit) index.now }
+    ensures { IsOneExport (IsExportAt (package_of unit.entry) file qualifier name) result }
+{
+    match index.binding(unit, file, qualifier) {
+        None => None,
+        Some(d) => export_of_import(unit, index, d, file, name),
+    }
+}
+
+/// The type that an exported name means.
+#[tactic(auto, unfolding(crate::specs::InterfacesView::meaning_of))]
+fn exported_type(export: &Export) -> Option<&GoType>
+    ensures { MatchOption result ((t : PlainType) → (export_of export.now).meaning ≡ TypeName t → ⊥) (λ t. (export_of export.now).meaning ≡ TypeName (type_of t.now)) }
+{
+    match &export.meaning {
+        ExportMeaning::TypeName(own) => Some(own),
+        ExportMeaning::Variable(_) | ExportMeaning::Function(_) => None,
+    }
+}
+
+/// The type that a name behind the name of a package names.
+fn imported_type<'a>(
+    unit: Package<'a>,
+    index: &Index<'_>,
+    file: usize,
+    qualifier: usize,
+    name: usize,
+) -> Option<&'a GoType>
+    requires { IsIndexOf (package_of unit) index.now }
+    ensures { MatchOption result ((t : PlainType) → NamesExport (package_of unit.entry) file qualifier name t → ⊥) (λ t. NamesExport (package_of unit.entry) file qualifier name (type_of t.now)) }
+{
+    match export_at(unit, index, file, qualifier, name) {
+        None => None,
+        Some(export) => exported_type(export),
+    }
+}
+
+/// The type that a Type names, whether or not its definition is broken.
+pub fn named_type(
+    alloc: Global,
+    unit: Package<'_>,
+    index: &Index<'_>,
+    file: usize,
+    written: &TypeExpr,
+) -> Result<Option<GoType>, AllocError>
+    requires { IsIndexOf (package_of unit) index.now }
+    ensures { IfOk result (λ t. IsNamedBy (package_of unit.entry) file (type_view written.now) (option_map type_of t)) }
+{
+    match written {
+        TypeExpr::Local(name) => local_type(unit, index, file, *name),
+        TypeExpr::Imported { package, name, .. } => {
+            match imported_type(unit, index, file, *package, *name) {
+                None => Ok(None),
+                Some(own) => Ok(Some(own.copy(alloc)?)),
+            }
+        }
+        TypeExpr::Pointer { target, .. } => match named_type(alloc, unit, index, file, target)? {
+            None => Ok(None),
+            Some(target) => Ok(Some(GoType::Pointer(Box::new(alloc, target)?))),
+        },
+        TypeExpr::Slice { element, .. } => match named_type(alloc, unit, index, file, element)? {
+            None => Ok(None),
+            Some(element) => Ok(Some(GoType::Slice(Box::new(alloc, element)?))),
+        },
+    }
+}
+
+/// The type definition of the package that a name alone names.
+pub fn local_definition(
+    unit: Package<'_>,
+    index: &Index<'_>,
+    file: usize,
+    name: usize,
+) -> Option<usize>
+    requires { IsIndexOf (package_of unit) index.now }
+    ensures { IsMentionedBy (package_of unit.entry) file (Local name) result }
+{
+    match index.binding(unit, file, name) {
+        None => None,
+        Some(d) => index.definition(unit, d),
+    }
+}
+
+/// The type definition of the package that a Type mentions.
+pub fn mentioned(
+    unit: Package<'_>,
+    index: &Index<'_>,
+    file: usize,
+    written: &TypeExpr,
+) -> Option<usize>
+    requires { IsIndexOf (package_of unit) index.now }
+    ensures { IsMentionedBy (package_of unit.entry) file (type_view written.now) result }
+{
+    match written {
+        TypeExpr::Local(name) => local_definition(unit, index, file, *name),
+        TypeExpr::Imported { .. } => None,
+        TypeExpr::Pointer { target, .. } => mentioned(unit, index, file, target),
+        TypeExpr::Slice { element, .. } => mentioned(unit, index, file, element),
+    }
+}

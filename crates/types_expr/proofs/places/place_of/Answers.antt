@@ -1,0 +1,6 @@
+-- The answers to the goals of `places::place_of`.
+use Rattle.types_expr.proofs.Trees.{chain_stands}
+use Rattle.types_expr.proofs.places.place_of.Goals as goal
+
+pub returns-in-Chain : goal.returns-in-Chain
+returns-in-Chain c = cc (chain_stands c.in-Chain.first c.in-Chain.links)

@@ -1,0 +1,89 @@
+-- What the checker of src/ has found, and what a call adds to it.
+use Rattle.std.specs.Prelude.{ℕ, ◌≡◌, List, ◌++◌, Option, option_map, map, Bool}
+use Rattle.std.specs.BTreeMap.{get}
+use Rattle.std.specs.BTreeSet.{contains}
+use Rattle.std.specs.Ordering.{nat_cmp}
+use Rattle.types_expr.specs.declared.locals.Locals.{Locals}
+use Rattle.types_expr.specs.declared.meaning.Meaning.{Meaning}
+use Rattle.types_expr.specs.declared.meaning.Meaning.TheVariants as meaning
+use Rattle.types_expr.specs.declared.meaning.Argued.{Argued}
+use Rattle.types_expr.specs.declared.found.MemberUse.{MemberUse}
+use Rattle.types_expr.specs.declared.found.FoundInFile.{FoundInFile}
+use Rattle.types_expr.specs.declared.keys.SeenFields.{SeenFields}
+use Rattle.types_expr.specs.declared.keys.LiteralKey.{LiteralKey}
+use Rattle.types_expr.specs.declared.keys.LiteralKey.TheVariants as key
+use Rattle.types_expr.specs.declared.keys.ElementKey.{ElementKey}
+use Rattle.types_expr.specs.Types as types
+use Rattle.types_expr.specs.Judge as judge
+use Rattle.types_expr.specs.View.{type_of, kind_of, signature_of}
+
+unfoldable pub locals_of : Locals → ℕ → Option types.PlainType
+locals_of l place = option_map type_of (get nat_cmp l.types place)
+
+unfoldable pub meaning_of : Meaning → types.Meaning
+meaning_of (meaning.Value k a) = types.Value (kind_of k) a
+meaning_of (meaning.TypeName t) = types.TypeName (type_of t.now)
+meaning_of (meaning.Function s) = types.Function (signature_of s.now)
+meaning_of (meaning.Builtin b) = types.BuiltinName b
+meaning_of meaning.Package = types.Package
+meaning_of (meaning.Results ts) = types.Results (map type_of ts.now)
+meaning_of meaning.Broken = types.Broken
+
+-- the fields that keys named, by rank
+unfoldable pub seen_of : SeenFields → judge.Seen
+seen_of s rank = contains nat_cmp s.ranks rank
+
+unfoldable pub key_of : LiteralKey → judge.Key
+key_of (key.Field rank t) = judge.FieldKey rank (type_of t.now)
+key_of key.Broken = judge.BrokenKey
+key_of key.Wrong = judge.WrongKey
+
+abbrev pub use_of : MemberUse → judge.MemberUse
+use_of u = record { place = u.place; before = type_of u.before; member = u.member }
+
+abbrev pub argued_of : Argued → judge.Argued
+argued_of v = record { place = v.place; kind = option_map kind_of v.kind }
+
+-- what a call added to what was found: the faults and uses of j, and its meaning as the result
+pub record Adds (j : judge.Judged) (old new : FoundInFile) (m : types.Meaning) : Type 0 where
+  pub meaning : m ≡ j.meaning
+  pub faults : new.faults.items ≡ old.faults.items ++ j.faults
+  pub uses : map use_of new.uses.items ≡ map use_of old.uses.items ++ j.uses
+
+-- the same of a list of values
+pub record AddsList (j : judge.JudgedList) (old new : FoundInFile) (vs : List judge.Argued) : Type 0 where
+  pub values : vs ≡ j.values
+  pub faults : new.faults.items ≡ old.faults.items ++ j.faults
+  pub uses : map use_of new.uses.items ≡ map use_of old.uses.items ++ j.uses
+
+-- what a call adds behind any j that was found before and has that meaning
+pub record Continues (rule : judge.Judged → judge.Judged) (m : types.Meaning) (old new : FoundInFile) (r : types.Meaning) : Type 0 where
+  pub after : (j : judge.Judged) (before : FoundInFile) → Adds j before old m → Adds (rule j) before new r
+
+-- places were noted as faults; fits: whether there is none
+pub record AddsPlaces (places : List ℕ) (old new : FoundInFile) (fits : Bool) : Type 0 where
+  pub faults : new.faults.items ≡ old.faults.items ++ places
+  pub uses : new.uses.items ≡ old.uses.items
+  pub none : fits ≡ judge.is_empty places
+
+-- the key of an element was judged: its faults and uses were noted; whether it is whole, whether there is none, and what the
+-- value behind it has to fit
+pub record AddsKey (j : judge.JudgedKey) (old new : FoundInFile) (k : ElementKey) : Type 0 where
+  pub whole : k.whole ≡ j.whole
+  pub unkeyed : k.unkeyed ≡ j.unkeyed
+  pub wanted : option_map (λ t. type_of t.now) k.wanted ≡ j.wanted
+  pub faults : new.faults.items ≡ old.faults.items ++ j.faults
+  pub uses : map use_of new.uses.items ≡ map use_of old.uses.items ++ j.uses
+
+-- the same of the elements of a literal
+pub record AddsElements (j : judge.JudgedElements) (old new : FoundInFile) (all_whole some_unkeyed : Bool) : Type 0 where
+  pub whole : all_whole ≡ j.whole
+  pub unkeyed : some_unkeyed ≡ j.unkeyed
+  pub faults : new.faults.items ≡ old.faults.items ++ j.faults
+  pub uses : map use_of new.uses.items ≡ map use_of old.uses.items ++ j.uses
+
+-- a type was judged: its faults were noted
+pub record AddsType (j : judge.TypeJudged) (old new : FoundInFile) (own : Option types.PlainType) : Type 0 where
+  pub found : own ≡ j.type_of
+  pub faults : new.faults.items ≡ old.faults.items ++ j.faults
+  pub uses : new.uses.items ≡ old.uses.items

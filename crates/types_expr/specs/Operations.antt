@@ -1,0 +1,138 @@
+-- The rules of the operations: which values fit a type, which operands go together, and the kind of the result.
+use Rattle.std.specs.Prelude.{Bool, true, false, ◌&&◌, ◌||◌, if◌then◌else◌, Option, Some, None}
+use Rattle.go_ast.specs.declared.syntax.BinaryOp.{BinaryOp}
+use Rattle.go_ast.specs.declared.syntax.BinaryOp.TheVariants as op
+use Rattle.go_ast.specs.declared.syntax.PrefixOp.{PrefixOp}
+use Rattle.go_ast.specs.declared.syntax.PrefixOp.TheVariants as prefix
+use Rattle.types_expr.specs.declared.types.Basic.TheVariants as basic
+use Rattle.types_expr.specs.declared.classes.TypeClass.{TypeClass}
+use Rattle.types_expr.specs.declared.classes.TypeClass.TheVariants as class
+use Rattle.types_expr.specs.declared.classes.Family.{Family}
+use Rattle.types_expr.specs.declared.classes.Family.TheVariants as family
+use Rattle.types_expr.specs.Types.{PlainType, Underlying, Plain, PointerTo, SliceOf, Struct, Kind, Typed, Untyped, Nil, Meaning, Value, same_basic, same_type}
+use Rattle.types_expr.specs.Types.{same_underlying, is_named, either_unnamed, has_nil, element_of}
+use Rattle.types_expr.specs.World.{World, underlying}
+
+-- Whether a value fits a type: its type is identical; or one of the two is unnamed and the underlying types are
+-- identical; or it has no type, and its kind is that of the underlying type, for nil a pointer or slice.
+unfoldable pub fits : World → Kind → PlainType → Bool
+fits w (Typed v) t = same_type v t || (either_unnamed (is_named v) (is_named t) && same_underlying (underlying w v) (underlying w t))
+fits w (Untyped b) t = same_underlying (Plain b) (underlying w t)
+fits w Nil t = has_nil (underlying w t)
+
+-- whether a value converts to a type: it fits, or the underlying types are identical
+abbrev pub converts : World → Kind → PlainType → Bool
+converts w (Typed v) t = fits w (Typed v) t || same_underlying (underlying w v) (underlying w t)
+converts w v t = fits w v t
+
+-- the kind that two operands have in common, none where they do not go together
+unfoldable pub joined : World → Kind → Kind → Option Kind
+joined w (Typed a) (Typed b) = if same_type a b then Some (Typed a) else None
+joined w (Typed a) v = if fits w v a then Some (Typed a) else None
+joined w v (Typed b) = if fits w v b then Some (Typed b) else None
+joined w (Untyped a) (Untyped b) = if same_basic a b then Some (Untyped a) else None
+joined w Nil Nil = Some Nil
+joined w a b = None
+
+unfoldable pub is_nil : Kind → Bool
+is_nil Nil = true
+is_nil v = false
+
+abbrev pub class_of_underlying : Underlying → TypeClass
+class_of_underlying (Plain b) = class.Of b
+class_of_underlying (PointerTo t) = class.Pointer
+class_of_underlying (SliceOf t) = class.Slice
+class_of_underlying (Struct s) = class.Struct
+
+unfoldable pub class_of : World → Kind → TypeClass
+class_of w (Typed t) = class_of_underlying (underlying w t)
+class_of w (Untyped b) = class.Of b
+class_of w Nil = class.Nil
+
+-- the class of `==` and `!=` operands; with_nil: one of the two is nil
+abbrev pub compares : Bool → TypeClass → Bool
+compares with_nil (class.Of b) = true
+compares with_nil class.Pointer = true
+compares with_nil class.Slice = with_nil
+compares with_nil c = false
+
+abbrev pub is_int : TypeClass → Bool
+is_int (class.Of basic.Int) = true
+is_int c = false
+
+abbrev pub is_bool : TypeClass → Bool
+is_bool (class.Of basic.Bool) = true
+is_bool c = false
+
+abbrev pub is_ordered : TypeClass → Bool
+is_ordered (class.Of basic.Int) = true
+is_ordered (class.Of basic.String) = true
+is_ordered c = false
+
+-- the operands of `len`
+abbrev pub has_length : TypeClass → Bool
+has_length (class.Of basic.String) = true
+has_length class.Slice = true
+has_length c = false
+
+-- the operands of `print` and `println`
+abbrev pub is_printed : TypeClass → Bool
+is_printed (class.Of b) = true
+is_printed c = false
+
+unfoldable pub family_of : BinaryOp → Family
+family_of op.Multiply = family.Arithmetic
+family_of op.Divide = family.Arithmetic
+family_of op.Remainder = family.Arithmetic
+family_of op.Add = family.Addition
+family_of op.Subtract = family.Arithmetic
+family_of op.Equal = family.Equality
+family_of op.NotEqual = family.Equality
+family_of op.Less = family.Order
+family_of op.LessEqual = family.Order
+family_of op.Greater = family.Order
+family_of op.GreaterEqual = family.Order
+family_of op.And = family.Logic
+family_of op.Or = family.Logic
+
+abbrev pub when : {A : Type 0} → Bool → A → Option A
+when test a = if test then Some a else None
+
+-- the kind of the result of an operation on operands of the class c and the common kind k
+unfoldable pub result_of : Family → Bool → TypeClass → Kind → Option Kind
+result_of family.Arithmetic with_nil c k = when (is_int c) k
+result_of family.Addition with_nil c k = when (is_ordered c) k
+result_of family.Equality with_nil c k = when (compares with_nil c) (Untyped basic.Bool)
+result_of family.Order with_nil c k = when (is_ordered c) (Untyped basic.Bool)
+result_of family.Logic with_nil c k = when (is_bool c) k
+
+abbrev pub operate_on : World → Family → Bool → Option Kind → Option Kind
+operate_on w f with_nil None = None
+operate_on w f with_nil (Some k) = result_of f with_nil (class_of w k) k
+
+-- the kind of a binary operation, none where it breaks a rule
+unfoldable pub operate : World → BinaryOp → Kind → Kind → Option Kind
+operate w o a b = operate_on w (family_of o) (is_nil a || is_nil b) (joined w a b)
+
+-- the element type of a slice value
+abbrev pub element_of_kind : World → Kind → Option PlainType
+element_of_kind w (Typed t) = element_of (underlying w t)
+element_of_kind w k = None
+
+abbrev pub pointee : Underlying → Option Meaning
+pointee (PointerTo t) = Some (Value (Typed t) true)
+pointee u = None
+
+abbrev pub pointee_of_kind : World → Kind → Option Meaning
+pointee_of_kind w (Typed t) = pointee (underlying w t)
+pointee_of_kind w k = None
+
+abbrev pub value_when : Bool → Kind → Option Meaning
+value_when test k = if test then Some (Value k false) else None
+
+-- what a prefix operator makes of a value, none where it breaks a rule
+unfoldable pub prefixed : World → PrefixOp → Kind → Option Meaning
+prefixed w prefix.Plus k = value_when (is_int (class_of w k)) k
+prefixed w prefix.Minus k = value_when (is_int (class_of w k)) k
+prefixed w prefix.Not k = value_when (is_bool (class_of w k)) k
+prefixed w prefix.Deref k = pointee_of_kind w k

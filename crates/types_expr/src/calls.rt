@@ -1,0 +1,299 @@
+//! Calls of functions and builtins, and conversions.
+ghost use Rattle.std.specs.Prelude.{◌≡◌, IfOk, map, option_map};
+ghost use Rattle.std.specs.List.{list_all};
+ghost use Rattle.types_expr.specs.Operations.{element_of_kind};
+ghost use Rattle.types_expr.specs.Judge.{call_of, call_function, call_builtin, call_when, convert, append, append_to, misfit, misfits, all_misfits, all_whole, all_printed, is_printed_value, len_fits, wrong_if_whole};
+ghost use Rattle.types_expr.specs.View.{type_of, kind_of, signature_of};
+ghost use Rattle.types_expr.specs.WorldView.{world_of};
+ghost use Rattle.types_expr.specs.Found.{meaning_of, argued_of, Adds, AddsPlaces};
+
+use crate::found::FoundInFile;
+use crate::meaning::{Argued, Meaning, all_whole, result_meaning};
+use crate::places::FaultPlaces;
+use crate::types::{Basic, Builtin, GoType, Signature, ValueKind};
+use crate::world::World;
+use std::alloc::{AllocError, Global};
+
+impl World<'_> {
+    /// Whether `print` and `println` take such a value; a broken one is let pass.
+    fn prints_value(&self, kind: &Option<ValueKind>) -> bool
+        ensures { result ≡ is_printed_value (world_of self.now) (option_map kind_of kind.now) }
+    {
+        match kind {
+            Some(kind) => self.class_of(kind).is_printed(),
+            None => true,
+        }
+    }
+
+    fn prints_each(&self, values: &[Argued]) -> bool
+        ensures { result ≡ list_all (λ v. is_printed_value (world_of self.now) (option_map kind_of v.kind)) values.now }
+    {
+        values.iter().all(|value| self.prints_value(&value.kind))
+    }
+
+    #[tactic(auto, using(crate::proofs::Values::printed_found))]
+    fn prints_all(&self, values: &[Argued]) -> bool
+        ensures { result ≡ all_printed (world_of self.now) (map argued_of values.now) }
+    {
+        self.prints_each(values)
+    }
+
+    /// Whether these are the operand of `len`.
+    fn measures(&self, values: &[Argued]) -> bool
+        ensures { result ≡ len_fits (world_of self.now) (map argued_of values.now) }
+    {
+        match values {
+            [value] => match &value.kind {
+                Some(kind) => self.class_of(kind).has_length(),
+                None => true,
+            },
+            _ => false,
+        }
+    }
+}
+
+impl FoundInFile {
+    /// A wrong operation is a fault only where its parts are whole.
+    #[tactic(auto, unfolding(crate::specs::Found::meaning_of))]
+    fn wrong_if_whole<'w>(
+        &mut self,
+        start: usize,
+        values: &[Argued],
+    ) -> Result<Meaning<'w>, AllocError>
+        ensures { IfOk result (λ m. Adds (wrong_if_whole (all_whole (map argued_of values.now)) start) self.old self.new (meaning_of m)) }
+    {
+        if all_whole(values) {
+            self.wrong(start)
+        } else {
+            Ok(Meaning::Broken)
+        }
+    }
+
+    /// Notes a value that does not fit; whether it fits or is broken.
+    #[tactic(auto, unfolding(crate::specs::View::kind_of, crate::specs::Judge::misfit))]
+    pub fn misfit(
+        &mut self,
+        world: &World<'_>,
+        value: &Argued,
+        wanted: &GoType,
+    ) -> Result<bool, AllocError>
+        ensures { IfOk result (λ none. AddsPlaces (misfit (world_of world.now) value.now.place (option_map kind_of value.now.kind) (type_of wanted.now)) self.old self.new none) }
+    {
+        let Some(kind) = &value.kind else {
+            return Ok(true);
+        };
+        if world.fits(kind, wanted) {
+            return Ok(true);
+        }
+        self.faults.push(value.place)?;
+        Ok(false)
+    }
+
+    /// Notes each value that does not fit its type; whether there is none.
+    fn misfits(
+        &mut self,
+        world: &World<'_>,
+        values: &[Argued],
+        types: &[GoType],
+    ) -> Result<bool, AllocError>
+        ensures { IfOk result (λ none. AddsPlaces (misfits (world_of world.now) (map argued_of values.now) (map type_of types.now)) self.old self.new none) }
+    {
+        let mut none = true;
+        let mut i = 0;
+        'each: while i < values.len() && i < types.len() {
+            let fits = self.misfit(world, &values[i], &types[i])?;
+            none = none && fits;
+            i += 1;
+        }
+        Ok(none)
+    }
+
+    /// Notes each value that does not fit one type; whether there is none.
+    fn all_misfits(
+        &mut self,
+        world: &World<'_>,
+        values: &[Argued],
+        wanted: &GoType,
+    ) -> Result<bool, AllocError>
+        ensures { IfOk result (λ none. AddsPlaces (all_misfits (world_of world.now) (map argued_of values.now) (type_of wanted.now)) self.old self.new none) }
+    {
+        let mut none = true;
+        for value in values {
+            let fits = self.misfit(world, value, wanted)?;
+            none = none && fits;
+        }
+        Ok(none)
+    }
+
+    /// The meaning of a call of a function.
+    #[tactic(auto, unfolding(crate::specs::Found::meaning_of, crate::specs::Judge::call_function, crate::specs::Judge::unless_faults))]
+    fn call_function<'w>(
+        &mut self,
+        alloc: Global,
+        world: &World<'w>,
+        start: usize,
+        signature: &'w Signature,
+        values: &[Argued],
+    ) -> Result<Meaning<'w>, AllocError>
+        ensures { IfOk result (λ m. Adds (call_function (world_of world.now) start (signature_of signature.now) (map argued_of values.now)) self.old self.new (meaning_of m)) }
+    {
+        if values.len() != signature.parameters.len() {
+            return self.wrong_if_whole(start, values);
+        }
+        let fits = self.misfits(world, values, &signature.parameters)?;
+        if !fits || !all_whole(values) {
+            return Ok(Meaning::Broken);
+        }
+        result_meaning(alloc, &signature.results)
+    }
+
+    /// The meaning of a conversion.
+    #[tactic(auto, unfolding(crate::specs::Found::meaning_of, crate::specs::View::kind_of, crate::specs::Judge::convert))]
+    fn convert<'w>(
+        &mut self,
+        alloc: Global,
+        world: &World<'w>,
+        start: usize,
+        wanted: &GoType,
+        values: &[Argued],
+    ) -> Result<Meaning<'w>, AllocError>
+        ensures { IfOk result (λ m. Adds (convert (world_of world.now) start (type_of wanted.now) (map argued_of values.now)) self.old self.new (meaning_of m)) }
+    {
+        let [value] = values else {
+            return self.wrong_if_whole(start, values);
+        };
+        match &value.kind {
+            None => Ok(Meaning::Broken),
+            Some(kind) if world.converts(kind, wanted) => {
+                Ok(Meaning::value(ValueKind::Typed(wanted.copy(alloc)?)))
+            }
+            Some(_) => self.wrong(start),
+        }
+    }
+
+    /// The meaning of `append` of values to a slice.
+    #[tactic(auto, unfolding(crate::specs::Found::meaning_of, crate::specs::View::kind_of, crate::specs::Judge::unless_faults))]
+    fn append_to<'w>(
+        &mut self,
+        alloc: Global,
+        world: &World<'w>,
+        start: usize,
+        slice: &ValueKind,
+        values: &[Argued],
+    ) -> Result<Meaning<'w>, AllocError>
+        ensures { IfOk result (λ m. Adds (append_to (world_of world.now) start (kind_of slice.now) (element_of_kind (world_of world.now) (kind_of slice.now)) (map argued_of values.now)) self.old self.new (meaning_of m)) }
+    {
+        let Some(element) = world.element_of(slice) else {
+            return self.wrong_if_whole(start, values);
+        };
+        let fits = self.all_misfits(world, values, element)?;
+        if !fits || !all_whole(values) {
+            return Ok(Meaning::Broken);
+        }
+        Ok(Meaning::value(slice.copy(alloc)?))
+    }
+
+    /// The meaning of a call of `append`.
+    #[tactic(auto, unfolding(crate::specs::Found::meaning_of, crate::specs::Judge::append))]
+    fn append<'w>(
+        &mut self,
+        alloc: Global,
+        world: &World<'w>,
+        start: usize,
+        values: &[Argued],
+    ) -> Result<Meaning<'w>, AllocError>
+        ensures { IfOk result (λ m. Adds (append (world_of world.now) start (map argued_of values.now)) self.old self.new (meaning_of m)) }
+    {
+        let [slice, rest @ ..] = values else {
+            return self.wrong(start);
+        };
+        match &slice.kind {
+            None => Ok(Meaning::Broken),
+            Some(kind) => self.append_to(alloc, world, start, kind, rest),
+        }
+    }
+
+    /// That meaning, where the operands of a builtin are as it wants them.
+    #[tactic(auto, unfolding(crate::specs::Found::meaning_of))]
+    fn call_when<'w>(
+        &mut self,
+        fine: bool,
+        values: &[Argued],
+        start: usize,
+        meaning: Meaning<'w>,
+    ) -> Result<Meaning<'w>, AllocError>
+        ensures { IfOk result (λ m. Adds (call_when fine (map argued_of values.now) start (meaning_of meaning.entry)) self.old self.new (meaning_of m)) }
+    {
+        if !all_whole(values) {
+            return Ok(Meaning::Broken);
+        }
+        if fine { Ok(meaning) } else { self.wrong(start) }
+    }
+
+    /// The meaning of a call of a builtin.
+    #[tactic(auto, unfolding(crate::specs::Found::meaning_of, crate::specs::View::kind_of, crate::specs::View::type_of, crate::specs::Judge::call_builtin))]
+    fn call_builtin<'w>(
+        &mut self,
+        alloc: Global,
+        world: &World<'w>,
+        start: usize,
+        builtin: Builtin,
+        values: &[Argued],
+    ) -> Result<Meaning<'w>, AllocError>
+        ensures { IfOk result (λ m. Adds (call_builtin (world_of world.now) start builtin (map argued_of values.now)) self.old self.new (meaning_of m)) }
+    {
+        match builtin {
+            Builtin::Append => self.append(alloc, world, start, values),
+            Builtin::Len => self.call_when(
+                world.measures(values),
+                values,
+                start,
+                Meaning::value(ValueKind::Typed(GoType::Basic(Basic::Int))),
+            ),
+            Builtin::Panic => {
+                self.call_when(values.len() == 1, values, start, Meaning::Results(&[]))
+            }
+            Builtin::Print => {
+                self.call_when(
+                    world.prints_all(values),
+                    values,
+                    start,
+                    Meaning::Results(&[]),
+                )
+            }
+            Builtin::Println => {
+                self.call_when(
+                    world.prints_all(values),
+                    values,
+                    start,
+                    Meaning::Results(&[]),
+                )
+            }
+        }
+    }
+
+    /// The meaning of a call of an operand that has that meaning.
+    #[tactic(auto, unfolding(crate::specs::Found::meaning_of, crate::specs::View::kind_of, crate::specs::Judge::call_of))]
+    pub fn call<'w>(
+        &mut self,
+        alloc: Global,
+        world: &World<'w>,
+        at: FaultPlaces,
+        values: &[Argued],
+        meaning: Meaning<'w>,
+    ) -> Result<Meaning<'w>, AllocError>
+        ensures { IfOk result (λ m. Adds (call_of (world_of world.now) at.start at.place (map argued_of values.now) (meaning_of meaning.entry)) self.old self.new (meaning_of m)) }
+    {
+        let start = at.start;
+        match meaning {
+            Meaning::Function(signature) => {
+                self.call_function(alloc, world, start, signature, values)
+            }
+            Meaning::TypeName(wanted) => self.convert(alloc, world, start, wanted, values),
+            Meaning::Builtin(builtin) => self.call_builtin(alloc, world, start, builtin, values),
+            Meaning::Value { .. } => self.wrong_if_whole(start, values),
+            Meaning::Broken => Ok(Meaning::Broken),
+            Meaning::Package | Meaning::Results(_) => self.wrong(at.place),
+        }
+    }
+}

@@ -1,0 +1,208 @@
+//! What expressions stand for, and the faults and member uses in them.
+ghost use Rattle.std.specs.Prelude.{IfOk, map, option_map};
+ghost use Rattle.go_ast.specs.Tree.{no_link};
+ghost use Rattle.go_ast.specs.View.{expr_view, link_view, literal_view};
+ghost use Rattle.types_expr.specs.Judge.{judge, judge_value, judge_link, judge_links, judge_operands, judge_arguments, judge_literal, judge_elements, none_seen};
+ghost use Rattle.types_expr.specs.View.{type_of};
+ghost use Rattle.types_expr.specs.WorldView.{world_of};
+ghost use Rattle.types_expr.specs.Lists.{links_in, operands_in, arguments_in, elements_in};
+ghost use Rattle.types_expr.specs.Found.{locals_of, meaning_of, argued_of, Adds, AddsList, AddsElements, Continues};
+
+use crate::found::{FoundInFile, LocalNames};
+use crate::keys::SeenFields;
+use crate::literals::Elements;
+use crate::meaning::{Argued, Meaning};
+use crate::places::{FaultPlaces, first_of_type, first_token, place_behind, place_of};
+use crate::types::{Basic, GoType, ValueKind};
+use go_ast::tree::{CompositeLit, Element, Expr, ExprItem, Link, Operand};
+use std::alloc::{AllocError, Global};
+
+/// What an expression stands for. Its faults and member uses are added to what was found.
+#[cycle(judging)]
+pub fn judge<'w>(
+    alloc: Global,
+    scope: LocalNames<'w>,
+    e: &Expr,
+    found: &mut FoundInFile,
+) -> Result<Meaning<'w>, AllocError>
+    ensures { IfOk result (λ m. Adds (judge (world_of scope.entry.world.now) (locals_of scope.entry.locals.now) (expr_view e.now)) found.old found.new (meaning_of m)) }
+{
+    match e {
+        Expr::Number(_) => Ok(Meaning::value(ValueKind::Untyped(Basic::Int))),
+        Expr::Text(_) => Ok(Meaning::value(ValueKind::Untyped(Basic::String))),
+        Expr::Name(place) => scope.name_meaning(alloc, *place),
+        Expr::Blank(_) => Ok(Meaning::Broken),
+        Expr::Composite(lit) => literal(alloc, scope, lit, found),
+        Expr::Paren { inner, .. } => judge_value(alloc, scope, inner, found),
+        Expr::Prefix { op, at, operand } => {
+            let meaning = judge_value(alloc, scope, operand, found)?;
+            found.prefix(alloc, scope.world, *op, *at, meaning)
+        }
+        Expr::Address { literal: lit, .. } => {
+            let meaning = literal(alloc, scope, lit, found)?;
+            meaning.into_address(alloc)
+        }
+        Expr::Chain { first, links } => {
+            let meaning = judge(alloc, scope, first, found)?;
+            let start = first_token(first);
+            let place = place_of(first);
+            let at = FaultPlaces { start, place };
+            chain(alloc, scope, at, meaning, links, found)
+        }
+        Expr::Binary { first, rest } => {
+            let meaning = judge_value(alloc, scope, first, found)?;
+            binary(alloc, scope, first_token(first), meaning, rest, found)
+        }
+    }
+}
+
+/// What an expression stands for where a value is wanted.
+#[cycle(judging)]
+pub fn judge_value<'w>(
+    alloc: Global,
+    scope: LocalNames<'w>,
+    e: &Expr,
+    found: &mut FoundInFile,
+) -> Result<Meaning<'w>, AllocError>
+    ensures { IfOk result (λ m. Adds (judge_value (world_of scope.entry.world.now) (locals_of scope.entry.locals.now) (expr_view e.now)) found.old found.new (meaning_of m)) }
+{
+    let meaning = judge(alloc, scope, e, found)?;
+    found.as_value(place_of(e), meaning)
+}
+
+/// The links of a chain, behind an operand that has that meaning.
+#[cycle(judging)]
+pub fn chain<'w>(
+    alloc: Global,
+    scope: LocalNames<'w>,
+    at: FaultPlaces,
+    meaning: Meaning<'w>,
+    links: &[Link],
+    found: &mut FoundInFile,
+) -> Result<Meaning<'w>, AllocError>
+    ensures { IfOk result (λ m. Continues (λ j. judge_links (world_of scope.entry.world.now) (locals_of scope.entry.locals.now) at.start at.place j (links_in links.now)) (meaning_of meaning.entry) found.old found.new (meaning_of m)) }
+{
+    let mut meaning = meaning;
+    let start = at.start;
+    let mut place = at.place;
+    for next in links {
+        let at = FaultPlaces { start, place };
+        meaning = judge_link(alloc, scope, at, meaning, next, found)?;
+        place = place_behind(start, next);
+    }
+    Ok(meaning)
+}
+
+/// The operators and operands behind a first operand of that meaning.
+#[cycle(judging)]
+fn binary<'w>(
+    alloc: Global,
+    scope: LocalNames<'w>,
+    start: usize,
+    meaning: Meaning<'w>,
+    rest: &[Operand],
+    found: &mut FoundInFile,
+) -> Result<Meaning<'w>, AllocError>
+    ensures { IfOk result (λ m. Continues (λ j. judge_operands (world_of scope.entry.world.now) (locals_of scope.entry.locals.now) start j (operands_in rest.now)) (meaning_of meaning.entry) found.old found.new (meaning_of m)) }
+{
+    let mut meaning = meaning;
+    for operand in rest {
+        let right = judge_value(alloc, scope, &operand.value, found)?;
+        meaning = found.operation(scope.world, operand.op, start, meaning, right)?;
+    }
+    Ok(meaning)
+}
+
+/// One link of a chain, behind an operand that has that meaning.
+#[cycle(judging)]
+pub fn judge_link<'w>(
+    alloc: Global,
+    scope: LocalNames<'w>,
+    at: FaultPlaces,
+    meaning: Meaning<'w>,
+    next: &Link,
+    found: &mut FoundInFile,
+) -> Result<Meaning<'w>, AllocError>
+    ensures { IfOk result (λ m. Adds (judge_link (world_of scope.entry.world.now) (locals_of scope.entry.locals.now) at.start at.place (link_view next.now no_link) (meaning_of meaning.entry)) found.old found.new (meaning_of m)) }
+{
+    match next {
+        Link::Selector { name, .. } => found.select(alloc, scope, at.place, *name, meaning),
+        Link::Index { index, .. } => {
+            let operand = found.as_value(at.place, meaning)?;
+            let value = judge_value(alloc, scope, index, found)?;
+            let start = at.start;
+            let place = place_of(index);
+            let at = FaultPlaces { start, place };
+            found.index(alloc, scope.world, at, operand, value)
+        }
+        Link::Call {
+            arguments: list,
+            ..
+        } => {
+            let values = arguments(alloc, scope, list, found)?;
+            found.call(alloc, scope.world, at, &values, meaning)
+        }
+    }
+}
+
+/// The values of the arguments of a call, or of other expressions in turn.
+#[cycle(judging)]
+pub fn arguments<'w>(
+    alloc: Global,
+    scope: LocalNames<'w>,
+    list: &[ExprItem],
+    found: &mut FoundInFile,
+) -> Result<Vec<Argued>, AllocError>
+    ensures { IfOk result (λ vs. AddsList (judge_arguments (world_of scope.entry.world.now) (locals_of scope.entry.locals.now) (arguments_in list.now)) found.old found.new (map argued_of vs.items)) }
+{
+    let mut values = Vec::new(alloc);
+    for argument in list {
+        let place = place_of(&argument.value);
+        let kind = judge_value(alloc, scope, &argument.value, found)?.into_kind();
+        values.push(Argued { place, kind })?;
+    }
+    Ok(values)
+}
+
+/// What a composite literal stands for.
+#[cycle(judging)]
+fn literal<'w>(
+    alloc: Global,
+    scope: LocalNames<'w>,
+    lit: &CompositeLit,
+    found: &mut FoundInFile,
+) -> Result<Meaning<'w>, AllocError>
+    ensures { IfOk result (λ m. Adds (judge_literal (world_of scope.entry.world.now) (locals_of scope.entry.locals.now) (literal_view lit.now)) found.old found.new (meaning_of m)) }
+{
+    let own = found.judge_type(alloc, scope.world, &lit.literal_type)?;
+    let elements = elements(alloc, scope, &lit.elements, &own, found)?;
+    let start = first_of_type(&lit.literal_type);
+    found.literal_meaning(scope.world, start, own, elements)
+}
+
+/// The elements of a literal of that type, none where it is broken.
+#[cycle(judging)]
+fn elements<'w>(
+    alloc: Global,
+    scope: LocalNames<'w>,
+    list: &[Element],
+    own: &Option<GoType>,
+    found: &mut FoundInFile,
+) -> Result<Elements, AllocError>
+    ensures { IfOk result (λ es. AddsElements (judge_elements (world_of scope.entry.world.now) (locals_of scope.entry.locals.now) (option_map type_of own.now) none_seen (elements_in list.now)) found.old found.new es.whole es.unkeyed) }
+{
+    let mut seen = SeenFields::new(alloc);
+    let mut elements = Elements {
+        whole: true,
+        unkeyed: false,
+    };
+    for element in list {
+        let key = found.element_key(alloc, scope.world, own, &mut seen, &element.key)?;
+        let place = place_of(&element.value);
+        let kind = judge_value(alloc, scope, &element.value, found)?.into_kind();
+        let value = Argued { place, kind };
+        let fits = found.misfit_if(scope.world, &value, key.wanted)?;
+        elements = elements.with(key, &value, fits);
+    }
+    Ok(elements)
+}

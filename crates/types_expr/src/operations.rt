@@ -1,0 +1,242 @@
+//! The rules of the operations, on types and kinds.
+ghost use Rattle.std.specs.Prelude.{◌≡◌, option_map};
+ghost use Rattle.types_expr.specs.Types.{same_underlying, is_named, has_nil, either_unnamed, points};
+ghost use Rattle.types_expr.specs.Operations.{fits, converts, joined, operate, class_of, class_of_underlying, family_of, result_of, is_nil, is_int, is_bool, is_ordered, has_length, is_printed, compares, element_of_kind};
+ghost use Rattle.types_expr.specs.View.{type_of, kind_of};
+ghost use Rattle.types_expr.specs.WorldView.{world_of, shape_of};
+
+use crate::classes::{Family, TypeClass};
+use crate::types::{Basic, GoType, ValueKind};
+use crate::world::{Shape, World};
+use go_ast::syntax::BinaryOp;
+
+#[tactic(auto, unfolding(crate::specs::WorldView::shape_of, crate::specs::Types::same_underlying))]
+fn same_shape(a: Shape<'_>, b: Shape<'_>) -> bool
+    ensures { result ≡ same_underlying (shape_of a.entry) (shape_of b.entry) }
+{
+    match (a, b) {
+        (Shape::Plain(a), Shape::Plain(b)) => a.same(b),
+        (Shape::PointerTo(a), Shape::PointerTo(b)) => a.same(b),
+        (Shape::SliceOf(a), Shape::SliceOf(b)) => a.same(b),
+        (Shape::Struct(a), Shape::Struct(b)) => a.same(b),
+        _ => false,
+    }
+}
+
+impl Shape<'_> {
+    /// Whether nil is a value of such a type.
+    #[tactic(auto, unfolding(crate::specs::WorldView::shape_of, crate::specs::Types::has_nil))]
+    fn has_nil(self) -> bool
+        ensures { result ≡ has_nil (shape_of self.entry) }
+    {
+        matches!(self, Shape::PointerTo(_) | Shape::SliceOf(_))
+    }
+
+    /// Whether it is a pointer.
+    #[tactic(auto, unfolding(crate::specs::WorldView::shape_of))]
+    pub fn is_pointer(self) -> bool
+        ensures { result ≡ points (shape_of self.entry) }
+    {
+        matches!(self, Shape::PointerTo(_))
+    }
+
+    /// The values of such a type, as operators tell them apart.
+    #[tactic(auto, unfolding(crate::specs::WorldView::shape_of))]
+    fn class(self) -> TypeClass
+        ensures { result ≡ class_of_underlying (shape_of self.entry) }
+    {
+        match self {
+            Shape::Plain(basic) => TypeClass::Of(basic),
+            Shape::PointerTo(_) => TypeClass::Pointer,
+            Shape::SliceOf(_) => TypeClass::Slice,
+            Shape::Struct(_) => TypeClass::Struct,
+        }
+    }
+}
+
+impl TypeClass {
+    pub fn is_int(self) -> bool
+        ensures { result ≡ is_int self }
+    {
+        matches!(self, TypeClass::Of(Basic::Int))
+    }
+
+    pub fn is_bool(self) -> bool
+        ensures { result ≡ is_bool self }
+    {
+        matches!(self, TypeClass::Of(Basic::Bool))
+    }
+
+    fn is_ordered(self) -> bool
+        ensures { result ≡ is_ordered self }
+    {
+        matches!(self, TypeClass::Of(Basic::Int | Basic::String))
+    }
+
+    /// Whether `len` takes such a value.
+    pub(crate) fn has_length(self) -> bool
+        ensures { result ≡ has_length self }
+    {
+        matches!(self, TypeClass::Of(Basic::String) | TypeClass::Slice)
+    }
+
+    /// Whether `print` and `println` take such a value.
+    pub(crate) fn is_printed(self) -> bool
+        ensures { result ≡ is_printed self }
+    {
+        matches!(self, TypeClass::Of(_))
+    }
+
+    fn compares(self, with_nil: bool) -> bool
+        ensures { result ≡ compares with_nil self }
+    {
+        match self {
+            TypeClass::Of(_) | TypeClass::Pointer => true,
+            TypeClass::Slice => with_nil,
+            TypeClass::Struct | TypeClass::Nil => false,
+        }
+    }
+}
+
+#[tactic(auto, unfolding(crate::specs::Operations::family_of))]
+fn family_of(op: BinaryOp) -> Family
+    ensures { result ≡ family_of op }
+{
+    match op {
+        BinaryOp::Multiply | BinaryOp::Divide | BinaryOp::Remainder | BinaryOp::Subtract => {
+            Family::Arithmetic
+        }
+        BinaryOp::Add => Family::Addition,
+        BinaryOp::Equal | BinaryOp::NotEqual => Family::Equality,
+        BinaryOp::Less | BinaryOp::LessEqual | BinaryOp::Greater | BinaryOp::GreaterEqual => {
+            Family::Order
+        }
+        BinaryOp::And | BinaryOp::Or => Family::Logic,
+    }
+}
+
+/// The kind of an operation on operands of one class, none where the class has no such operation.
+#[tactic(auto, unfolding(crate::specs::View::kind_of, crate::specs::Operations::result_of))]
+fn result_of(family: Family, with_nil: bool, class: TypeClass, kind: ValueKind) -> Option<ValueKind>
+    ensures { option_map kind_of result ≡ result_of family with_nil class (kind_of kind) }
+{
+    let fine = match family {
+        Family::Arithmetic => class.is_int(),
+        Family::Addition | Family::Order => class.is_ordered(),
+        Family::Equality => class.compares(with_nil),
+        Family::Logic => class.is_bool(),
+    };
+    if !fine {
+        return None;
+    }
+    match family {
+        Family::Equality | Family::Order => Some(ValueKind::Untyped(Basic::Bool)),
+        _ => Some(kind),
+    }
+}
+
+#[tactic(auto, unfolding(crate::specs::Types::is_named))]
+fn either_unnamed(a: &GoType, b: &GoType) -> bool
+    ensures { result ≡ either_unnamed (is_named (type_of a.now)) (is_named (type_of b.now)) }
+{
+    !(a.is_named() && b.is_named())
+}
+
+impl ValueKind {
+    #[tactic(auto, unfolding(crate::specs::View::kind_of, crate::specs::Operations::is_nil))]
+    fn is_nil(&self) -> bool
+        ensures { result ≡ is_nil (kind_of self.now) }
+    {
+        matches!(self, ValueKind::Nil)
+    }
+}
+
+impl World<'_> {
+    /// Whether a value of that kind fits the type.
+    #[tactic(auto, unfolding(crate::specs::View::kind_of, crate::specs::WorldView::shape_of, crate::specs::Operations::fits))]
+    pub fn fits(&self, kind: &ValueKind, wanted: &GoType) -> bool
+        ensures { result ≡ fits (world_of self.now) (kind_of kind.now) (type_of wanted.now) }
+    {
+        match kind {
+            ValueKind::Typed(own) => {
+                own.same(wanted)
+                    || (either_unnamed(own, wanted)
+                        && same_shape(self.underlying(own), self.underlying(wanted)))
+            }
+            ValueKind::Untyped(basic) => same_shape(Shape::Plain(*basic), self.underlying(wanted)),
+            ValueKind::Nil => self.underlying(wanted).has_nil(),
+        }
+    }
+
+    /// Whether a value of that kind converts to the type.
+    #[tactic(auto, unfolding(crate::specs::View::kind_of))]
+    pub(crate) fn converts(&self, kind: &ValueKind, wanted: &GoType) -> bool
+        ensures { result ≡ converts (world_of self.now) (kind_of kind.now) (type_of wanted.now) }
+    {
+        match kind {
+            ValueKind::Typed(own) => {
+                self.fits(kind, wanted) || same_shape(self.underlying(own), self.underlying(wanted))
+            }
+            _ => self.fits(kind, wanted),
+        }
+    }
+
+    /// The values of that kind, as operators tell them apart.
+    #[tactic(auto, unfolding(crate::specs::View::kind_of, crate::specs::Operations::class_of))]
+    pub fn class_of(&self, kind: &ValueKind) -> TypeClass
+        ensures { result ≡ class_of (world_of self.now) (kind_of kind.now) }
+    {
+        match kind {
+            ValueKind::Typed(own) => self.underlying(own).class(),
+            ValueKind::Untyped(basic) => TypeClass::Of(*basic),
+            ValueKind::Nil => TypeClass::Nil,
+        }
+    }
+
+    /// The kind that two operands have in common, none where they do not go together.
+    #[tactic(auto, unfolding(crate::specs::View::kind_of, crate::specs::Operations::joined))]
+    fn joined(&self, left: ValueKind, right: ValueKind) -> Option<ValueKind>
+        ensures { option_map kind_of result ≡ joined (world_of self.now) (kind_of left) (kind_of right) }
+    {
+        let together = match (&left, &right) {
+            (ValueKind::Typed(a), ValueKind::Typed(b)) => a.same(b),
+            (ValueKind::Typed(a), _) => self.fits(&right, a),
+            (_, ValueKind::Typed(b)) => self.fits(&left, b),
+            (ValueKind::Untyped(a), ValueKind::Untyped(b)) => a.same(*b),
+            (ValueKind::Nil, ValueKind::Nil) => true,
+            _ => false,
+        };
+        if !together {
+            return None;
+        }
+        match left {
+            ValueKind::Typed(_) => Some(left),
+            _ => Some(right),
+        }
+    }
+
+    /// The kind of a binary operation, none where it breaks a rule.
+    #[tactic(auto, unfolding(crate::specs::Operations::operate))]
+    pub fn operate(&self, op: BinaryOp, left: ValueKind, right: ValueKind) -> Option<ValueKind>
+        ensures { option_map kind_of result ≡ operate (world_of self.now) op (kind_of left) (kind_of right) }
+    {
+        let with_nil = left.is_nil() || right.is_nil();
+        let kind = self.joined(left, right)?;
+        let class = self.class_of(&kind);
+        result_of(family_of(op), with_nil, class, kind)
+    }
+
+    /// The element type of a slice value.
+    #[tactic(auto, unfolding(crate::specs::View::kind_of, crate::specs::WorldView::shape_of))]
+    pub(crate) fn element_of<'a>(&'a self, kind: &'a ValueKind) -> Option<&'a GoType>
+        ensures { option_map (λ t. type_of t.now) result ≡ element_of_kind (world_of self.now) (kind_of kind.now) }
+    {
+        let ValueKind::Typed(own) = kind else {
+            return None;
+        };
+        match self.underlying(own) {
+            Shape::SliceOf(element) => Some(element),
+            _ => None,
+        }
+    }
+}

@@ -1,0 +1,79 @@
+//! Where expressions and types stand.
+ghost use Rattle.std.specs.Prelude.{◌≡◌};
+ghost use Rattle.go_ast.specs.Tree.{no_link};
+ghost use Rattle.go_ast.specs.View.{expr_view, link_view, type_view};
+ghost use Rattle.types_expr.specs.Places.{first_token, first_of_type, place_of, place_behind, place_of_links};
+ghost use Rattle.types_expr.specs.Lists.{links_in};
+
+use go_ast::tree::{Expr, Link, TypeExpr};
+
+/// Where the faults of a link of a chain stand: at the chain's first token, or at the token where the operand before the link,
+/// or its index, has its faults.
+#[derive(Clone, Copy)]
+pub struct FaultPlaces {
+    pub start: usize,
+    pub place: usize,
+}
+
+/// The first token of a type.
+#[tactic(auto, unfolding(go_ast::specs::View::type_view))]
+pub(crate) fn first_of_type(t: &TypeExpr) -> usize
+    ensures { result ≡ first_of_type (type_view t.now) }
+{
+    match t {
+        TypeExpr::Local(name) => *name,
+        TypeExpr::Imported { package, .. } => *package,
+        TypeExpr::Pointer { star, .. } => *star,
+        TypeExpr::Slice { open, .. } => *open,
+    }
+}
+
+/// The first token of an expression.
+#[tactic(auto, using(crate::proofs::Trees::first_of_literal_tree), unfolding(go_ast::specs::View::expr_view, crate::specs::Places::first_token))]
+pub fn first_token(e: &Expr) -> usize
+    ensures { result ≡ first_token (expr_view e.now) }
+{
+    match e {
+        Expr::Number(place) | Expr::Text(place) | Expr::Name(place) | Expr::Blank(place) => *place,
+        Expr::Composite(literal) => first_of_type(&literal.literal_type),
+        Expr::Paren { open, .. } => *open,
+        Expr::Prefix { at, .. } => *at,
+        Expr::Address { at, .. } => *at,
+        Expr::Chain { first, .. } => first_token(first),
+        Expr::Binary { first, .. } => first_token(first),
+    }
+}
+
+/// Where a fault of the expression itself stands: at the name behind the dot for a selector, else at its first token.
+#[tactic(auto, unfolding(go_ast::specs::View::expr_view, crate::specs::Places::place_of))]
+pub fn place_of(e: &Expr) -> usize
+    ensures { result ≡ place_of (expr_view e.now) }
+{
+    match e {
+        Expr::Chain { first, links } => chain_place(first_token(first), links),
+        _ => first_token(e),
+    }
+}
+
+/// The same of a chain that begins at `start`, with these links.
+fn chain_place(start: usize, links: &[Link]) -> usize
+    ensures { result ≡ place_of_links start start (links_in links.now) }
+{
+    let mut place = start;
+    for link in links {
+        place = place_behind(start, link);
+    }
+    place
+}
+
+/// Where a fault of a chain stands that begins at `start` and ends in that link.
+#[tactic(auto, unfolding(go_ast::specs::View::link_view))]
+pub fn place_behind(start: usize, link: &Link) -> usize
+    ensures { result ≡ place_behind start (link_view link.now no_link) }
+{
+    match link {
+        Link::Selector { name, .. } => *name,
+        Link::Index { .. } => start,
+        Link::Call { .. } => start,
+    }
+}

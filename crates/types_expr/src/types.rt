@@ -1,0 +1,144 @@
+//! Types, kinds and signatures.
+ghost use Rattle.std.specs.Prelude.{◌≡◌, IfOk};
+ghost use Rattle.types_expr.specs.Types.{Defined, Pointer, Slice, same_type, same_basic, is_named, is_pointer};
+ghost use Rattle.types_expr.specs.View.{type_of, kind_of};
+
+use crate::symbol::Symbol;
+use std::alloc::{AllocError, Global};
+
+/// The types that are predeclared.
+#[derive(Clone, Copy, PartialEq, Eq, Debug)]
+pub enum Basic {
+    Bool,
+    Int,
+    String,
+}
+
+/// A type. Two types are identical where they are built alike.
+#[derive(Drop)]
+pub enum GoType {
+    Basic(Basic),
+    Defined(Symbol),
+    Pointer(Box<GoType>),
+    Slice(Box<GoType>),
+}
+
+/// What a value has: a type, or a kind without one.
+#[derive(Drop)]
+pub enum ValueKind {
+    Typed(GoType),
+    Untyped(Basic),
+    Nil,
+}
+
+/// The parameters and results of a function or method.
+#[derive(Drop)]
+pub struct Signature {
+    pub parameters: Vec<GoType>,
+    pub results: Vec<GoType>,
+}
+
+/// The predeclared functions.
+#[derive(Clone, Copy, PartialEq, Eq, Debug)]
+pub enum Builtin {
+    Append,
+    Len,
+    Panic,
+    Print,
+    Println,
+}
+
+/// The type of a definition.
+#[tactic(auto, unfolding(crate::specs::View::type_of))]
+fn defined(symbol: &Symbol) -> Result<GoType, AllocError>
+    ensures { IfOk result (λ t. type_of t ≡ Defined symbol.now) }
+{
+    let symbol = symbol.copy()?;
+    Ok(GoType::Defined(symbol))
+}
+
+/// The type of pointers to values of a type.
+#[tactic(auto, unfolding(crate::specs::View::type_of))]
+pub(crate) fn pointer_to(alloc: Global, target: GoType) -> Result<GoType, AllocError>
+    ensures { IfOk result (λ t. type_of t ≡ Pointer (type_of target)) }
+{
+    let target = Box::new(alloc, target)?;
+    Ok(GoType::Pointer(target))
+}
+
+/// The type of slices with elements of a type.
+#[tactic(auto, unfolding(crate::specs::View::type_of))]
+pub(crate) fn slice_of(alloc: Global, element: GoType) -> Result<GoType, AllocError>
+    ensures { IfOk result (λ t. type_of t ≡ Slice (type_of element)) }
+{
+    let element = Box::new(alloc, element)?;
+    Ok(GoType::Slice(element))
+}
+
+impl GoType {
+    /// The same type, in other memory.
+    #[tactic(auto, unfolding(crate::specs::View::type_of))]
+    pub fn copy(&self, alloc: Global) -> Result<GoType, AllocError>
+        ensures { IfOk result (λ t. type_of t ≡ type_of self.now) }
+    {
+        match self {
+            GoType::Basic(basic) => Ok(GoType::Basic(*basic)),
+            GoType::Defined(symbol) => defined(symbol),
+            GoType::Pointer(target) => pointer_to(alloc, target.copy(alloc)?),
+            GoType::Slice(element) => slice_of(alloc, element.copy(alloc)?),
+        }
+    }
+
+    /// Whether the two are identical.
+    #[tactic(auto, unfolding(crate::specs::View::type_of, crate::specs::Types::same_type))]
+    pub fn same(&self, other: &GoType) -> bool
+        ensures { result ≡ same_type (type_of self.now) (type_of other.now) }
+    {
+        match (self, other) {
+            (GoType::Basic(a), GoType::Basic(b)) => a.same(*b),
+            (GoType::Defined(a), GoType::Defined(b)) => a.same(b),
+            (GoType::Pointer(a), GoType::Pointer(b)) => a.same(b),
+            (GoType::Slice(a), GoType::Slice(b)) => a.same(b),
+            _ => false,
+        }
+    }
+
+    /// Whether it is written as a pointer.
+    #[tactic(auto, unfolding(crate::specs::View::type_of))]
+    pub fn is_pointer(&self) -> bool
+        ensures { result ≡ is_pointer (type_of self.now) }
+    {
+        matches!(self, GoType::Pointer(_))
+    }
+
+    /// Whether it has a name, as all but pointers and slices have.
+    #[tactic(auto, unfolding(crate::specs::View::type_of, crate::specs::Types::is_named))]
+    pub(crate) fn is_named(&self) -> bool
+        ensures { result ≡ is_named (type_of self.now) }
+    {
+        matches!(self, GoType::Basic(_) | GoType::Defined(_))
+    }
+}
+
+impl ValueKind {
+    /// The same kind, in other memory.
+    #[tactic(auto, unfolding(crate::specs::View::kind_of))]
+    pub fn copy(&self, alloc: Global) -> Result<ValueKind, AllocError>
+        ensures { IfOk result (λ k. kind_of k ≡ kind_of self.now) }
+    {
+        match self {
+            ValueKind::Typed(own) => Ok(ValueKind::Typed(own.copy(alloc)?)),
+            ValueKind::Untyped(basic) => Ok(ValueKind::Untyped(*basic)),
+            ValueKind::Nil => Ok(ValueKind::Nil),
+        }
+    }
+}
+
+impl Basic {
+    /// Whether the two are the same.
+    pub fn same(self, other: Basic) -> bool
+        ensures { result ≡ same_basic self other }
+    {
+        self == other
+    }
+}

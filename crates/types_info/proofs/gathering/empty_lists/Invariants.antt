@@ -1,0 +1,13 @@
+-- The invariants of the loops of `gathering::empty_lists`.
+use Rattle.std.proofs.Common.{ℕ, ◌≡◌, List, length}
+use Rattle.go_scope.specs.declared.model.Position.{Position}
+use Rattle.types_declared.specs.PackageView.{package_of}
+use Rattle.types_info.specs.Lists.{IsListed}
+use Rattle.types_info.specs.Qualified.{AreListsBelow}
+use Rattle.types_info.proofs.gathering.empty_lists.Given as goal
+
+-- the declarations that were passed have lists, without a place
+abbrev pub invariant-loop-d : goal.invariant-loop-d
+invariant-loop-d l =
+    AreListsBelow (package_of l.unit) l.d l.lists ×
+    (length l.lists.numbers.items ≡ l.d) × ((path : List ℕ) (at : Position) → IsListed l.lists.all.items path at → ⊥)

@@ -1,0 +1,62 @@
+-- Places that are listed under the paths of imports.
+use Rattle.std.specs.Prelude.{ℕ, ◌≡◌, ◌<◌, ◌+◌, ◌++◌, ◌⊎◌, ◌↔◌, List, [], ◌∷◌, Option, Some, None, Contains, length, option_map, slice_get, slice_index_or}
+use Rattle.go_scope.specs.declared.model.Position.{Position}
+use Rattle.types_info.specs.declared.lists.Qualified.{Qualified}
+use Rattle.types_info.specs.declared.lists.Lists.{Lists}
+
+abbrev pub path_of : Qualified → List ℕ
+path_of list = list.path.items
+
+-- a place is listed under a path, in the list of that number
+pub record IsListedIn (all : List Qualified) (path : List ℕ) (at : Position) (k : ℕ) : Type 0 where
+  pub list : Qualified
+  pub has_number : slice_get all k ≡ Some list
+  pub of_path : path_of list ≡ path
+  pub holds : Contains list.places.items at
+
+-- a place is listed under a path
+abbrev pub IsListed : List Qualified → List ℕ → Position → Type 0
+IsListed all path at = (k : ℕ) × IsListedIn all path at k
+
+-- the path of the list of a number, if there is one
+abbrev pub path_by : List Qualified → Option ℕ → Option (List ℕ)
+path_by all None = None
+path_by all (Some k) = option_map path_of (slice_get all k)
+
+-- the path of the list of a declaration, if it has one
+abbrev pub path_for : Lists → ℕ → Option (List ℕ)
+path_for lists d = path_by lists.all.items (slice_index_or lists.numbers.items d None)
+
+-- the number that a declaration has is that of a list
+abbrev pub AreWithin : Lists → Type 0
+AreWithin lists = (d k : ℕ) → slice_index_or lists.numbers.items d None ≡ Some k → k < length lists.all.items
+
+-- a list without a place was added
+pub record AddsList (old new : List Qualified) (path : List ℕ) : Type 0 where
+  pub list : Qualified
+  pub new_is : new ≡ old ++ (list ∷ [])
+  pub of_path : path_of list ≡ path
+  pub empty : list.places.items ≡ []
+
+-- the next declaration was added, with that path, if it has one
+pub record AddsDeclaration (old new : Lists) (path : Option (List ℕ)) : Type 0 where
+  pub within : AreWithin new
+  pub size : length new.numbers.items ≡ length old.numbers.items + 1
+  pub here : path_for new (length old.numbers.items) ≡ path
+  pub kept : (d : ℕ) → d < length old.numbers.items → path_for new d ≡ path_for old d
+  pub listed : (p : List ℕ) (at : Position) → IsListed new.all.items p at → IsListed old.all.items p at
+
+-- a place was added to the list of a number
+pub record AddsPlace (old new : List Qualified) (number : ℕ) (at : Position) : Type 0 where
+  pub before : Qualified
+  pub after : Qualified
+  pub was : slice_get old number ≡ Some before
+  pub is : slice_get new number ≡ Some after
+  pub same_path : path_of after ≡ path_of before
+  pub places : after.places.items ≡ before.places.items ++ (at ∷ [])
+  pub size : length new ≡ length old
+  pub elsewhere : (k : ℕ) → (k ≡ number → ⊥) → slice_get new k ≡ slice_get old k
+
+-- a place was listed under a path, if there is one, and nothing else was
+abbrev pub AddsUnder : (old new : List Qualified) → Option (List ℕ) → Position → Type 0
+AddsUnder old new under at = (path : List ℕ) (x : Position) → IsListed new path x ↔ (IsListed old path x ⊎ ((under ≡ Some path) × (at ≡ x)))

@@ -1,0 +1,25 @@
+-- The package of a path and of files.
+use Rattle.std.specs.Prelude.{ℕ, ◌≡◌, List, Option, length, map}
+use Rattle.go_ast.specs.SourceFile.{SourceFile, FileParts, source_of}
+use Rattle.go_scope.specs.Scoped.{ScopedPackage, scoped, layout_in, names_in}
+use Rattle.types_declared.specs.PackageNames.{IsLaidOver}
+use Rattle.types_declared.specs.Package.{Package, Interface}
+
+-- the package of a path and of files, with the identifiers of a table and with the interfaces of other packages
+abbrev pub package_in : (path : List ℕ) → List SourceFile → ScopedPackage → (List ℕ → Interface) → Package
+package_in path files table interface_of = record {
+  path = path;
+  files = files;
+  layout = layout_in table;
+  names = names_in table;
+  size = length table.sites;
+  interface_of = interface_of;
+}
+
+-- The package that is checked, given the names of other packages, by their paths, and what it sees of them: in its table each
+-- import without a name declares the name of the imported package. There is one such package at most.
+pub record IsPackageOf (path : List ℕ) (files : List FileParts) (name_of : List ℕ → Option (List ℕ)) (interface_of : List ℕ → Interface) (p : Package) :
+    Type 0 where
+  pub laid : ScopedPackage
+  pub is_laid : IsLaidOver (map source_of files) name_of (scoped files) laid
+  pub is_package : p ≡ package_in path (map source_of files) laid interface_of

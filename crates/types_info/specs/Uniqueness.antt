@@ -1,0 +1,21 @@
+-- A declaration means one thing at most, and a file is judged by one world at most.
+use Rattle.std.specs.Prelude.{ℕ, ◌≡◌, List, Some, slice_get}
+use Rattle.go_ast.specs.Flatten.{flatten}
+use Rattle.go_ast.specs.SourceFile.{SourceFile}
+use Rattle.go_scope.specs.Trees.{AreRising}
+use Rattle.types_expr.specs.World.{World, Bound}
+use Rattle.types_declared.specs.Package.{Package}
+use Rattle.types_declared.specs.Bound.{IsMeantBy}
+use Rattle.types_info.specs.Worlds.{IsWorldOf}
+
+-- the tokens of each tree are numbered in their order
+abbrev pub AreInOrder : List SourceFile → Type 0
+AreInOrder files = (file : ℕ) (s : SourceFile) → slice_get files file ≡ Some s → AreRising 0 (flatten s.tree)
+
+-- a declaration means one thing at most
+abbrev pub IsOneMeaning : Package → Type 0
+IsOneMeaning p = (d : ℕ) (b c : Bound) → IsMeantBy p d b → IsMeantBy p d c → b ≡ c
+
+-- a file is judged by one world at most
+abbrev pub IsOneWorld : Package → Type 0
+IsOneWorld p = (file : ℕ) (s : SourceFile) (v w : World) → IsWorldOf p file s v → IsWorldOf p file s w → v ≡ w

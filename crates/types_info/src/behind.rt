@@ -1,0 +1,61 @@
+//! Names behind the names of packages.
+ghost use Rattle.std.specs.Prelude.{◌≡◌, ◌<◌, ◌↔◌, length, IsTrue, MatchOption};
+ghost use Rattle.go_scope.specs.declared.model.Role.TheVariants.{NotLexical};
+ghost use Rattle.go_scope.specs.declared.model.Purpose.TheVariants as purpose;
+ghost use Rattle.types_declared.specs.PackageView.{package_of, IsIndexOf};
+ghost use Rattle.types_info.specs.Qualified.{IsBehindPackage, IsOnePath, IsDeclarationBefore};
+
+use go_scope::model::{Purpose, Role};
+use types_declared::{Index, Package};
+
+/// Whether a role is that of a name behind a dot.
+fn is_selected(role: Role) -> bool
+    ensures { IsTrue result ↔ (role ≡ NotLexical purpose.Selected) }
+{
+    match role {
+        Role::NotLexical(Purpose::Selected) => true,
+        _ => false,
+    }
+}
+
+/// The declaration to which the name is bound that stands before a dot and an identifier.
+fn declaration_named(unit: Package<'_>, index: &Index<'_>, u: usize) -> Option<usize>
+    requires index { IsIndexOf (package_of unit) index.now }
+    requires in_range { u < length unit.table.now.sites }
+    requires selected { (package_of unit).layout.role u ≡ NotLexical purpose.Selected }
+    ensures before { IsDeclarationBefore (package_of unit.entry) u result }
+    ensures in_range { MatchOption result (Unit {0}) (λ d. d < length unit.entry.table.now.sites) }
+{
+    let at = unit.table.place(u);
+    if at.index < 2 {
+        None
+    } else {
+        index.binding(unit, at.file, at.index - 2)
+    }
+}
+
+/// The declaration to which the name is bound behind which, and a dot, an identifier stands.
+pub(crate) fn declaration_before(unit: Package<'_>, index: &Index<'_>, u: usize) -> Option<usize>
+    requires index { IsIndexOf (package_of unit) index.now }
+    requires in_range { u < length unit.table.now.sites }
+    ensures before { IsDeclarationBefore (package_of unit.entry) u result }
+    ensures in_range { MatchOption result (Unit {0}) (λ d. d < length unit.entry.table.now.sites) }
+{
+    if is_selected(unit.table.role(u)) {
+        declaration_named(unit, index, u)
+    } else {
+        None
+    }
+}
+
+/// The path of the package behind whose name an identifier stands.
+pub fn package_before<'a>(unit: Package<'_>, index: &'a Index<'_>, u: usize) -> Option<&'a [u8]>
+    requires index { IsIndexOf (package_of unit) index.now }
+    requires in_range { u < length unit.table.now.sites }
+    ensures { IsOnePath (IsBehindPackage (package_of unit.entry) u) result }
+{
+    match declaration_before(unit, index, u) {
+        None => None,
+        Some(d) => index.path(unit, d),
+    }
+}

@@ -1,0 +1,93 @@
+//! Places that are listed under the paths of imports: a list for each import, found in one step by the number of its declaration.
+ghost use Rattle.std.specs.Prelude.{ℕ, ◌≡◌, ◌<◌, List, None, length, slice_index_or, OnOk};
+ghost use Rattle.go_scope.specs.Named.{name_value};
+ghost use Rattle.go_scope.specs.declared.model.Position.{Position as Place};
+ghost use Rattle.types_info.specs.Lists.{IsListed, path_for, AreWithin, AddsDeclaration, AddsList, AddsUnder, AddsPlace};
+
+use go_scope::model::Position;
+use std::alloc::{AllocError, Global};
+
+/// The path of an import, and the places of the identifiers behind its name, in order.
+#[derive(Drop)]
+pub struct Qualified {
+    pub path: Vec<u8>,
+    pub places: Vec<Position>,
+}
+
+/// A list for each import; and for each declaration, by its number, the number of its list, if it is an import.
+#[derive(Drop)]
+pub(crate) struct Lists {
+    pub(crate) all: Vec<Qualified>,
+    pub(crate) numbers: Vec<Option<usize>>,
+}
+
+/// Adds a list for a path, with no place.
+fn add_list(alloc: Global, all: &mut Vec<Qualified>, path: &[u8]) -> Result<(), AllocError>
+    ensures { OnOk result (AddsList all.old.items all.new.items path.now) }
+{
+    let path = Vec::from_slice(alloc, path)?;
+    all.push(Qualified {
+        path,
+        places: Vec::new(alloc),
+    })?;
+    Ok(())
+}
+
+/// Adds a place to the list of a number.
+fn add_place(all: &mut Vec<Qualified>, number: usize, at: Position) -> Result<(), AllocError>
+    requires { number < length all.old.items }
+    ensures { OnOk result (AddsPlace all.old.items all.new.items number at) }
+{
+    all[number].places.push(at)?;
+    Ok(())
+}
+
+impl Lists {
+    /// No list, and no declaration.
+    pub(crate) fn new(alloc: Global) -> Lists
+        ensures within { AreWithin result }
+        ensures size { length result.numbers.items ≡ 0 }
+        ensures listed { (path : List ℕ) → (at : Place) → IsListed result.all.items path at → ⊥ }
+    {
+        Lists {
+            all: Vec::new(alloc),
+            numbers: Vec::new(alloc),
+        }
+    }
+
+    /// Adds the next declaration, with a list for its path, if it has one.
+    pub(crate) fn add(&mut self, alloc: Global, path: Option<&[u8]>) -> Result<(), AllocError>
+        requires { AreWithin self.old }
+        ensures { OnOk result (AddsDeclaration self.old self.new (name_value path.entry)) }
+    {
+        match path {
+            None => self.numbers.push(None)?,
+            Some(path) => {
+                let number = self.all.len();
+                add_list(alloc, &mut self.all, path)?;
+                self.numbers.push(Some(number))?;
+            }
+        }
+        Ok(())
+    }
+
+    /// The number of the list of a declaration.
+    fn number(&self, d: usize) -> Option<usize>
+        ensures { result ≡ slice_index_or self.now.numbers.items d None }
+    {
+        *self.numbers.get(d)?
+    }
+
+    /// Lists a place under the path of a declaration, if it has one.
+    pub(crate) fn list(&mut self, d: usize, at: Position) -> Result<(), AllocError>
+        requires { AreWithin self.old }
+        ensures within { OnOk result (AreWithin self.new) }
+        ensures kept { OnOk result ((e : ℕ) → path_for self.new e ≡ path_for self.old e) }
+        ensures listed { OnOk result (AddsUnder self.old.all.items self.new.all.items (path_for self.old d) at) }
+    {
+        match self.number(d) {
+            None => Ok(()),
+            Some(number) => add_place(&mut self.all, number, at),
+        }
+    }
+}

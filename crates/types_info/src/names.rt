@@ -1,0 +1,192 @@
+//! The names of a file: what each is bound to, by the scopes of its package or by the package before the dot.
+ghost use Rattle.std.specs.Prelude.{◌≡◌, ◌≤◌, ◌<◌, ◌↔◌, ℕ, [], Some, None, length, slice_get, option_map, IsTrue, IfOk, OnOk};
+ghost use Rattle.go_scope.specs.declared.model.Role.TheVariants.{NotLexical};
+ghost use Rattle.go_scope.specs.declared.model.Purpose.TheVariants as purpose;
+ghost use Rattle.types_expr.specs.WorldView.{bound_of, bound_at};
+ghost use Rattle.types_declared.specs.Package.{spelled};
+ghost use Rattle.types_declared.specs.ByToken.{number_at};
+ghost use Rattle.types_info.specs.BoundsView.{AreBounds, Extends};
+ghost use Rattle.types_info.specs.Worlds.{IsSelected};
+ghost use Rattle.types_declared.specs.WrittenView.{IsOneExport};
+ghost use Rattle.types_info.specs.NamesView.{tokens_at, IsBehindDot, IsScopeFound, IsPlaced, IsNameAt, AreNames};
+ghost use Rattle.types_declared.specs.PackageView.{package_of, IsIndexOf};
+
+use crate::bounds::Bounds;
+use crate::copies::exported_bound;
+use go_scanner::Piece;
+use go_scope::model::{Position, Purpose, Role};
+use std::alloc::{AllocError, Global};
+use types_declared::{Export, Index, Package, export_at};
+use types_expr::world::Name;
+
+/// Whether a role is that of a name behind a dot.
+fn is_selected(role: Role) -> bool
+    ensures { IsTrue result ↔ (role ≡ NotLexical purpose.Selected) }
+{
+    match role {
+        Role::NotLexical(Purpose::Selected) => true,
+        _ => false,
+    }
+}
+
+/// Whether a name behind a dot stands at a token.
+pub fn is_behind_dot(unit: Package<'_>, index: &Index<'_>, file: usize, token: usize) -> bool
+    requires { IsIndexOf (package_of unit) index.now }
+    ensures { IsTrue result ↔ IsBehindDot (package_of unit.entry) file token }
+{
+    match index.identifiers.get(Position { file, index: token }) {
+        None => false,
+        Some(u) => is_selected(unit.table.role(u)),
+    }
+}
+
+/// What the name at a token is behind the name of an imported package and the dot, two tokens behind it.
+fn selected_behind<'a>(
+    unit: Package<'a>,
+    index: &Index<'_>,
+    file: usize,
+    token: usize,
+) -> Option<&'a Export>
+    requires index { IsIndexOf (package_of unit) index.now }
+    requires late { 2 ≤ token }
+    ensures { IsOneExport (IsSelected (package_of unit.entry) file token) result }
+{
+    if is_behind_dot(unit, index, file, token) {
+        export_at(unit, index, file, token - 2, token)
+    } else {
+        None
+    }
+}
+
+/// What the name at a token is behind the name of an imported package.
+fn selected<'a>(
+    unit: Package<'a>,
+    index: &Index<'_>,
+    file: usize,
+    token: usize,
+) -> Option<&'a Export>
+    requires { IsIndexOf (package_of unit) index.now }
+    ensures { IsOneExport (IsSelected (package_of unit.entry) file token) result }
+{
+    if token < 2 {
+        None
+    } else {
+        selected_behind(unit, index, file, token)
+    }
+}
+
+/// What the scopes of the package bind the name at a token to, by its place in the list of meanings.
+fn scope_place(
+    unit: Package<'_>,
+    index: &Index<'_>,
+    bounds: &Bounds,
+    file: usize,
+    token: usize,
+) -> Option<usize>
+    requires index { IsIndexOf (package_of unit) index.now }
+    requires bounds { AreBounds (package_of unit) bounds.now.list.items bounds.now.of.items }
+    ensures found { IsScopeFound (package_of unit.entry) file token (option_map bound_of (bound_at bounds.now.list.items result)) }
+    ensures within { (i : ℕ) → result ≡ Some i → i < length bounds.now.list.items }
+{
+    match index.binding(unit, file, token) {
+        None => None,
+        Some(d) => bounds.get(d),
+    }
+}
+
+/// What the name at a token is bound to, by its place in the list of meanings. What another package exports is added there.
+fn place_at(
+    alloc: Global,
+    unit: Package<'_>,
+    index: &Index<'_>,
+    bounds: &mut Bounds,
+    file: usize,
+    token: usize,
+) -> Result<Option<usize>, AllocError>
+    requires index { IsIndexOf (package_of unit) index.now }
+    requires bounds { AreBounds (package_of unit) bounds.old.list.items bounds.old.of.items }
+    ensures placed { IfOk result (λ place. IsPlaced (package_of unit.entry) file token bounds.new.list.items place) }
+    ensures extends { OnOk result (Extends bounds.old.list.items bounds.new.list.items) }
+    ensures same { OnOk result (bounds.new.of.items ≡ bounds.old.of.items) }
+{
+    match selected(unit, index, file, token) {
+        None => Ok(scope_place(unit, index, bounds, file, token)),
+        Some(export) => {
+            let bound = exported_bound(alloc, &export.meaning)?;
+            Ok(Some(bounds.add(bound)?))
+        }
+    }
+}
+
+/// The name at a token.
+fn name_at<'a>(
+    alloc: Global,
+    unit: Package<'a>,
+    index: &Index<'_>,
+    bounds: &mut Bounds,
+    file: usize,
+    token: usize,
+) -> Result<Name<'a>, AllocError>
+    requires index { IsIndexOf (package_of unit) index.now }
+    requires bounds { AreBounds (package_of unit) bounds.old.list.items bounds.old.of.items }
+    ensures named { IfOk result (λ name. IsNameAt (package_of unit.entry) file token bounds.new.list.items name) }
+    ensures extends { OnOk result (Extends bounds.old.list.items bounds.new.list.items) }
+    ensures same { OnOk result (bounds.new.of.items ≡ bounds.old.of.items) }
+{
+    let bound = place_at(alloc, unit, index, bounds, file, token)?;
+    Ok(Name {
+        bound,
+        spelling: unit.spelling(file, token),
+    })
+}
+
+/// The tokens of a file.
+fn tokens_of<'a>(unit: Package<'a>, file: usize) -> &'a [Piece]
+    ensures { result.now ≡ tokens_at (slice_get (package_of unit.entry).files file) }
+{
+    match unit.files.get(file) {
+        None => &[],
+        Some(tree) => tree.pieces().tokens(),
+    }
+}
+
+/// How many tokens of a file are spelled.
+fn spelled_tokens(unit: Package<'_>, file: usize) -> usize
+    ensures { (token : ℕ) → result ≤ token → spelled (package_of unit.entry) file token ≡ [] }
+{
+    tokens_of(unit, file).len()
+}
+
+/// A number of tokens of a file, behind which there is no name.
+fn token_count(unit: Package<'_>, index: &Index<'_>, file: usize) -> usize
+    ensures spelled { (token : ℕ) → result ≤ token → spelled (package_of unit.entry) file token ≡ [] }
+    ensures identified { (token : ℕ) → result ≤ token → number_at index.now.identifiers file token ≡ None }
+{
+    let spelled = spelled_tokens(unit, file);
+    let identified = index.identifiers.width(file);
+    if spelled < identified {
+        identified
+    } else {
+        spelled
+    }
+}
+
+/// The names of a file, one for each token. What other packages export is added to the list of meanings.
+pub fn file_names<'a>(
+    alloc: Global,
+    unit: Package<'a>,
+    index: &Index<'_>,
+    bounds: &mut Bounds,
+    file: usize,
+) -> Result<Vec<Name<'a>>, AllocError>
+    requires index { IsIndexOf (package_of unit) index.now }
+    requires bounds { AreBounds (package_of unit) bounds.old.list.items bounds.old.of.items }
+    ensures named { IfOk result (λ names. AreNames (package_of unit.entry) file bounds.new.list.items names.items) }
+    ensures bounds { OnOk result (AreBounds (package_of unit.entry) bounds.new.list.items bounds.new.of.items) }
+{
+    let mut names = Vec::new(alloc);
+    for token in 0..token_count(unit, index, file) {
+        names.push(name_at(alloc, unit, index, bounds, file, token)?)?;
+    }
+    Ok(names)
+}

@@ -1,0 +1,114 @@
+//! The types of parameters and results.
+ghost use Rattle.std.specs.Prelude.{◌≡◌, map, option_map, IfOk, OnOk};
+ghost use Rattle.go_ast.specs.View.{list_view};
+ghost use Rattle.go_ast.specs.FileView.{param_view, results_view};
+ghost use Rattle.types_declared.specs.Appending.{Appends};
+ghost use Rattle.types_declared.specs.Bound.{parameter_types, result_types};
+ghost use Rattle.types_info.specs.SignatureView.{AreTypesFound, tree_of, types_in};
+ghost use Rattle.types_expr.specs.View.{signature_of};
+ghost use Rattle.types_declared.specs.Definitions.{IsSignature};
+ghost use Rattle.types_declared.specs.DeclaredView.{function_of};
+ghost use Rattle.types_declared.specs.Broken.{AreBroken};
+ghost use Rattle.types_declared.specs.PackageView.{package_of, IsIndexOf};
+
+use crate::whole_types::whole_type;
+use go_ast::tree::{Item, Param, Results, TypeExpr};
+use std::alloc::{AllocError, Global};
+use types_declared::{Function, Index, Package};
+use types_expr::types::{GoType, Signature};
+
+/// The types of some Types; none where one of them has none.
+pub fn whole_types(
+    alloc: Global,
+    unit: Package<'_>,
+    index: &Index<'_>,
+    broken: &[bool],
+    file: usize,
+    written: &[&TypeExpr],
+) -> Result<Option<Vec<GoType>>, AllocError>
+    requires index { IsIndexOf (package_of unit) index.now }
+    requires broken { AreBroken (package_of unit) broken.now }
+    ensures { IfOk result (λ types. AreTypesFound (package_of unit.entry) file (map tree_of written.now) (option_map types_in types)) }
+{
+    let mut types = Vec::new(alloc);
+    for one in written {
+        match whole_type(alloc, unit, index, broken, file, one)? {
+            None => return Ok(None),
+            Some(own) => types.push(own)?,
+        }
+    }
+    Ok(Some(types))
+}
+
+/// Adds the Type of parameters, once for each name.
+#[tactic(auto, unfolding(go_ast::specs::FileView::param_view))]
+fn add_param<'a>(found: &mut Vec<&'a TypeExpr>, param: &'a Param) -> Result<(), AllocError>
+    ensures { OnOk result (Appends tree_of found.old.items found.new.items (map (λ n. (param_view param.now).type_use) (param_view param.now).names)) }
+{
+    for _name in &param.names {
+        found.push(&param.param_type)?;
+    }
+    Ok(())
+}
+
+/// The Types of parameters, once for each name.
+fn param_types<'a>(
+    alloc: Global,
+    params: &'a [Item<Param>],
+) -> Result<Vec<&'a TypeExpr>, AllocError>
+    ensures { IfOk result (λ found. map tree_of found.items ≡ parameter_types (list_view param_view params.now)) }
+{
+    let mut found = Vec::new(alloc);
+    for param in params {
+        add_param(&mut found, &param.value)?;
+    }
+    Ok(found)
+}
+
+/// Adds the Types of results.
+fn add_results<'a>(found: &mut Vec<&'a TypeExpr>, results: &'a Results) -> Result<(), AllocError>
+    ensures { OnOk result (Appends tree_of found.old.items found.new.items (result_types (results_view results.now))) }
+{
+    match results {
+        Results::None => Ok(()),
+        Results::Single(own) => {
+            found.push(own)?;
+            Ok(())
+        }
+        Results::Several { types, .. } => {
+            for item in types {
+                found.push(&item.value)?;
+            }
+            Ok(())
+        }
+    }
+}
+
+/// The parameters and results of a function; none where one of their Types has no type.
+#[tactic(auto, unfolding(go_ast::specs::FileView::func_view))]
+pub fn signature(
+    alloc: Global,
+    unit: Package<'_>,
+    index: &Index<'_>,
+    broken: &[bool],
+    function: Function<'_>,
+) -> Result<Option<Signature>, AllocError>
+    requires index { IsIndexOf (package_of unit) index.now }
+    requires broken { AreBroken (package_of unit) broken.now }
+    ensures { IfOk result (λ s. IsSignature (package_of unit.entry) (function_of function.entry) (option_map signature_of s)) }
+{
+    let file = function.file;
+    let params = param_types(alloc, &function.func.params)?;
+    let mut written = Vec::new(alloc);
+    add_results(&mut written, &function.func.results)?;
+    let Some(parameters) = whole_types(alloc, unit, index, broken, file, &params)? else {
+        return Ok(None);
+    };
+    let Some(results) = whole_types(alloc, unit, index, broken, file, &written)? else {
+        return Ok(None);
+    };
+    Ok(Some(Signature {
+        parameters,
+        results,
+    }))
+}

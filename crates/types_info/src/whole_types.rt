@@ -1,0 +1,50 @@
+//! The types of Types that are written in a package and are not broken.
+ghost use Rattle.std.specs.Prelude.{◌↔◌, option_map, IsTrue, IfOk};
+ghost use Rattle.go_ast.specs.View.{type_view};
+ghost use Rattle.types_expr.specs.View.{type_of};
+ghost use Rattle.types_declared.specs.Broken.{AreBroken};
+ghost use Rattle.types_declared.specs.WrittenView.{IsTypeFound, MentionsBroken};
+ghost use Rattle.types_declared.specs.PackageView.{package_of, IsIndexOf};
+
+use go_ast::tree::TypeExpr;
+use std::alloc::{AllocError, Global};
+use types_declared::{Index, Package, mentioned, named_type};
+use types_expr::types::GoType;
+
+/// Whether a Type mentions a broken definition.
+fn mentions_broken(
+    unit: Package<'_>,
+    index: &Index<'_>,
+    broken: &[bool],
+    file: usize,
+    written: &TypeExpr,
+) -> bool
+    requires index { IsIndexOf (package_of unit) index.now }
+    requires broken { AreBroken (package_of unit) broken.now }
+    ensures { IsTrue result ↔ MentionsBroken (package_of unit.entry) file (type_view written.now) }
+{
+    match mentioned(unit, index, file, written) {
+        None => false,
+        Some(rank) => rank < broken.len() && broken[rank],
+    }
+}
+
+/// The type of a Type; none where it names none, or a broken one.
+pub fn whole_type(
+    alloc: Global,
+    unit: Package<'_>,
+    index: &Index<'_>,
+    broken: &[bool],
+    file: usize,
+    written: &TypeExpr,
+) -> Result<Option<GoType>, AllocError>
+    requires index { IsIndexOf (package_of unit) index.now }
+    requires broken { AreBroken (package_of unit) broken.now }
+    ensures { IfOk result (λ t. IsTypeFound (package_of unit.entry) file (type_view written.now) (option_map type_of t)) }
+{
+    if mentions_broken(unit, index, broken, file, written) {
+        Ok(None)
+    } else {
+        named_type(alloc, unit, index, file, written)
+    }
+}

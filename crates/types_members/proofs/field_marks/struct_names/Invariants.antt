@@ -1,0 +1,8 @@
+-- The invariants of the loops of `field_marks::struct_names`.
+use Rattle.types_members.specs.FieldsView.{IsFieldNamed}
+use Rattle.types_members.specs.MemberNames.{is_noted, AreNamesBelow}
+use Rattle.types_declared.specs.PackageView.{package_of}
+use Rattle.types_members.proofs.field_marks.struct_names.Given as goal
+
+abbrev pub invariant-loop-field : goal.invariant-loop-field
+invariant-loop-field l = AreNamesBelow (IsFieldNamed (package_of l.unit)) l.field-index (is_noted l.names)

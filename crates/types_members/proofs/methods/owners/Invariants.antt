@@ -1,0 +1,7 @@
+-- The invariants of the loops of `methods::owners`.
+use Rattle.types_declared.specs.PackageView.{package_of}
+use Rattle.types_members.proofs.Owning.{OwnersBelow}
+use Rattle.types_members.proofs.methods.owners.Given as goal
+
+abbrev pub invariant-loop-rank : goal.invariant-loop-rank
+invariant-loop-rank l = OwnersBelow (package_of l.unit) l.owners.items l.rank

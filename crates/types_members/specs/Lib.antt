@@ -1,0 +1,10 @@
+-- The definitions of this crate.
+pub mod Cycles
+pub mod Members
+pub mod FieldsView
+pub mod MemberNames
+pub mod MethodsView
+pub mod Recursion
+pub mod MembersView
+pub mod Found
+pub mod Steps

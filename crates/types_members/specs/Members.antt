@@ -1,0 +1,54 @@
+-- The faults of members: fields and methods that do not count, and type definitions that contain themselves.
+use Rattle.std.specs.Prelude.{ℕ, ◌≡◌, ◌⊎◌, List, Some, slice_get, Contains}
+use Rattle.base_files.specs.declared.fault_kind.FaultKind.TheVariants as kind
+use Rattle.types_declared.specs.declared.fault.Fault.{Fault}
+use Rattle.go_ast.specs.Tree.{Local}
+use Rattle.types_declared.specs.Package.{Package, PlacedType, PlacedFunction, package_types}
+use Rattle.types_declared.specs.Written.{BindsToken, DeclaresType, written_types}
+use Rattle.types_declared.specs.Definitions.{PlacedField, IsFieldOf, IsCountingField, IsMethodOf, IsCountingMethod}
+
+-- a field that does not count
+pub record IsRepeatedField (p : Package) (f : Fault) : Type 0 where
+  pub definition : ℕ
+  pub name : List ℕ
+  pub rank : ℕ
+  pub field : PlacedField
+  pub is_field : IsFieldOf p definition name rank field
+  pub displaced : IsCountingField p definition name rank field → ⊥
+  pub at : f ≡ record { file = field.file; token = field.name; kind = kind.Repeated }
+
+-- a method that does not count
+pub record IsRepeatedMethod (p : Package) (f : Fault) : Type 0 where
+  pub definition : ℕ
+  pub name : List ℕ
+  pub rank : ℕ
+  pub method : PlacedFunction
+  pub is_method : IsMethodOf p definition name rank method
+  pub displaced : IsCountingMethod p definition name rank method → ⊥
+  pub at : f ≡ record { file = method.file; token = method.function.name; kind = kind.Repeated }
+
+-- the definition of one rank holds that of another, as its own type or as a field, and not behind a pointer or slice
+pub record HoldsDirectly (p : Package) (outer inner : ℕ) : Type 0 where
+  pub definition : PlacedType
+  pub has_rank : slice_get (package_types p) outer ≡ Some definition
+  pub name : ℕ
+  pub written : Contains (written_types definition.spec.body) (Local name)
+  pub declaration : ℕ
+  pub binds : BindsToken p definition.file name declaration
+  pub names : DeclaresType p declaration inner
+
+-- the same, directly or through others
+pub data Holds (p : Package) : ℕ → ℕ → Type 0 where
+  directly : {a b : ℕ} → HoldsDirectly p a b → Holds p a b
+  through : {a b c : ℕ} → HoldsDirectly p a b → Holds p b c → Holds p a c
+
+-- a type definition that contains itself
+pub record IsRecursive (p : Package) (f : Fault) : Type 0 where
+  pub rank : ℕ
+  pub definition : PlacedType
+  pub has_rank : slice_get (package_types p) rank ≡ Some definition
+  pub holds_itself : Holds p rank rank
+  pub at : f ≡ record { file = definition.file; token = definition.spec.name; kind = kind.Recursive }
+
+abbrev pub IsMemberFault : Package → Fault → Type 0
+IsMemberFault p f = IsRepeatedField p f ⊎ (IsRepeatedMethod p f ⊎ IsRecursive p f)

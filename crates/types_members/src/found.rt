@@ -1,0 +1,105 @@
+//! What is found of the members of a package, all of it.
+ghost use Rattle.std.specs.Prelude.{◌≡◌, map, IfOk};
+ghost use Rattle.types_declared.specs.Definitions.{package_fields};
+ghost use Rattle.types_declared.specs.PackageView.{package_of, IsIndexOf};
+ghost use Rattle.types_members.specs.FieldsView.{field_of};
+ghost use Rattle.types_members.specs.MembersView.{AreUnderlying};
+ghost use Rattle.types_members.specs.Found.{AreFields, AreMethods, AreMembers};
+
+use crate::field_marks::counting_fields;
+use crate::method_marks::counting_methods;
+use crate::methods::owners;
+use crate::struct_fields::{FieldDef, fields};
+use crate::underlying::underlying_types;
+use std::alloc::{AllocError, Global};
+use types_declared::{Index, Package};
+use types_expr::world::Underlying;
+
+/// The fields of a package, and a mark for each: whether it counts.
+#[derive(Drop)]
+pub struct Fields<'a> {
+    pub all: Vec<FieldDef<'a>>,
+    pub counting: Vec<bool>,
+}
+
+/// For each function of a package the definition whose method it is, and a mark: whether it is a method that counts.
+#[derive(Drop)]
+pub struct Methods {
+    pub owners: Vec<Option<usize>>,
+    pub counting: Vec<bool>,
+}
+
+/// The underlying types of a package's definitions, by their ranks, its fields and its methods.
+#[derive(Drop)]
+pub struct Members<'a> {
+    pub underlying: Vec<Option<Underlying>>,
+    pub fields: Fields<'a>,
+    pub methods: Methods,
+}
+
+/// The fields of a package, and which of them count.
+fn fields_found<'a>(
+    alloc: Global,
+    unit: Package<'_>,
+    index: &Index<'a>,
+) -> Result<Fields<'a>, AllocError>
+    requires { IsIndexOf (package_of unit) index.now }
+    ensures { IfOk result (AreFields (package_of unit.entry)) }
+{
+    let all = fields(alloc, unit, index)?;
+    let counting = counting_fields(alloc, unit, &all)?;
+    Ok(Fields { all, counting })
+}
+
+/// The methods of a package, and which of them count.
+fn methods_found(
+    alloc: Global,
+    unit: Package<'_>,
+    index: &Index<'_>,
+    fields: &[FieldDef<'_>],
+    underlying: &[Option<Underlying>],
+) -> Result<Methods, AllocError>
+    requires index { IsIndexOf (package_of unit) index.now }
+    requires fields { map field_of fields.now ≡ package_fields (package_of unit) }
+    requires underlying { AreUnderlying (package_of unit) underlying.now }
+    ensures { IfOk result (AreMethods (package_of unit.entry)) }
+{
+    let owners = owners(alloc, unit, index)?;
+    let counting = counting_methods(alloc, unit, index, fields, &owners, underlying)?;
+    Ok(Methods { owners, counting })
+}
+
+/// What is found of the members of a package, given the underlying types of its definitions.
+fn members_found<'a>(
+    alloc: Global,
+    unit: Package<'_>,
+    index: &Index<'a>,
+    underlying: Vec<Option<Underlying>>,
+) -> Result<Members<'a>, AllocError>
+    requires index { IsIndexOf (package_of unit) index.now }
+    requires underlying { AreUnderlying (package_of unit) underlying.items }
+    ensures { IfOk result (AreMembers (package_of unit.entry)) }
+{
+    let fields = fields_found(alloc, unit, index)?;
+    let methods = methods_found(alloc, unit, index, &fields.all, &underlying)?;
+    Ok(Members {
+        underlying,
+        fields,
+        methods,
+    })
+}
+
+impl<'a> Members<'a> {
+    /// What is found of the members of a package.
+    pub fn of(
+        alloc: Global,
+        unit: Package<'_>,
+        index: &Index<'a>,
+    ) -> Result<Members<'a>, AllocError>
+        requires { IsIndexOf (package_of unit) index.now }
+        ensures { IfOk result (AreMembers (package_of unit.entry)) }
+    {
+        let underlying = underlying_types(alloc, unit, index)?;
+        members_found(alloc, unit, index, underlying)
+    }
+}

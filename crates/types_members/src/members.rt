@@ -1,0 +1,147 @@
+//! The faults of members: fields and methods that do not count, and type definitions that contain themselves.
+ghost use Rattle.std.specs.Prelude.{◌≡◌, ◌&&◌, is_some, not, map, IfOk, OnOk};
+ghost use Rattle.std.specs.List.Sorted.{IsStrictlySortedBy};
+ghost use Rattle.types_declared.specs.contracts.fault.FaultOrd.TheImpl as order;
+ghost use Rattle.types_declared.specs.Listing.{Adds, Lists};
+ghost use Rattle.types_declared.specs.Definitions.{package_fields};
+ghost use Rattle.types_members.specs.FieldsView.{field_of};
+ghost use Rattle.types_members.specs.Members.{IsRepeatedField, IsRepeatedMethod, IsRecursive, IsMemberFault};
+ghost use Rattle.types_members.specs.MembersView.{AreCountingFields, AreOwners, AreCountingMethods};
+ghost use Rattle.types_members.specs.Recursion.{AreRecursive};
+ghost use Rattle.types_members.specs.Found.{AreMembers};
+ghost use Rattle.types_declared.specs.PackageView.{package_of, IsIndexOf};
+
+use crate::found::Members;
+use crate::recursion::recursive_definitions;
+use crate::struct_fields::FieldDef;
+use base_files::FaultKind;
+use std::alloc::{AllocError, Global};
+use types_declared::{Fault, Index, Package, push_if, sort};
+
+/// Adds the faults of fields that do not count.
+fn add_fields(
+    found: &mut Vec<Fault>,
+    unit: Package<'_>,
+    fields: &[FieldDef<'_>],
+    counting: &[bool],
+) -> Result<(), AllocError>
+    requires fields { map field_of fields.now ≡ package_fields (package_of unit) }
+    requires counting { AreCountingFields (package_of unit) counting.now }
+    ensures { OnOk result (Adds found.old.items found.new.items (IsRepeatedField (package_of unit.entry))) }
+{
+    for rank in 0..fields.len() {
+        let field = fields[rank];
+        let counts = counting[rank];
+        let fault = Fault {
+            file: field.file,
+            token: field.name,
+            kind: FaultKind::Repeated,
+        };
+        push_if(found, !counts, fault)?;
+    }
+    Ok(())
+}
+
+/// Whether a function is a method that does not count.
+fn is_displaced(owner: Option<usize>, counts: bool) -> bool
+    ensures { result ≡ (is_some owner && not counts) }
+{
+    owner.is_some() && !counts
+}
+
+/// Adds the faults of methods that do not count.
+#[tactic(auto, unfolding(go_ast::specs::FileView::func_view))]
+fn add_methods(
+    found: &mut Vec<Fault>,
+    unit: Package<'_>,
+    index: &Index<'_>,
+    owners: &[Option<usize>],
+    counting: &[bool],
+) -> Result<(), AllocError>
+    requires index { IsIndexOf (package_of unit) index.now }
+    requires owners { AreOwners (package_of unit) owners.now }
+    requires counting { AreCountingMethods (package_of unit) counting.now }
+    ensures { OnOk result (Adds found.old.items found.new.items (IsRepeatedMethod (package_of unit.entry))) }
+{
+    unit.table.is_well_formed();
+    let functions = &index.declared.functions;
+    for rank in 0..functions.len() {
+        let function = functions[rank];
+        let owner = owners[rank];
+        let counts = counting[rank];
+        let fault = Fault {
+            file: function.file,
+            token: function.func.name,
+            kind: FaultKind::Repeated,
+        };
+        push_if(found, is_displaced(owner, counts), fault)?;
+    }
+    Ok(())
+}
+
+/// Adds the faults of type definitions that contain themselves.
+#[tactic(auto, unfolding(go_ast::specs::FileView::type_spec_view))]
+fn add_recursive(
+    found: &mut Vec<Fault>,
+    unit: Package<'_>,
+    index: &Index<'_>,
+    recursive: &[bool],
+) -> Result<(), AllocError>
+    requires index { IsIndexOf (package_of unit) index.now }
+    requires recursive { AreRecursive (package_of unit) recursive.now }
+    ensures { OnOk result (Adds found.old.items found.new.items (IsRecursive (package_of unit.entry))) }
+{
+    let types = &index.declared.types;
+    for rank in 0..types.len() {
+        let definition = types[rank];
+        let holds_itself = recursive[rank];
+        let fault = Fault {
+            file: definition.file,
+            token: definition.spec.name,
+            kind: FaultKind::Recursive,
+        };
+        push_if(found, holds_itself, fault)?;
+    }
+    Ok(())
+}
+
+/// The faults of a package's members, in the order of their finding, given the definitions that hold themselves.
+fn faults_found(
+    alloc: Global,
+    unit: Package<'_>,
+    index: &Index<'_>,
+    members: &Members<'_>,
+    recursive: &[bool],
+) -> Result<Vec<Fault>, AllocError>
+    requires index { IsIndexOf (package_of unit) index.now }
+    requires members { AreMembers (package_of unit) members.now }
+    requires recursive { AreRecursive (package_of unit) recursive.now }
+    ensures { IfOk result (λ found. Lists (IsMemberFault (package_of unit.entry)) found.items) }
+{
+    let fields = &members.fields;
+    let methods = &members.methods;
+    let mut found = Vec::new(alloc);
+    add_fields(&mut found, unit, &fields.all, &fields.counting)?;
+    add_methods(&mut found, unit, index, &methods.owners, &methods.counting)?;
+    add_recursive(&mut found, unit, index, recursive)?;
+    Ok(found)
+}
+
+/// The faults of a package's members by file and token: fields and methods that do not count, and type definitions that
+/// contain themselves.
+pub fn member_faults(
+    alloc: Global,
+    unit: Package<'_>,
+    index: &Index<'_>,
+    members: &Members<'_>,
+) -> Result<Vec<Fault>, AllocError>
+    requires index { IsIndexOf (package_of unit) index.now }
+    requires members { AreMembers (package_of unit) members.now }
+    ensures listed { IfOk result (λ found. Lists (IsMemberFault (package_of unit.entry)) found.items) }
+    ensures order { IfOk result (λ found. IsStrictlySortedBy order.ghosts.cmp found.items) }
+{
+    let recursive = recursive_definitions(alloc, unit, index)?;
+    let mut found = faults_found(alloc, unit, index, members, &recursive)?;
+    sort(&mut found);
+    Ok(found)
+}

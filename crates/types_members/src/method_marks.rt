@@ -1,0 +1,205 @@
+//! Which methods count: those whose name no field of their type's struct has, and no earlier method of the type.
+ghost use Rattle.std.specs.Prelude.{◌≡◌, ◌<◌, ◌↔◌, false, length, map, IsTrue, IfOk, MatchOption};
+ghost use Rattle.types_expr.specs.WorldView.{definition_of, underlying_of};
+ghost use Rattle.types_declared.specs.Package.{package_types};
+ghost use Rattle.types_declared.specs.Definitions.{package_fields, HasFieldNamed};
+ghost use Rattle.types_declared.specs.DeclaredView.{function_of};
+ghost use Rattle.types_members.specs.FieldsView.{field_of, IsFieldNamed};
+ghost use Rattle.types_members.specs.MemberNames.{is_noted, NotesName, AreNamesBelow};
+ghost use Rattle.types_members.specs.MembersView.{AreUnderlying, AreOwners, AreCountingMethods};
+ghost use Rattle.types_members.specs.MethodsView.{exported_field, StructHas, UnderlyingHas, NotesMethod};
+ghost use Rattle.types_declared.specs.PackageView.{package_of, IsIndexOf};
+
+use crate::field_marks::struct_names;
+use crate::member_names::MemberNames;
+use crate::struct_fields::FieldDef;
+use std::alloc::{AllocError, Global};
+use types_declared::{Function, Index, Package};
+use types_expr::symbol::Symbol;
+use types_expr::world::{Definition, Underlying};
+
+/// Whether a struct of another package has an exported field of that name, by the definition that writes it.
+fn definition_has(definition: &Definition, name: &[u8]) -> bool
+    ensures { result ≡ exported_field ((definition_of definition.now).field name.now) }
+{
+    match definition.fields.get(name) {
+        None => false,
+        Some(field) => field.exported,
+    }
+}
+
+/// Whether a struct of another package has an exported field of that name.
+fn imported_has(unit: Package<'_>, symbol: &Symbol, name: &[u8]) -> bool
+    ensures { result ≡ exported_field ((((package_of unit.entry).interface_of symbol.now.package).definition symbol.now.rank).field name.now) }
+{
+    match unit.interfaces.definitions().get(symbol) {
+        None => false,
+        Some(definition) => definition_has(definition, name),
+    }
+}
+
+/// Whether a definition is one of the package.
+fn is_own(unit: Package<'_>, symbol: &Symbol) -> bool
+    ensures { IsTrue result ↔ (symbol.now.package ≡ unit.entry.path.now) }
+{
+    symbol.package.path() == unit.path.path()
+}
+
+/// Whether a struct has a field of that name. Names of another package are the same only where they are exported.
+fn struct_has(unit: Package<'_>, structs: &MemberNames<'_>, symbol: &Symbol, name: &[u8]) -> bool
+    requires { AreNamesBelow (IsFieldNamed (package_of unit)) (length (package_fields (package_of unit))) (is_noted structs.now) }
+    ensures { IsTrue result ↔ StructHas (package_of unit.entry) symbol.now name.now }
+{
+    if is_own(unit, symbol) {
+        structs.has(symbol.rank, name)
+    } else {
+        imported_has(unit, symbol, name)
+    }
+}
+
+/// Whether an underlying type is a struct that has a field of that name.
+#[tactic(auto, unfolding(types_expr::specs::WorldView::underlying_of))]
+fn underlying_has(
+    unit: Package<'_>,
+    structs: &MemberNames<'_>,
+    underlying: &Underlying,
+    name: &[u8],
+) -> bool
+    requires { AreNamesBelow (IsFieldNamed (package_of unit)) (length (package_fields (package_of unit))) (is_noted structs.now) }
+    ensures { IsTrue result ↔ UnderlyingHas (package_of unit.entry) (underlying_of underlying.now) name.now }
+{
+    match underlying {
+        Underlying::Struct(symbol) => struct_has(unit, structs, symbol, name),
+        Underlying::Plain(_) | Underlying::PointerTo(_) | Underlying::SliceOf(_) => false,
+    }
+}
+
+/// Whether the values of a definition have a field of that name.
+fn has_field(
+    unit: Package<'_>,
+    structs: &MemberNames<'_>,
+    underlying: &[Option<Underlying>],
+    definition: usize,
+    name: &[u8],
+) -> bool
+    requires structs { AreNamesBelow (IsFieldNamed (package_of unit)) (length (package_fields (package_of unit))) (is_noted structs.now) }
+    requires underlying { AreUnderlying (package_of unit) underlying.now }
+    requires in_range { definition < length (package_types (package_of unit)) }
+    ensures { IsTrue result ↔ HasFieldNamed (package_of unit.entry) definition name.now }
+{
+    unit.table.is_well_formed();
+    match &underlying[definition] {
+        None => false,
+        Some(own) => underlying_has(unit, structs, own, name),
+    }
+}
+
+/// The name of a method, and the definition that it belongs to.
+#[derive(Clone, Copy)]
+struct MethodName<'a> {
+    definition: usize,
+    name: &'a [u8],
+}
+
+/// A function, and the definition that it belongs to, if it is a method.
+#[derive(Clone, Copy)]
+struct OwnedFunction<'a> {
+    function: Function<'a>,
+    owner: Option<usize>,
+}
+
+/// Notes the name of a method for the definition that it belongs to, and tells whether it counts.
+fn note_method<'a>(
+    alloc: Global,
+    unit: Package<'a>,
+    names: &mut MemberNames<'a>,
+    structs: &MemberNames<'_>,
+    underlying: &[Option<Underlying>],
+    method: MethodName<'a>,
+) -> Result<bool, AllocError>
+    requires structs { AreNamesBelow (IsFieldNamed (package_of unit)) (length (package_fields (package_of unit))) (is_noted structs.now) }
+    requires underlying { AreUnderlying (package_of unit) underlying.now }
+    requires in_range { method.definition < length (package_types (package_of unit)) }
+    ensures { IfOk result (λ counts. NotesName (is_noted names.old) (is_noted names.new) method.entry.definition method.entry.name.now ×
+        (IsTrue counts ↔ ((is_noted names.old method.entry.definition method.entry.name.now ≡ false) × (HasFieldNamed (package_of unit.entry) method.entry.definition method.entry.name.now → ⊥)))) }
+{
+    let is_new = names.note(alloc, method.definition, method.name)?;
+    if is_new {
+        Ok(!has_field(unit, structs, underlying, method.definition, method.name))
+    } else {
+        Ok(false)
+    }
+}
+
+/// Notes the name of a function that is a method, and tells whether it counts.
+fn note_function<'a>(
+    alloc: Global,
+    unit: Package<'a>,
+    names: &mut MemberNames<'a>,
+    structs: &MemberNames<'_>,
+    underlying: &[Option<Underlying>],
+    owned: OwnedFunction<'_>,
+) -> Result<bool, AllocError>
+    requires structs { AreNamesBelow (IsFieldNamed (package_of unit)) (length (package_fields (package_of unit))) (is_noted structs.now) }
+    requires underlying { AreUnderlying (package_of unit) underlying.now }
+    requires owner { MatchOption owned.owner (Unit {0}) (λ d. d < length (package_types (package_of unit))) }
+    ensures { IfOk result (NotesMethod (package_of unit.entry) (function_of owned.entry.function) owned.entry.owner (is_noted names.old) (is_noted names.new)) }
+{
+    let function = owned.function;
+    match owned.owner {
+        None => Ok(false),
+        Some(definition) => {
+            let name = unit.spelling(function.file, function.func.name);
+            let method = MethodName { definition, name };
+            note_method(alloc, unit, names, structs, underlying, method)
+        }
+    }
+}
+
+/// Which functions of a package are methods that count, by their ranks, given the names of its fields.
+fn method_marks(
+    alloc: Global,
+    unit: Package<'_>,
+    index: &Index<'_>,
+    structs: &MemberNames<'_>,
+    owners: &[Option<usize>],
+    underlying: &[Option<Underlying>],
+) -> Result<Vec<bool>, AllocError>
+    requires index { IsIndexOf (package_of unit) index.now }
+    requires structs { AreNamesBelow (IsFieldNamed (package_of unit)) (length (package_fields (package_of unit))) (is_noted structs.now) }
+    requires owners { AreOwners (package_of unit) owners.now }
+    requires underlying { AreUnderlying (package_of unit) underlying.now }
+    ensures { IfOk result (λ marks. AreCountingMethods (package_of unit.entry) marks.items) }
+{
+    unit.table.is_well_formed();
+    let functions = &index.declared.functions;
+    let mut names = MemberNames::new(alloc);
+    let mut marks = Vec::new(alloc);
+    for rank in 0..functions.len() {
+        let function = functions[rank];
+        let owner = owners[rank];
+        let owned = OwnedFunction { function, owner };
+        let counts = note_function(alloc, unit, &mut names, structs, underlying, owned)?;
+        marks.push(counts)?;
+    }
+    Ok(marks)
+}
+
+/// Which functions of a package are methods that count, by their ranks.
+pub fn counting_methods(
+    alloc: Global,
+    unit: Package<'_>,
+    index: &Index<'_>,
+    fields: &[FieldDef<'_>],
+    owners: &[Option<usize>],
+    underlying: &[Option<Underlying>],
+) -> Result<Vec<bool>, AllocError>
+    requires index { IsIndexOf (package_of unit) index.now }
+    requires fields { map field_of fields.now ≡ package_fields (package_of unit) }
+    requires owners { AreOwners (package_of unit) owners.now }
+    requires underlying { AreUnderlying (package_of unit) underlying.now }
+    ensures { IfOk result (λ marks. AreCountingMethods (package_of unit.entry) marks.items) }
+{
+    let structs = struct_names(alloc, unit, fields)?;
+    method_marks(alloc, unit, index, &structs, owners, underlying)
+}

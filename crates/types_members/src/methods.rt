@@ -1,0 +1,39 @@
+//! Methods: for each function of a package the definition whose method it is.
+ghost use Rattle.std.specs.Prelude.{IfOk};
+ghost use Rattle.types_declared.specs.DeclaredView.{function_of};
+ghost use Rattle.types_members.specs.MethodsView.{IsOwnedBy};
+ghost use Rattle.types_members.specs.MembersView.{AreOwners};
+ghost use Rattle.types_declared.specs.PackageView.{package_of, IsIndexOf};
+
+use std::alloc::{AllocError, Global};
+use types_declared::{Function, Index, Package, local_definition};
+
+/// The definition whose method a function is, by the name that its receiver has for a type.
+#[tactic(auto, unfolding(go_ast::specs::FileView::func_view, go_ast::specs::FileView::receiver_view))]
+fn owner(unit: Package<'_>, index: &Index<'_>, function: Function<'_>) -> Option<usize>
+    requires { IsIndexOf (package_of unit) index.now }
+    ensures { IsOwnedBy (package_of unit.entry) (function_of function.entry) result }
+{
+    match &function.func.receiver {
+        None => None,
+        Some(receiver) => local_definition(unit, index, function.file, receiver.type_name),
+    }
+}
+
+/// For each function of a package the rank of the definition whose method it is; none where it is no method.
+pub fn owners(
+    alloc: Global,
+    unit: Package<'_>,
+    index: &Index<'_>,
+) -> Result<Vec<Option<usize>>, AllocError>
+    requires { IsIndexOf (package_of unit) index.now }
+    ensures { IfOk result (λ owners. AreOwners (package_of unit.entry) owners.items) }
+{
+    let functions = &index.declared.functions;
+    let mut owners = Vec::new(alloc);
+    for rank in 0..functions.len() {
+        let function = functions[rank];
+        owners.push(owner(unit, index, function))?;
+    }
+    Ok(owners)
+}

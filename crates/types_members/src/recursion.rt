@@ -1,0 +1,130 @@
+//! Recursive type definitions: those that hold themselves, by name or in fields, and not behind a pointer or slice.
+ghost use Rattle.std.specs.Prelude.{◌≡◌, ◌↔◌, ℕ, map, Contains, IfOk, OnOk, MatchOption};
+ghost use Rattle.go_ast.specs.View.{type_view, list_view};
+ghost use Rattle.go_ast.specs.FileView.{field_view, body_view};
+ghost use Rattle.types_declared.specs.Written.{written_types};
+ghost use Rattle.types_members.specs.Recursion.{AddsItems, IsHeldAs, IsHeldAsOne, AreHeld, AreRecursive};
+ghost use Rattle.types_declared.specs.PackageView.{package_of, IsIndexOf};
+
+use crate::cycles;
+use go_ast::tree::{FieldDecl, Item, TypeBody, TypeExpr};
+use std::alloc::{AllocError, Global};
+use types_declared::{Index, Package, TypeDef, local_definition};
+
+/// The definition that a Type is by name.
+fn held_as(unit: Package<'_>, index: &Index<'_>, file: usize, written: &TypeExpr) -> Option<usize>
+    requires { IsIndexOf (package_of unit) index.now }
+    ensures { MatchOption result ((r : ℕ) → IsHeldAs (package_of unit.entry) file (type_view written.now) r → ⊥)
+        (λ r. IsHeldAs (package_of unit.entry) file (type_view written.now) r × ((other : ℕ) → IsHeldAs (package_of unit.entry) file (type_view written.now) other → other ≡ r)) }
+{
+    match written {
+        TypeExpr::Local(name) => local_definition(unit, index, file, *name),
+        TypeExpr::Imported { .. } => None,
+        TypeExpr::Pointer { .. } => None,
+        TypeExpr::Slice { .. } => None,
+    }
+}
+
+/// Adds the definition that a Type is by name.
+fn add_type(
+    found: &mut Vec<usize>,
+    unit: Package<'_>,
+    index: &Index<'_>,
+    file: usize,
+    written: &TypeExpr,
+) -> Result<(), AllocError>
+    requires { IsIndexOf (package_of unit) index.now }
+    ensures { OnOk result (AddsItems found.old.items found.new.items (IsHeldAs (package_of unit.entry) file (type_view written.now))) }
+{
+    match held_as(unit, index, file, written) {
+        None => Ok(()),
+        Some(rank) => {
+            found.push(rank)?;
+            Ok(())
+        }
+    }
+}
+
+/// Adds the definitions that the types of fields are by name.
+fn add_fields(
+    found: &mut Vec<usize>,
+    unit: Package<'_>,
+    index: &Index<'_>,
+    file: usize,
+    fields: &[Item<FieldDecl>],
+) -> Result<(), AllocError>
+    requires { IsIndexOf (package_of unit) index.now }
+    ensures { OnOk result (AddsItems found.old.items found.new.items (IsHeldAsOne (package_of unit.entry) file (map (λ f. f.value.type_use) (list_view field_view fields.now)))) }
+{
+    for field in fields {
+        add_type(found, unit, index, file, &field.value.field_type)?;
+    }
+    Ok(())
+}
+
+/// Adds the definitions that a definition holds.
+fn add_body(
+    found: &mut Vec<usize>,
+    unit: Package<'_>,
+    index: &Index<'_>,
+    file: usize,
+    body: &TypeBody,
+) -> Result<(), AllocError>
+    requires { IsIndexOf (package_of unit) index.now }
+    ensures { OnOk result (AddsItems found.old.items found.new.items (IsHeldAsOne (package_of unit.entry) file (written_types (body_view body.now)))) }
+{
+    match body {
+        TypeBody::Type(written) => add_type(found, unit, index, file, written),
+        TypeBody::Struct { fields, .. } => add_fields(found, unit, index, file, fields),
+    }
+}
+
+/// The definitions that a definition holds.
+#[tactic(auto, unfolding(go_ast::specs::FileView::type_spec_view))]
+fn held_by(
+    alloc: Global,
+    unit: Package<'_>,
+    index: &Index<'_>,
+    definition: TypeDef<'_>,
+) -> Result<Vec<usize>, AllocError>
+    requires { IsIndexOf (package_of unit) index.now }
+    ensures { IfOk result (λ found. (r : ℕ) → Contains found.items r ↔ IsHeldAsOne (package_of unit.entry) definition.entry.file (written_types (body_view definition.entry.spec.now.body)) r) }
+{
+    let mut found = Vec::new(alloc);
+    add_body(
+        &mut found,
+        unit,
+        index,
+        definition.file,
+        &definition.spec.body,
+    )?;
+    Ok(found)
+}
+
+/// The links from each definition to those that it holds.
+fn held(alloc: Global, unit: Package<'_>, index: &Index<'_>) -> Result<Vec<Vec<usize>>, AllocError>
+    requires { IsIndexOf (package_of unit) index.now }
+    ensures { IfOk result (λ links. AreHeld (package_of unit.entry) links.items) }
+{
+    let types = &index.declared.types;
+    let mut links = Vec::new(alloc);
+    for rank in 0..types.len() {
+        let definition = types[rank];
+        links.push(held_by(alloc, unit, index, definition)?)?;
+    }
+    Ok(links)
+}
+
+/// Which type definitions of a package hold themselves, by their ranks.
+pub fn recursive_definitions(
+    alloc: Global,
+    unit: Package<'_>,
+    index: &Index<'_>,
+) -> Result<Vec<bool>, AllocError>
+    requires { IsIndexOf (package_of unit) index.now }
+    ensures { IfOk result (λ marks. AreRecursive (package_of unit.entry) marks.items) }
+{
+    let links = held(alloc, unit, index)?;
+    let marks = cycles(alloc, &links)?;
+    Ok(marks)
+}

@@ -1,0 +1,87 @@
+//! The fields of a package's structs, in the order of path and offset.
+ghost use Rattle.std.specs.Prelude.{◌≡◌, IfOk, OnOk, map};
+ghost use Rattle.go_ast.specs.FileView.{field_view, body_view};
+ghost use Rattle.types_declared.specs.Appending.{Appends};
+ghost use Rattle.types_declared.specs.Definitions.{body_fields, fields_from, package_fields};
+ghost use Rattle.types_declared.specs.DeclaredView.{type_of};
+ghost use Rattle.types_members.specs.FieldsView.{field_of, field_names};
+ghost use Rattle.types_declared.specs.PackageView.{package_of, IsIndexOf};
+
+use go_ast::tree::{FieldDecl, TypeBody, TypeExpr, TypeSpec};
+use std::alloc::{AllocError, Global};
+use types_declared::{Index, Package, TypeDef};
+
+/// A field: the rank of the definition that writes its struct, the rank of its file, the token of its name, and its type as
+/// it is written. Names that share a type are fields of their own.
+#[derive(Clone, Copy)]
+pub struct FieldDef<'a> {
+    pub definition: usize,
+    pub file: usize,
+    pub name: usize,
+    pub field_type: &'a TypeExpr,
+}
+
+/// Adds the fields of one type.
+#[tactic(auto, unfolding(go_ast::specs::FileView::field_view))]
+fn add_names<'a>(
+    found: &mut Vec<FieldDef<'a>>,
+    definition: usize,
+    file: usize,
+    field: &'a FieldDecl,
+) -> Result<(), AllocError>
+    ensures { OnOk result (Appends field_of found.old.items found.new.items (field_names definition file (field_view field.now))) }
+{
+    for name in &field.names {
+        found.push(FieldDef {
+            definition,
+            file,
+            name: name.value,
+            field_type: &field.field_type,
+        })?;
+    }
+    Ok(())
+}
+
+/// Adds the fields that a definition writes.
+fn add_fields<'a>(
+    found: &mut Vec<FieldDef<'a>>,
+    definition: usize,
+    file: usize,
+    spec: &'a TypeSpec,
+) -> Result<(), AllocError>
+    ensures { OnOk result (Appends field_of found.old.items found.new.items (body_fields definition file (body_view spec.now.body))) }
+{
+    match &spec.body {
+        TypeBody::Type(_) => Ok(()),
+        TypeBody::Struct { fields, .. } => {
+            for item in fields {
+                add_names(found, definition, file, &item.value)?;
+            }
+            Ok(())
+        }
+    }
+}
+
+/// The fields that some definitions write.
+fn fields_of<'a>(alloc: Global, types: &[TypeDef<'a>]) -> Result<Vec<FieldDef<'a>>, AllocError>
+    ensures { IfOk result (λ found. map field_of found.items ≡ fields_from 0 (map type_of types.now)) }
+{
+    let mut found = Vec::new(alloc);
+    for rank in 0..types.len() {
+        let definition = types[rank];
+        add_fields(&mut found, rank, definition.file, definition.spec)?;
+    }
+    Ok(found)
+}
+
+/// The fields of a package's structs, in the order of path and offset. A field's place in the list is its rank.
+pub fn fields<'a>(
+    alloc: Global,
+    unit: Package<'_>,
+    index: &Index<'a>,
+) -> Result<Vec<FieldDef<'a>>, AllocError>
+    requires { IsIndexOf (package_of unit) index.now }
+    ensures { IfOk result (λ found. map field_of found.items ≡ package_fields (package_of unit.entry)) }
+{
+    fields_of(alloc, &index.declared.types)
+}

@@ -1,0 +1,307 @@
+//! The underlying types of the type definitions of a package.
+ghost use Rattle.std.specs.Prelude.{◌≡◌, ◌<◌, ◌++◌, ◌∷◌, [], ℕ, false, Some, None, length, map, option_map, slice_get, slice_index_or, IfOk, OnOk};
+ghost use Rattle.types_expr.specs.View.{type_of as plain_type};
+ghost use Rattle.types_expr.specs.WorldView.{underlying_of};
+ghost use Rattle.types_declared.specs.DeclaredView.{type_of};
+ghost use Rattle.go_ast.specs.View.{type_view};
+ghost use Rattle.types_expr.specs.Types.{Defined, Struct};
+ghost use Rattle.types_declared.specs.Package.{package_types, symbol_in};
+ghost use Rattle.types_declared.specs.Broken.{AddsLinks};
+ghost use Rattle.types_members.specs.Steps.{IsStepFrom, IsStepBy, IsStep, AreSteps, AreStepLinks, IsStepOrder, is_end, taken, taken_at};
+ghost use Rattle.types_members.specs.declared.underlying.Step.TheVariants.{Continues};
+ghost use Rattle.types_members.specs.MembersView.{AreUnderlying};
+ghost use Rattle.types_declared.specs.PackageView.{package_of, IsIndexOf};
+
+use go_ast::tree::{TypeBody, TypeExpr};
+use std::alloc::{AllocError, Global};
+use types_declared::{Index, Package, TypeDef, named_type, no_links, note, reached_in_order};
+use types_expr::symbol::Symbol;
+use types_expr::types::GoType;
+use types_expr::world::Underlying;
+
+/// Where following a type's name leads in one step: to its underlying type, to another definition of the package by its
+/// rank, or to nothing where it has no underlying type.
+#[derive(Drop)]
+enum Step {
+    Ends(Underlying),
+    Continues(usize),
+    Nothing,
+}
+
+/// The same underlying type, in other memory.
+#[tactic(auto, unfolding(types_expr::specs::WorldView::underlying_of))]
+pub fn copy(alloc: Global, underlying: &Underlying) -> Result<Underlying, AllocError>
+    ensures { IfOk result (λ u. underlying_of u ≡ underlying_of underlying.now) }
+{
+    match underlying {
+        Underlying::Plain(basic) => Ok(Underlying::Plain(*basic)),
+        Underlying::PointerTo(target) => Ok(Underlying::PointerTo(target.copy(alloc)?)),
+        Underlying::SliceOf(element) => Ok(Underlying::SliceOf(element.copy(alloc)?)),
+        Underlying::Struct(symbol) => Ok(Underlying::Struct(symbol.copy()?)),
+    }
+}
+
+/// The underlying type of a definition of another package. One that is not there is a struct of its own.
+#[tactic(auto, unfolding(types_expr::specs::WorldView::underlying_of))]
+fn imported_underlying(
+    alloc: Global,
+    unit: Package<'_>,
+    symbol: &Symbol,
+) -> Result<Underlying, AllocError>
+    ensures { IfOk result (λ u. underlying_of u ≡ (((package_of unit.entry).interface_of symbol.now.package).definition symbol.now.rank).underlying) }
+{
+    match unit.interfaces.definitions().get(symbol) {
+        None => Ok(Underlying::Struct(symbol.copy()?)),
+        Some(definition) => copy(alloc, &definition.underlying),
+    }
+}
+
+/// One step to a definition of the package, if it is there.
+fn own_step(unit: Package<'_>, index: &Index<'_>, rank: usize) -> Step
+    requires { IsIndexOf (package_of unit) index.now }
+    ensures { IsStepFrom (package_of unit.entry) (Defined (symbol_in (package_of unit.entry) rank)) result }
+{
+    if rank < index.declared.types.len() {
+        Step::Continues(rank)
+    } else {
+        Step::Nothing
+    }
+}
+
+/// One step from a definition, of this package or another.
+fn step_from_defined(
+    alloc: Global,
+    unit: Package<'_>,
+    index: &Index<'_>,
+    symbol: &Symbol,
+) -> Result<Step, AllocError>
+    requires { IsIndexOf (package_of unit) index.now }
+    ensures { IfOk result (IsStepFrom (package_of unit.entry) (Defined symbol.now)) }
+{
+    if unit.path.path() == symbol.package.path() {
+        Ok(own_step(unit, index, symbol.rank))
+    } else {
+        Ok(Step::Ends(imported_underlying(alloc, unit, symbol)?))
+    }
+}
+
+/// One step from a type.
+#[tactic(auto, unfolding(types_expr::specs::View::type_of, types_expr::specs::WorldView::underlying_of))]
+fn step_from(
+    alloc: Global,
+    unit: Package<'_>,
+    index: &Index<'_>,
+    named: &GoType,
+) -> Result<Step, AllocError>
+    requires { IsIndexOf (package_of unit) index.now }
+    ensures { IfOk result (IsStepFrom (package_of unit.entry) (plain_type named.now)) }
+{
+    match named {
+        GoType::Basic(basic) => Ok(Step::Ends(Underlying::Plain(*basic))),
+        GoType::Pointer(target) => Ok(Step::Ends(Underlying::PointerTo(target.copy(alloc)?))),
+        GoType::Slice(element) => Ok(Step::Ends(Underlying::SliceOf(element.copy(alloc)?))),
+        GoType::Defined(symbol) => step_from_defined(alloc, unit, index, symbol),
+    }
+}
+
+/// A struct that the definition of a rank writes.
+#[tactic(auto, unfolding(types_expr::specs::WorldView::underlying_of))]
+pub fn own_struct(unit: Package<'_>, rank: usize) -> Result<Underlying, AllocError>
+    ensures { IfOk result (λ u. underlying_of u ≡ Struct (symbol_in (package_of unit.entry) rank)) }
+{
+    let package = unit.path.clone()?;
+    Ok(Underlying::Struct(Symbol { package, rank }))
+}
+
+/// One step from a definition that is written as a Type.
+fn step_by(
+    alloc: Global,
+    unit: Package<'_>,
+    index: &Index<'_>,
+    file: usize,
+    written: &TypeExpr,
+) -> Result<Step, AllocError>
+    requires { IsIndexOf (package_of unit) index.now }
+    ensures { IfOk result (IsStepBy (package_of unit.entry) file (type_view written.now)) }
+{
+    unit.table.is_well_formed();
+    match named_type(alloc, unit, index, file, written)? {
+        None => Ok(Step::Nothing),
+        Some(named) => step_from(alloc, unit, index, &named),
+    }
+}
+
+/// One step from a definition.
+#[tactic(auto, unfolding(go_ast::specs::FileView::type_spec_view))]
+fn step_of(
+    alloc: Global,
+    unit: Package<'_>,
+    index: &Index<'_>,
+    rank: usize,
+    definition: &TypeDef<'_>,
+) -> Result<Step, AllocError>
+    requires index { IsIndexOf (package_of unit) index.now }
+    requires definition { slice_get (package_types (package_of unit)) rank ≡ Some (type_of definition.now) }
+    ensures { IfOk result (IsStep (package_of unit.entry) rank) }
+{
+    match &definition.spec.body {
+        TypeBody::Struct { .. } => Ok(Step::Ends(own_struct(unit, rank)?)),
+        TypeBody::Type(written) => step_by(alloc, unit, index, definition.file, written),
+    }
+}
+
+/// The steps from all definitions, by their ranks.
+fn steps(alloc: Global, unit: Package<'_>, index: &Index<'_>) -> Result<Vec<Step>, AllocError>
+    requires { IsIndexOf (package_of unit) index.now }
+    ensures { IfOk result (λ steps. AreSteps (package_of unit.entry) steps.items) }
+{
+    let types = &index.declared.types;
+    let mut steps = Vec::new(alloc);
+    for rank in 0..types.len() {
+        steps.push(step_of(alloc, unit, index, rank, &types[rank])?)?;
+    }
+    Ok(steps)
+}
+
+/// Links a definition to the one that a step continues from.
+fn note_step(links: &mut Vec<Vec<usize>>, step: &Step, rank: usize) -> Result<(), AllocError>
+    requires { (to : ℕ) → step.now ≡ Continues to → to < length links.old.items }
+    ensures { OnOk result (AddsLinks links.old.items links.new.items rank (λ to. step.now ≡ Continues to)) }
+{
+    match step {
+        Step::Continues(to) => note(links, *to, rank),
+        Step::Ends(_) | Step::Nothing => Ok(()),
+    }
+}
+
+/// Links from definitions to those that are written as their names.
+fn step_links(alloc: Global, steps: &[Step]) -> Result<Vec<Vec<usize>>, AllocError>
+    requires { (rank to : ℕ) → slice_get steps.now rank ≡ Some (Continues to) → to < length steps.now }
+    ensures { IfOk result (λ links. AreStepLinks steps.now links.items) }
+{
+    let mut links = no_links(alloc, steps.len())?;
+    for rank in 0..steps.len() {
+        note_step(&mut links, &steps[rank], rank)?;
+    }
+    Ok(links)
+}
+
+/// Whether a step leads to an underlying type.
+fn is_end(step: &Step) -> bool
+    ensures { result ≡ is_end step.now }
+{
+    matches!(step, Step::Ends(_))
+}
+
+/// Which definitions have an underlying type after one step, with a mark more for the number behind the last rank.
+fn ends(alloc: Global, steps: &[Step]) -> Result<Vec<bool>, AllocError>
+    ensures { IfOk result (λ marks. marks.items ≡ map is_end steps.now ++ (false ∷ [])) }
+{
+    let mut marks = Vec::new(alloc);
+    for step in steps {
+        marks.push(is_end(step))?;
+    }
+    marks.push(false)?;
+    Ok(marks)
+}
+
+/// The underlying type of a definition that was found.
+fn found_at(
+    alloc: Global,
+    found: &[Option<Underlying>],
+    rank: usize,
+) -> Result<Option<Underlying>, AllocError>
+    ensures { IfOk result (λ o. option_map underlying_of o ≡ option_map underlying_of (slice_index_or found.now rank None)) }
+{
+    match found.get(rank) {
+        None => Ok(None),
+        Some(None) => Ok(None),
+        Some(Some(own)) => Ok(Some(copy(alloc, own)?)),
+    }
+}
+
+/// The underlying type that a step leads to.
+fn take(
+    alloc: Global,
+    step: &Step,
+    found: &[Option<Underlying>],
+) -> Result<Option<Underlying>, AllocError>
+    ensures { IfOk result (λ o. option_map underlying_of o ≡ taken step.now found.now) }
+{
+    match step {
+        Step::Ends(own) => Ok(Some(copy(alloc, own)?)),
+        Step::Continues(to) => found_at(alloc, found, *to),
+        Step::Nothing => Ok(None),
+    }
+}
+
+/// The underlying type that the step from a definition leads to.
+fn take_at(
+    alloc: Global,
+    steps: &[Step],
+    rank: usize,
+    found: &[Option<Underlying>],
+) -> Result<Option<Underlying>, AllocError>
+    ensures { IfOk result (λ o. option_map underlying_of o ≡ taken_at (slice_get steps.now rank) found.now) }
+{
+    match steps.get(rank) {
+        None => Ok(None),
+        Some(step) => take(alloc, step, found),
+    }
+}
+
+/// No underlying type yet, of so many definitions.
+fn none_found(alloc: Global, size: usize) -> Result<Vec<Option<Underlying>>, AllocError>
+    ensures size { IfOk result (λ found. length found.items ≡ size) }
+    ensures none { IfOk result (λ found. (rank : ℕ) → slice_index_or found.items rank None ≡ None) }
+{
+    let mut found = Vec::new(alloc);
+    for _rank in 0..size {
+        found.push(None)?;
+    }
+    Ok(found)
+}
+
+/// The definitions from which steps lead to an end, each behind the one that its step continues to.
+fn step_order(alloc: Global, steps: &[Step]) -> Result<Vec<usize>, AllocError>
+    requires { (rank to : ℕ) → slice_get steps.now rank ≡ Some (Continues to) → to < length steps.now }
+    ensures { IfOk result (λ order. IsStepOrder steps.now order.items) }
+{
+    let links = step_links(alloc, steps)?;
+    let ends = ends(alloc, steps)?;
+    reached_in_order(alloc, &links, &ends)
+}
+
+/// The underlying types of definitions, from those that have one after one step to those that are written as their names.
+fn fill(
+    alloc: Global,
+    unit: Package<'_>,
+    steps: &[Step],
+    order: &[usize],
+) -> Result<Vec<Option<Underlying>>, AllocError>
+    requires steps { AreSteps (package_of unit) steps.now }
+    requires order { IsStepOrder steps.now order.now }
+    ensures { IfOk result (λ found. AreUnderlying (package_of unit.entry) found.items) }
+{
+    unit.table.is_well_formed();
+    let mut found = none_found(alloc, steps.len())?;
+    for rank in order {
+        let own = take_at(alloc, steps, *rank, &found)?;
+        found[*rank] = own;
+    }
+    Ok(found)
+}
+
+/// The underlying type of each type definition of a package, by its rank.
+pub fn underlying_types(
+    alloc: Global,
+    unit: Package<'_>,
+    index: &Index<'_>,
+) -> Result<Vec<Option<Underlying>>, AllocError>
+    requires { IsIndexOf (package_of unit) index.now }
+    ensures { IfOk result (λ found. AreUnderlying (package_of unit.entry) found.items) }
+{
+    let steps = steps(alloc, unit, index)?;
+    let order = step_order(alloc, &steps)?;
+    fill(alloc, unit, &steps, &order)
+}

@@ -1,0 +1,51 @@
+//! Values of numbers, and what of them holds along links.
+ghost use Rattle.std.specs.Prelude.{◌≡◌, ◌↔◌, slice_index_or, IsTrue};
+ghost use Rattle.types_members.specs.Cycles.{AreAtMost, Falls, HasAlike};
+
+use types_declared::row;
+
+/// The value of a number, or zero.
+pub(crate) fn value_at(values: &[usize], number: usize) -> usize
+    ensures { result ≡ slice_index_or values.now number 0 }
+{
+    match values.get(number) {
+        None => 0,
+        Some(value) => *value,
+    }
+}
+
+/// Whether the values of some numbers are at most one value.
+fn are_at_most(values: &[usize], numbers: &[usize], most: usize) -> bool
+    ensures { IsTrue result → AreAtMost values.now numbers.now most }
+{
+    for number in numbers {
+        if value_at(values, *number) > most {
+            return false;
+        }
+    }
+    true
+}
+
+/// Whether no number leads to one with a greater value.
+pub(crate) fn falls(links: &[Vec<usize>], values: &[usize]) -> bool
+    ensures { IsTrue result → Falls links.now values.now }
+{
+    for number in 0..links.len() {
+        if !are_at_most(values, row(links, number), value_at(values, number)) {
+            return false;
+        }
+    }
+    true
+}
+
+/// Whether one of some numbers has a value.
+pub(crate) fn has_alike(values: &[usize], numbers: &[usize], value: usize) -> bool
+    ensures { IsTrue result ↔ HasAlike values.now numbers.now value }
+{
+    for number in numbers {
+        if value_at(values, *number) == value {
+            return true;
+        }
+    }
+    false
+}

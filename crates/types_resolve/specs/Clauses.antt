@@ -1,0 +1,15 @@
+-- The faults of package clauses: a name that differs from that of the package's first file.
+use Rattle.std.specs.Prelude.{ℕ, ◌≡◌, ◌≢◌, List}
+use Rattle.base_files.specs.declared.fault_kind.FaultKind.TheVariants as kind
+use Rattle.types_declared.specs.declared.fault.Fault.{Fault}
+use Rattle.types_declared.specs.Listing.{SomeOf}
+use Rattle.go_ast.specs.SourceFile.{SourceFile}
+use Rattle.types_declared.specs.Files.{Ranked, ranked, clause_name, package_name}
+
+-- the name in a file's clause is not that one
+pub record IsFaultOfClause (name : List ℕ) (r : Ranked) (f : Fault) : Type 0 where
+  pub at : f ≡ record { file = r.0; token = r.1.tree.name; kind = kind.Package }
+  pub differs : clause_name r.1 ≢ name
+
+abbrev pub IsClauseFault : List SourceFile → Fault → Type 0
+IsClauseFault files = SomeOf (IsFaultOfClause (package_name files)) (ranked files)

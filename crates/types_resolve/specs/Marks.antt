@@ -1,0 +1,115 @@
+-- What of a file's statements may be a fault without any type: a `:=` that declares nothing, and a `break` or `continue`
+-- outside of a `for`.
+use Rattle.std.specs.Prelude.{ℕ, ◌≡◌, ◌⊎◌, Bool, true, false, List, [], ◌∷◌, ◌++◌, Option, Some, None}
+use Rattle.std.specs.List.{flat_map}
+use Rattle.base_files.specs.declared.fault_kind.FaultKind.TheVariants as kind
+use Rattle.types_declared.specs.declared.fault.Fault.{Fault}
+use Rattle.types_declared.specs.Listing.{SomeOf}
+use Rattle.go_ast.specs.SourceFile.{SourceFile}
+use Rattle.go_ast.specs.Tree.{Item, ExprTree, Number, Text, Name, Blank, Composite, Paren, Prefix, Address, Chain, Binary, SimpleTree, Alone, Step, Update}
+use Rattle.go_ast.specs.Tree.{Assign, Define, InitTree, ForTree, forever, while, clauses, StatementTree, Empty, Var, Simple, Inner, If, For, Break}
+use Rattle.go_ast.specs.Tree.{Continue, Return, BlockTree, block, StatementTrees, no_statement, statement, IfTree, if_tree, ElseTree, no_else, else_if}
+use Rattle.go_ast.specs.Tree.{else_block, DeclTree, VarDecl, TypeDecl, FuncDecl, FileTree}
+use Rattle.go_scope.specs.Bindings.{Declares}
+use Rattle.go_scope.specs.Table.{IsFoundAt}
+use Rattle.types_declared.specs.Files.{Ranked, ranked}
+use Rattle.types_declared.specs.Laid.{Laid}
+
+-- a `:=` with its left sides and its place, or a `break` or `continue` outside of a `for`
+pub data Mark : Type 0 where
+  Defines : List (Item ExprTree) → ℕ → Mark
+  Stray : ℕ → Mark
+
+unfoldable pub simple_marks : SimpleTree → List Mark
+simple_marks (Alone e) = []
+simple_marks (Step e op p) = []
+simple_marks (Update e op p f) = []
+simple_marks (Assign es p fs) = []
+simple_marks (Define es p fs) = Defines es p ∷ []
+
+abbrev pub optional_marks : Option SimpleTree → List Mark
+optional_marks None = []
+optional_marks (Some s) = simple_marks s
+
+unfoldable pub for_marks : ForTree → List Mark
+for_marks forever = []
+for_marks (while e) = []
+for_marks (clauses init p condition q post) = optional_marks init ++ optional_marks post
+
+abbrev pub init_marks : Option InitTree → List Mark
+init_marks None = []
+init_marks (Some i) = optional_marks i.simple
+
+abbrev pub stray : (in_for : Bool) → ℕ → List Mark
+stray true p = []
+stray false p = Stray p ∷ []
+
+unfoldable mutual
+  pub statement_marks : (in_for : Bool) → StatementTree → List Mark
+  statement_marks in_for Empty = []
+  statement_marks in_for (Var p g) = []
+  statement_marks in_for (Simple s) = simple_marks s
+  statement_marks in_for (Inner b) = block_marks in_for b
+  statement_marks in_for (If i) = if_marks in_for i
+  statement_marks in_for (For p f b) = for_marks f ++ block_marks true b
+  statement_marks in_for (Break p) = stray in_for p
+  statement_marks in_for (Continue p) = stray in_for p
+  statement_marks in_for (Return p es) = []
+
+  pub block_marks : (in_for : Bool) → BlockTree → List Mark
+  block_marks in_for (block o ss c) = statements_marks in_for ss
+
+  pub statements_marks : (in_for : Bool) → StatementTrees → List Mark
+  statements_marks in_for no_statement = []
+  statements_marks in_for (statement s p rest) = statement_marks in_for s ++ statements_marks in_for rest
+
+  pub if_marks : (in_for : Bool) → IfTree → List Mark
+  if_marks in_for (if_tree p init e b rest) = init_marks init ++ (block_marks in_for b ++ else_marks in_for rest)
+
+  pub else_marks : (in_for : Bool) → ElseTree → List Mark
+  else_marks in_for no_else = []
+  else_marks in_for (else_if p i) = if_marks in_for i
+  else_marks in_for (else_block p b) = block_marks in_for b
+
+unfoldable pub decl_marks : DeclTree → List Mark
+decl_marks (VarDecl k g s) = []
+decl_marks (TypeDecl k g s) = []
+decl_marks (FuncDecl k f s) = block_marks false f.body
+
+abbrev pub file_marks : FileTree → List Mark
+file_marks t = flat_map decl_marks t.decls
+
+-- the identifier at a token declares
+pub record DeclaresAt (p : Laid) (file token : ℕ) : Type 0 where
+  pub identifier : ℕ
+  pub found : IsFoundAt p.layout p.size (record { file = file; index = token }) identifier
+  pub declares : Declares p.layout p.names identifier
+
+-- a left side is a name that declares
+abbrev pub DeclaresName : Laid → ℕ → ExprTree → Type 0
+DeclaresName p file (Name n) = DeclaresAt p file n
+DeclaresName p file (Number n) = ⊥
+DeclaresName p file (Text n) = ⊥
+DeclaresName p file (Blank n) = ⊥
+DeclaresName p file (Composite l) = ⊥
+DeclaresName p file (Paren o e c) = ⊥
+DeclaresName p file (Prefix op at e) = ⊥
+DeclaresName p file (Address at l) = ⊥
+DeclaresName p file (Chain e ls) = ⊥
+DeclaresName p file (Binary e os) = ⊥
+
+-- some left side is
+abbrev pub SomeDeclares : Laid → ℕ → List (Item ExprTree) → Type 0
+SomeDeclares p file [] = ⊥
+SomeDeclares p file (x ∷ xs) = DeclaresName p file x.value ⊎ SomeDeclares p file xs
+
+abbrev pub IsFaultOfMark : Laid → ℕ → Mark → Fault → Type 0
+IsFaultOfMark p file (Defines es at) f = (f ≡ record { file = file; token = at; kind = kind.NoNew }) × (SomeDeclares p file es → ⊥)
+IsFaultOfMark p file (Stray at) f = f ≡ record { file = file; token = at; kind = kind.Loop }
+
+-- a fault of some mark of a file
+abbrev pub IsFaultOfMarks : Laid → Ranked → Fault → Type 0
+IsFaultOfMarks p r = SomeOf (IsFaultOfMark p r.0) (file_marks r.1.tree)
+
+abbrev pub IsMarkFault : List SourceFile → Laid → Fault → Type 0
+IsMarkFault files p = SomeOf (IsFaultOfMarks p) (ranked files)

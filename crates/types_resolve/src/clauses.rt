@@ -1,0 +1,52 @@
+//! The faults of package clauses.
+ghost use Rattle.std.specs.Prelude.{◌≡◌, ◌↔◌, IsTrue, OnOk, map};
+ghost use Rattle.types_declared.specs.Listing.{Adds};
+ghost use Rattle.go_ast.specs.SourceFile.{source_of};
+ghost use Rattle.types_declared.specs.Files.{clause_name};
+ghost use Rattle.types_resolve.specs.Clauses.{IsFaultOfClause, IsClauseFault};
+
+use base_files::FaultKind;
+use go_ast::FileTree;
+use std::alloc::AllocError;
+use types_declared::{Fault, clause_name, clause_token, push};
+
+/// Whether the name in a file's package clause is that one.
+fn is_named(file: &FileTree, name: &[u8]) -> bool
+    ensures { IsTrue result ↔ (clause_name (source_of file.now) ≡ name.now) }
+{
+    clause_name(file) == name
+}
+
+/// Adds the fault of a file's package clause, where it has another name.
+fn add_clause(
+    found: &mut Vec<Fault>,
+    name: &[u8],
+    rank: usize,
+    file: &FileTree,
+) -> Result<(), AllocError>
+    ensures { OnOk result (Adds found.old.items found.new.items (IsFaultOfClause name.now (rank, source_of file.now))) }
+{
+    if is_named(file, name) {
+        return Ok(());
+    }
+    let fault = Fault {
+        file: rank,
+        token: clause_token(file),
+        kind: FaultKind::Package,
+    };
+    push(found, fault)
+}
+
+/// Adds the faults of package clauses.
+pub(crate) fn add_clauses(found: &mut Vec<Fault>, files: &[FileTree]) -> Result<(), AllocError>
+    ensures { OnOk result (Adds found.old.items found.new.items (IsClauseFault (map source_of files.now))) }
+{
+    let Some(first) = files.first() else {
+        return Ok(());
+    };
+    let name = clause_name(first);
+    for rank in 0..files.len() {
+        add_clause(found, name, rank, &files[rank])?;
+    }
+    Ok(())
+}

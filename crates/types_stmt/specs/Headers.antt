@@ -1,0 +1,88 @@
+-- Function headers: receivers, parameters and results, and whole functions.
+use Rattle.std.specs.Prelude.{ℕ, Bool, true, false, if◌then◌else◌, List, [], ◌∷◌, ◌++◌, Option, Some, None, is_none, ◌&&◌}
+use Rattle.go_ast.specs.Tree.{Item, TypeTree, ReceiverTree, ParamTree, ResultTree, no_result, one_result, results, FuncTree}
+use Rattle.types_expr.specs.Types.{PlainType, Defined, Pointer, points}
+use Rattle.types_expr.specs.World.{World}
+use Rattle.types_expr.specs.Judge.{TypeJudged, good_type, no_type_at, named_type, judge_type, under}
+use Rattle.types_stmt.specs.Checked.{Checked, reaching, noting, fault_if, check_items}
+use Rattle.types_stmt.specs.Sides.{Target, Wants, with_locals, named}
+use Rattle.types_stmt.specs.Simple.{written_locals}
+use Rattle.types_stmt.specs.Statements.{check_block}
+
+-- Receivers: T or *T, where T is a definition of the package whose underlying type is no pointer. A name that stands
+-- alone and is a type is one of the universe or a definition of its own package.
+
+unfoldable pub may_receive : World → PlainType → Bool
+may_receive w (Defined s) = if points (w.definition s) then false else true
+may_receive w t = false
+
+unfoldable pub receiving : World → ℕ → Option PlainType → TypeJudged
+receiving w place None = record { type_of = None; faults = [] }
+receiving w place (Some t) = if may_receive w t then good_type t else no_type_at place
+
+-- the type that a receiver names, and its faults: the name's own, or that it may be no receiver's
+abbrev pub received : World → ℕ → TypeJudged → TypeJudged
+received w place j = record { type_of = (receiving w place j.type_of).type_of; faults = j.faults ++ (receiving w place j.type_of).faults }
+
+unfoldable pub receiver_base : World → ℕ → TypeJudged
+receiver_base w place = received w place (named_type (w.bound place) place)
+
+-- the same with its star
+abbrev pub starred : Option ℕ → TypeJudged → TypeJudged
+starred None t = t
+starred (Some star) t = under Pointer t
+
+unfoldable pub judge_receiver : World → ReceiverTree → TypeJudged
+judge_receiver w r = starred r.star (receiver_base w r.type_name)
+
+unfoldable pub check_receiver : World → Checked → ReceiverTree → Checked
+check_receiver w s r =
+    reaching s (with_locals s.locals (named r.name ∷ []) ((judge_receiver w r).type_of ∷ [])) (judge_receiver w r).faults []
+
+abbrev pub check_optional_receiver : World → Checked → Option ReceiverTree → Checked
+check_optional_receiver w s None = s
+check_optional_receiver w s (Some r) = check_receiver w s r
+
+-- Parameters
+
+unfoldable pub check_param : World → Checked → ParamTree → Checked
+check_param w s p = reaching s (written_locals s.locals p.names (judge_type w p.type_use).type_of) (judge_type w p.type_use).faults []
+
+-- Results
+
+-- what a function's results want, and the faults in them
+pub record ResultsJudged : Type 0 where
+  pub wanted : List Target
+  pub faults : List ℕ
+
+abbrev pub result_then : TypeJudged → ResultsJudged → ResultsJudged
+result_then t rest = record { wanted = Wants t.type_of ∷ rest.wanted; faults = t.faults ++ rest.faults }
+
+unfoldable pub judge_types : World → List (Item TypeTree) → ResultsJudged
+judge_types w [] = record { wanted = []; faults = [] }
+judge_types w (i ∷ is) = result_then (judge_type w i.value) (judge_types w is)
+
+unfoldable pub judge_results : World → ResultTree → ResultsJudged
+judge_results w no_result = record { wanted = []; faults = [] }
+judge_results w (one_result t) = result_then (judge_type w t) (record { wanted = []; faults = [] })
+judge_results w (results o ts c) = judge_types w ts
+
+-- Functions
+
+abbrev pub is_empty_list : {A : Type 0} → List A → Bool
+is_empty_list [] = true
+is_empty_list (x ∷ xs) = false
+
+-- whether a function breaks the rule that an `init` without a receiver has no parameters and no results; is_init: whether
+-- that is its name
+unfoldable pub is_bad_init : Bool → FuncTree → List Target → Bool
+is_bad_init is_init f wanted = is_init && (is_none f.receiver && (if is_empty_list f.params then (if is_empty_list wanted then false else true) else true))
+
+-- what a function's header declares, and the faults in it
+unfoldable pub check_signature : World → Bool → Checked → FuncTree → Checked
+check_signature w is_init s f =
+    noting (check_items (check_param w) (check_optional_receiver w s f.receiver) f.params)
+    ((judge_results w f.result).faults ++ fault_if (is_bad_init is_init f (judge_results w f.result).wanted) f.name) []
+
+unfoldable pub check_function : World → Bool → Checked → FuncTree → Checked
+check_function w is_init s f = check_block w (judge_results w f.result).wanted (check_signature w is_init s f) f.body

@@ -1,0 +1,60 @@
+-- Statements and blocks. Declarations are met in source order; the locals of an inner block stay, since a name is bound
+-- to one by its place.
+use Rattle.std.specs.Prelude.{ℕ, ◌==◌, if◌then◌else◌, List, ◌++◌, Option, Some, None, length}
+use Rattle.go_ast.specs.Tree.{Item, ExprTree, InitTree, ForTree, forever, while, clauses, StatementTree, Empty, Var, Simple, Inner, If, For, Break}
+use Rattle.go_ast.specs.Tree.{Continue, Return, BlockTree, block, StatementTrees, no_statement, statement, IfTree, if_tree, ElseTree, no_else, else_if}
+use Rattle.go_ast.specs.Tree.{else_block}
+use Rattle.types_expr.specs.World.{World}
+use Rattle.types_expr.specs.Judge.{Argued, JudgedList, all_whole}
+use Rattle.types_stmt.specs.Checked.{Checked, noting, fault_if, check_group}
+use Rattle.types_stmt.specs.Sides.{Target, rights, all_refused}
+use Rattle.types_stmt.specs.Simple.{check_simple, check_optional, check_condition, check_optional_condition, check_local}
+
+-- The values of a `return`, given to the function's results. A wrong count is a fault also where a result is broken,
+-- since results are no part of the statement.
+unfoldable pub returned : World → ℕ → List Argued → List Target → List ℕ
+returned w place vs ts = if length vs == length ts then all_refused w vs ts else fault_if (all_whole vs) place
+
+abbrev pub returning : World → Checked → ℕ → List Target → JudgedList → Checked
+returning w s place results r = noting s (r.faults ++ returned w place r.values results) r.uses
+
+unfoldable pub check_return : World → Checked → ℕ → List Target → List (Item ExprTree) → Checked
+check_return w s place results es = returning w s place results (rights w s.locals es)
+
+abbrev pub check_init : World → Checked → Option InitTree → Checked
+check_init w s None = s
+check_init w s (Some i) = check_optional w s i.simple
+
+-- what stands between `for` and its block
+unfoldable pub check_header : World → Checked → ForTree → Checked
+check_header w s forever = s
+check_header w s (while e) = check_condition w s e
+check_header w s (clauses init p condition q post) = check_optional w (check_optional_condition w (check_optional w s init) condition) post
+
+-- results: what the function's results want
+unfoldable mutual
+  pub check_statement : World → List Target → Checked → StatementTree → Checked
+  check_statement w results s Empty = s
+  check_statement w results s (Var p g) = check_group (check_local w) s g
+  check_statement w results s (Simple a) = check_simple w s a
+  check_statement w results s (Inner b) = check_block w results s b
+  check_statement w results s (If i) = check_if w results s i
+  check_statement w results s (For p h b) = check_block w results (check_header w s h) b
+  check_statement w results s (Break p) = s
+  check_statement w results s (Continue p) = s
+  check_statement w results s (Return p es) = check_return w s p results es
+
+  pub check_block : World → List Target → Checked → BlockTree → Checked
+  check_block w results s (block o ss c) = check_statements w results s ss
+
+  pub check_statements : World → List Target → Checked → StatementTrees → Checked
+  check_statements w results s no_statement = s
+  check_statements w results s (statement x p rest) = check_statements w results (check_statement w results s x) rest
+
+  pub check_if : World → List Target → Checked → IfTree → Checked
+  check_if w results s (if_tree p init e b otherwise) = check_else w results (check_block w results (check_condition w (check_init w s init) e) b) otherwise
+
+  pub check_else : World → List Target → Checked → ElseTree → Checked
+  check_else w results s no_else = s
+  check_else w results s (else_if p i) = check_if w results s i
+  check_else w results s (else_block p b) = check_block w results s b

@@ -1,0 +1,46 @@
+-- The values of src/ without where they lie in memory, and what calls add to what was found.
+use Rattle.std.specs.Prelude.{ℕ, ◌≡◌, ◌==◌, Bool, List, ◌++◌, option_map, map, codes}
+use Rattle.std.specs.Cmp.Lexicographic.{pointwise}
+use Rattle.types_expr.specs.declared.world.World.{World}
+use Rattle.types_expr.specs.WorldView.{name_in, spelling_of}
+use Rattle.types_expr.specs.declared.found.FoundInFile.{FoundInFile}
+use Rattle.types_expr.specs.World.{Locals}
+use Rattle.types_expr.specs.View.{type_of}
+use Rattle.types_expr.specs.Found.{use_of, locals_of}
+use Rattle.types_stmt.specs.declared.sides.Target.{Target}
+use Rattle.types_stmt.specs.declared.sides.Target.TheVariants as target
+use Rattle.types_stmt.specs.declared.checked.CheckedBody.{CheckedBody}
+use Rattle.types_stmt.specs.Checked as pure
+use Rattle.types_stmt.specs.Sides as sides
+use Rattle.types_stmt.specs.Headers.{ResultsJudged}
+
+abbrev pub checked_with : Locals → FoundInFile → pure.Checked
+checked_with ls f = record { locals = ls; faults = f.faults.items; uses = map use_of f.uses.items }
+
+abbrev pub checked_of : CheckedBody → pure.Checked
+checked_of s = checked_with (locals_of s.locals) s.found
+
+unfoldable pub target_of : Target → sides.Target
+target_of target.Takes = sides.Takes
+target_of (target.Wants t) = sides.Wants (option_map type_of t)
+
+-- what a call added: left sides, with their targets as the result
+pub record AddsLefts (l : sides.Lefts) (old new : FoundInFile) (ts : List sides.Target) : Type 0 where
+  pub targets : ts ≡ l.targets
+  pub faults : new.faults.items ≡ old.faults.items ++ l.faults
+  pub uses : map use_of new.uses.items ≡ map use_of old.uses.items ++ l.uses
+
+-- results, with what they want as the result
+pub record AddsResults (j : ResultsJudged) (old new : FoundInFile) (ts : List sides.Target) : Type 0 where
+  pub wanted : ts ≡ j.wanted
+  pub faults : new.faults.items ≡ old.faults.items ++ j.faults
+  pub uses : new.uses.items ≡ old.uses.items
+
+-- faults at those places, and nothing else
+pub record Notes (places : List ℕ) (old new : FoundInFile) : Type 0 where
+  pub faults : new.faults.items ≡ old.faults.items ++ places
+  pub uses : new.uses.items ≡ old.uses.items
+
+-- whether the name at a token is `init`
+abbrev pub is_init_in : World → ℕ → Bool
+is_init_in w place = pointwise ◌==◌ (spelling_of (name_in w place)) (codes "init")

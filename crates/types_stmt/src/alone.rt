@@ -1,0 +1,178 @@
+//! Expressions that are statements: calls.
+ghost use Rattle.std.specs.Prelude.{◌≡◌, ◌∷◌, ◌++◌, [], ◌&&◌, IfOk, OnOk};
+ghost use Rattle.go_ast.specs.Tree.{Chain, no_link};
+ghost use Rattle.go_ast.specs.View.{expr_view, link_view};
+ghost use Rattle.types_expr.specs.Lists.{links_in};
+ghost use Rattle.types_expr.specs.Judge.{judge};
+ghost use Rattle.types_expr.specs.Places.{place_of_links};
+ghost use Rattle.types_expr.specs.WorldView.{world_of};
+ghost use Rattle.types_expr.specs.Found.{locals_of, meaning_of, Adds};
+ghost use Rattle.types_stmt.specs.Simple.{check_alone, ends_in_call, is_statement, may_stand, stands_faults};
+ghost use Rattle.types_stmt.specs.View.{checked_of, Notes};
+
+use crate::checked::CheckedBody;
+use go_ast::tree::{Expr, Link};
+use std::alloc::{AllocError, Global};
+use types_expr::found::{FoundInFile, LocalNames};
+use types_expr::judge::{chain, judge, judge_link};
+use types_expr::meaning::Meaning;
+use types_expr::places::{FaultPlaces, first_token, place_behind, place_of};
+use types_expr::types::Builtin;
+use types_expr::world::World;
+
+/// What an expression stands for, and whether it may stand as a statement.
+#[derive(Drop)]
+struct Alone<'w> {
+    meaning: Meaning<'w>,
+    stands: bool,
+}
+
+/// Whether a call of what means that may stand as a statement.
+#[tactic(auto, unfolding(types_expr::specs::Found::meaning_of, crate::specs::Simple::may_stand))]
+fn may_stand(meaning: &Meaning<'_>) -> bool
+    ensures { result ≡ may_stand (meaning_of meaning.now) }
+{
+    match meaning {
+        Meaning::Function(_) => true,
+        Meaning::Builtin(builtin) => match builtin {
+            Builtin::Append | Builtin::Len => false,
+            Builtin::Panic | Builtin::Print | Builtin::Println => true,
+        },
+        _ => false,
+    }
+}
+
+/// Whether a link is a call.
+#[tactic(auto, unfolding(go_ast::specs::View::link_view, crate::specs::Simple::ends_in_call))]
+fn is_call(link: &Link) -> bool
+    ensures { result ≡ ends_in_call (link_view link.now no_link) }
+{
+    matches!(link, Link::Call { .. })
+}
+
+/// Where a fault of a chain stands that begins at `start`, and has its faults at `place` without these links.
+#[tactic(auto, using(crate::proofs::Chains::place_behind_last))]
+fn place_behind_all(start: usize, place: usize, links: &[Link]) -> usize
+    ensures { result ≡ place_of_links start place (links_in links.now) }
+{
+    match links.split_last() {
+        None => place,
+        Some((last, _)) => place_behind(start, last),
+    }
+}
+
+/// Whether a link calls what may stand as a statement when it is called.
+fn calls_statement(link: &Link, meaning: &Meaning<'_>) -> bool
+    ensures { result ≡ (ends_in_call (link_view link.now no_link) && may_stand (meaning_of meaning.now)) }
+{
+    is_call(link) && may_stand(meaning)
+}
+
+/// What a chain that ends in that link stands for, and whether it may stand as a statement.
+fn judge_last<'w>(
+    alloc: Global,
+    scope: LocalNames<'w>,
+    first: &Expr,
+    before: &[Link],
+    last: &Link,
+    found: &mut FoundInFile,
+) -> Result<Alone<'w>, AllocError>
+    ensures found { IfOk result (λ a. Adds (judge (world_of scope.entry.world.now) (locals_of scope.entry.locals.now) (Chain (expr_view first.now) (links_in (before.now ++ (last.now ∷ []))))) found.old found.new (meaning_of a.meaning)) }
+    ensures stands { IfOk result (λ a. a.stands ≡ is_statement (world_of scope.entry.world.now) (locals_of scope.entry.locals.now) (Chain (expr_view first.now) (links_in (before.now ++ (last.now ∷ []))))) }
+{
+    let start = first_token(first);
+    let place = place_of(first);
+    let operand = judge(alloc, scope, first, found)?;
+    let at = FaultPlaces { start, place };
+    let called = chain(alloc, scope, at, operand, before, found)?;
+    let stands = calls_statement(last, &called);
+    let behind = place_behind_all(start, place, before);
+    let at = FaultPlaces {
+        start,
+        place: behind,
+    };
+    let meaning = judge_link(alloc, scope, at, called, last, found)?;
+    Ok(Alone { meaning, stands })
+}
+
+/// What a chain stands for, and whether it may stand as a statement.
+fn judge_chain<'w>(
+    alloc: Global,
+    scope: LocalNames<'w>,
+    first: &Expr,
+    links: &[Link],
+    found: &mut FoundInFile,
+) -> Result<Alone<'w>, AllocError>
+    ensures found { IfOk result (λ a. Adds (judge (world_of scope.entry.world.now) (locals_of scope.entry.locals.now) (Chain (expr_view first.now) (links_in links.now))) found.old found.new (meaning_of a.meaning)) }
+    ensures stands { IfOk result (λ a. a.stands ≡ is_statement (world_of scope.entry.world.now) (locals_of scope.entry.locals.now) (Chain (expr_view first.now) (links_in links.now))) }
+{
+    match links.split_last() {
+        Some((last, before)) => judge_last(alloc, scope, first, before, last, found),
+        None => {
+            let meaning = judge(alloc, scope, first, found)?;
+            Ok(Alone {
+                meaning,
+                stands: false,
+            })
+        }
+    }
+}
+
+/// What an expression stands for, and whether it may stand as a statement.
+#[tactic(auto, unfolding(go_ast::specs::View::expr_view, crate::specs::Simple::is_statement))]
+fn judge_alone<'w>(
+    alloc: Global,
+    scope: LocalNames<'w>,
+    expr: &Expr,
+    found: &mut FoundInFile,
+) -> Result<Alone<'w>, AllocError>
+    ensures found { IfOk result (λ a. Adds (judge (world_of scope.entry.world.now) (locals_of scope.entry.locals.now) (expr_view expr.now)) found.old found.new (meaning_of a.meaning)) }
+    ensures stands { IfOk result (λ a. a.stands ≡ is_statement (world_of scope.entry.world.now) (locals_of scope.entry.locals.now) (expr_view expr.now)) }
+{
+    match expr {
+        Expr::Chain { first, links } => judge_chain(alloc, scope, first, links, found),
+        _ => {
+            let meaning = judge(alloc, scope, expr, found)?;
+            Ok(Alone {
+                meaning,
+                stands: false,
+            })
+        }
+    }
+}
+
+/// Notes what may not stand as a statement; nothing again where it is broken.
+#[tactic(auto, unfolding(types_expr::specs::Found::meaning_of, crate::specs::Simple::stands_faults))]
+fn require_statement(
+    place: usize,
+    alone: Alone<'_>,
+    found: &mut FoundInFile,
+) -> Result<(), AllocError>
+    ensures { OnOk result (Notes (stands_faults place alone.entry.stands (meaning_of alone.entry.meaning)) found.old found.new) }
+{
+    if alone.stands || matches!(alone.meaning, Meaning::Broken) {
+        return Ok(());
+    }
+    found.faults.push(place)?;
+    Ok(())
+}
+
+impl CheckedBody {
+    /// Checks an expression that is a statement.
+    pub(crate) fn check_alone(
+        &mut self,
+        alloc: Global,
+        world: &World<'_>,
+        expr: &Expr,
+    ) -> Result<(), AllocError>
+        ensures { OnOk result (checked_of self.new ≡ check_alone (world_of world.now) (checked_of self.old) (expr_view expr.now)) }
+    {
+        let scope = LocalNames {
+            world: &*world,
+            locals: &self.locals,
+        };
+        let place = place_of(expr);
+        let alone = judge_alone(alloc, scope, expr, &mut self.found)?;
+        require_statement(place, alone, &mut self.found)
+    }
+}

@@ -1,0 +1,211 @@
+//! Package-level declarations of variables and types.
+ghost use Rattle.std.specs.Prelude.{◌≡◌, IfOk, OnOk, map, option_map};
+ghost use Rattle.go_ast.specs.View.{list_view, group_view};
+ghost use Rattle.go_ast.specs.FileView.{same_place, basic_view, global_view, field_view, body_view, type_spec_view};
+ghost use Rattle.types_expr.specs.View.{type_of};
+ghost use Rattle.types_expr.specs.WorldView.{world_of};
+ghost use Rattle.types_expr.specs.Found.{argued_of};
+ghost use Rattle.types_stmt.specs.Sides.{Wants};
+ghost use Rattle.types_stmt.specs.Checked.{check_group};
+ghost use Rattle.types_stmt.specs.Declarations.{literal_value, first_name, literal_faults, global_faults, field_faults, body_faults, check_global, check_type};
+ghost use Rattle.types_stmt.specs.View.{checked_of, target_of, Notes};
+
+use crate::checked::CheckedBody;
+use crate::locals::copied;
+use crate::sides::{Target, refuse_all};
+use go_ast::tree::{BasicLit, FieldDecl, Group, Item, TypeBody, TypeSpec, VarSpec};
+use std::alloc::{AllocError, Global};
+use types_expr::found::FoundInFile;
+use types_expr::meaning::Argued;
+use types_expr::types::{Basic, GoType, ValueKind};
+use types_expr::world::World;
+
+/// The value of a literal.
+#[tactic(auto, unfolding(types_expr::specs::View::kind_of))]
+fn literal_value(literal: &BasicLit) -> Argued
+    ensures { argued_of result ≡ literal_value (basic_view literal.now) }
+{
+    match literal {
+        BasicLit::Number(place) => Argued {
+            place: *place,
+            kind: Some(ValueKind::Untyped(Basic::Int)),
+        },
+        BasicLit::Text(place) => Argued {
+            place: *place,
+            kind: Some(ValueKind::Untyped(Basic::String)),
+        },
+    }
+}
+
+/// The values of literals.
+fn literal_values(alloc: Global, literals: &[Item<BasicLit>]) -> Result<Vec<Argued>, AllocError>
+    ensures { IfOk result (λ vs. map argued_of vs.items ≡ map (λ i. literal_value i.value) (list_view basic_view literals.now)) }
+{
+    let mut values = Vec::new(alloc);
+    for item in literals {
+        values.push(literal_value(&item.value))?;
+    }
+    Ok(values)
+}
+
+/// What variables of one type take.
+fn global_targets(
+    alloc: Global,
+    names: &[Item<usize>],
+    own: &Option<GoType>,
+) -> Result<Vec<Target>, AllocError>
+    ensures { IfOk result (λ ts. map target_of ts.items ≡ map (λ i. Wants (option_map type_of own.now)) (list_view same_place names.now)) }
+{
+    let mut targets = Vec::new(alloc);
+    for _item in names {
+        targets.push(Target::Wants(copied(alloc, own)?))?;
+    }
+    Ok(targets)
+}
+
+/// The place of the first of several names; 0 where there is none.
+#[tactic(auto, unfolding(crate::specs::Declarations::first_name))]
+fn first_name(names: &[Item<usize>]) -> usize
+    ensures { result ≡ first_name (list_view same_place names.now) }
+{
+    match names {
+        [] => 0,
+        [first, ..] => first.value,
+    }
+}
+
+/// Notes literals that do not fit the type of the variables, or a wrong count of them.
+#[tactic(auto, unfolding(crate::specs::Declarations::literal_faults))]
+fn note_value_faults(
+    alloc: Global,
+    world: &World<'_>,
+    names: &[Item<usize>],
+    own: &Option<GoType>,
+    literals: &[Item<BasicLit>],
+    found: &mut FoundInFile,
+) -> Result<(), AllocError>
+    ensures { OnOk result (Notes (literal_faults (world_of world.now) (list_view same_place names.now) (option_map type_of own.now) (list_view basic_view literals.now)) found.old found.new) }
+{
+    if literals.len() != names.len() {
+        found.faults.push(first_name(names))?;
+        return Ok(());
+    }
+    let values = literal_values(alloc, literals)?;
+    let targets = global_targets(alloc, names, own)?;
+    refuse_all(world, &values, &targets, found)
+}
+
+/// Notes the faults of package-level variables of one type.
+fn note_global_faults(
+    alloc: Global,
+    world: &World<'_>,
+    spec: &VarSpec,
+    found: &mut FoundInFile,
+) -> Result<(), AllocError>
+    ensures { OnOk result (Notes (global_faults (world_of world.now) (global_view spec.now)) found.old found.new) }
+{
+    let own = found.judge_type(alloc, world, &spec.var_type)?;
+    match &spec.values {
+        None => Ok(()),
+        Some(values) => note_value_faults(alloc, world, &spec.names, &own, &values.values, found),
+    }
+}
+
+/// Notes the faults of the types of fields.
+fn note_field_faults(
+    alloc: Global,
+    world: &World<'_>,
+    fields: &[Item<FieldDecl>],
+    found: &mut FoundInFile,
+) -> Result<(), AllocError>
+    ensures { OnOk result (Notes (field_faults (world_of world.now) (list_view field_view fields.now)) found.old found.new) }
+{
+    for item in fields {
+        found.judge_type(alloc, world, &item.value.field_type)?;
+    }
+    Ok(())
+}
+
+/// Notes the faults of what a type is defined as.
+fn note_body_faults(
+    alloc: Global,
+    world: &World<'_>,
+    body: &TypeBody,
+    found: &mut FoundInFile,
+) -> Result<(), AllocError>
+    ensures { OnOk result (Notes (body_faults (world_of world.now) (body_view body.now)) found.old found.new) }
+{
+    match body {
+        TypeBody::Type(own) => {
+            found.judge_type(alloc, world, own)?;
+            Ok(())
+        }
+        TypeBody::Struct { fields, .. } => note_field_faults(alloc, world, fields, found),
+    }
+}
+
+impl CheckedBody {
+    /// Checks package-level variables of one type.
+    fn check_global(
+        &mut self,
+        alloc: Global,
+        world: &World<'_>,
+        spec: &VarSpec,
+    ) -> Result<(), AllocError>
+        ensures { OnOk result (checked_of self.new ≡ check_global (world_of world.now) (checked_of self.old) (global_view spec.now)) }
+    {
+        note_global_faults(alloc, world, spec, &mut self.found)
+    }
+
+    /// Checks one or several declarations of package-level variables.
+    pub(crate) fn check_globals(
+        &mut self,
+        alloc: Global,
+        world: &World<'_>,
+        group: &Group<VarSpec>,
+    ) -> Result<(), AllocError>
+        ensures { OnOk result (checked_of self.new ≡ check_group (check_global (world_of world.now)) (checked_of self.old) (group_view global_view group.now)) }
+    {
+        match group {
+            Group::Single(spec) => self.check_global(alloc, world, spec),
+            Group::Several { items, .. } => {
+                for item in items {
+                    self.check_global(alloc, world, &item.value)?;
+                }
+                Ok(())
+            }
+        }
+    }
+
+    /// Checks a type definition.
+    fn check_type(
+        &mut self,
+        alloc: Global,
+        world: &World<'_>,
+        spec: &TypeSpec,
+    ) -> Result<(), AllocError>
+        ensures { OnOk result (checked_of self.new ≡ check_type (world_of world.now) (checked_of self.old) (type_spec_view spec.now)) }
+    {
+        note_body_faults(alloc, world, &spec.body, &mut self.found)
+    }
+
+    /// Checks one or several type definitions.
+    pub(crate) fn check_types(
+        &mut self,
+        alloc: Global,
+        world: &World<'_>,
+        group: &Group<TypeSpec>,
+    ) -> Result<(), AllocError>
+        ensures { OnOk result (checked_of self.new ≡ check_group (check_type (world_of world.now)) (checked_of self.old) (group_view type_spec_view group.now)) }
+    {
+        match group {
+            Group::Single(spec) => self.check_type(alloc, world, spec),
+            Group::Several { items, .. } => {
+                for item in items {
+                    self.check_type(alloc, world, &item.value)?;
+                }
+                Ok(())
+            }
+        }
+    }
+}

@@ -1,0 +1,359 @@
+//! The two sides of assignments and declarations of locals.
+ghost use Rattle.std.specs.Prelude.{◌≡◌, ◌∷◌, [], IfOk, OnOk, map, option_map};
+ghost use Rattle.std.specs.List.{list_all};
+ghost use Rattle.go_ast.specs.View.{expr_view, exprs_view};
+ghost use Rattle.types_expr.specs.Judge.{judge, as_value};
+ghost use Rattle.types_expr.specs.Places.{place_of};
+ghost use Rattle.types_expr.specs.View.{type_of, kind_of};
+ghost use Rattle.types_expr.specs.WorldView.{world_of};
+ghost use Rattle.types_expr.specs.Found.{locals_of, meaning_of, argued_of, Adds, AddsList};
+ghost use Rattle.types_stmt.specs.Sides.{results_at, one_value, values_of, list_followed, judge_each, rights, all_sound, is_sound, nil_refused, refused, all_refused, given_to, assignable, judge_operand, own_type, assigned_one, assigned, no_name, defined_one, defined};
+ghost use Rattle.types_stmt.specs.Checked.{fault_if};
+ghost use Rattle.types_stmt.specs.Statements.{returned};
+ghost use Rattle.types_stmt.specs.View.{target_of, AddsLefts, Notes};
+
+use crate::locals::declares;
+use go_ast::tree::{Expr, ExprItem};
+use std::alloc::{AllocError, Global};
+use types_expr::found::{FoundInFile, LocalNames};
+use types_expr::judge::{arguments, judge, judge_value};
+use types_expr::meaning::{Argued, Meaning, all_whole};
+use types_expr::places::place_of;
+use types_expr::types::{GoType, ValueKind};
+use types_expr::world::World;
+
+/// What a left side takes: a new name or `_` a value of any type, any other one that fits its own type, which is none
+/// where it is broken.
+#[derive(Drop)]
+pub enum Target {
+    Takes,
+    Wants(Option<GoType>),
+}
+
+/// The values of right sides: those of each, or the results of a lone call.
+#[tactic(auto, unfolding(crate::specs::Sides::rights))]
+pub(crate) fn rights(
+    alloc: Global,
+    scope: LocalNames<'_>,
+    exprs: &[ExprItem],
+    found: &mut FoundInFile,
+) -> Result<Vec<Argued>, AllocError>
+    ensures { IfOk result (λ vs. AddsList (rights (world_of scope.entry.world.now) (locals_of scope.entry.locals.now) (exprs_view exprs.now)) found.old found.new (map argued_of vs.items)) }
+{
+    match exprs {
+        [only] => lone(alloc, scope, &only.value, found),
+        _ => each_value(alloc, scope, exprs, found),
+    }
+}
+
+/// The values of an expression that is the only right side.
+fn lone(
+    alloc: Global,
+    scope: LocalNames<'_>,
+    expr: &Expr,
+    found: &mut FoundInFile,
+) -> Result<Vec<Argued>, AllocError>
+    ensures { IfOk result (λ vs. AddsList (list_followed (judge (world_of scope.entry.world.now) (locals_of scope.entry.locals.now) (expr_view expr.now)) (values_of (place_of (expr_view expr.now)))) found.old found.new (map argued_of vs.items)) }
+{
+    let place = place_of(expr);
+    let meaning = judge(alloc, scope, expr, found)?;
+    match meaning {
+        Meaning::Results(types) => results_at(alloc, place, types),
+        _ => one_value(alloc, place, meaning, found),
+    }
+}
+
+/// A value alone, where one is wanted.
+fn one_value(
+    alloc: Global,
+    place: usize,
+    meaning: Meaning<'_>,
+    found: &mut FoundInFile,
+) -> Result<Vec<Argued>, AllocError>
+    ensures { IfOk result (λ vs. AddsList (one_value place (as_value place (meaning_of meaning.entry))) found.old found.new (map argued_of vs.items)) }
+{
+    let kind = found.as_value(place, meaning)?.into_kind();
+    let mut values = Vec::new(alloc);
+    values.push(Argued { place, kind })?;
+    Ok(values)
+}
+
+/// Results of a call, each at the place of the call.
+fn results_at(alloc: Global, place: usize, types: &[GoType]) -> Result<Vec<Argued>, AllocError>
+    ensures { IfOk result (λ vs. map argued_of vs.items ≡ results_at place (map type_of types.now)) }
+{
+    let mut values = Vec::new(alloc);
+    for result_type in types {
+        let kind = Some(ValueKind::Typed(result_type.copy(alloc)?));
+        values.push(Argued { place, kind })?;
+    }
+    Ok(values)
+}
+
+/// The values of expressions, each one value.
+fn each_value(
+    alloc: Global,
+    scope: LocalNames<'_>,
+    exprs: &[ExprItem],
+    found: &mut FoundInFile,
+) -> Result<Vec<Argued>, AllocError>
+    ensures { IfOk result (λ vs. AddsList (judge_each (world_of scope.entry.world.now) (locals_of scope.entry.locals.now) (exprs_view exprs.now)) found.old found.new (map argued_of vs.items)) }
+{
+    arguments(alloc, scope, exprs, found)
+}
+
+/// Whether the left side is not broken.
+#[tactic(auto, unfolding(crate::specs::View::target_of))]
+fn is_sound(target: &Target) -> bool
+    ensures { result ≡ is_sound (target_of target.now) }
+{
+    !matches!(target, Target::Wants(None))
+}
+
+/// Whether no left side is broken.
+fn each_sound(targets: &[Target]) -> bool
+    ensures { result ≡ list_all (λ t. is_sound (target_of t)) targets.now }
+{
+    targets.iter().all(|target| is_sound(target))
+}
+
+/// The same, of the left sides as they are told.
+fn all_sound(targets: &[Target]) -> bool
+    ensures { result ≡ all_sound (map target_of targets.now) }
+{
+    each_sound(targets)
+}
+
+/// Notes a value that its target refuses.
+#[tactic(auto, unfolding(crate::specs::View::target_of, crate::specs::Sides::refused, types_expr::specs::View::kind_of))]
+fn refuse(
+    world: &World<'_>,
+    value: &Argued,
+    target: &Target,
+    found: &mut FoundInFile,
+) -> Result<(), AllocError>
+    ensures { OnOk result (Notes (refused (world_of world.now) value.now.place (option_map kind_of value.now.kind) (target_of target.now)) found.old found.new) }
+{
+    match target {
+        Target::Wants(None) => Ok(()),
+        Target::Wants(Some(own)) => {
+            found.misfit(world, value, own)?;
+            Ok(())
+        }
+        Target::Takes => refuse_nil(value, found),
+    }
+}
+
+/// Notes nil, which has no type of its own.
+#[tactic(auto, unfolding(crate::specs::Sides::nil_refused, types_expr::specs::View::kind_of))]
+fn refuse_nil(value: &Argued, found: &mut FoundInFile) -> Result<(), AllocError>
+    ensures { OnOk result (Notes (nil_refused value.now.place (option_map kind_of value.now.kind)) found.old found.new) }
+{
+    if matches!(value.kind, Some(ValueKind::Nil)) {
+        found.faults.push(value.place)?;
+    }
+    Ok(())
+}
+
+/// Notes the values that their targets refuse, in turn.
+pub(crate) fn refuse_all(
+    world: &World<'_>,
+    values: &[Argued],
+    targets: &[Target],
+    found: &mut FoundInFile,
+) -> Result<(), AllocError>
+    ensures { OnOk result (Notes (all_refused (world_of world.now) (map argued_of values.now) (map target_of targets.now)) found.old found.new) }
+{
+    let mut i = 0;
+    'each: while i < values.len() && i < targets.len() {
+        refuse(world, &values[i], &targets[i], found)?;
+        i += 1;
+    }
+    Ok(())
+}
+
+/// Notes a fault at a place, if there is one.
+pub(crate) fn note_if(test: bool, place: usize, found: &mut FoundInFile) -> Result<(), AllocError>
+    ensures { OnOk result (Notes (fault_if test place) found.old found.new) }
+{
+    if test {
+        found.faults.push(place)?;
+    }
+    Ok(())
+}
+
+/// Notes where values do not go with the left sides that they are given to; a wrong count at that place.
+#[tactic(auto, unfolding(crate::specs::Sides::given_to))]
+pub(crate) fn given_to(
+    world: &World<'_>,
+    place: usize,
+    values: &[Argued],
+    targets: &[Target],
+    found: &mut FoundInFile,
+) -> Result<(), AllocError>
+    ensures { OnOk result (Notes (given_to (world_of world.now) place (map argued_of values.now) (map target_of targets.now)) found.old found.new) }
+{
+    if values.len() == targets.len() {
+        return refuse_all(world, values, targets, found);
+    }
+    let whole = all_whole(values) && all_sound(targets);
+    note_if(whole, place, found)
+}
+
+/// An operand that can be assigned; any other is a fault.
+#[tactic(auto, unfolding(crate::specs::Sides::assignable, types_expr::specs::Found::meaning_of))]
+pub(crate) fn assignable<'w>(
+    place: usize,
+    meaning: Meaning<'w>,
+    found: &mut FoundInFile,
+) -> Result<Meaning<'w>, AllocError>
+    ensures { IfOk result (λ m. Adds (assignable place (meaning_of meaning.entry)) found.old found.new (meaning_of m)) }
+{
+    match meaning {
+        Meaning::Value {
+            addressable: true,
+            ..
+        }
+        | Meaning::Broken => Ok(meaning),
+        _ => found.wrong(place),
+    }
+}
+
+/// What an expression stands for that is assigned.
+pub(crate) fn operand<'w>(
+    alloc: Global,
+    scope: LocalNames<'w>,
+    expr: &Expr,
+    found: &mut FoundInFile,
+) -> Result<Meaning<'w>, AllocError>
+    ensures { IfOk result (λ m. Adds (judge_operand (world_of scope.entry.world.now) (locals_of scope.entry.locals.now) (expr_view expr.now)) found.old found.new (meaning_of m)) }
+{
+    let place = place_of(expr);
+    let meaning = judge(alloc, scope, expr, found)?;
+    assignable(place, meaning, found)
+}
+
+/// The type of a value that has one.
+#[tactic(auto, unfolding(crate::specs::Sides::own_type, types_expr::specs::Found::meaning_of, types_expr::specs::View::kind_of))]
+fn own_type(meaning: Meaning<'_>) -> Option<GoType>
+    ensures { option_map type_of result ≡ own_type (meaning_of meaning.entry) }
+{
+    match meaning {
+        Meaning::Value { kind, .. } => match kind {
+            ValueKind::Typed(own) => Some(own),
+            _ => None,
+        },
+        _ => None,
+    }
+}
+
+/// A left side of `=`.
+fn assigned_one(
+    alloc: Global,
+    scope: LocalNames<'_>,
+    expr: &Expr,
+    found: &mut FoundInFile,
+) -> Result<Target, AllocError>
+    ensures { IfOk result (λ t. AddsLefts (assigned_one (world_of scope.entry.world.now) (locals_of scope.entry.locals.now) (expr_view expr.now)) found.old found.new (target_of t ∷ [])) }
+{
+    match expr {
+        Expr::Blank(_) => Ok(Target::Takes),
+        _ => {
+            let meaning = operand(alloc, scope, expr, found)?;
+            Ok(Target::Wants(own_type(meaning)))
+        }
+    }
+}
+
+/// The left sides of `=`.
+pub(crate) fn assigned(
+    alloc: Global,
+    scope: LocalNames<'_>,
+    exprs: &[ExprItem],
+    found: &mut FoundInFile,
+) -> Result<Vec<Target>, AllocError>
+    ensures { IfOk result (λ ts. AddsLefts (assigned (world_of scope.entry.world.now) (locals_of scope.entry.locals.now) (exprs_view exprs.now)) found.old found.new (map target_of ts.items)) }
+{
+    let mut targets = Vec::new(alloc);
+    for item in exprs {
+        let target = assigned_one(alloc, scope, &item.value, found)?;
+        targets.push(target)?;
+    }
+    Ok(targets)
+}
+
+/// Notes what is no identifier on the left of `:=`.
+#[tactic(auto, unfolding(crate::specs::Sides::no_name, types_expr::specs::Found::meaning_of))]
+fn no_name<'w>(
+    place: usize,
+    meaning: Meaning<'w>,
+    found: &mut FoundInFile,
+) -> Result<Meaning<'w>, AllocError>
+    ensures { IfOk result (λ m. Adds (no_name place (meaning_of meaning.entry)) found.old found.new (meaning_of m)) }
+{
+    match meaning {
+        Meaning::Broken => Ok(meaning),
+        _ => found.wrong(place),
+    }
+}
+
+/// A left side of `:=`.
+fn defined_one(
+    alloc: Global,
+    scope: LocalNames<'_>,
+    expr: &Expr,
+    found: &mut FoundInFile,
+) -> Result<Target, AllocError>
+    ensures { IfOk result (λ t. AddsLefts (defined_one (world_of scope.entry.world.now) (locals_of scope.entry.locals.now) (expr_view expr.now)) found.old found.new (target_of t ∷ [])) }
+{
+    match expr {
+        Expr::Blank(_) => Ok(Target::Takes),
+        Expr::Name(place) => {
+            if declares(scope.world, *place) {
+                return Ok(Target::Takes);
+            }
+            let meaning = judge_value(alloc, scope, expr, found)?;
+            Ok(Target::Wants(own_type(meaning)))
+        }
+        _ => {
+            let place = place_of(expr);
+            let meaning = judge_value(alloc, scope, expr, found)?;
+            no_name(place, meaning, found)?;
+            Ok(Target::Wants(None))
+        }
+    }
+}
+
+/// The left sides of `:=`.
+pub(crate) fn defined(
+    alloc: Global,
+    scope: LocalNames<'_>,
+    exprs: &[ExprItem],
+    found: &mut FoundInFile,
+) -> Result<Vec<Target>, AllocError>
+    ensures { IfOk result (λ ts. AddsLefts (defined (world_of scope.entry.world.now) (locals_of scope.entry.locals.now) (exprs_view exprs.now)) found.old found.new (map target_of ts.items)) }
+{
+    let mut targets = Vec::new(alloc);
+    for item in exprs {
+        let target = defined_one(alloc, scope, &item.value, found)?;
+        targets.push(target)?;
+    }
+    Ok(targets)
+}
+
+/// Notes where values do not go with the results that they are returned as; a wrong count at that place.
+#[tactic(auto, unfolding(crate::specs::Statements::returned))]
+pub(crate) fn returned(
+    world: &World<'_>,
+    place: usize,
+    values: &[Argued],
+    results: &[Target],
+    found: &mut FoundInFile,
+) -> Result<(), AllocError>
+    ensures { OnOk result (Notes (returned (world_of world.now) place (map argued_of values.now) (map target_of results.now)) found.old found.new) }
+{
+    if values.len() == results.len() {
+        return refuse_all(world, values, results, found);
+    }
+    note_if(all_whole(values), place, found)
+}

@@ -1,0 +1,244 @@
+-- What is found on the way: an order of the packages, what one of them sees, its faults with their places, and what is found
+-- with one package more.
+use Rattle.std.specs.Prelude.{ℕ, ◌≡◌, ◌<◌, ◌↔◌, ◌⊎◌, true, List, [], ◌∷◌, ◌++◌, length, map, Option, Some, None}
+use Rattle.std.specs.Prelude.{slice_get, slice_index_or, MatchOption, Contains, IsTrue}
+use Rattle.std.specs.List.Sorted.{IsStrictlyIncreasing}
+use Rattle.std.proofs.Math.ListN.{set}
+use Rattle.base_files.specs.Workspace.{Workspace}
+use Rattle.base_files.specs.Packages.{package_paths, package_files}
+use Rattle.types_declared.specs.declared.fault.Fault.{Fault}
+use Rattle.types_declared.specs.Listing.{Lists}
+use Rattle.go_ast.specs.SourceFile.{SourceFile, FileParts, source_of}
+use Rattle.workspace_graph.specs.FaultyFiles.{FaultyParts}
+use Rattle.workspace_graph.specs.Graphs.{HoldsPackages, OfPackage}
+use Rattle.workspace_graph.specs.Packages.{IsInClosure, PackageImports}
+use Rattle.workspace_graph.specs.Parsed.{AreParsed}
+use Rattle.workspace_graph.specs.Reaching.{AreBackMarks}
+use Rattle.types_declared.specs.declared.states.ImportState.{ImportState}
+use Rattle.types_resolve.specs.Stages.{IsOuterFault}
+use Rattle.types_declared.specs.InterfacesView.{name_in, interface_in, interface_of, KnowsSame, AddsInterface}
+use Rattle.types_declared.specs.Package.{Interface as Seen}
+use Rattle.types_expr.specs.declared.interfaces.Interface.{Interface}
+use Rattle.types_declared.specs.declared.interfaces.Interfaces.{Interfaces}
+use Rattle.types_check.specs.declared.checking.Checked.{Checked}
+use Rattle.types_check.specs.Check.{IsFoundIn}
+use Rattle.workspace_check.specs.Faults.{placed, placed_in}
+use Rattle.workspace_check.specs.Verdicts.{Verdicts, BuildsOn, IsFaultBy, HasInterface, IsVerdictBy, IsVerdict, AreStates, AreSeen}
+use Rattle.workspace_check.specs.FaultLists.{AreListed}
+use Rattle.workspace_check.specs.Told.{known_by, AreWhole, AreUsesOf, AreQualifiedOf, IsFinding, IsFindingOf}
+use Rattle.workspace_check.specs.declared.fault.FileFault.{FileFault}
+use Rattle.workspace_check.specs.declared.finding.Finding.{Finding}
+use Rattle.workspace_check.specs.declared.found_package.FoundPackage.{FoundPackage}
+use Rattle.workspace_check.specs.declared.judging.Judged.{Judged}
+use Rattle.workspace_check.specs.declared.gathered.Gathered.{Gathered}
+use Rattle.workspace_check.specs.declared.gathered.Taken.{Taken}
+use Rattle.workspace_check.specs.declared.known.KnownVerdict.{KnownVerdict}
+use Rattle.workspace_check.specs.declared.progress.Progress.{Progress}
+
+-- An order
+
+-- how many packages the closure of p holds
+pub record IsSize (w : Workspace) (p : List ℕ) (size : ℕ) : Type 0 where
+  pub numbers : List ℕ
+  pub rising : IsStrictlyIncreasing numbers
+  pub holds : HoldsPackages w (IsInClosure w p) numbers
+  pub is : size ≡ length numbers
+
+-- that of each of the first packages
+pub record AreSizes (w : Workspace) (count : ℕ) (sizes : List ℕ) : Type 0 where
+  pub size : length sizes ≡ count
+  pub each : (i : ℕ) (p : List ℕ) → i < count → slice_get (package_paths w) i ≡ Some p → IsSize w p (slice_index_or sizes i 0)
+
+-- all packages, each once, behind those that it builds on
+pub record IsBuildOrder (w : Workspace) (order : List ℕ) : Type 0 where
+  pub each : (n : ℕ) → Contains order n ↔ (n < length (package_paths w))
+  pub once : (i j n : ℕ) → slice_get order i ≡ Some n → slice_get order j ≡ Some n → i ≡ j
+  pub behind : (i n m : ℕ) (p q : List ℕ) → slice_get order i ≡ Some n → slice_get (package_paths w) n ≡ Some p → slice_get (package_paths w) m ≡ Some q →
+      BuildsOn w p q →
+      (j : ℕ) × (j < i) × (slice_get order j ≡ Some m)
+
+-- What a package sees
+
+-- the names and the interfaces stay
+pub record KnowsSameOfOthers (old new : Interfaces) : Type 0 where
+  pub names : (q : List ℕ) → name_in new q ≡ name_in old q
+  pub interfaces : (q : List ℕ) → interface_in new q ≡ interface_in old q
+
+-- what is known where these interfaces are is just what p sees of others
+abbrev pub IsSeenIn : Workspace → List ℕ → Interfaces → Type 0
+IsSeenIn w p all = AreSeen w (known_by all) p (name_in all) (interface_in all)
+
+-- Faults with their places
+
+-- the faults of files that have no tree
+abbrev pub unread_faults : List FaultyParts → List FileFault
+unread_faults files = map (λ f. placed f.path f.fault) files
+
+-- a fault of one of the files
+pub record IsPlacedAs (files : List FileParts) (fault : Fault) (f : FileFault) : Type 0 where
+  pub source : SourceFile
+  pub in_file : slice_get (map source_of files) fault.file ≡ Some source
+  pub at : f ≡ placed_in source fault
+
+-- one of some faults
+pub record IsPlacedOf (files : List FileParts) (faults : List Fault) (f : FileFault) : Type 0 where
+  pub fault : Fault
+  pub among : Contains faults fault
+  pub is_placed : IsPlacedAs files fault f
+
+-- the fault was added, if it is one of the files
+abbrev pub AddsPlaced : List FileParts → Fault → List FileFault → List FileFault → Type 0
+AddsPlaced files fault old new = (f : FileFault) → Contains new f ↔ (Contains old f ⊎ IsPlacedAs files fault f)
+
+-- One package
+
+-- what checking found in p, each of whose files has a tree, by what p sees of others
+pub record IsCheckedIn (w : Workspace) (known : Verdicts) (p : List ℕ) (c : Checked) : Type 0 where
+  pub files : List FileParts
+  pub parsed : AreParsed (package_files w p) files []
+  pub state : List ℕ → ImportState
+  pub are_states : AreStates w known p state
+  pub name_of : List ℕ → Option (List ℕ)
+  pub interface_of : List ℕ → Seen
+  pub are_seen : AreSeen w known p name_of interface_of
+  pub is_found : IsFoundIn p files state name_of interface_of c
+
+-- p imports a package with faults
+pub record ImportsFaulty (w : Workspace) (known : Verdicts) (p : List ℕ) : Type 0 where
+  pub path : List ℕ
+  pub imports : PackageImports w p path
+  pub is_faulty : (known path).faulty ≡ true
+
+-- what checking found in p, each of whose files has a tree, where it went no further than to faults of clauses or imports
+pub record IsStoppedIn (w : Workspace) (known : Verdicts) (p : List ℕ) (c : Checked) : Type 0 where
+  pub files : List FileParts
+  pub parsed : AreParsed (package_files w p) files []
+  pub state : List ℕ → ImportState
+  pub are_states : AreStates w known p state
+  pub some : c.faults.items ≡ [] → ⊥
+  pub faults : Lists (IsOuterFault state (map source_of files)) c.faults.items
+  pub interface : c.interface ≡ None
+
+-- the faults of p, or what others see of it, its uses of members and its qualified identifiers
+pub record IsJudged (w : Workspace) (known : Verdicts) (p : List ℕ) (j : Judged) : Type 0 where
+  pub listed : AreListed (IsFaultBy w known p) j.faults.items
+  pub has_interface : MatchOption j.interface (j.faults.items ≡ [] → ⊥) (λ i. (j.faults.items ≡ []) × HasInterface w known p (interface_of p i))
+  pub uses : j.faults.items ≡ [] → AreUsesOf w known p j.members.items
+  pub qualified : j.faults.items ≡ [] → AreQualifiedOf w known p j.qualified.items
+
+-- an interface was added, if there is one
+abbrev pub MayAdd : (old new : Interfaces) (path : List ℕ) → Option Interface → Type 0
+MayAdd old new path None = new ≡ old
+MayAdd old new path (Some i) = AddsInterface old new path i
+
+-- Of the packages of these numbers the verdicts are known, and of any other package, and of a path that is none, nothing is.
+pub record AreKnown (w : Workspace) (Is : ℕ → Type 0) (all : Interfaces) : Type 0 where
+  pub right : (n : ℕ) (p : List ℕ) → Is n → slice_get (package_paths w) n ≡ Some p → IsVerdict w p (known_by all p)
+  pub fresh : (n : ℕ) (p : List ℕ) → (Is n → ⊥) → slice_get (package_paths w) n ≡ Some p → name_in all p ≡ None
+  pub outside : (q : List ℕ) → (Contains (package_paths w) q → ⊥) → name_in all q ≡ None
+  pub whole : AreWhole all
+
+-- the package p was judged by what was known, and this was found in it
+pub record Learns (w : Workspace) (p : List ℕ) (finding : Finding) (all more : Interfaces) : Type 0 where
+  pub is_finding : IsFinding w (known_by all) p finding
+  pub is_verdict : IsVerdictBy w (known_by all) p (known_by more p)
+  pub elsewhere : (q : List ℕ) → (q ≡ p → ⊥) → KnowsSame all more q
+  pub whole : AreWhole more
+
+-- Where some are known
+
+-- it is known what is found in the package of that number
+abbrev pub IsGathered : List (Option Finding) → ℕ → Type 0
+IsGathered findings n = (f : Finding) × (slice_get findings n ≡ Some (Some f))
+
+-- What is known of the first packages, as many as are told, is right: what is found in some of them and the verdicts on these.
+pub record AreGathered (w : Workspace) (count : ℕ) (all : Gathered) : Type 0 where
+  pub size : length all.findings.items ≡ count
+  pub verdicts : AreKnown w (IsGathered all.findings.items) all.interfaces
+  pub each : (n : ℕ) (p : List ℕ) (f : Finding) → slice_get (package_paths w) n ≡ Some p → slice_get all.findings.items n ≡ Some (Some f) → IsFindingOf w p f
+
+-- the package p of that number was judged, and is known now
+pub record LearnsOf (w : Workspace) (p : List ℕ) (number : ℕ) (old new : Gathered) : Type 0 where
+  pub finding : Finding
+  pub is_set : new.findings.items ≡ set old.findings.items number (Some finding)
+  pub learns : Learns w p finding old.interfaces new.interfaces
+
+-- p, which was not known, was judged; or it was known, and nothing was judged
+abbrev pub MayLearn : Workspace → List ℕ → ℕ → (old new : Gathered) → Type 0
+MayLearn w p n old new = ((IsGathered old.findings.items n → ⊥) × LearnsOf w p n old new) ⊎ (IsGathered old.findings.items n × (new ≡ old))
+
+-- it is known of each of these packages, by their numbers, what is found in it
+pub record AreAllGathered (w : Workspace) (numbers : List ℕ) (all : Gathered) : Type 0 where
+  pub right : AreGathered w (length (package_paths w)) all
+  pub each : (m : ℕ) → Contains numbers m → IsGathered all.findings.items m
+
+-- each finding, as one that is there
+abbrev pub somes : List Finding → List (Option Finding)
+somes findings = map (λ (f : Finding). Some f) findings
+
+-- it is known of each package what is found in it
+pub record KnowsAll (w : Workspace) (all : Gathered) : Type 0 where
+  pub right : AreGathered w (length (package_paths w)) all
+  pub each : (n : ℕ) → n < length (package_paths w) → IsGathered all.findings.items n
+
+-- Where a package is judged behind those that it builds on
+
+-- of all that p builds on the verdicts are known
+abbrev pub AreKnownBelow : Workspace → List ℕ → Gathered → Type 0
+AreKnownBelow w p all = (q : List ℕ) → BuildsOn w p q → (n : ℕ) × (IsGathered all.findings.items n × (slice_get (package_paths w) n ≡ Some q))
+
+-- some packages, by their numbers, and with each all that it builds on
+pub record HoldAllBelow (w : Workspace) (numbers : List ℕ) : Type 0 where
+  pub rising : IsStrictlyIncreasing numbers
+  pub in_range : (n : ℕ) → Contains numbers n → n < length (package_paths w)
+  pub below : (n m : ℕ) (p q : List ℕ) → Contains numbers n → slice_get (package_paths w) n ≡ Some p → slice_get (package_paths w) m ≡ Some q →
+      BuildsOn w p q → Contains numbers m
+
+-- what is known of some of these packages is right, and nothing is known of any other
+pub record AreGatheredOf (w : Workspace) (numbers : List ℕ) (all : Gathered) : Type 0 where
+  pub right : AreGathered w (length (package_paths w)) all
+  pub just : (n : ℕ) → IsGathered all.findings.items n → Contains numbers n
+
+-- and where it is told that it was known of each of them, it is
+pub record AreTakenOf (w : Workspace) (numbers : List ℕ) (taken : Taken) : Type 0 where
+  pub gathered : AreGatheredOf w numbers taken.all
+  pub each : IsTrue taken.knew_each → (n : ℕ) → Contains numbers n → IsGathered taken.all.findings.items n
+
+-- what was known still is; and where it is told that it was known of each package, it was told so before, and it is known of that number
+pub record KnewOneMore (number : ℕ) (old new : Taken) : Type 0 where
+  pub kept : (n : ℕ) → IsGathered old.all.findings.items n → IsGathered new.all.findings.items n
+  pub before : IsTrue new.knew_each → IsTrue old.knew_each
+  pub here : IsTrue new.knew_each → IsGathered new.all.findings.items number
+
+-- what is known is right, of no other package, and it is known of each of them
+pub record KnowsJust (w : Workspace) (numbers : List ℕ) (all : Gathered) : Type 0 where
+  pub gathered : AreGatheredOf w numbers all
+  pub each : (n : ℕ) → Contains numbers n → IsGathered all.findings.items n
+
+-- p was judged, if it is one of these and was not known; else nothing was judged
+abbrev pub MayLearnAmong : Workspace → List ℕ → List ℕ → ℕ → (old new : Gathered) → Type 0
+MayLearnAmong w numbers p n old new = (Contains numbers n × MayLearn w p n old new) ⊎ ((Contains numbers n → ⊥) × (new ≡ old))
+
+-- what is found in the package p of that number is known, and of all that it builds on
+pub record IsKnownWithBelow (w : Workspace) (p : List ℕ) (number : ℕ) (all : Gathered) : Type 0 where
+  pub right : AreGathered w (length (package_paths w)) all
+  pub own : IsGathered all.findings.items number
+  pub below : AreKnownBelow w p all
+
+-- a verdict was added, if there is one
+abbrev pub MayPush : (old new : List KnownVerdict) → Option KnownVerdict → Type 0
+MayPush old new None = new ≡ old
+MayPush old new (Some one) = new ≡ old ++ one ∷ []
+
+-- what was found in the package of that number, with all interfaces, and these verdicts
+pub record IsMadeOf (number : ℕ) (all : Gathered) (verdicts : List KnownVerdict) (made : FoundPackage) : Type 0 where
+  pub finding : slice_get all.findings.items number ≡ Some (Some made.finding)
+  pub interfaces : made.interfaces ≡ all.interfaces
+  pub found : made.found.items ≡ verdicts
+
+-- what the package of a number builds on, with the verdicts on these, and the marks of what imports it
+pub record IsUnderway (w : Workspace) (number : ℕ) (progress : Progress) : Type 0 where
+  pub right : AreGathered w (length (package_paths w)) progress.all
+  pub below : OfPackage w number (λ p. AreKnownBelow w p progress.all)
+  pub built_on : OfPackage w number (λ p. HoldsPackages w (BuildsOn w p) progress.below.built_on)
+  pub back : OfPackage w number (λ p. AreBackMarks w p progress.below.back.items)

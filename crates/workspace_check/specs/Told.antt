@@ -1,0 +1,66 @@
+-- What is found in a package, and what is known of one.
+use Rattle.std.specs.Prelude.{ℕ, ◌≡◌, Bool, true, false, List, [], Option, Some, None, map}
+use Rattle.std.specs.Global.{Vec}
+use Rattle.base_files.specs.Workspace.{Workspace}
+use Rattle.types_expr.specs.declared.found.MemberUse.{MemberUse}
+use Rattle.types_expr.specs.declared.interfaces.Interface.{Interface}
+use Rattle.types_declared.specs.Package.{Package}
+use Rattle.types_declared.specs.InterfacesView.{name_in, known_name, interface_in, interface_known, no_interface}
+use Rattle.types_info.specs.MemberUses.{AreMemberUses, uses_in}
+use Rattle.types_info.specs.declared.lists.Qualified.{Qualified}
+use Rattle.types_info.specs.Qualified.{AreQualified}
+use Rattle.types_declared.specs.declared.interfaces.Interfaces.{Interfaces}
+use Rattle.workspace_check.specs.Verdicts.{Verdict, Verdicts, IsPackageIn, IsFaultBy, IsVerdict, AreVerdictsBelow}
+use Rattle.workspace_check.specs.FaultLists.{AreListed}
+use Rattle.workspace_check.specs.declared.finding.Finding.{Finding}
+use Rattle.workspace_check.specs.declared.known.KnownVerdict.{KnownVerdict}
+
+abbrev pub is_unknown : Option (List ℕ) → Bool
+is_unknown None = true
+is_unknown (Some name) = false
+
+-- what is known of packages where these interfaces are: one without a name has faults
+abbrev pub known_by : Interfaces → Verdicts
+known_by all q = record { faulty = is_unknown (name_in all q); interface = interface_in all q }
+
+-- the same of one package, by what is known of its interface
+abbrev pub verdict_known : (path : List ℕ) → Option Interface → Verdict
+verdict_known path known = record { faulty = is_unknown (known_name known); interface = interface_known path known }
+
+-- of a package without a name nothing is known
+abbrev pub AreWhole : Interfaces → Type 0
+AreWhole all = (q : List ℕ) → name_in all q ≡ None → interface_in all q ≡ no_interface q
+
+-- the uses of members in the files of p
+pub record AreUsesOf (w : Workspace) (known : Verdicts) (p : List ℕ) (members : List (Vec MemberUse)) : Type 0 where
+  pub checked : Package
+  pub is_package : IsPackageIn w known p checked
+  pub are_uses : AreMemberUses checked (map uses_in members)
+
+-- the qualified identifiers of p
+pub record AreQualifiedOf (w : Workspace) (known : Verdicts) (p : List ℕ) (qualified : List Qualified) : Type 0 where
+  pub checked : Package
+  pub is_package : IsPackageIn w known p checked
+  pub are_qualified : AreQualified checked qualified
+
+-- the faults of p, and where it has none its uses of members and its qualified identifiers
+pub record IsFinding (w : Workspace) (known : Verdicts) (p : List ℕ) (f : Finding) : Type 0 where
+  pub has_path : f.path ≡ p
+  pub listed : AreListed (IsFaultBy w known p) f.faults.items
+  pub members : f.faults.items ≡ [] → AreUsesOf w known p f.members.items
+  pub qualified : f.faults.items ≡ [] → AreQualifiedOf w known p f.qualified.items
+
+-- what is found in p, by the verdicts on the packages that it builds on
+pub record IsFindingOf (w : Workspace) (p : List ℕ) (f : Finding) : Type 0 where
+  pub known : Verdicts
+  pub right : AreVerdictsBelow w p known
+  pub finding : IsFinding w known p f
+
+-- what is known of p: what is found in it, and the verdict on it
+pub record TellsVerdict (w : Workspace) (p : List ℕ) (one : KnownVerdict) : Type 0 where
+  pub right : IsVerdict w p (verdict_known p one.known)
+  pub finding : IsFindingOf w p one.finding
+
+-- what is known of p, if anything is
+abbrev pub MayTell : Workspace → List ℕ → Option KnownVerdict → Type 0
+MayTell w p found = (one : KnownVerdict) → found ≡ Some one → TellsVerdict w p one

@@ -1,0 +1,156 @@
+//! The faults of one package, or its interface, its uses of members and its qualified identifiers.
+ghost use Rattle.std.specs.Prelude.{ℕ, ◌≡◌, ◌<◌, List, [], length, Contains, IfOk, IsTrue};
+ghost use Rattle.base_files.specs.Packages.{package_files, package_paths};
+ghost use Rattle.base_files.specs.Workspace.{Workspace};
+ghost use Rattle.workspace_graph.specs.Graphs.{IsPackage, OfPackage};
+ghost use Rattle.workspace_graph.specs.Parsed.{AreParsed};
+ghost use Rattle.workspace_check.specs.Cycles.{TellCycles};
+ghost use Rattle.workspace_check.specs.Verdicts.{Verdicts};
+ghost use Rattle.workspace_check.specs.Told.{known_by, AreWhole};
+ghost use Rattle.workspace_check.specs.Steps.{ImportsFaulty, IsCheckedIn, IsJudged, IsStoppedIn};
+
+use crate::fault::{FileFault, sort};
+use crate::placing::{placed_faults, unread_faults};
+use crate::seeing::{imports_faulty, seen_imports, states_by};
+use std::alloc::{AllocError, Global};
+use types_check::{Checked, check};
+use types_declared::{Interface, Interfaces};
+use types_expr::found::MemberUse;
+use types_expr::symbol::SharedPath;
+use types_info::Qualified;
+use workspace_graph::{Graph, ParsedPackage};
+
+/// The faults of a package; where it has none its interface, for each of its files the uses of members, and its qualified identifiers.
+#[derive(Drop)]
+pub(crate) struct Judged {
+    pub(crate) faults: Vec<FileFault>,
+    pub(crate) interface: Option<Interface>,
+    pub(crate) members: Vec<Vec<MemberUse>>,
+    pub(crate) qualified: Vec<Qualified>,
+}
+
+/// What is found in a package of which some file has no tree.
+fn judge_unread(alloc: Global, files: &ParsedPackage) -> Result<Judged, AllocError>
+    requires { files.now.faulty.items ≡ [] → ⊥ }
+    ensures { IfOk result (λ j. (w : Workspace) → (number : ℕ) → (known : Verdicts) → IsPackage w number files.now → OfPackage w number (λ p. IsJudged w known p j)) }
+{
+    let mut faults = unread_faults(alloc, &files.faulty)?;
+    sort(&mut faults);
+    Ok(Judged {
+        faults,
+        interface: None,
+        members: Vec::new(alloc),
+        qualified: Vec::new(alloc),
+    })
+}
+
+/// What is found in a package each of whose files has a tree, by what checking found: its faults get their places.
+pub(crate) fn place_checked(
+    alloc: Global,
+    files: &ParsedPackage,
+    checked: Checked,
+) -> Result<Judged, AllocError>
+    ensures checked { IfOk result (λ j. (w : Workspace) → (known : Verdicts) → (p : List ℕ) → Contains (package_paths w) p → AreParsed (package_files w p) files.now.trees.items [] → IsCheckedIn w known p checked → IsJudged w known p j) }
+    ensures stopped { IfOk result (λ j. (w : Workspace) → (known : Verdicts) → (p : List ℕ) → Contains (package_paths w) p → AreParsed (package_files w p) files.now.trees.items [] → IsStoppedIn w known p checked → IsJudged w known p j) }
+{
+    let Checked {
+        faults,
+        interface,
+        members,
+        qualified,
+    } = checked;
+    let mut faults = placed_faults(alloc, &files.trees, &faults)?;
+    sort(&mut faults);
+    Ok(Judged {
+        faults,
+        interface,
+        members,
+        qualified,
+    })
+}
+
+/// Whether a package imports one with faults, where it is known which packages lie on one cycle.
+fn is_stopped(graph: &Graph, number: usize, cycles: &[usize], all: &Interfaces) -> bool
+    requires { number < length (package_paths graph.now) }
+    ensures known { IsTrue result → number < length cycles.now }
+    ensures faulty { IsTrue result → OfPackage graph.now number (ImportsFaulty graph.now (known_by all.now)) }
+{
+    if number >= cycles.len() {
+        return false;
+    }
+    imports_faulty(graph, number, all)
+}
+
+/// What is found in a package each of whose files has a tree, and which imports one with faults: what those tell that it builds on is not
+/// asked for.
+fn judge_stopped(
+    alloc: Global,
+    graph: &Graph,
+    number: usize,
+    files: &ParsedPackage,
+    path: &SharedPath,
+    cycles: &[usize],
+    all: &Interfaces,
+) -> Result<Judged, AllocError>
+    requires in_range { number < length (package_paths graph.now) }
+    requires files { IsPackage graph.now number files.now }
+    requires read { files.now.faulty.items ≡ [] }
+    requires path { OfPackage graph.now number (λ p. path.now ≡ p) }
+    requires cycles { TellCycles graph.now cycles.now }
+    requires known { number < length cycles.now }
+    requires faulty { OfPackage graph.now number (ImportsFaulty graph.now (known_by all.now)) }
+    ensures { IfOk result (λ j. OfPackage graph.now number (λ p. IsJudged graph.now (known_by all.now) p j)) }
+{
+    let noted = states_by(alloc, graph, number, cycles, all)?;
+    let checked = check(alloc, path, &files.trees, &noted)?;
+    place_checked(alloc, files, checked)
+}
+
+/// What is found in a package each of whose files has a tree.
+fn judge_read(
+    alloc: Global,
+    graph: &Graph,
+    number: usize,
+    files: &ParsedPackage,
+    path: &SharedPath,
+    cycles: &[usize],
+    all: &Interfaces,
+) -> Result<Judged, AllocError>
+    requires in_range { number < length (package_paths graph.now) }
+    requires files { IsPackage graph.now number files.now }
+    requires read { files.now.faulty.items ≡ [] }
+    requires path { OfPackage graph.now number (λ p. path.now ≡ p) }
+    requires cycles { TellCycles graph.now cycles.now }
+    requires whole { AreWhole all.now }
+    ensures { IfOk result (λ j. OfPackage graph.now number (λ p. IsJudged graph.now (known_by all.now) p j)) }
+{
+    if is_stopped(graph, number, cycles, all) {
+        return judge_stopped(alloc, graph, number, files, path, cycles, all);
+    }
+    let interfaces = seen_imports(alloc, graph, number, all)?;
+    let checked = check(alloc, path, &files.trees, &interfaces)?;
+    place_checked(alloc, files, checked)
+}
+
+/// What is found in a package, by the interfaces of those that it builds on.
+pub(crate) fn judge(
+    alloc: Global,
+    graph: &Graph,
+    number: usize,
+    path: &SharedPath,
+    cycles: &[usize],
+    all: &Interfaces,
+) -> Result<Judged, AllocError>
+    requires in_range { number < length (package_paths graph.now) }
+    requires path { OfPackage graph.now number (λ p. path.now ≡ p) }
+    requires cycles { TellCycles graph.now cycles.now }
+    requires whole { AreWhole all.now }
+    ensures { IfOk result (λ j. OfPackage graph.now number (λ p. IsJudged graph.now (known_by all.now) p j)) }
+{
+    let files = graph.package(number);
+    if files.faulty.is_empty() {
+        judge_read(alloc, graph, number, files, path, cycles, all)
+    } else {
+        judge_unread(alloc, files)
+    }
+}

@@ -1,0 +1,62 @@
+//! An order of all packages, in which each comes behind those that it builds on.
+ghost use Rattle.std.specs.Prelude.{◌≡◌, length, slice_index_or, IfOk};
+ghost use Rattle.base_files.specs.Packages.{package_paths};
+ghost use Rattle.workspace_graph.specs.Imports.{HoldsBelow};
+ghost use Rattle.workspace_check.specs.Steps.{AreSizes, IsBuildOrder};
+
+use std::alloc::{AllocError, Global};
+use workspace_graph::Graph;
+
+/// How many packages each one reaches: one search for each.
+fn sizes(alloc: Global, graph: &Graph) -> Result<Vec<usize>, AllocError>
+    ensures { IfOk result (λ sizes. AreSizes graph.now (length (package_paths graph.now)) sizes.items) }
+{
+    let mut sizes = Vec::new(alloc);
+    for number in 0..graph.len() {
+        let closure = graph.closure(alloc, number)?;
+        sizes.push(closure.as_slice().len())?;
+    }
+    Ok(sizes)
+}
+
+/// The number that a list has at a place, or zero.
+pub(crate) fn number_at(numbers: &[usize], place: usize) -> usize
+    ensures { result ≡ slice_index_or numbers.now place 0 }
+{
+    match numbers.get(place) {
+        Some(number) => *number,
+        None => 0,
+    }
+}
+
+/// The numbers below one.
+fn numbers(alloc: Global, count: usize) -> Result<Vec<usize>, AllocError>
+    ensures { IfOk result (λ numbers. HoldsBelow (λ n. Unit {0}) count numbers.items) }
+{
+    let mut numbers = Vec::new(alloc);
+    for number in 0..count {
+        numbers.push(number)?;
+    }
+    Ok(numbers)
+}
+
+/// All packages, those first that reach the fewest: what a package builds on reaches fewer than it.
+fn order_by_sizes(alloc: Global, graph: &Graph) -> Result<Vec<usize>, AllocError>
+    ensures { IfOk result (λ order. IsBuildOrder graph.now order.items) }
+{
+    let sizes = sizes(alloc, graph)?;
+    let mut order = numbers(alloc, graph.len())?;
+    order.sort_by_key(|number| number_at(&sizes, *number))?;
+    Ok(order)
+}
+
+/// All packages, each behind those that it builds on. One search finds such an order; were there none, each package is searched from.
+pub(crate) fn order(alloc: Global, graph: &Graph) -> Result<Vec<usize>, AllocError>
+    ensures { IfOk result (λ order. IsBuildOrder graph.now order.items) }
+{
+    let found = graph.links().order(alloc)?;
+    match found {
+        Some(order) => Ok(order),
+        None => order_by_sizes(alloc, graph),
+    }
+}

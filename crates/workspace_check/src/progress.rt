@@ -1,0 +1,274 @@
+//! What is found in the packages on which one builds, while they are judged one after the other, where a caller checks that one itself.
+ghost use Rattle.std.specs.Prelude.{ℕ, ◌≡◌, ◌<◌, ◌↔◌, ◌++◌, [], ◌∷◌, length, Contains, IfOk, IsTrue, OnOk};
+ghost use Rattle.std.specs.List.Sorted.{IsStrictlyIncreasing};
+ghost use Rattle.base_files.specs.Packages.{package_paths};
+ghost use Rattle.base_files.specs.Workspace.{Workspace};
+ghost use Rattle.workspace_graph.specs.Graphs.{HoldsPackages, OfPackage};
+ghost use Rattle.workspace_graph.specs.Packages.{IsInClosure};
+ghost use Rattle.types_declared.specs.States.{state_in};
+ghost use Rattle.workspace_check.specs.Cycles.{TellCycles};
+ghost use Rattle.workspace_check.specs.Found.{AreVerdictsOf, IsFoundBy, KnowsVerdicts};
+ghost use Rattle.workspace_check.specs.Steps.{
+  AreGathered,
+  AreGatheredOf,
+  HoldAllBelow,
+  IsBuildOrder,
+  IsCheckedIn,
+  IsGathered,
+  IsSeenIn,
+  IsUnderway,
+  KnowsJust,
+  LearnsOf,
+  MayLearnAmong,
+};
+ghost use Rattle.workspace_check.specs.Told.{known_by};
+ghost use Rattle.workspace_check.specs.Verdicts.{AreStates};
+
+use crate::cycles::cycles;
+use crate::finding::SharedFinding;
+use crate::findings::{enter_judged, judge_next};
+use crate::found_package::{FoundPackage, found_now, found_package, take_or_judge};
+use crate::gathered::{Gathered, Taken, gather_some};
+use crate::judging::place_checked;
+use crate::known::Known;
+use crate::order::order;
+use crate::seeing::import_states;
+use std::alloc::{AllocError, Global};
+use types_check::Checked;
+use types_declared::Interfaces;
+use types_expr::symbol::SharedPath;
+use workspace_graph::{Graph, PackagesBelow, is_among};
+
+/// What is found in the packages on which one builds, and in that one once it was learnt; which these are; and whether it was known of
+/// each of them, so that nothing was found there now.
+#[derive(Drop)]
+pub struct Progress {
+    pub(crate) all: Gathered,
+    pub(crate) below: PackagesBelow,
+    pub(crate) knew_each: bool,
+}
+
+/// Judges a package, if it is among some and nothing is known of it.
+fn judge_among(
+    alloc: Global,
+    graph: &Graph,
+    below: &[usize],
+    number: usize,
+    cycles: &[usize],
+    all: &mut Gathered,
+) -> Result<(), AllocError>
+    requires in_range { number < length (package_paths graph.now) }
+    requires below { HoldAllBelow graph.now below.now }
+    requires cycles { TellCycles graph.now cycles.now }
+    requires all { AreGathered graph.now (length (package_paths graph.now)) all.old }
+    ensures { OnOk result (OfPackage graph.now number (λ p. MayLearnAmong graph.now below.now p number all.old all.new)) }
+{
+    if is_among(below, number) {
+        judge_next(alloc, graph, number, cycles, all)
+    } else {
+        Ok(())
+    }
+}
+
+/// Judges in an order those of some packages of which nothing is known.
+fn judge_ordered(
+    alloc: Global,
+    graph: &Graph,
+    order: &[usize],
+    cycles: &[usize],
+    below: &[usize],
+    all: &mut Gathered,
+) -> Result<(), AllocError>
+    requires order { IsBuildOrder graph.now order.now }
+    requires cycles { TellCycles graph.now cycles.now }
+    requires below { HoldAllBelow graph.now below.now }
+    requires all { AreGatheredOf graph.now below.now all.old }
+    ensures { OnOk result (KnowsJust graph.now below.now all.new) }
+{
+    for next in order {
+        judge_among(alloc, graph, below, *next, cycles, all)?;
+    }
+    Ok(())
+}
+
+/// Judges those of some packages of which nothing is known.
+fn judge_below(
+    alloc: Global,
+    graph: &Graph,
+    below: &[usize],
+    all: &mut Gathered,
+) -> Result<(), AllocError>
+    requires below { HoldAllBelow graph.now below.now }
+    requires all { AreGatheredOf graph.now below.now all.old }
+    ensures { OnOk result (KnowsJust graph.now below.now all.new) }
+{
+    let order = order(alloc, graph)?;
+    let cycles = cycles(alloc, graph, &order)?;
+    judge_ordered(alloc, graph, &order, &cycles, below, all)
+}
+
+/// What is found in some packages, where it is known of some of them. No order is looked for where it is known of each.
+fn judged(alloc: Global, graph: &Graph, below: &[usize], known: &Known) -> Result<Taken, AllocError>
+    requires below { HoldAllBelow graph.now below.now }
+    requires known { KnowsVerdicts graph.now known.now }
+    ensures { IfOk result (λ taken. KnowsJust graph.now below.now taken.all) }
+{
+    let mut taken = gather_some(alloc, graph, below, known)?;
+    if taken.knew_each {
+        return Ok(taken);
+    }
+    judge_below(alloc, graph, below, &mut taken.all)?;
+    Ok(taken)
+}
+
+/// The numbers of some packages, and of one more.
+fn with_one(alloc: Global, numbers: &[usize], one: usize) -> Result<Vec<usize>, AllocError>
+    ensures { IfOk result (λ all. all.items ≡ numbers.now ++ one ∷ []) }
+{
+    let mut all = Vec::from_slice(alloc, numbers)?;
+    all.push(one)?;
+    Ok(all)
+}
+
+/// The packages of which something may have been found now: one, and those on which it builds, unless it was known of each of these.
+fn maybe_found(
+    alloc: Global,
+    below: &[usize],
+    knew_each: bool,
+    number: usize,
+) -> Result<Vec<usize>, AllocError>
+    ensures { IfOk result (λ numbers. (n : ℕ) → Contains numbers.items n → Contains (below.now ++ number ∷ []) n) }
+{
+    if knew_each {
+        with_one(alloc, &[], number)
+    } else {
+        with_one(alloc, below, number)
+    }
+}
+
+/// Takes in what checking found in a package, of which nothing is known yet.
+fn learn_checked(
+    alloc: Global,
+    graph: &Graph,
+    number: usize,
+    path: SharedPath,
+    checked: Checked,
+    all: &mut Gathered,
+) -> Result<(), AllocError>
+    requires in_range { number < length (package_paths graph.now) }
+    requires all { AreGathered graph.now (length (package_paths graph.now)) all.old }
+    requires unknown { IsGathered all.old.findings.items number → ⊥ }
+    requires path { OfPackage graph.now number (λ p. path ≡ p) }
+    requires checked { OfPackage graph.now number (λ p. IsCheckedIn graph.now (known_by all.old.interfaces) p checked) }
+    ensures { OnOk result (OfPackage graph.now number (λ p. LearnsOf graph.now p number all.old all.new)) }
+{
+    let judged = place_checked(alloc, graph.package(number), checked)?;
+    let finding = enter_judged(alloc, path, judged, &mut all.interfaces)?;
+    let finding = SharedFinding::new(alloc, finding)?;
+    all.findings[number] = Some(finding);
+    Ok(())
+}
+
+impl Progress {
+    /// Where just those packages were judged on which one builds, by its closure, which is known. What is known of them is not found
+    /// again, and what is known of others is not looked at.
+    pub fn before(
+        alloc: Global,
+        graph: &Graph,
+        number: usize,
+        closure: &[usize],
+        known: &Known,
+    ) -> Result<Progress, AllocError>
+        requires in_range { number < length (package_paths graph.now) }
+        requires closure { OfPackage graph.now number (λ p. HoldsPackages graph.now (IsInClosure graph.now p) closure.now) }
+        requires rising { IsStrictlyIncreasing closure.now }
+        requires known { KnowsVerdicts graph.now known.now }
+        ensures right { IfOk result (IsUnderway graph.now number) }
+        ensures seen { IfOk result (λ progress. OfPackage graph.now number (λ p. IsSeenIn graph.now p progress.all.interfaces)) }
+        ensures unknown { IfOk result (λ progress. IsGathered progress.all.findings.items number → ⊥) }
+    {
+        let below = graph.below_in(alloc, number, closure)?;
+        let taken = judged(alloc, graph, below.built_on.as_slice(), known)?;
+        let Taken { all, knew_each } = taken;
+        Ok(Progress {
+            all,
+            below,
+            knew_each,
+        })
+    }
+
+    /// Whether it is known what is found in the package of a number.
+    pub fn knows(&self, number: usize) -> bool
+        ensures { IsTrue result ↔ IsGathered self.now.all.findings.items number }
+    {
+        self.all.knows(number)
+    }
+
+    /// The interfaces of the packages without faults among those of which something is known.
+    pub fn interfaces(&self) -> &Interfaces
+        ensures { result.now ≡ self.now.all.interfaces }
+    {
+        &self.all.interfaces
+    }
+
+    /// What each path is that the package imports, as interfaces that note just that. Which packages import it was found before.
+    pub fn import_states(
+        &self,
+        alloc: Global,
+        graph: &Graph,
+        number: usize,
+    ) -> Result<Interfaces, AllocError>
+        requires in_range { number < length (package_paths graph.now) }
+        requires right { IsUnderway graph.now number self.now }
+        ensures { IfOk result (λ noted. OfPackage graph.now number (λ p. AreStates graph.now (known_by self.now.all.interfaces) p (state_in noted.states))) }
+    {
+        import_states(alloc, graph, number, &self.below.back, &self.all.interfaces)
+    }
+
+    /// Takes in what checking found in the package, of which nothing is known yet.
+    pub fn learn(
+        &mut self,
+        alloc: Global,
+        graph: &Graph,
+        number: usize,
+        path: SharedPath,
+        checked: Checked,
+    ) -> Result<(), AllocError>
+        requires in_range { number < length (package_paths graph.now) }
+        requires right { IsUnderway graph.now number self.old }
+        requires unknown { IsGathered self.old.all.findings.items number → ⊥ }
+        requires path { OfPackage graph.now number (λ p. path ≡ p) }
+        requires checked { OfPackage graph.now number (λ p. IsCheckedIn graph.now (known_by self.old.all.interfaces) p checked) }
+        ensures { OnOk result (IsUnderway graph.now number self.new) }
+    {
+        learn_checked(alloc, graph, number, path, checked, &mut self.all)?;
+        Ok(())
+    }
+
+    /// What is found in the package, which is judged if nothing is known of it, and the verdicts that were found on it and on those on
+    /// which it builds, where none was known.
+    pub fn finish(
+        self,
+        alloc: Global,
+        graph: &Graph,
+        number: usize,
+        known: &Known,
+    ) -> Result<FoundPackage, AllocError>
+        requires in_range { number < length (package_paths graph.now) }
+        requires right { IsUnderway graph.now number self }
+        requires known { KnowsVerdicts graph.now known.now }
+        ensures finding { IfOk result (λ made. OfPackage graph.now number (λ p. IsFoundBy graph.now p made.interfaces made.finding)) }
+        ensures verdicts { IfOk result (λ made. AreVerdictsOf graph.now made.found.items) }
+    {
+        let Progress {
+            all,
+            below,
+            knew_each,
+        } = self;
+        let mut all = all;
+        take_or_judge(alloc, graph, number, known, &mut all)?;
+        let numbers = maybe_found(alloc, below.built_on.as_slice(), knew_each, number)?;
+        let found = found_now(alloc, graph, &numbers, known, &all)?;
+        found_package(number, all, found)
+    }
+}

@@ -1,0 +1,221 @@
+//! What a package sees of others, and what each path is that it imports.
+ghost use Rattle.std.specs.Prelude.{ℕ, ◌≡◌, ◌<◌, List, length, IfOk, IsTrue, OnOk, true};
+ghost use Rattle.std.specs.List.Sorted.{IsStrictlyIncreasing};
+ghost use Rattle.base_files.specs.Packages.{package_paths};
+ghost use Rattle.workspace_graph.specs.Graphs.{HoldsPackages, OfPackage};
+ghost use Rattle.workspace_graph.specs.Packages.{PackageImports};
+ghost use Rattle.workspace_graph.specs.Reaching.{AreBackMarks, BuildsOn};
+ghost use Rattle.types_declared.specs.States.{state_in};
+ghost use Rattle.types_declared.specs.declared.states.ImportState.TheVariants.{Missing};
+ghost use Rattle.types_declared.specs.InterfacesView.{name_in, interface_in};
+ghost use Rattle.workspace_check.specs.Verdicts.{IsStateOf, AreStates, AreSeen};
+ghost use Rattle.workspace_check.specs.Told.{known_by, AreWhole};
+ghost use Rattle.workspace_check.specs.Cycles.{TellCycles};
+ghost use Rattle.workspace_check.specs.Steps.{ImportsFaulty, KnowsSameOfOthers};
+
+use crate::cycles::share_cycle;
+use crate::marks::is_marked;
+use std::alloc::{AllocError, Global};
+use types_declared::{ImportState, Interfaces, PackageNames};
+use workspace_graph::Graph;
+
+/// What a package sees of those that it builds on. All rise by their paths, as the packages' numbers do: each package is looked for behind
+/// the one found last, where that one was found so, and else at its number, less one for each package before it of which nothing is known.
+/// What is taken stands behind all that was taken before.
+fn seen_of(
+    alloc: Global,
+    graph: &Graph,
+    number: usize,
+    below: &[usize],
+    all: &Interfaces,
+) -> Result<Interfaces, AllocError>
+    requires in_range { number < length (package_paths graph.now) }
+    requires below { OfPackage graph.now number (λ p. HoldsPackages graph.now (BuildsOn graph.now p) below.now) }
+    requires rising { IsStrictlyIncreasing below.now }
+    requires whole { AreWhole all.now }
+    ensures seen { IfOk result (λ i. OfPackage graph.now number (λ p. AreSeen graph.now (known_by all.now) p (name_in i) (interface_in i))) }
+    ensures states { IfOk result (λ i. (path : List ℕ) → state_in i.states path ≡ Missing) }
+{
+    let mut seen = Interfaces::with_capacity(alloc, below.len())?;
+    let mut missing: usize = 0;
+    let mut next: usize = 0;
+    let mut follows = true;
+    for other in below {
+        let first = if follows {
+            next
+        } else {
+            other.wrapping_sub(missing)
+        };
+        let behind = seen.share_next(all, &graph.package(*other).path, first)?;
+        follows = behind == next.wrapping_add(1);
+        missing = other.wrapping_add(1).wrapping_sub(behind);
+        next = behind;
+    }
+    Ok(seen)
+}
+
+/// What a package sees of others: the names and the interfaces of those without faults that it builds on. What the imported
+/// paths are is not noted.
+pub fn seen(
+    alloc: Global,
+    graph: &Graph,
+    number: usize,
+    all: &Interfaces,
+) -> Result<Interfaces, AllocError>
+    requires in_range { number < length (package_paths graph.now) }
+    requires whole { AreWhole all.now }
+    ensures seen { IfOk result (λ i. OfPackage graph.now number (λ p. AreSeen graph.now (known_by all.now) p (name_in i) (interface_in i))) }
+    ensures states { IfOk result (λ i. (path : List ℕ) → state_in i.states path ≡ Missing) }
+{
+    let below = graph.built_on(alloc, number)?;
+    seen_of(alloc, graph, number, below.as_slice(), all)
+}
+
+/// What an imported package is to the one that imports it. The marks tell which packages import that one.
+fn state_of(
+    graph: &Graph,
+    number: usize,
+    back: &[bool],
+    import: usize,
+    all: &Interfaces,
+) -> ImportState
+    requires in_range { import < length (package_paths graph.now) }
+    requires back { OfPackage graph.now number (λ p. AreBackMarks graph.now p back.now) }
+    requires imports { OfPackage graph.now number (λ p. OfPackage graph.now import (λ q. PackageImports graph.now p q)) }
+    ensures { OfPackage graph.now number (λ p. OfPackage graph.now import (λ q. IsStateOf graph.now (known_by all.now) p q result)) }
+{
+    if is_marked(back, import) {
+        return ImportState::OnCycle;
+    }
+    match all.name(&graph.package(import).path) {
+        None => ImportState::Faulty,
+        Some(_) => ImportState::Good,
+    }
+}
+
+/// Notes what each path is that a package imports. The marks tell which packages import that one.
+fn note_imports(
+    alloc: Global,
+    seen: &mut Interfaces,
+    graph: &Graph,
+    number: usize,
+    back: &[bool],
+    all: &Interfaces,
+) -> Result<(), AllocError>
+    requires in_range { number < length (package_paths graph.now) }
+    requires back { OfPackage graph.now number (λ p. AreBackMarks graph.now p back.now) }
+    requires nothing { (path : List ℕ) → state_in seen.old.states path ≡ Missing }
+    ensures states { OnOk result (OfPackage graph.now number (λ p. AreStates graph.now (known_by all.now) p (state_in seen.new.states))) }
+    ensures kept { OnOk result (KnowsSameOfOthers seen.old seen.new) }
+{
+    for import in graph.imports(number) {
+        let path = Vec::from_slice(alloc, &graph.package(*import).path)?;
+        seen.note(path, state_of(graph, number, back, *import, all))?;
+    }
+    Ok(())
+}
+
+/// What each path is that a package imports, as interfaces that note just that. The marks tell which packages import that one.
+pub(crate) fn import_states(
+    alloc: Global,
+    graph: &Graph,
+    number: usize,
+    back: &[bool],
+    all: &Interfaces,
+) -> Result<Interfaces, AllocError>
+    requires in_range { number < length (package_paths graph.now) }
+    requires back { OfPackage graph.now number (λ p. AreBackMarks graph.now p back.now) }
+    ensures { IfOk result (λ noted. OfPackage graph.now number (λ p. AreStates graph.now (known_by all.now) p (state_in noted.states))) }
+{
+    let mut noted = Interfaces::new(alloc);
+    note_imports(alloc, &mut noted, graph, number, back, all)?;
+    Ok(noted)
+}
+
+/// Whether no name is known of a package.
+fn is_unknown(graph: &Graph, number: usize, all: &Interfaces) -> bool
+    requires { number < length (package_paths graph.now) }
+    ensures { IsTrue result → OfPackage graph.now number (λ q. (known_by all.now q).faulty ≡ true) }
+{
+    match all.name(&graph.package(number).path) {
+        None => true,
+        Some(_) => false,
+    }
+}
+
+/// Whether a package imports one of which no name is known.
+pub(crate) fn imports_faulty(graph: &Graph, number: usize, all: &Interfaces) -> bool
+    requires { number < length (package_paths graph.now) }
+    ensures { IsTrue result → OfPackage graph.now number (ImportsFaulty graph.now (known_by all.now)) }
+{
+    for import in graph.imports(number) {
+        if is_unknown(graph, *import, all) {
+            return true;
+        }
+    }
+    false
+}
+
+/// What an imported package is to the one that imports it. The numbers tell which packages lie on one cycle.
+fn state_by(
+    graph: &Graph,
+    number: usize,
+    cycles: &[usize],
+    import: usize,
+    all: &Interfaces,
+) -> ImportState
+    requires in_range { import < length (package_paths graph.now) }
+    requires cycles { TellCycles graph.now cycles.now }
+    requires known { number < length cycles.now }
+    requires imports { OfPackage graph.now number (λ p. OfPackage graph.now import (λ q. PackageImports graph.now p q)) }
+    ensures { OfPackage graph.now number (λ p. OfPackage graph.now import (λ q. IsStateOf graph.now (known_by all.now) p q result)) }
+{
+    if share_cycle(cycles, number, import) {
+        ImportState::OnCycle
+    } else {
+        match all.name(&graph.package(import).path) {
+            None => ImportState::Faulty,
+            Some(_) => ImportState::Good,
+        }
+    }
+}
+
+/// What each path is that a package imports, as interfaces that note just that. The numbers tell which packages lie on one cycle.
+pub(crate) fn states_by(
+    alloc: Global,
+    graph: &Graph,
+    number: usize,
+    cycles: &[usize],
+    all: &Interfaces,
+) -> Result<Interfaces, AllocError>
+    requires in_range { number < length (package_paths graph.now) }
+    requires cycles { TellCycles graph.now cycles.now }
+    requires known { number < length cycles.now }
+    ensures { IfOk result (λ noted. OfPackage graph.now number (λ p. AreStates graph.now (known_by all.now) p (state_in noted.states))) }
+{
+    let mut noted = Interfaces::new(alloc);
+    for import in graph.imports(number) {
+        let path = Vec::from_slice(alloc, &graph.package(*import).path)?;
+        noted.note(path, state_by(graph, number, cycles, *import, all))?;
+    }
+    Ok(noted)
+}
+
+/// What a package sees of others: the names and the interfaces of those without faults that it builds on, and what each path is that
+/// it imports.
+pub fn seen_imports(
+    alloc: Global,
+    graph: &Graph,
+    number: usize,
+    all: &Interfaces,
+) -> Result<Interfaces, AllocError>
+    requires in_range { number < length (package_paths graph.now) }
+    requires whole { AreWhole all.now }
+    ensures seen { IfOk result (λ i. OfPackage graph.now number (λ p. AreSeen graph.now (known_by all.now) p (name_in i) (interface_in i))) }
+    ensures states { IfOk result (λ i. OfPackage graph.now number (λ p. AreStates graph.now (known_by all.now) p (state_in i.states))) }
+{
+    let below = graph.below(alloc, number)?;
+    let mut interfaces = seen_of(alloc, graph, number, below.built_on.as_slice(), all)?;
+    note_imports(alloc, &mut interfaces, graph, number, &below.back, all)?;
+    Ok(interfaces)
+}

@@ -1,0 +1,181 @@
+//! What of an earlier workspace stays: whether packages import the same, have the same files, and see the same. Each question here may
+//! be answered with no where it could be yes: only speed rests on that.
+ghost use Rattle.std.specs.Prelude.{ℕ, ◌≡◌, ◌<◌, IsTrue, IfOk, IfSome, OnOk, length, map, slice_get, slice_set};
+ghost use Rattle.base_files.specs.Packages.{package_files, package_paths};
+ghost use Rattle.base_files.specs.Workspace.{Workspace};
+ghost use Rattle.workspace_graph.specs.Graphs.{IsPackage, OfPackage};
+ghost use Rattle.workspace_graph.specs.Search.{IsMarked};
+ghost use Rattle.workspace_check.specs.Earlier.{AreTold, HaveSameImports, StandsWith, WasKnown, tree_file};
+ghost use Rattle.workspace_check.specs.Steady.{ArePassedBelow, Passes, Stirs};
+
+use crate::earlier::Earlier;
+use crate::known::KnownVerdict;
+use crate::marks::is_marked;
+use go_ast::FileTree;
+use std::alloc::{AllocError, Global};
+use types_check::are_alike;
+use types_declared::Interfaces;
+use workspace_graph::{Graph, ImportLinks, ParsedPackage};
+
+/// Whether the packages of a number have the same path.
+fn is_same_path(before: &Graph, after: &Graph, number: usize) -> bool
+    requires before { number < length (package_paths before.now) }
+    requires after { number < length (package_paths after.now) }
+    ensures { IsTrue result → slice_get (package_paths before.now) number ≡ slice_get (package_paths after.now) number }
+{
+    before.package(number).path.as_slice() == after.package(number).path.as_slice()
+}
+
+/// Whether packages are the same by their paths.
+fn have_same_paths(before: &Graph, after: &Graph) -> bool
+    ensures { IsTrue result → package_paths before.now ≡ package_paths after.now }
+{
+    if before.len() != after.len() {
+        return false;
+    }
+    for number in 0..before.len() {
+        if !is_same_path(before, after, number) {
+            return false;
+        }
+    }
+    true
+}
+
+/// Whether packages import those of the same numbers.
+fn have_same_links(before: &ImportLinks, after: &ImportLinks) -> bool
+    ensures { IsTrue result → before.now ≡ after.now }
+{
+    if before.len() != after.len() {
+        return false;
+    }
+    for number in 0..before.len() {
+        if before.imports(number) != after.imports(number) {
+            return false;
+        }
+    }
+    true
+}
+
+/// Whether two workspaces have the same packages, which import the same.
+pub(crate) fn have_same_imports(before: &Graph, after: &Graph) -> bool
+    ensures { IsTrue result → HaveSameImports before.now after.now }
+{
+    have_same_paths(before, after) && have_same_links(before.links(), after.links())
+}
+
+/// Whether a file has the same path and the same text.
+fn is_same_tree(before: &FileTree, after: &FileTree) -> bool
+    ensures { IsTrue result → tree_file before.now ≡ tree_file after.now }
+{
+    before.path() == after.path() && before.pieces().file() == after.pieces().file()
+}
+
+/// Whether files have the same paths and texts.
+fn are_same_trees(before: &[FileTree], after: &[FileTree]) -> bool
+    ensures { IsTrue result → map tree_file before.now ≡ map tree_file after.now }
+{
+    if before.len() != after.len() {
+        return false;
+    }
+    for place in 0..before.len() {
+        if !is_same_tree(&before[place], &after[place]) {
+            return false;
+        }
+    }
+    true
+}
+
+/// Whether a package has the same files. One with a file that has no tree is not asked for them: it is soon judged.
+fn has_same_files(before: &ParsedPackage, after: &ParsedPackage) -> bool
+    ensures { IsTrue result → (v w : Workspace) → (n : ℕ) → IsPackage v n before.now → IsPackage w n after.now →
+        package_files v before.now.path.items ≡ package_files w after.now.path.items }
+{
+    if !before.faulty.is_empty() {
+        return false;
+    }
+    if !after.faulty.is_empty() {
+        return false;
+    }
+    are_same_trees(&before.trees, &after.trees)
+}
+
+/// Of the packages that were passed those are marked of which the same was known; and those are stirred that reach one of which it was
+/// not.
+#[derive(Drop)]
+pub(crate) struct Steady {
+    pub(crate) marks: Vec<bool>,
+    pub(crate) stirred: Vec<bool>,
+}
+
+impl Steady {
+    /// No package was passed yet.
+    pub(crate) fn new(alloc: Global, graph: &Graph) -> Result<Steady, AllocError>
+        ensures none { IfOk result (λ steady. (n : ℕ) → IsMarked steady.marks.items n → ⊥) }
+        ensures stirs { IfOk result (Stirs graph.now) }
+    {
+        let marks = vec![in alloc; false; graph.len()]?;
+        let stirred = vec![in alloc; false; graph.len()]?;
+        Ok(Steady { marks, stirred })
+    }
+
+    /// Passes a package.
+    pub(crate) fn pass(
+        &mut self,
+        alloc: Global,
+        graph: &Graph,
+        number: usize,
+        same: bool,
+    ) -> Result<(), AllocError>
+        requires number { number < length (package_paths graph.now) }
+        requires stirs { Stirs graph.now self.old }
+        ensures marks { OnOk result (self.new.marks.items ≡ slice_set self.old.marks.items number same) }
+        ensures stirs { OnOk result (Stirs graph.now self.new) }
+        ensures passes { OnOk result (Passes graph.now number self.old self.new) }
+    {
+        self.marks[number] = same;
+        if !same {
+            graph.mark_importing(alloc, &mut self.stirred, number)?;
+        }
+        Ok(())
+    }
+
+    /// Whether all that a package builds on is marked. All of it was passed.
+    fn is_marked_below(&self, number: usize) -> bool
+        ensures { IsTrue result → IsMarked self.now.stirred.items number → ⊥ }
+    {
+        !is_marked(&self.stirred, number)
+    }
+}
+
+/// What was known of a package, if its files are the same and all that it builds on is marked.
+pub(crate) fn standing<'a>(
+    earlier: &'a Earlier,
+    graph: &Graph,
+    number: usize,
+    steady: &Steady,
+) -> Option<&'a KnownVerdict>
+    requires number { number < length (package_paths graph.now) }
+    requires same { HaveSameImports earlier.now.graph graph.now }
+    requires below { OfPackage graph.now number (λ p. ArePassedBelow graph.now p number steady.now) }
+    ensures stands { IfSome result (λ one. OfPackage graph.now number (λ p. StandsWith earlier.now.graph graph.now steady.now.marks.items p one.now)) }
+    ensures told { AreTold earlier.now.graph earlier.now.verdicts.items }
+{
+    let verdict = earlier.verdict(number)?;
+    let before = earlier.graph().package(number);
+    if has_same_files(before, graph.package(number)) && steady.is_marked_below(number) {
+        Some(verdict)
+    } else {
+        None
+    }
+}
+
+/// Whether the same was known of a package as is known now.
+pub(crate) fn is_steady(earlier: &Earlier, graph: &Graph, number: usize, all: &Interfaces) -> bool
+    requires { number < length (package_paths graph.now) }
+    ensures { IsTrue result → OfPackage graph.now number (WasKnown earlier.now.verdicts.items all.now number) }
+{
+    match earlier.verdict(number) {
+        Some(one) => are_alike(one.known(), all, &graph.package(number).path),
+        None => false,
+    }
+}

@@ -1,0 +1,23 @@
+-- The importers that were noted.
+use Rattle.std.proofs.Common.{ℕ, sym, subst}
+use Rattle.std.specs.List.Sorted.{IsStrictlyIncreasing}
+use Rattle.workspace_graph.specs.Imports.{Links, AreImporters, imports_of}
+use Rattle.workspace_graph.proofs.Answered.{importers_of_all}
+use Rattle.workspace_graph.proofs.import_links.ImportLinks.importers.Goals as goal
+
+pub returns-clause-importers : goal.returns-clause-importers
+returns-clause-importers c =
+    let g = c.self.inside.imports in
+    let noted = c.self.inside.importers in
+    let number = c.args.number in
+    let row = c.row.ensures in
+    subst (λ (h : Links). AreImporters h number c.row.result.now) c.self.view_is
+    (subst (AreImporters g number) (sym row) (importers_of_all g noted c.self.invariant.importers number))
+
+pub returns-clause-rising : goal.returns-clause-rising
+returns-clause-rising c = λ ups.
+    let noted = c.self.inside.importers in
+    let number = c.args.number in
+    let row = c.row.ensures in
+    subst IsStrictlyIncreasing (sym row)
+    (c.self.invariant.importers.rising (subst (λ (h : Links). (p : ℕ) → IsStrictlyIncreasing (imports_of h p)) (sym c.self.view_is) ups) number)

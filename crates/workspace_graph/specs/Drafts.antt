@@ -1,0 +1,148 @@
+-- Packages while single files of them are set.
+use Rattle.std.specs.Prelude.{IfSome, ◌≡◌, ◌⊎◌, ℕ, true, List, [], ◌∷◌, map, Option, Some, None, Vec}
+use Rattle.std.specs.Arc.{arc_value}
+use Rattle.std.specs.FinMap as files
+use Rattle.std.specs.List.{All, Contains}
+use Rattle.std.specs.List.Sorted.{IsStrictlySortedBy}
+use Rattle.base_files.specs.Packages.{is_of_package}
+use Rattle.base_files.specs.Workspace.{Workspace, path_cmp}
+use Rattle.go_ast.specs.SourceFile.{FileParts, source_of}
+use Rattle.workspace_graph.specs.FaultyFiles.{FaultyParts}
+use Rattle.workspace_graph.specs.Graphs.{IsEmpty}
+use Rattle.workspace_graph.specs.HeldFiles.{HoldFiles, fault_path, fault_paths, tree_path, tree_paths}
+use Rattle.workspace_graph.specs.ImportPaths.{HoldsPaths, SomeImport, SomeStandFor, bytes_of_paths}
+use Rattle.workspace_graph.specs.NamedFiles.{ArePackages, Resets}
+use Rattle.workspace_graph.specs.Packages.{ImportsPath}
+use Rattle.workspace_graph.specs.Updated.{PutsIn, TakesOut}
+use Rattle.workspace_graph.specs.declared.file_imports.FileImport.{FileImport}
+use Rattle.workspace_graph.specs.declared.package.ParsedPackage.{ParsedPackage}
+use Rattle.workspace_graph.specs.declared.drafts.Draft.{Draft}
+
+-- ---- what files import after one of them changed
+
+-- a file that is gone imported the path
+abbrev pub GoneImports : Option FileParts → List ℕ → Type 0
+GoneImports None q = ⊥
+GoneImports (Some t) q = ImportsPath (source_of t) q
+
+-- a path of which P holds is that of an import that came, or one of the files imports it
+abbrev pub AreKept : (List ℕ → Type 0) → List FileImport → List FileParts → Type 0
+AreKept P come trees = (q : List ℕ) → P q → SomeStandFor come q ⊎ SomeImport trees q
+
+-- The paths are those that files imported before one came, or went: but for these, the files import the same.
+pub record IsRenewed {Z : Type 0} (keys : List (Vec ℕ Z)) (gone : Option FileParts) (come : List FileImport) (trees : List FileParts) : Type 0 where
+  pub before : (q : List ℕ) → Contains (bytes_of_paths keys) q → SomeImport trees q ⊎ GoneImports gone q
+  pub now : (q : List ℕ) → SomeImport trees q → Contains (bytes_of_paths keys) q ⊎ SomeStandFor come q
+  pub came : (q : List ℕ) → SomeStandFor come q → SomeImport trees q
+
+-- ---- a package while files are set
+
+-- the tree that has the path is the one that is gone
+abbrev pub IsGone : List ℕ → List FileParts → Option FileParts → Type 0
+IsGone path trees gone = (t : FileParts) → Contains trees t → t.path ≡ path → gone ≡ Some t
+
+-- the trees and the other files stand in the order of their paths, and the paths are those that the trees import
+pub record IsPackageParts {Z : Type 0} (p : ParsedPackage) (keys : List (Vec ℕ Z)) : Type 0 where
+  pub trees : IsStrictlySortedBy path_cmp (tree_paths p.trees.items)
+  pub faulty : IsStrictlySortedBy path_cmp (fault_paths p.faulty.items)
+  pub imports : HoldsPaths (SomeImport p.trees.items) keys
+
+-- where a draft tells paths, they are those that its trees import
+abbrev pub HoldsImports : Draft → Type 0
+HoldsImports d = IfSome d.imports (λ paths. HoldsPaths (SomeImport d.package.trees.items) (arc_value paths).keys)
+
+-- where it tells paths, they are those that its trees imported before one came, or went
+abbrev pub MayBeRenewed : Draft → Option FileParts → List FileImport → Type 0
+MayBeRenewed d gone come = IfSome d.imports (λ paths. IsRenewed (arc_value paths).keys gone come d.package.trees.items)
+
+-- the trees and the other files stand in the order of their paths
+pub record IsDraft (d : Draft) : Type 0 where
+  pub trees : IsStrictlySortedBy path_cmp (tree_paths d.package.trees.items)
+  pub faulty : IsStrictlySortedBy path_cmp (fault_paths d.package.faulty.items)
+  pub imports : HoldsImports d
+
+-- both have the same path and the same files
+pub record IsSamePackage (p q : ParsedPackage) : Type 0 where
+  pub path : p.path.items ≡ q.path.items
+  pub trees : p.trees.items ≡ q.trees.items
+  pub faulty : p.faulty.items ≡ q.faulty.items
+
+-- the package has the files of its folder
+abbrev pub HoldsDraft : Workspace → Draft → Type 0
+HoldsDraft w d = HoldFiles w d.package.path.items d.package.trees.items d.package.faulty.items
+
+-- a file that has a tree was put in the place of what was at its path
+pub record PutsTree (t : FileParts) (old new : Draft) : Type 0 where
+  pub path : new.package.path.items ≡ old.package.path.items
+  pub draft : IsDraft new
+  pub trees : PutsIn tree_path t old.package.trees.items new.package.trees.items
+  pub place : ℕ
+  pub faulty : TakesOut fault_path t.path old.package.faulty.items new.package.faulty.items place
+
+-- a file that has no tree was put in the place of what was at its path
+pub record PutsFault (f : FaultyParts) (old new : Draft) : Type 0 where
+  pub path : new.package.path.items ≡ old.package.path.items
+  pub draft : IsDraft new
+  pub faulty : PutsIn fault_path f old.package.faulty.items new.package.faulty.items
+  pub place : ℕ
+  pub trees : TakesOut tree_path f.path old.package.trees.items new.package.trees.items place
+
+-- what was at a path was taken out
+pub record TakesFile (path : List ℕ) (old new : Draft) : Type 0 where
+  pub same_path : new.package.path.items ≡ old.package.path.items
+  pub draft : IsDraft new
+  pub tree_place : ℕ
+  pub trees : TakesOut tree_path path old.package.trees.items new.package.trees.items tree_place
+  pub fault_place : ℕ
+  pub faulty : TakesOut fault_path path old.package.faulty.items new.package.faulty.items fault_place
+
+-- a file of the package has that path and text
+abbrev pub HasText : List FileParts → List FaultyParts → List ℕ → List ℕ → Type 0
+HasText trees faulty path text = ((t : FileParts) × Contains trees t × (t.path ≡ path) × (t.cut.text ≡ text)) ⊎
+    ((f : FaultyParts) × Contains faulty f × (f.path ≡ path) × (f.text ≡ text))
+
+-- what is at a path is what a workspace has there
+pub record SetsFile (w : Workspace) (path : List ℕ) (old new : Draft) : Type 0 where
+  pub same_path : new.package.path.items ≡ old.package.path.items
+  pub draft : IsDraft new
+  pub files : (v u : Workspace) → Resets w (path ∷ []) v u → HoldsDraft v old → HoldsDraft u new
+
+-- the same where the workspace has a text there, and the package is of the path's folder
+abbrev pub SetsText : List ℕ → List ℕ → Draft → Draft → Type 0
+SetsText path text old new = (w : Workspace) → files.get w path ≡ Some text → is_of_package old.package.path.items path ≡ true → SetsFile w path old new
+
+-- ---- several packages
+
+abbrev pub packages_of : List Draft → List ParsedPackage
+packages_of drafts = map (λ d. d.package) drafts
+
+abbrev pub draft_path : Draft → List ℕ
+draft_path d = d.package.path.items
+
+abbrev pub draft_paths : List Draft → List (List ℕ)
+draft_paths drafts = map draft_path drafts
+
+-- what is at some paths is what a workspace has there
+pub record SetsFiles (w : Workspace) (paths : List (List ℕ)) (old new : List Draft) : Type 0 where
+  pub same_paths : draft_paths new ≡ draft_paths old
+  pub drafts : All IsDraft new
+  pub files : (v u : Workspace) → Resets w paths v u → All (HoldsDraft v) old → All (HoldsDraft u) new
+
+-- a package with no file
+pub record IsEmptyAt (folder : List ℕ) (d : Draft) : Type 0 where
+  pub path : d.package.path.items ≡ folder
+  pub empty : IsEmpty d.package
+  pub draft : IsDraft d
+
+-- the package at a folder as it is among some, or with no file
+pub record IsDraftAt (packages : List ParsedPackage) (folder : List ℕ) (d : Draft) : Type 0 where
+  pub path : d.package.path.items ≡ folder
+  pub draft : IsDraft d
+  pub files : (v : Workspace) → ArePackages v packages → HoldsDraft v d
+
+-- the packages at folders in order
+pub record AreDraftsAt (packages : List ParsedPackage) (folders : List (List ℕ)) (ds : List Draft) : Type 0 where
+  pub paths : draft_paths ds ≡ folders
+  pub sorted : IsStrictlySortedBy path_cmp folders
+  pub drafts : All IsDraft ds
+  pub files : (v : Workspace) → ArePackages v packages → All (HoldsDraft v) ds

@@ -1,0 +1,45 @@
+-- The files of a folder as a package has them, told by what stands at the paths of a workspace.
+use Rattle.std.specs.Prelude.{◌≡◌, ℕ, ◌⊎◌, true, List, map, Some}
+use Rattle.std.specs.FinMap as files
+use Rattle.std.specs.List.{Contains}
+use Rattle.std.specs.List.Sorted.{IsStrictlySortedBy}
+use Rattle.base_files.specs.Packages.{is_of_package}
+use Rattle.base_files.specs.Workspace.{Workspace, path_cmp}
+use Rattle.go_ast.specs.SourceFile.{FileParts, source_of}
+use Rattle.workspace_graph.specs.FaultyFiles.{FaultyParts}
+use Rattle.workspace_graph.specs.Packages.{IsParsed}
+use Rattle.workspace_graph.specs.Parsed.{IsFaulty}
+
+-- the paths of files that have trees, and of others
+abbrev pub tree_path : FileParts → List ℕ
+tree_path t = t.path
+
+abbrev pub fault_path : FaultyParts → List ℕ
+fault_path f = f.path
+
+abbrev pub tree_paths : List FileParts → List (List ℕ)
+tree_paths trees = map tree_path trees
+
+abbrev pub fault_paths : List FaultyParts → List (List ℕ)
+fault_paths faulty = map fault_path faulty
+
+-- a Go file of the folder, with its tree
+pub record HoldsTree (w : Workspace) (p : List ℕ) (t : FileParts) : Type 0 where
+  pub of_package : is_of_package p t.path ≡ true
+  pub there : files.get w t.path ≡ Some t.cut.text
+  pub parsed : IsParsed t.path t.cut.text (source_of t)
+
+-- a Go file of the folder, with its first fault
+pub record HoldsFault (w : Workspace) (p : List ℕ) (f : FaultyParts) : Type 0 where
+  pub of_package : is_of_package p f.path ≡ true
+  pub there : files.get w f.path ≡ Some f.text
+  pub faulty : IsFaulty f.path f.text f
+
+-- just the Go files of the folder, each either with its tree or with its first fault, both in the order of their paths
+pub record HoldFiles (w : Workspace) (p : List ℕ) (ts : List FileParts) (fs : List FaultyParts) : Type 0 where
+  pub trees_sorted : IsStrictlySortedBy path_cmp (tree_paths ts)
+  pub faulty_sorted : IsStrictlySortedBy path_cmp (fault_paths fs)
+  pub tree : (t : FileParts) → Contains ts t → HoldsTree w p t
+  pub fault : (f : FaultyParts) → Contains fs f → HoldsFault w p f
+  pub apart : (path : List ℕ) → Contains (tree_paths ts) path → Contains (fault_paths fs) path → ⊥
+  pub all : (path text : List ℕ) → is_of_package p path ≡ true → files.get w path ≡ Some text → Contains (tree_paths ts) path ⊎ Contains (fault_paths fs) path

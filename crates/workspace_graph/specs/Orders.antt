@@ -1,0 +1,35 @@
+-- Orders of packages, in which each comes behind what it reaches, and how far one is told.
+use Rattle.std.specs.Prelude.{ℕ, ◌≡◌, ◌+◌, ◌-◌, ◌*◌, ◌<◌, ◌↔◌, Bool, false, List, Some, length, count_by, slice_get, slice_index_or}
+use Rattle.std.specs.List.{Contains}
+use Rattle.workspace_graph.specs.Imports.{Links, Reaches}
+use Rattle.workspace_graph.specs.Search.{IsMarked, AreClosedUnder}
+use Rattle.workspace_graph.specs.declared.depth_first.Entered.{Entered}
+use Rattle.workspace_graph.specs.declared.order.Blocks.{Blocks}
+
+-- all packages, each once, behind those that it reaches and that do not reach it
+pub record IsOrder (g : Links) (order : List ℕ) : Type 0 where
+  pub each : (n : ℕ) → Contains order n ↔ (n < length g)
+  pub once : (i j n : ℕ) → slice_get order i ≡ Some n → slice_get order j ≡ Some n → i ≡ j
+  pub behind : (i n m : ℕ) → slice_get order i ≡ Some n → Reaches g n m → (Reaches g m n → ⊥) → (j : ℕ) × (j < i) × (slice_get order j ≡ Some m)
+
+-- some place before i holds m
+abbrev pub IsBefore : List ℕ → ℕ → ℕ → Type 0
+IsBefore order i m = (j : ℕ) × (j < i) × (slice_index_or order j 0 ≡ m)
+
+-- Those told so far, each once, behind those that it reaches and that do not reach it; what a told one reaches is told.
+pub record AreTold (g : Links) (b : Blocks) : Type 0 where
+  pub size : length b.told.items ≡ length g
+  pub bars : length b.barred.items ≡ length g
+  pub closed : AreClosedUnder g b.told.items
+  pub each : (n : ℕ) → IsMarked b.told.items n ↔ Contains b.order.items n
+  pub once : (i j : ℕ) → i < j → j < length b.order.items → slice_index_or b.order.items i 0 ≡ slice_index_or b.order.items j 0 → ⊥
+  pub behind : (i : ℕ) → i < length b.order.items → (m : ℕ) → Reaches g (slice_index_or b.order.items i 0) m →
+      (Reaches g m (slice_index_or b.order.items i 0) → ⊥) → IsBefore b.order.items i m
+
+-- none of some packages is marked
+abbrev pub AreClear : List ℕ → List Bool → Type 0
+AreClear numbers marks = (q : ℕ) → Contains numbers q → slice_index_or marks q false ≡ false
+
+-- how many steps a search in depth has left at most: two for each package without mark, and one for each on the path
+abbrev pub steps_left : List Bool → List Entered → ℕ
+steps_left marks path = 2 * (length marks - count_by (λ m. m) marks) + length path

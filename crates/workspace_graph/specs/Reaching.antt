@@ -1,0 +1,43 @@
+-- What packages build on, and marks of packages that import marked ones.
+use Rattle.std.specs.Prelude.{◌≡◌, ℕ, ◌↔◌, ◌⊎◌, Bool, List, Some, length, slice_get}
+use Rattle.base_files.specs.Packages.{package_paths}
+use Rattle.base_files.specs.Workspace.{Workspace}
+use Rattle.workspace_graph.specs.Packages.{PackageImports, IsInClosure}
+use Rattle.workspace_graph.specs.Search.{IsMarked}
+
+-- p builds on q: it imports q, directly or indirectly, and q does not so import p
+pub record BuildsOn (w : Workspace) (p q : List ℕ) : Type 0 where
+  pub imported : IsInClosure w p q
+  pub not_back : IsInClosure w q p → ⊥
+
+-- of each package that p imports, directly or indirectly, the mark tells whether it so imports p
+abbrev pub AreBackMarks : Workspace → List ℕ → List Bool → Type 0
+AreBackMarks w p marks = (i : ℕ) (q : List ℕ) → slice_get (package_paths w) i ≡ Some q → IsInClosure w p q → IsMarked marks i ↔ IsInClosure w q p
+
+-- p imports a marked package, directly or indirectly, or is one
+pub record ReachesMarked (w : Workspace) (marks : List Bool) (p : List ℕ) : Type 0 where
+  pub number : ℕ
+  pub path : List ℕ
+  pub has_path : slice_get (package_paths w) number ≡ Some path
+  pub marked : IsMarked marks number
+  pub in_closure : IsInClosure w p path
+
+-- a mark for each package that imports a marked one, directly or indirectly, or is one
+pub record MarkReaching (w : Workspace) (marks reaching : List Bool) : Type 0 where
+  pub size : length reaching ≡ length (package_paths w)
+  pub each : (i : ℕ) (p : List ℕ) → slice_get (package_paths w) i ≡ Some p → IsMarked reaching i ↔ ReachesMarked w marks p
+
+-- what imports a marked package is marked
+abbrev pub AreMarkedAbove : Workspace → List Bool → Type 0
+AreMarkedAbove w marks = (i j : ℕ) (p q : List ℕ) → slice_get (package_paths w) i ≡ Some p → slice_get (package_paths w) j ≡ Some q → PackageImports w p q →
+    IsMarked marks j → IsMarked marks i
+
+-- q and all that import it, directly or indirectly, were marked
+pub record MarksAbove (w : Workspace) (q : List ℕ) (old new : List Bool) : Type 0 where
+  pub size : length new ≡ length old
+  pub each : (i : ℕ) (p : List ℕ) → slice_get (package_paths w) i ≡ Some p → IsMarked new i ↔ (IsMarked old i ⊎ IsInClosure w p q)
+
+-- a mark for each package that imports q, directly or indirectly, or is it
+pub record MarkImporting (w : Workspace) (q : List ℕ) (marks : List Bool) : Type 0 where
+  pub size : length marks ≡ length (package_paths w)
+  pub each : (i : ℕ) (p : List ℕ) → slice_get (package_paths w) i ≡ Some p → IsMarked marks i ↔ IsInClosure w p q

@@ -1,0 +1,24 @@
+-- The packages that are imported, by number, while they are collected.
+use Rattle.std.specs.Prelude.{◌≡◌, ℕ, ◌↔◌, ◌⊎◌, List, Some, slice_get}
+use Rattle.std.specs.List.{Contains}
+use Rattle.std.specs.List.Sorted.{IsStrictlyIncreasing}
+use Rattle.go_ast.specs.SourceFile.{FileParts, source_of}
+use Rattle.workspace_graph.specs.Imports.{Holds}
+use Rattle.workspace_graph.specs.Packages.{ImportsPath}
+
+-- the numbers of which something holds were added
+abbrev pub AddsNumbers : (ℕ → Type 0) → List ℕ → List ℕ → Type 0
+AddsNumbers P old new = (j : ℕ) → Contains new j ↔ (Contains old j ⊎ P j)
+
+-- a file imports the package of a number
+abbrev pub FileImports : List (List ℕ) → FileParts → ℕ → Type 0
+FileImports paths file j = (q : List ℕ) × (slice_get paths j ≡ Some q) × ImportsPath (source_of file) q
+
+-- one of the files imports the package of a number
+abbrev pub SomeImports : List (List ℕ) → List FileParts → ℕ → Type 0
+SomeImports paths files j = (file : FileParts) × Contains files file × FileImports paths file j
+
+-- exactly the packages that some of the files import, in order
+pub record IsRow (paths : List (List ℕ)) (files : List FileParts) (row : List ℕ) : Type 0 where
+  pub each : Holds row (SomeImports paths files)
+  pub rising : IsStrictlyIncreasing row

@@ -1,0 +1,239 @@
+//! What packages reach along links.
+ghost use Rattle.std.specs.Prelude.{◌≡◌, ◌<◌, ◌↔◌, ℕ, length, IfOk, IsTrue};
+ghost use Rattle.std.specs.List.{All, Contains};
+ghost use Rattle.std.specs.List.Sorted.{IsStrictlyIncreasing};
+ghost use Rattle.workspace_graph.specs.Imports.{AreLinked, HoldImporters, Links, Reaches};
+ghost use Rattle.workspace_graph.specs.Closures.{IsBuiltOn, IsClosed};
+ghost use Rattle.workspace_graph.specs.Search.{AreReached, Flips, HoldsMarked, IsMarked, MarkBack, TellBack};
+
+use crate::link_rows::LinkRows;
+use crate::package_list::PackageList;
+use crate::packages_below::PackagesBelow;
+use crate::search::{reach, spread};
+use std::alloc::{AllocError, Global};
+
+/// The marked packages, by number, with room for so many.
+fn marked(alloc: Global, marks: &[bool], room: usize) -> Result<PackageList, AllocError>
+    ensures { IfOk result (HoldsMarked marks.now (length marks.now)) }
+{
+    let mut list = Vec::with_capacity(alloc, room)?;
+    for (number, mark) in marks.iter().enumerate() {
+        if *mark {
+            list.push(number)?;
+        }
+    }
+    Ok(PackageList::from_numbers(list))
+}
+
+/// Marks of what a package reaches, and how many are marked, by which room is made.
+#[derive(Drop)]
+struct Reached {
+    marks: Vec<bool>,
+    count: usize,
+}
+
+/// What a package imports directly or indirectly, and itself.
+fn reached_from(alloc: Global, imports: &LinkRows, number: usize) -> Result<Reached, AllocError>
+    requires linked { AreLinked imports.now }
+    requires number { number < length imports.now }
+    ensures size { IfOk result (λ reached. length reached.marks.items ≡ length imports.now) }
+    ensures reached { IfOk result (λ reached. (q : ℕ) → IsMarked reached.marks.items q ↔ Reaches imports.now number q) }
+{
+    let mut marks = vec![in alloc; false; imports.len()]?;
+    let found = spread(alloc, imports, &mut marks, number)?;
+    let count = found.len();
+    Ok(Reached { marks, count })
+}
+
+/// What a package imports directly or indirectly, itself among it, by number.
+pub(crate) fn closure_of(
+    alloc: Global,
+    imports: &LinkRows,
+    number: usize,
+) -> Result<PackageList, AllocError>
+    requires linked { AreLinked imports.now }
+    requires number { number < length imports.now }
+    ensures { IfOk result (IsClosed imports.now number) }
+{
+    let reached = reached_from(alloc, imports, number)?;
+    marked(alloc, &reached.marks, reached.count)
+}
+
+/// Marks what has no mark, and takes the other marks off.
+fn flip(marks: &mut Vec<bool>)
+    ensures { Flips marks.old.items marks.new.items }
+{
+    for number in 0..marks.len() {
+        marks[number] = !marks[number];
+    }
+}
+
+/// Marks that tell of what a package reaches whether it reaches that package, by the marks of what the package reaches. The way back is
+/// sought among that alone.
+fn back_from(
+    alloc: Global,
+    importers: &LinkRows,
+    marks: Vec<bool>,
+    number: usize,
+) -> Result<Vec<bool>, AllocError>
+    requires linked { AreLinked importers.now }
+    requires number { number < length importers.now }
+    requires size { length marks.items ≡ length importers.now }
+    ensures { IfOk result (λ back. (g : Links) → AreLinked g → HoldImporters g (length g) importers.now → ((q : ℕ) → IsMarked marks.items q ↔ Reaches g number q) → TellBack g number back.items) }
+{
+    let mut marks = marks;
+    flip(&mut marks);
+    spread(alloc, importers, &mut marks, number)?;
+    Ok(marks)
+}
+
+/// Marks that tell of what a package reaches whether it reaches that package.
+pub(crate) fn back_marks(
+    alloc: Global,
+    imports: &LinkRows,
+    importers: &LinkRows,
+    number: usize,
+) -> Result<Vec<bool>, AllocError>
+    requires linked { AreLinked imports.now }
+    requires back { HoldImporters imports.now (length imports.now) importers.now }
+    requires number { number < length imports.now }
+    ensures { IfOk result (λ marks. TellBack imports.now number marks.items) }
+{
+    let reached = reached_from(alloc, imports, number)?;
+    back_from(alloc, importers, reached.marks, number)
+}
+
+/// What a package reaches and what does not reach it, by number, told by such marks.
+fn built_on_by(alloc: Global, back: &[bool]) -> Result<PackageList, AllocError>
+    ensures { IfOk result (λ below. (g : Links) (p : ℕ) → TellBack g p back.now → IsBuiltOn g p below) }
+{
+    let mut marks = Vec::from_slice(alloc, back)?;
+    flip(&mut marks);
+    marked(alloc, &marks, back.len())
+}
+
+/// Whether none of some packages is marked.
+fn none_marked(marks: &[bool], numbers: &[usize]) -> bool
+    requires { All (λ q. q < length marks.now) numbers.now }
+    ensures { IsTrue result → (q : ℕ) → Contains numbers.now q → IsMarked marks.now q → ⊥ }
+{
+    for number in numbers {
+        if marks[*number] {
+            return false;
+        }
+    }
+    true
+}
+
+/// The marked packages but one, by number, with room for so many.
+fn marked_but(
+    alloc: Global,
+    marks: Vec<bool>,
+    room: usize,
+    one: usize,
+) -> Result<PackageList, AllocError>
+    requires { one < length marks.items }
+    ensures each { IfOk result (λ rest. (q : ℕ) → Contains rest q ↔ (IsMarked marks.items q × (q ≡ one → ⊥))) }
+    ensures rising { IfOk result IsStrictlyIncreasing }
+{
+    let mut marks = marks;
+    marks[one] = false;
+    marked(alloc, &marks, room)
+}
+
+/// Marks of so many packages, of which just one is marked.
+fn one_marked(alloc: Global, count: usize, one: usize) -> Result<Vec<bool>, AllocError>
+    requires { one < count }
+    ensures { IfOk result (λ marks. (q : ℕ) → IsMarked marks.items q ↔ (q ≡ one)) }
+{
+    let mut marks = vec![in alloc; false; count]?;
+    marks[one] = true;
+    Ok(marks)
+}
+
+/// The marked packages but one, and as many marks, of which just that one's is set.
+fn rest_marked(alloc: Global, reached: Reached, one: usize) -> Result<PackagesBelow, AllocError>
+    requires { one < length reached.marks.items }
+    ensures each { IfOk result (λ found. (q : ℕ) → Contains found.built_on q ↔ (IsMarked reached.marks.items q × (q ≡ one → ⊥))) }
+    ensures rising { IfOk result (λ found. IsStrictlyIncreasing found.built_on) }
+    ensures back { IfOk result (λ found. (q : ℕ) → IsMarked found.back.items q ↔ (q ≡ one)) }
+{
+    let back = one_marked(alloc, reached.marks.len(), one)?;
+    let built_on = marked_but(alloc, reached.marks, reached.count, one)?;
+    Ok(PackagesBelow { built_on, back })
+}
+
+/// What a package reaches and what does not reach it, by number; and marks that tell of what it reaches whether that reaches it. No way
+/// back is sought where it reaches none that imports it.
+pub(crate) fn below(
+    alloc: Global,
+    imports: &LinkRows,
+    importers: &LinkRows,
+    number: usize,
+) -> Result<PackagesBelow, AllocError>
+    requires linked { AreLinked imports.now }
+    requires back { HoldImporters imports.now (length imports.now) importers.now }
+    requires number { number < length imports.now }
+    ensures built_on { IfOk result (λ found. IsBuiltOn imports.now number found.built_on) }
+    ensures back { IfOk result (λ found. MarkBack imports.now number found.back.items) }
+{
+    let reached = reached_from(alloc, imports, number)?;
+    if none_marked(&reached.marks, importers.row(number)) {
+        return rest_marked(alloc, reached, number);
+    }
+    let back = back_from(alloc, importers, reached.marks, number)?;
+    let built_on = built_on_by(alloc, &back)?;
+    Ok(PackagesBelow { built_on, back })
+}
+
+/// Numbers that rise, without one.
+fn without(alloc: Global, numbers: &[usize], one: usize) -> Result<PackageList, AllocError>
+    requires { IsStrictlyIncreasing numbers.now }
+    ensures each { IfOk result (λ rest. (q : ℕ) → Contains rest q ↔ (Contains numbers.now q × (q ≡ one → ⊥))) }
+    ensures rising { IfOk result IsStrictlyIncreasing }
+{
+    let mut rest = Vec::with_capacity(alloc, numbers.len())?;
+    for number in numbers {
+        if *number != one {
+            rest.push(*number)?;
+        }
+    }
+    Ok(PackageList::from_numbers(rest))
+}
+
+/// A closure without its package, and marks of so many packages, of which just that one is marked.
+pub(crate) fn rest_of(
+    alloc: Global,
+    count: usize,
+    number: usize,
+    closure: &[usize],
+) -> Result<PackagesBelow, AllocError>
+    requires number { number < count }
+    requires rising { IsStrictlyIncreasing closure.now }
+    ensures each { IfOk result (λ found. (q : ℕ) → Contains found.built_on q ↔ (Contains closure.now q × (q ≡ number → ⊥))) }
+    ensures rising { IfOk result (λ found. IsStrictlyIncreasing found.built_on) }
+    ensures back { IfOk result (λ found. (q : ℕ) → IsMarked found.back.items q ↔ (q ≡ number)) }
+{
+    let built_on = without(alloc, closure, number)?;
+    let back = one_marked(alloc, count, number)?;
+    Ok(PackagesBelow { built_on, back })
+}
+
+/// A mark for each package that a marked one reaches.
+pub(crate) fn reached_by(
+    alloc: Global,
+    links: &LinkRows,
+    starts: &[bool],
+) -> Result<Vec<bool>, AllocError>
+    requires linked { AreLinked links.now }
+    requires size { length starts.now ≡ length links.now }
+    ensures { IfOk result (λ marks. AreReached links.now starts.now (length links.now) marks.items) }
+{
+    let mut marks = vec![in alloc; false; links.len()]?;
+    for start in 0..links.len() {
+        if starts[start] {
+            reach(alloc, links, &mut marks, start)?;
+        }
+    }
+    Ok(marks)
+}

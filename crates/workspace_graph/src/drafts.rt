@@ -1,0 +1,273 @@
+//! Packages of which single files are set, each made from the package before.
+ghost use Rattle.std.specs.Prelude.{◌≡◌, ◌∷◌, [], true, slice_get, IfOk, IsTrue, MatchOption, OnOk, Some};
+ghost use Rattle.std.specs.Option.{option_copied};
+ghost use Rattle.std.specs.List.{All, Contains};
+ghost use Rattle.std.specs.List.Sorted.{IsStrictlySortedBy};
+ghost use Rattle.base_files.specs.Packages.{is_of_package};
+ghost use Rattle.base_files.specs.Workspace.{Workspace, path_cmp};
+ghost use Rattle.workspace_graph.specs.Drafts.{AreDraftsAt, HasText, IsDraft, IsDraftAt, IsEmptyAt, draft_paths, packages_of};
+ghost use Rattle.workspace_graph.specs.Drafts.{HoldsImports, MayBeRenewed, PutsFault, PutsTree, SetsFile, SetsFiles, SetsText, TakesFile};
+ghost use Rattle.workspace_graph.specs.Filling.{names};
+ghost use Rattle.workspace_graph.specs.Graphs.{paths_of};
+ghost use Rattle.workspace_graph.specs.NamedFiles.{AreFresh, ArePackages};
+ghost use Rattle.workspace_graph.specs.Staying.{DiffersOnlyAt};
+
+use crate::faulty_file::FaultyFile;
+use crate::file_imports::{FileImport, read_imports};
+use crate::held_files::{fault_at, put_fault, put_tree, take_fault, take_tree, tree_at};
+use crate::named_files::folders_of;
+use crate::package::ParsedPackage;
+use crate::parsed::{ParsedFile, parse};
+use crate::renewed_imports::{FileChange, stay};
+use crate::shared_package::{SharedPackage, number_of};
+use base_files::{FileText, Files, Path};
+use go_ast::FileTree;
+use std::alloc::{AllocError, Global};
+use std::collections::BTreeSet;
+use std::sync::Arc;
+
+/// A package of which files are set, with the paths that its files import, unless these are to be read again, and whether a file was set.
+#[derive(Drop)]
+pub(crate) struct Draft {
+    pub(crate) package: ParsedPackage,
+    pub(crate) imports: Option<Arc<BTreeSet<Vec<u8>>, Global>>,
+    pub(crate) changed: bool,
+}
+
+/// Whether the files of a package import what they imported before one of them was set: the one that is gone, if it had a tree, and
+/// what the one that came imports, are told.
+fn keeps_imports(
+    alloc: Global,
+    draft: &Draft,
+    gone: Option<&FileTree>,
+    come: &[FileImport],
+) -> Result<bool, AllocError>
+    requires { MayBeRenewed draft.now (option_copied gone) come.now }
+    ensures { IfOk result (λ kept. IsTrue kept → HoldsImports draft.now) }
+{
+    match &draft.imports {
+        None => Ok(false),
+        Some(imports) => {
+            let change = FileChange {
+                imports,
+                gone,
+                come,
+                files: &draft.package.trees,
+            };
+            stay(alloc, change)
+        }
+    }
+}
+
+/// Leaves what the files of a package import to be read again, unless just one of them was set and they import the same.
+fn renew_imports(
+    alloc: Global,
+    draft: &mut Draft,
+    gone: Option<&FileTree>,
+    come: &[FileImport],
+) -> Result<(), AllocError>
+    requires { MayBeRenewed draft.old (option_copied gone) come.now }
+    ensures package { draft.new.package ≡ draft.old.package }
+    ensures imports { OnOk result (HoldsImports draft.new) }
+{
+    if draft.changed || !keeps_imports(alloc, draft, gone, come)? {
+        draft.imports = None;
+    }
+    draft.changed = true;
+    Ok(())
+}
+
+/// Puts a file that has a tree in the place of what is at its path.
+fn set_tree(alloc: Global, draft: &mut Draft, tree: FileTree) -> Result<(), AllocError>
+    requires { IsDraft draft.old }
+    ensures { OnOk result (PutsTree tree draft.old draft.new) }
+{
+    let _ = take_fault(&mut draft.package.faulty, tree.path());
+    let come = read_imports(alloc, &tree)?;
+    let gone = put_tree(&mut draft.package.trees, tree)?;
+    renew_imports(alloc, draft, gone.as_ref(), &come)
+}
+
+/// Puts a file that has no tree in the place of what is at its path.
+fn set_fault(alloc: Global, draft: &mut Draft, file: FaultyFile) -> Result<(), AllocError>
+    requires { IsDraft draft.old }
+    ensures { OnOk result (PutsFault file draft.old draft.new) }
+{
+    let taken = take_tree(&mut draft.package.trees, file.path());
+    put_fault(&mut draft.package.faulty, file)?;
+    renew_imports(alloc, draft, taken.tree.as_ref(), &[])
+}
+
+/// Takes out what is at a path.
+fn take_out(alloc: Global, draft: &mut Draft, path: &Path) -> Result<(), AllocError>
+    requires { IsDraft draft.old }
+    ensures { OnOk result (TakesFile path.now draft.old draft.new) }
+{
+    let taken = take_tree(&mut draft.package.trees, path);
+    let _ = take_fault(&mut draft.package.faulty, path);
+    renew_imports(alloc, draft, taken.tree.as_ref(), &[])
+}
+
+/// Whether a package has a text at a path.
+fn has_text(draft: &Draft, path: &Path, text: &FileText) -> bool
+    requires { IsDraft draft.now }
+    ensures { IsTrue result → HasText draft.now.package.trees.items draft.now.package.faulty.items path.now text.now }
+{
+    if let Some(tree) = tree_at(&draft.package.trees, path) {
+        return tree.pieces().file() == text;
+    }
+    match fault_at(&draft.package.faulty, path) {
+        Some(file) => file.text() == text,
+        None => false,
+    }
+}
+
+/// Sets the text of a path. It is parsed, unless it is there already.
+fn set_text(
+    alloc: Global,
+    draft: &mut Draft,
+    path: &Path,
+    text: &FileText,
+) -> Result<(), AllocError>
+    requires { IsDraft draft.old }
+    ensures { OnOk result (SetsText path.now text.now draft.old draft.new) }
+{
+    if has_text(draft, path, text) {
+        return Ok(());
+    }
+    let like = tree_at(&draft.package.trees, path);
+    match parse(alloc, path, text, like)? {
+        ParsedFile::Sound(tree) => set_tree(alloc, draft, tree),
+        ParsedFile::Faulty(file) => set_fault(alloc, draft, file),
+    }
+}
+
+/// Sets what is at a path of the package's folder to what a workspace has there.
+fn set_file(alloc: Global, draft: &mut Draft, files: &Files, path: &Path) -> Result<(), AllocError>
+    requires draft { IsDraft draft.old }
+    requires of_package { is_of_package draft.old.package.path.items path.now ≡ true }
+    ensures { OnOk result (SetsFile files.now path.now draft.old draft.new) }
+{
+    match files.get(path) {
+        Some(text) => set_text(alloc, draft, path, text),
+        None => take_out(alloc, draft, path),
+    }
+}
+
+/// The number of the package that has a path.
+fn draft_number(drafts: &[Draft], path: &[u8]) -> Option<usize>
+    requires { IsStrictlySortedBy path_cmp (draft_paths drafts.now) }
+    ensures { MatchOption result (Contains (draft_paths drafts.now) path.now → ⊥) (λ number. slice_get (draft_paths drafts.now) number ≡ Some path.now) }
+{
+    match drafts.binary_search_by(|draft| draft.package.path.as_slice().cmp(path)) {
+        Ok(number) => Some(number),
+        Err(_) => None,
+    }
+}
+
+/// Sets what is at a path to what a workspace has there, if it is that of a Go file in the folder of one of the packages.
+fn set_in(
+    alloc: Global,
+    drafts: &mut Vec<Draft>,
+    files: &Files,
+    path: &Path,
+) -> Result<(), AllocError>
+    requires sorted { IsStrictlySortedBy path_cmp (draft_paths drafts.old.items) }
+    requires drafts { All IsDraft drafts.old.items }
+    ensures { OnOk result (SetsFiles files.now (path.now ∷ []) drafts.old.items drafts.new.items) }
+{
+    if path.is_go() {
+        if let Some(number) = draft_number(drafts, path.folder()) {
+            return set_file(alloc, &mut drafts[number], files, path);
+        }
+    }
+    Ok(())
+}
+
+/// The same for several paths.
+fn set_all(
+    alloc: Global,
+    drafts: &mut Vec<Draft>,
+    files: &Files,
+    paths: &[&Path],
+) -> Result<(), AllocError>
+    requires sorted { IsStrictlySortedBy path_cmp (draft_paths drafts.old.items) }
+    requires drafts { All IsDraft drafts.old.items }
+    ensures { OnOk result (SetsFiles files.now (names paths.now) drafts.old.items drafts.new.items) }
+{
+    for path in paths {
+        set_in(alloc, drafts, files, path)?;
+    }
+    Ok(())
+}
+
+/// A package with no file.
+fn empty_package(alloc: Global, folder: &[u8]) -> Result<Draft, AllocError>
+    ensures { IfOk result (λ made. IsEmptyAt folder.now made) }
+{
+    let package = ParsedPackage {
+        path: Vec::from_slice(alloc, folder)?,
+        trees: Vec::new(alloc),
+        faulty: Vec::new(alloc),
+    };
+    Ok(Draft {
+        package,
+        imports: None,
+        changed: false,
+    })
+}
+
+/// The package at a folder, with no file where there is none.
+fn draft_at(alloc: Global, before: &[SharedPackage], folder: &[u8]) -> Result<Draft, AllocError>
+    requires { IsStrictlySortedBy path_cmp (paths_of before.now) }
+    ensures { IfOk result (IsDraftAt before.now folder.now) }
+{
+    match number_of(before, folder) {
+        Some(number) => before[number].to_draft(),
+        None => empty_package(alloc, folder),
+    }
+}
+
+/// The packages at some folders, with no file where there is none.
+fn drafts_at(
+    alloc: Global,
+    before: &[SharedPackage],
+    folders: &BTreeSet<&[u8]>,
+) -> Result<Vec<Draft>, AllocError>
+    requires { IsStrictlySortedBy path_cmp (paths_of before.now) }
+    ensures { IfOk result (λ drafts. AreDraftsAt before.now (names folders.now.keys) drafts.items) }
+{
+    let mut drafts = Vec::new(alloc);
+    for folder in folders.iter() {
+        drafts.push(draft_at(alloc, before, folder)?)?;
+    }
+    Ok(drafts)
+}
+
+/// Packages that no longer change.
+fn shared(alloc: Global, drafts: Vec<Draft>) -> Result<Vec<SharedPackage>, AllocError>
+    requires { All IsDraft drafts.items }
+    ensures { IfOk result (λ packages. packages.items ≡ packages_of drafts.items) }
+{
+    let mut packages = Vec::new(alloc);
+    for draft in drafts {
+        packages.push(SharedPackage::of(alloc, draft)?)?;
+    }
+    Ok(packages)
+}
+
+/// The packages at some folders, with what a workspace has at some paths, and with no file where there is none.
+pub(crate) fn packages_with(
+    alloc: Global,
+    before: &[SharedPackage],
+    files: &Files,
+    paths: &[&Path],
+) -> Result<Vec<SharedPackage>, AllocError>
+    requires { IsStrictlySortedBy path_cmp (paths_of before.now) }
+    ensures { IfOk result (λ fresh. (v : Workspace) → ArePackages v before.now → DiffersOnlyAt (names paths.now) v files.now → AreFresh v files.now fresh.items) }
+{
+    let folders = folders_of(alloc, paths)?;
+    let mut drafts = drafts_at(alloc, before, &folders)?;
+    set_all(alloc, &mut drafts, files, paths)?;
+    shared(alloc, drafts)
+}

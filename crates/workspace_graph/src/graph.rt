@@ -1,0 +1,377 @@
+//! The graph of a workspace: its packages with their parsed files, and which imports which.
+ghost use Rattle.std.specs.FinMap as map;
+ghost use Rattle.std.specs.Prelude.{◌≡◌, ◌<◌, ℕ, [], ◌∷◌, true, length, IfOk, OnOk, MatchOption, Some, slice_get};
+ghost use Rattle.std.specs.List.{All, Contains};
+ghost use Rattle.std.specs.List.Sorted.{IsStrictlyIncreasing};
+ghost use Rattle.workspace_graph.specs.Imports.{imports_of};
+ghost use Rattle.base_files.specs.Packages.{package_paths};
+ghost use Rattle.workspace_graph.specs.Packages.{PackageImports, IsInClosure, AreLinksOf};
+ghost use Rattle.workspace_graph.specs.Changed.{KeepsPath, has_file};
+ghost use Rattle.workspace_graph.specs.Filling.{names};
+ghost use Rattle.workspace_graph.specs.Reaching.{AreBackMarks, AreMarkedAbove, BuildsOn, MarkImporting, MarkReaching, MarksAbove};
+ghost use Rattle.workspace_graph.specs.Staying.{DiffersOnlyAt, DiffersOnlyIn, HasFiles};
+ghost use Rattle.workspace_graph.specs.declared.package.ParsedPackage.{ParsedPackage};
+ghost use Rattle.workspace_graph.specs.NamedFiles.{AreFresh};
+ghost use Rattle.workspace_graph.specs.Updated.{IsPlace};
+ghost use Rattle.workspace_graph.specs.Graphs.{
+  paths_of,
+  IsGraph,
+  IsPackage,
+  OfPackage,
+  HoldsPackages,
+};
+
+use crate::changed::{keep_paths, keep_rows, replaced};
+use crate::drafts::packages_with;
+use crate::grown::{Grown, grown_links};
+use crate::import_links::ImportLinks;
+use crate::package::ParsedPackage;
+use crate::package_list::PackageList;
+use crate::packages_below::PackagesBelow;
+use crate::rows::{EarlierGraph, rows};
+use crate::shared_links::SharedLinks;
+use crate::shared_package::{SharedPackage, number_of};
+use crate::updated::{Coming, one_that_comes, updated, with_coming};
+use base_files::{Files, Path};
+use std::alloc::{AllocError, Global};
+use std::marker::Model;
+use std::sync::Arc;
+
+/// What the owners of a graph share.
+#[derive(Drop)]
+struct Parts {
+    files: Files,
+    packages: Vec<SharedPackage>,
+    links: SharedLinks,
+}
+
+/// The graph of a workspace, which no longer changes: its packages by number, in the order of their paths, each with
+/// its parsed files, and all that is asked of their imports. A clone shares it.
+pub struct Graph {
+    parts: Arc<Parts, Global>,
+}
+
+/// Written out, so that crates above call it and don't prove again how each part is dropped.
+impl Drop for Graph {
+    fn drop(self) {
+        let Graph { parts } = self;
+        drop(parts);
+    }
+}
+
+impl Model for Graph {
+    ghost use Rattle.std.specs.Prelude.{List, ℕ};
+    ghost use Rattle.std.specs.Coded.{coded_ℕ, coded_list};
+    ghost use Rattle.std.specs.FinMap as map;
+    ghost use Rattle.std.specs.Arc.{arc_value};
+    ghost use Rattle.base_files.specs.Workspace.{path_cmp};
+    ghost use Rattle.workspace_graph.specs.Graphs.{IsGraph};
+
+    ghost Value = { map.FinMap path_cmp (List ℕ) };
+
+    ghost coded = { map.code (coded_list coded_ℕ) (coded_list coded_ℕ) };
+
+    ghost view = { λ a. (arc_value a.parts).files };
+
+    ghost invariant = { λ a. IsGraph (arc_value a.parts).files (arc_value a.parts).packages.items (arc_value a.parts).links };
+}
+
+/// The packages and links of an earlier graph, if there is one.
+fn earlier_of(before: Option<&Parts>) -> Option<EarlierGraph<'_>> {
+    match before {
+        Some(parts) => Some(EarlierGraph {
+            packages: &parts.packages,
+            links: parts.links.links(),
+        }),
+        None => None,
+    }
+}
+
+/// Its links alone.
+fn links_of(before: Option<&Parts>) -> Option<&SharedLinks> {
+    match before {
+        Some(parts) => Some(&parts.links),
+        None => None,
+    }
+}
+
+impl Graph {
+    /// The graph of no files.
+    pub fn empty(alloc: Global) -> Result<Graph, AllocError>
+        ensures { IfOk result (λ graph. graph ≡ map.empty) }
+    {
+        let files = Files::new(alloc);
+        Graph::made(alloc, None, files, Vec::new(alloc))
+    }
+
+    /// The graph of other files, whose Go files differ from those of the graph before only at some paths. Packages at the folders of
+    /// other paths are shared, and only files in the folders of these are looked at, and parsed where their text is new.
+    pub fn changed(
+        alloc: Global,
+        before: &Graph,
+        files: Files,
+        paths: &[&Path],
+    ) -> Result<Graph, AllocError>
+        requires { DiffersOnlyAt (names paths.now) before.now files }
+        ensures { IfOk result (λ graph. graph ≡ files) }
+    {
+        let old: &Parts = &before.parts;
+        let fresh = packages_with(alloc, &old.packages, &files, paths)?;
+        if keep_paths(&old.packages, &fresh) {
+            return Graph::replaced(alloc, before, &fresh, files);
+        }
+        if let Some(coming) = one_that_comes(&old.packages, &fresh) {
+            return Graph::grown(alloc, before, coming, files);
+        }
+        let packages = updated(&old.packages, &fresh)?;
+        Graph::made(alloc, Some(old), files, packages)
+    }
+
+    /// The graph of other files, by the package of the only folder in which Go files differ, where this package comes.
+    fn grown(
+        alloc: Global,
+        before: &Graph,
+        coming: Coming<'_>,
+        files: Files,
+    ) -> Result<Graph, AllocError>
+        requires fresh { AreFresh before.now files (coming.one.now ∷ []) }
+        requires file { has_file coming.one.now ≡ true }
+        requires stands { IsPlace (package_paths before.now) coming.one.now.path.items coming.place }
+        ensures { IfOk result (λ graph. graph ≡ files) }
+    {
+        let old: &Parts = &before.parts;
+        let packages = with_coming(&old.packages, coming)?;
+        let grown = Grown {
+            packages: &packages,
+            links: old.links.links(),
+            place: coming.place,
+        };
+        let links = grown_links(alloc, grown)?;
+        Graph::joined(alloc, files, packages, links)
+    }
+
+    /// The graph of some files from their packages and the links of these.
+    fn joined(
+        alloc: Global,
+        files: Files,
+        packages: Vec<SharedPackage>,
+        links: ImportLinks,
+    ) -> Result<Graph, AllocError>
+        requires { IsGraph files packages.items links }
+        ensures { IfOk result (λ graph. graph ≡ files) }
+    {
+        let links = SharedLinks::new(alloc, links)?;
+        let parts = Parts {
+            files,
+            packages,
+            links,
+        };
+        Ok(Graph {
+            parts: Arc::new(alloc, parts)?,
+        })
+    }
+
+    /// The graph of other files, by the packages of the folders in which Go files differ, where no package comes and none goes.
+    fn replaced(
+        alloc: Global,
+        before: &Graph,
+        fresh: &[SharedPackage],
+        files: Files,
+    ) -> Result<Graph, AllocError>
+        requires differs { DiffersOnlyIn (paths_of fresh.now) before.now files }
+        requires fresh { All (HasFiles files) fresh.now }
+        requires kept { All (KeepsPath (package_paths before.now)) fresh.now }
+        ensures { IfOk result (λ graph. graph ≡ files) }
+    {
+        let old: &Parts = &before.parts;
+        let packages = replaced(&old.packages, fresh)?;
+        if !keep_rows(alloc, &packages, old.links.links(), fresh)? {
+            return Graph::made(alloc, Some(old), files, packages);
+        }
+        let links = old.links.clone()?;
+        let parts = Parts {
+            files,
+            packages,
+            links,
+        };
+        Ok(Graph {
+            parts: Arc::new(alloc, parts)?,
+        })
+    }
+
+    /// The graph of some files from their packages. What is asked of the links before is not found again where no link
+    /// changed, and each import is looked for first where it was before.
+    fn made(
+        alloc: Global,
+        before: Option<&Parts>,
+        files: Files,
+        packages: Vec<SharedPackage>,
+    ) -> Result<Graph, AllocError>
+        requires paths { paths_of packages.items ≡ package_paths files }
+        requires files { (i : ℕ) (p : ParsedPackage) → slice_get packages.items i ≡ Some p → HasFiles files p }
+        ensures { IfOk result (λ graph. graph ≡ files) }
+    {
+        let earlier = earlier_of(before);
+        let rows = rows(alloc, &packages, earlier)?;
+        let links = SharedLinks::of(alloc, links_of(before), rows)?;
+        let parts = Parts {
+            files,
+            packages,
+            links,
+        };
+        Ok(Graph {
+            parts: Arc::new(alloc, parts)?,
+        })
+    }
+
+    /// The files that the graph is of.
+    pub fn files(&self) -> &Files
+        ensures { result.now ≡ self.now }
+    {
+        &self.parts.files
+    }
+
+    /// How many packages there are.
+    pub fn len(&self) -> usize
+        ensures { result ≡ length (package_paths self.now) }
+    {
+        self.parts.packages.len()
+    }
+
+    /// The number of the package that has a path.
+    pub fn number_of(&self, path: &[u8]) -> Option<usize>
+        ensures { MatchOption result (Contains (package_paths self.now) path.now → ⊥) (λ number. slice_get (package_paths self.now) number ≡ Some path.now) }
+    {
+        number_of(&self.parts.packages, path)
+    }
+
+    /// A package with its parsed files.
+    pub fn package(&self, number: usize) -> &ParsedPackage
+        requires { number < length (package_paths self.now) }
+        ensures { IsPackage self.now number result.now }
+    {
+        self.parts.packages[number].package()
+    }
+
+    /// Which packages import which, by number.
+    pub fn links(&self) -> &ImportLinks
+        ensures links { AreLinksOf self.now result.now }
+        ensures rising { (i : ℕ) → i < length result.now → IsStrictlyIncreasing (imports_of result.now i) }
+    {
+        self.parts.links.links()
+    }
+
+    /// The packages that one imports directly, in their order.
+    pub fn imports(&self, number: usize) -> &[usize]
+        requires { number < length (package_paths self.now) }
+        ensures imports { OfPackage self.now number (λ p. HoldsPackages self.now (PackageImports self.now p) result.now) }
+        ensures rising { IsStrictlyIncreasing result.now }
+    {
+        self.links().imports(number)
+    }
+
+    /// The packages that import one directly, in their order.
+    pub fn importers(&self, number: usize) -> &[usize]
+        requires { number < length (package_paths self.now) }
+        ensures importers { OfPackage self.now number (λ p. HoldsPackages self.now (λ q. PackageImports self.now q p) result.now) }
+        ensures rising { IsStrictlyIncreasing result.now }
+    {
+        self.links().importers(number)
+    }
+
+    /// A package, and all that it imports directly or indirectly, in their order. It is searched for.
+    pub fn closure(&self, alloc: Global, number: usize) -> Result<PackageList, AllocError>
+        requires { number < length (package_paths self.now) }
+        ensures closure { IfOk result (λ closure. OfPackage self.now number (λ p. HoldsPackages self.now (IsInClosure self.now p) closure)) }
+        ensures rising { IfOk result IsStrictlyIncreasing }
+    {
+        self.links().closure(alloc, number)
+    }
+
+    /// Marks that tell of what a package imports, directly or indirectly, whether it so imports that package.
+    pub fn back_marks(&self, alloc: Global, number: usize) -> Result<Vec<bool>, AllocError>
+        requires { number < length (package_paths self.now) }
+        ensures { IfOk result (λ marks. OfPackage self.now number (λ p. AreBackMarks self.now p marks.items)) }
+    {
+        self.links().back_marks(alloc, number)
+    }
+
+    /// What a package imports, directly or indirectly, and what does not so import it, in their order. It is searched for.
+    pub fn built_on(&self, alloc: Global, number: usize) -> Result<PackageList, AllocError>
+        requires { number < length (package_paths self.now) }
+        ensures below { IfOk result (λ below. OfPackage self.now number (λ p. HoldsPackages self.now (BuildsOn self.now p) below)) }
+        ensures rising { IfOk result IsStrictlyIncreasing }
+    {
+        self.links().built_on(alloc, number)
+    }
+
+    /// The same, with the marks of `back_marks`. One search finds both.
+    pub fn below(&self, alloc: Global, number: usize) -> Result<PackagesBelow, AllocError>
+        requires { number < length (package_paths self.now) }
+        ensures built_on { IfOk result (λ found. OfPackage self.now number (λ p. HoldsPackages self.now (BuildsOn self.now p) found.built_on)) }
+        ensures rising { IfOk result (λ found. IsStrictlyIncreasing found.built_on) }
+        ensures back { IfOk result (λ found. OfPackage self.now number (λ p. AreBackMarks self.now p found.back.items)) }
+    {
+        self.links().below(alloc, number)
+    }
+
+    /// The same, by the closure of the package, which is known. Nothing is searched for where no importer of the package is in that.
+    pub fn below_in(
+        &self,
+        alloc: Global,
+        number: usize,
+        closure: &[usize],
+    ) -> Result<PackagesBelow, AllocError>
+        requires number { number < length (package_paths self.now) }
+        requires closure { OfPackage self.now number (λ p. HoldsPackages self.now (IsInClosure self.now p) closure.now) }
+        requires rising { IsStrictlyIncreasing closure.now }
+        ensures built_on { IfOk result (λ found. OfPackage self.now number (λ p. HoldsPackages self.now (BuildsOn self.now p) found.built_on)) }
+        ensures rising { IfOk result (λ found. IsStrictlyIncreasing found.built_on) }
+        ensures back { IfOk result (λ found. OfPackage self.now number (λ p. AreBackMarks self.now p found.back.items)) }
+    {
+        self.links().below_in(alloc, number, closure)
+    }
+
+    /// A mark for each package that is marked, or imports a marked one, directly or indirectly. One search finds them all.
+    pub fn reaching(&self, alloc: Global, marks: &[bool]) -> Result<Vec<bool>, AllocError>
+        requires { length marks.now ≡ length (package_paths self.now) }
+        ensures { IfOk result (λ reaching. MarkReaching self.now marks.now reaching.items) }
+    {
+        self.links().reaching(alloc, marks)
+    }
+
+    /// Marks a package, and all that import it, directly or indirectly, where what imports a marked package is marked. No marked
+    /// package is looked at again.
+    pub fn mark_importing(
+        &self,
+        alloc: Global,
+        marks: &mut Vec<bool>,
+        number: usize,
+    ) -> Result<(), AllocError>
+        requires number { number < length (package_paths self.now) }
+        requires size { length marks.old.items ≡ length (package_paths self.now) }
+        requires above { AreMarkedAbove self.now marks.old.items }
+        ensures { OnOk result (OfPackage self.now number (λ q. MarksAbove self.now q marks.old.items marks.new.items)) }
+    {
+        self.links().mark_importing(alloc, marks, number)
+    }
+
+    /// A mark for each package that imports one, directly or indirectly, or is it.
+    pub fn importing(&self, alloc: Global, number: usize) -> Result<Vec<bool>, AllocError>
+        requires { number < length (package_paths self.now) }
+        ensures { IfOk result (λ marks. OfPackage self.now number (λ q. MarkImporting self.now q marks.items)) }
+    {
+        let mut marks = vec![in alloc; false; self.len()]?;
+        self.mark_importing(alloc, &mut marks, number)?;
+        Ok(marks)
+    }
+}
+
+impl Clone for Graph {
+    ghost is_clone = { λ graph copy. copy ≡ graph };
+
+    fn clone(&self) -> Result<Graph, AllocError> {
+        let parts = Arc::try_clone(&self.parts)?;
+        Ok(Graph { parts })
+    }
+}

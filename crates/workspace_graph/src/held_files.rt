@@ -1,0 +1,111 @@
+//! The trees of a package and its other files, in the order of their paths, while single ones are set.
+ghost use Rattle.std.specs.Prelude.{◌≡◌, IfOk, IfSome, IsTrue, OnOk, Some, slice_get, MatchResult};
+ghost use Rattle.std.specs.List.{Contains};
+ghost use Rattle.std.specs.List.Sorted.{IsStrictlySortedBy};
+ghost use Rattle.base_files.specs.Workspace.{path_cmp};
+ghost use Rattle.workspace_graph.specs.Drafts.{IsGone};
+ghost use Rattle.workspace_graph.specs.HeldFiles.{fault_path, fault_paths, tree_path, tree_paths};
+ghost use Rattle.workspace_graph.specs.Updated.{IsPlace, PutsIn, TakesOut};
+
+use crate::faulty_file::FaultyFile;
+use base_files::Path;
+use go_ast::FileTree;
+use std::alloc::AllocError;
+
+/// The number of the tree of a path, and otherwise the place where one would stand.
+fn tree_place(trees: &[FileTree], path: &Path) -> Result<usize, usize>
+    requires { IsStrictlySortedBy path_cmp (tree_paths trees.now) }
+    ensures { MatchResult result (λ number. slice_get (tree_paths trees.now) number ≡ Some path.now) (λ place. IsPlace (tree_paths trees.now) path.now place) }
+{
+    trees.binary_search_by(|tree| tree.path().cmp(path))
+}
+
+/// The number of the file of a path that has no tree, and otherwise the place where one would stand.
+fn fault_place(faulty: &[FaultyFile], path: &Path) -> Result<usize, usize>
+    requires { IsStrictlySortedBy path_cmp (fault_paths faulty.now) }
+    ensures { MatchResult result (λ number. slice_get (fault_paths faulty.now) number ≡ Some path.now) (λ place. IsPlace (fault_paths faulty.now) path.now place) }
+{
+    faulty.binary_search_by(|file| file.path().cmp(path))
+}
+
+/// The tree of a path, if there is one.
+pub(crate) fn tree_at<'a>(trees: &'a [FileTree], path: &Path) -> Option<&'a FileTree>
+    requires { IsStrictlySortedBy path_cmp (tree_paths trees.now) }
+    ensures { IfSome result (λ tree. Contains trees.now tree.now × (tree.now.path ≡ path.now)) }
+{
+    match tree_place(trees, path) {
+        Ok(number) => Some(&trees[number]),
+        Err(_) => None,
+    }
+}
+
+/// The file of a path that has no tree, if there is one.
+pub(crate) fn fault_at<'a>(faulty: &'a [FaultyFile], path: &Path) -> Option<&'a FaultyFile>
+    requires { IsStrictlySortedBy path_cmp (fault_paths faulty.now) }
+    ensures { IfSome result (λ file. Contains faulty.now file.now × (file.now.path ≡ path.now)) }
+{
+    match fault_place(faulty, path) {
+        Ok(number) => Some(&faulty[number]),
+        Err(_) => None,
+    }
+}
+
+/// What was taken out at a path, if it was there, and the place where it would stand.
+#[derive(Drop)]
+pub(crate) struct TakenTree {
+    pub(crate) tree: Option<FileTree>,
+    pub(crate) place: usize,
+}
+
+/// Takes out the tree of a path, if there is one.
+pub(crate) fn take_tree(trees: &mut Vec<FileTree>, path: &Path) -> TakenTree
+    requires { IsStrictlySortedBy path_cmp (tree_paths trees.old.items) }
+    ensures out { TakesOut tree_path path.now trees.old.items trees.new.items result.place }
+    ensures gone { IsGone path.now trees.old.items result.tree }
+{
+    match tree_place(trees, path) {
+        Ok(place) => TakenTree {
+            tree: Some(trees.remove(place)),
+            place,
+        },
+        Err(place) => TakenTree { tree: None, place },
+    }
+}
+
+/// Takes out the file of a path that has no tree, if there is one. The answer is the place where it would stand.
+pub(crate) fn take_fault(faulty: &mut Vec<FaultyFile>, path: &Path) -> usize
+    requires { IsStrictlySortedBy path_cmp (fault_paths faulty.old.items) }
+    ensures { TakesOut fault_path path.now faulty.old.items faulty.new.items result }
+{
+    match fault_place(faulty, path) {
+        Ok(number) => {
+            let _ = faulty.remove(number);
+            number
+        }
+        Err(place) => place,
+    }
+}
+
+/// Puts a tree in the place of the one that has its path. The answer is that one, if there is one.
+pub(crate) fn put_tree(
+    trees: &mut Vec<FileTree>,
+    tree: FileTree,
+) -> Result<Option<FileTree>, AllocError>
+    requires { IsStrictlySortedBy path_cmp (tree_paths trees.old.items) }
+    ensures put { IfOk result (λ _. PutsIn tree_path tree trees.old.items trees.new.items) }
+    ensures gone { IfOk result (IsGone tree.path trees.old.items) }
+{
+    let taken = take_tree(trees, tree.path());
+    trees.insert(taken.place, tree)?;
+    Ok(taken.tree)
+}
+
+/// Puts a file that has no tree in the place of the one that has its path.
+pub(crate) fn put_fault(faulty: &mut Vec<FaultyFile>, file: FaultyFile) -> Result<(), AllocError>
+    requires { IsStrictlySortedBy path_cmp (fault_paths faulty.old.items) }
+    ensures { OnOk result (PutsIn fault_path file faulty.old.items faulty.new.items) }
+{
+    let place = take_fault(faulty, file.path());
+    faulty.insert(place, file)?;
+    Ok(())
+}

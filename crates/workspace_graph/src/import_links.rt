@@ -1,0 +1,198 @@
+//! Which packages import which, with all that is asked of it.
+ghost use Rattle.std.specs.Prelude.{ℕ, ◌≡◌, ◌<◌, IfOk, IfSome, IsTrue, OnOk, length};
+ghost use Rattle.std.specs.List.Sorted.{IsStrictlyIncreasing};
+ghost use Rattle.workspace_graph.specs.Closures.{IsBuiltOn};
+ghost use Rattle.workspace_graph.specs.Orders.{IsOrder};
+ghost use Rattle.workspace_graph.specs.Imports.{
+  AreLinked,
+  AreImporters,
+  HoldImporters,
+  Imports,
+  IsClosure,
+  imports_of,
+};
+ghost use Rattle.workspace_graph.specs.Search.{AreReaching, IsMarked, MarkBack, MarksImporting, TellBack};
+
+use crate::among::share_none;
+use crate::closure::{back_marks, below, closure_of, reached_by, rest_of};
+use crate::importers::importers;
+use crate::link_rows::LinkRows;
+use crate::order::order;
+use crate::package_list::PackageList;
+use crate::packages_below::PackagesBelow;
+use crate::search::reach;
+use std::alloc::{AllocError, Global};
+use std::marker::Model;
+
+/// The direct imports of each package, packages being numbered from 0. Who imports each is found beforehand, so that this takes no
+/// memory; what a package reaches is searched for when it is asked.
+#[derive(Drop)]
+pub struct ImportLinks {
+    imports: LinkRows,
+    importers: LinkRows,
+}
+
+impl Model for ImportLinks {
+    ghost use Rattle.workspace_graph.specs.Imports.{Links};
+    ghost use Rattle.workspace_graph.specs.Closures.{AreAnswers};
+
+    ghost Value = { Links };
+
+    ghost view = { λ a. a.imports };
+
+    ghost invariant = { λ a. AreAnswers a.imports a.importers };
+}
+
+impl ImportLinks {
+    /// Finds who imports each.
+    pub(crate) fn new(alloc: Global, imports: LinkRows) -> Result<ImportLinks, AllocError>
+        requires { AreLinked imports }
+        ensures { IfOk result (λ links. links ≡ imports) }
+    {
+        let importers = importers(alloc, &imports)?;
+        Ok(ImportLinks { imports, importers })
+    }
+
+    /// Those of which it is known who imports each.
+    pub(crate) fn with_importers(imports: LinkRows, importers: LinkRows) -> ImportLinks
+        requires linked { AreLinked imports }
+        requires importers { HoldImporters imports (length imports) importers }
+        ensures { result ≡ imports }
+    {
+        ImportLinks { imports, importers }
+    }
+
+    /// The rows of all packages.
+    pub(crate) fn import_rows(&self) -> &LinkRows
+        ensures { result.now ≡ self.now }
+    {
+        &self.imports
+    }
+
+    /// The importers of all packages.
+    pub(crate) fn importer_rows(&self) -> &LinkRows
+        ensures { HoldImporters self.now (length self.now) result.now }
+    {
+        &self.importers
+    }
+
+    /// How many packages there are.
+    pub fn len(&self) -> usize
+        ensures { result ≡ length self.now }
+    {
+        self.imports.len()
+    }
+
+    /// Whether some rows are the direct imports of all packages.
+    pub(crate) fn are(&self, rows: &LinkRows) -> bool
+        ensures { IsTrue result → self.now ≡ rows.now }
+    {
+        self.imports.are(rows)
+    }
+
+    /// The packages that one imports directly.
+    pub fn imports(&self, number: usize) -> &[usize]
+        requires { number < length self.now }
+        ensures { result.now ≡ imports_of self.now number }
+    {
+        self.imports.row(number)
+    }
+
+    /// The packages that import one directly.
+    pub fn importers(&self, number: usize) -> &[usize]
+        requires { number < length self.now }
+        ensures importers { AreImporters self.now number result.now }
+        ensures rising { ((p : ℕ) → IsStrictlyIncreasing (imports_of self.now p)) → IsStrictlyIncreasing result.now }
+    {
+        self.importers.row(number)
+    }
+
+    /// A package, and all that it imports directly or indirectly, by number. It is searched for.
+    pub fn closure(&self, alloc: Global, number: usize) -> Result<PackageList, AllocError>
+        requires { number < length self.now }
+        ensures closure { IfOk result (IsClosure self.now number) }
+        ensures rising { IfOk result IsStrictlyIncreasing }
+    {
+        closure_of(alloc, &self.imports, number)
+    }
+
+    /// Marks that tell of what a package imports, directly or indirectly, whether it so imports that package.
+    pub fn back_marks(&self, alloc: Global, number: usize) -> Result<Vec<bool>, AllocError>
+        requires { number < length self.now }
+        ensures { IfOk result (λ marks. TellBack self.now number marks.items) }
+    {
+        back_marks(alloc, &self.imports, &self.importers, number)
+    }
+
+    /// What a package imports, directly or indirectly, and what does not so import it, by number; and marks that tell of what it so
+    /// imports whether that so imports it. They are searched for.
+    pub fn below(&self, alloc: Global, number: usize) -> Result<PackagesBelow, AllocError>
+        requires { number < length self.now }
+        ensures built_on { IfOk result (λ found. IsBuiltOn self.now number found.built_on) }
+        ensures back { IfOk result (λ found. MarkBack self.now number found.back.items) }
+    {
+        below(alloc, &self.imports, &self.importers, number)
+    }
+
+    /// What a package imports, directly or indirectly, and what does not so import it, alone.
+    pub fn built_on(&self, alloc: Global, number: usize) -> Result<PackageList, AllocError>
+        requires { number < length self.now }
+        ensures { IfOk result (IsBuiltOn self.now number) }
+    {
+        let PackagesBelow { built_on, back } = self.below(alloc, number)?;
+        drop(back);
+        Ok(built_on)
+    }
+
+    /// What a package imports, directly or indirectly, and what does not so import it, with such marks, by its closure, which is known.
+    /// Nothing is searched for where no importer of the package is in that.
+    pub fn below_in(
+        &self,
+        alloc: Global,
+        number: usize,
+        closure: &[usize],
+    ) -> Result<PackagesBelow, AllocError>
+        requires number { number < length self.now }
+        requires closure { IsClosure self.now number closure.now }
+        requires rising { IsStrictlyIncreasing closure.now }
+        ensures built_on { IfOk result (λ found. IsBuiltOn self.now number found.built_on) }
+        ensures back { IfOk result (λ found. MarkBack self.now number found.back.items) }
+    {
+        if !share_none(self.importers(number), closure) {
+            return self.below(alloc, number);
+        }
+        rest_of(alloc, self.len(), number, closure)
+    }
+
+    /// A mark for each package that is marked, or imports a marked one, directly or indirectly. One search finds them all.
+    pub fn reaching(&self, alloc: Global, marks: &[bool]) -> Result<Vec<bool>, AllocError>
+        requires { length marks.now ≡ length self.now }
+        ensures { IfOk result (λ reaching. AreReaching self.now marks.now reaching.items) }
+    {
+        reached_by(alloc, &self.importers, marks)
+    }
+
+    /// Marks a package, and all that import it, directly or indirectly, where what imports a marked package is marked. No marked
+    /// package is looked at again.
+    pub fn mark_importing(
+        &self,
+        alloc: Global,
+        marks: &mut Vec<bool>,
+        number: usize,
+    ) -> Result<(), AllocError>
+        requires number { number < length self.now }
+        requires size { length marks.old.items ≡ length self.now }
+        requires above { (p q : ℕ) → Imports self.now p q → IsMarked marks.old.items q → IsMarked marks.old.items p }
+        ensures { OnOk result (MarksImporting self.now number marks.old.items marks.new.items) }
+    {
+        reach(alloc, &self.importers, marks, number)
+    }
+
+    /// All packages, each behind those that it imports, directly or indirectly, and that do not so import it; if a search finds such an
+    /// order, which only speed rests on.
+    pub fn order(&self, alloc: Global) -> Result<Option<Vec<usize>>, AllocError>
+        ensures { IfOk result (λ found. IfSome found (λ order. IsOrder self.now order.items)) }
+    {
+        order(alloc, &self.imports, &self.importers)
+    }
+}

@@ -1,0 +1,99 @@
+//! Which packages import each. They are found package by package, and noted in one list, in which those of one package are chained.
+ghost use Rattle.std.specs.Prelude.{◌≡◌, ◌<◌, ◌++◌, [], ◌∷◌, length, replicate, slice_set, IfOk, OnOk};
+ghost use Rattle.std.specs.List.{All};
+ghost use Rattle.workspace_graph.specs.Chains.{AreChained, AreNoted};
+ghost use Rattle.workspace_graph.specs.Imports.{AreLinked, HoldImporters, Links, imports_of};
+
+use crate::link_rows::LinkRows;
+use std::alloc::{AllocError, Global};
+
+/// An importer of a package, and the place of the one that was noted before it of the same package, counted from 1, or 0.
+#[derive(Clone, Copy)]
+struct Noted {
+    importer: usize,
+    before: usize,
+}
+
+/// Of each package the place of the importer that was noted last, counted from 1, or 0.
+#[derive(Drop)]
+struct Chains {
+    latest: Vec<usize>,
+    noted: Vec<Noted>,
+}
+
+impl Chains {
+    fn new(alloc: Global, count: usize) -> Result<Chains, AllocError>
+        ensures { IfOk result (λ chains. AreChained chains (replicate count [])) }
+    {
+        Ok(Chains {
+            latest: vec![in alloc; 0; count]?,
+            noted: Vec::new(alloc),
+        })
+    }
+
+    fn note(&mut self, number: usize, importer: usize) -> Result<(), AllocError>
+        requires { number < length self.old.latest.items }
+        ensures size { OnOk result (length self.new.latest.items ≡ length self.old.latest.items) }
+        ensures noted { OnOk result ((lists : Links) → AreChained self.old lists → AreChained self.new (slice_set lists number (imports_of lists number ++ importer ∷ []))) }
+    {
+        let before = self.latest[number];
+        self.noted.push(Noted { importer, before })?;
+        self.latest[number] = self.noted.len();
+        Ok(())
+    }
+
+    /// Notes the importer at each package of its row.
+    fn note_row(&mut self, row: &[usize], importer: usize) -> Result<(), AllocError>
+        requires { All (λ q. q < length self.old.latest.items) row.now }
+        ensures size { OnOk result (length self.new.latest.items ≡ length self.old.latest.items) }
+        ensures noted { OnOk result ((lists : Links) → AreChained self.old lists → AreNoted lists row.now importer self.new) }
+    {
+        for number in row {
+            self.note(*number, importer)?;
+        }
+        Ok(())
+    }
+
+    /// Puts the importers of a package into a row in place of what is there.
+    fn fill_row(&self, number: usize, row: &mut Vec<usize>) -> Result<(), AllocError>
+        requires number { number < length self.now.latest.items }
+        requires chained { (lists : Links) × AreChained self.now lists }
+        ensures { OnOk result ((lists : Links) → AreChained self.now lists → row.new.items ≡ imports_of lists number) }
+    {
+        row.clear();
+        let mut left = self.latest[number];
+        while left > 0 {
+            let noted = self.noted[left - 1];
+            row.push(noted.importer)?;
+            left = noted.before;
+        }
+        row.reverse();
+        Ok(())
+    }
+
+    /// The importers of all packages.
+    fn rows(&self, alloc: Global) -> Result<LinkRows, AllocError>
+        requires { (lists : Links) × AreChained self.now lists }
+        ensures { IfOk result (λ rows. (lists : Links) → AreChained self.now lists → rows ≡ lists) }
+    {
+        let mut rows = LinkRows::with_capacity(alloc, self.latest.len(), self.noted.len())?;
+        let mut row = Vec::new(alloc);
+        for number in 0..self.latest.len() {
+            self.fill_row(number, &mut row)?;
+            rows.add_row(&row)?;
+        }
+        Ok(rows)
+    }
+}
+
+/// For each package, those that import it.
+pub(crate) fn importers(alloc: Global, imports: &LinkRows) -> Result<LinkRows, AllocError>
+    requires { AreLinked imports.now }
+    ensures { IfOk result (λ importers. HoldImporters imports.now (length imports.now) importers) }
+{
+    let mut chains = Chains::new(alloc, imports.len())?;
+    for importer in 0..imports.len() {
+        chains.note_row(imports.row(importer), importer)?;
+    }
+    chains.rows(alloc)
+}

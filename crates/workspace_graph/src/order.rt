@@ -1,0 +1,154 @@
+//! An order of packages, in which each comes behind those that it reaches and that do not reach it.
+ghost use Rattle.std.specs.Prelude.{ℕ, ◌≡◌, ◌<◌, length, IfOk, IfSome, IsTrue, OnOk};
+ghost use Rattle.std.specs.List.{All, Contains};
+ghost use Rattle.workspace_graph.specs.Imports.{AreLinked, HoldImporters, Reaches};
+ghost use Rattle.workspace_graph.specs.Orders.{AreClear, AreTold, IsOrder};
+ghost use Rattle.workspace_graph.specs.Search.{IsMarked};
+
+use crate::depth_first::latest_first;
+use crate::link_rows::LinkRows;
+use crate::search::spread;
+use std::alloc::{AllocError, Global};
+
+/// The packages that are told, in order and by marks, and marks that bar a search from all packages but those of one block.
+#[derive(Drop)]
+struct Blocks {
+    order: Vec<usize>,
+    told: Vec<bool>,
+    barred: Vec<bool>,
+}
+
+/// Takes the marks of some packages off.
+fn clear(marks: &mut Vec<bool>, numbers: &[usize])
+    requires { All (λ q. q < length marks.old.items) numbers.now }
+    ensures size { length marks.new.items ≡ length marks.old.items }
+    ensures clear { AreClear numbers.now marks.new.items }
+{
+    for number in numbers {
+        marks[*number] = false;
+    }
+}
+
+/// Whether all of some packages are marked.
+fn are_marked(marks: &[bool], numbers: &[usize]) -> bool
+    requires { All (λ q. q < length marks.now) numbers.now }
+    ensures { IsTrue result → (q : ℕ) → Contains numbers.now q → IsMarked marks.now q }
+{
+    for number in numbers {
+        if !marks[*number] {
+            return false;
+        }
+    }
+    true
+}
+
+fn are_all_marked(marks: &[bool]) -> bool
+    ensures { IsTrue result → (q : ℕ) → q < length marks.now → IsMarked marks.now q }
+{
+    for mark in marks {
+        if !*mark {
+            return false;
+        }
+    }
+    true
+}
+
+/// Whether all of a block reach one package, as far as ways within the block tell it.
+fn leads_back(
+    alloc: Global,
+    importers: &LinkRows,
+    barred: &mut Vec<bool>,
+    block: &[usize],
+    root: usize,
+) -> Result<bool, AllocError>
+    requires linked { AreLinked importers.now }
+    requires size { length barred.old.items ≡ length importers.now }
+    requires block { All (λ q. q < length importers.now) block.now }
+    requires root { root < length importers.now }
+    ensures size { OnOk result (length barred.new.items ≡ length importers.now) }
+    ensures back { IfOk result (λ back. IsTrue back → (q : ℕ) → Contains block.now q → Reaches importers.now root q) }
+{
+    clear(barred, block);
+    spread(alloc, importers, barred, root)?;
+    Ok(are_marked(barred, block))
+}
+
+impl Blocks {
+    fn new(alloc: Global, count: usize) -> Result<Blocks, AllocError>
+        ensures order { IfOk result (λ blocks. length blocks.order.items ≡ 0) }
+        ensures told { IfOk result (λ blocks. (q : ℕ) → IsMarked blocks.told.items q → ⊥) }
+        ensures size { IfOk result (λ blocks. length blocks.told.items ≡ count) }
+        ensures bars { IfOk result (λ blocks. length blocks.barred.items ≡ count) }
+    {
+        Ok(Blocks {
+            order: Vec::new(alloc),
+            told: vec![in alloc; false; count]?,
+            barred: vec![in alloc; true; count]?,
+        })
+    }
+
+    /// Tells a package and what it reaches and is not told, as one block. It answers whether all of the block reach the package.
+    fn add(
+        &mut self,
+        alloc: Global,
+        imports: &LinkRows,
+        importers: &LinkRows,
+        root: usize,
+    ) -> Result<bool, AllocError>
+        requires linked { AreLinked imports.now }
+        requires back { HoldImporters imports.now (length imports.now) importers.now }
+        requires root { root < length imports.now }
+        requires told { AreTold imports.now self.old }
+        ensures { IfOk result (λ back. IsTrue back → AreTold imports.now self.new) }
+    {
+        let block = spread(alloc, imports, &mut self.told, root)?;
+        self.order.extend_from_slice(&block)?;
+        leads_back(alloc, importers, &mut self.barred, &block, root)
+    }
+
+    /// Tells blocks from some packages on. It answers whether each was one.
+    fn add_all(
+        &mut self,
+        alloc: Global,
+        imports: &LinkRows,
+        importers: &LinkRows,
+        roots: &[usize],
+    ) -> Result<bool, AllocError>
+        requires linked { AreLinked imports.now }
+        requires back { HoldImporters imports.now (length imports.now) importers.now }
+        requires told { AreTold imports.now self.old }
+        ensures { IfOk result (λ back. IsTrue back → AreTold imports.now self.new) }
+    {
+        for root in roots {
+            if *root < imports.len() {
+                if !self.add(alloc, imports, importers, *root)? {
+                    return Ok(false);
+                }
+            }
+        }
+        Ok(true)
+    }
+}
+
+/// All packages in such an order, if the blocks are told from the right packages on: a block is what a package reaches and is not
+/// told, and all of it has to reach that package too. That is so where the packages are taken that a search along importers leaves
+/// last; only speed rests on that.
+pub(crate) fn order(
+    alloc: Global,
+    imports: &LinkRows,
+    importers: &LinkRows,
+) -> Result<Option<Vec<usize>>, AllocError>
+    requires linked { AreLinked imports.now }
+    requires back { HoldImporters imports.now (length imports.now) importers.now }
+    ensures { IfOk result (λ found. IfSome found (λ order. IsOrder imports.now order.items)) }
+{
+    let roots = latest_first(alloc, importers)?;
+    let mut blocks = Blocks::new(alloc, imports.len())?;
+    if !blocks.add_all(alloc, imports, importers, &roots)? {
+        return Ok(None);
+    }
+    if !are_all_marked(&blocks.told) {
+        return Ok(None);
+    }
+    Ok(Some(blocks.order))
+}

@@ -1,0 +1,72 @@
+//! A file as it was parsed.
+ghost use Rattle.std.specs.Prelude.{◌≡◌, IfOk, IfErr};
+ghost use Rattle.go_parser.specs.Parsed.{IsTextRefusedFor};
+ghost use Rattle.go_ast.specs.Faults.{IsFaultOf};
+ghost use Rattle.go_ast.specs.SourceFile.{IsSourceFile, source_of};
+ghost use Rattle.workspace_graph.specs.Parsed.{IsParsedAs};
+
+use crate::faulty_file::FaultyFile;
+use base_files::{FileText, Path};
+use go_ast::FileTree;
+use go_parser::{ParseRefusal, parse_file, parse_file_like};
+use go_scanner::TextFault;
+use std::alloc::{AllocError, Global};
+
+/// A Go file's tree, or its first fault.
+#[derive(Drop)]
+pub(crate) enum ParsedFile {
+    Sound(FileTree),
+    Faulty(FaultyFile),
+}
+
+/// A file's tree is that of its cut.
+fn is_source_file(tree: &FileTree)
+    ensures { IsSourceFile (source_of tree.now) }
+{
+    let _ = tree.file();
+}
+
+/// A file without a tree, with its first fault.
+fn faulty(path: &Path, text: &FileText, fault: TextFault) -> Result<ParsedFile, AllocError>
+    requires { IsFaultOf text.now fault }
+    ensures { IfOk result (IsParsedAs path.now text.now) }
+{
+    let file = FaultyFile::new(path, text, fault)?;
+    Ok(ParsedFile::Faulty(file))
+}
+
+/// Reads a file. One that is at hand may have the same tree: then both share it.
+fn read(
+    alloc: Global,
+    path: &Path,
+    text: &FileText,
+    like: Option<&FileTree>,
+) -> Result<FileTree, ParseRefusal>
+    ensures path { IfOk result (λ file. file.path ≡ path.now) }
+    ensures text { IfOk result (λ file. file.cut.text ≡ text.now) }
+    ensures refused { IfErr result (IsTextRefusedFor text.now) }
+{
+    match like {
+        None => parse_file(alloc, path, text),
+        Some(like) => parse_file_like(alloc, path, text, like),
+    }
+}
+
+/// Parses a file, unless it shares the tree of one that is at hand.
+pub(crate) fn parse(
+    alloc: Global,
+    path: &Path,
+    text: &FileText,
+    like: Option<&FileTree>,
+) -> Result<ParsedFile, AllocError>
+    ensures { IfOk result (IsParsedAs path.now text.now) }
+{
+    match read(alloc, path, text, like) {
+        Ok(tree) => {
+            is_source_file(&tree);
+            Ok(ParsedFile::Sound(tree))
+        }
+        Err(ParseRefusal::Fault(fault)) => faulty(path, text, fault),
+        Err(ParseRefusal::Memory) => Err(AllocError),
+    }
+}

@@ -1,0 +1,82 @@
+//! A search among packages, from one along links, which stops at what is marked.
+ghost use Rattle.std.specs.Prelude.{◌≡◌, ◌<◌, Bool, List, length, slice_index_or, IfOk, OnOk};
+ghost use Rattle.workspace_graph.specs.Imports.{AreLinked, Imports};
+ghost use Rattle.workspace_graph.specs.Search.{Finds, Notes, Spreads, AreClosedUnder, MarksReached};
+
+use crate::link_rows::LinkRows;
+use std::alloc::{AllocError, Global};
+
+/// Notes that a package was found, unless it is marked.
+fn note(found: &mut Vec<usize>, marks: &mut Vec<bool>, number: usize) -> Result<(), AllocError>
+    requires { number < length marks.old.items }
+    ensures size { OnOk result (length marks.new.items ≡ length marks.old.items) }
+    ensures finds { OnOk result ((first : List Bool) → Finds first found.old.items marks.old.items → Finds first found.new.items marks.new.items) }
+    ensures noted { OnOk result (Notes found.old.items marks.old.items found.new.items marks.new.items (λ q. q ≡ number)) }
+{
+    if !marks[number] {
+        found.push(number)?;
+        marks[number] = true;
+    }
+    Ok(())
+}
+
+/// Finds all that the package found at a place leads to.
+fn follow(
+    links: &LinkRows,
+    found: &mut Vec<usize>,
+    marks: &mut Vec<bool>,
+    place: usize,
+) -> Result<(), AllocError>
+    requires linked { AreLinked links.now }
+    requires size { length marks.old.items ≡ length links.now }
+    requires within { slice_index_or found.old.items place 0 < length links.now }
+    requires place { place < length found.old.items }
+    ensures size { OnOk result (length marks.new.items ≡ length links.now) }
+    ensures finds { OnOk result ((first : List Bool) → Finds first found.old.items marks.old.items → Finds first found.new.items marks.new.items) }
+    ensures noted { OnOk result (Notes found.old.items marks.old.items found.new.items marks.new.items (Imports links.now (slice_index_or found.old.items place 0))) }
+{
+    for number in links.row(found[place]) {
+        note(found, marks, *number)?;
+    }
+    Ok(())
+}
+
+/// Marks a package and all that it leads to, as far as no marked package bars the way, and lists what it marks.
+pub(crate) fn spread(
+    alloc: Global,
+    links: &LinkRows,
+    marks: &mut Vec<bool>,
+    start: usize,
+) -> Result<Vec<usize>, AllocError>
+    requires linked { AreLinked links.now }
+    requires size { length marks.old.items ≡ length links.now }
+    requires start { start < length links.now }
+    ensures { IfOk result (λ found. Spreads links.now start marks.old.items found.items marks.new.items) }
+{
+    let mut found = Vec::with_capacity(alloc, links.len())?;
+    note(&mut found, marks, start)?;
+    let mut place = 0;
+    while place < found.len() {
+        follow(links, &mut found, marks, place)?;
+        place += 1;
+    }
+    Ok(found)
+}
+
+/// Marks a package and all that it leads to, where all that marked ones lead to is marked.
+pub(crate) fn reach(
+    alloc: Global,
+    links: &LinkRows,
+    marks: &mut Vec<bool>,
+    start: usize,
+) -> Result<(), AllocError>
+    requires linked { AreLinked links.now }
+    requires size { length marks.old.items ≡ length links.now }
+    requires start { start < length links.now }
+    requires closed { AreClosedUnder links.now marks.old.items }
+    ensures reached { OnOk result (MarksReached links.now start marks.old.items marks.new.items) }
+    ensures closed { OnOk result (AreClosedUnder links.now marks.new.items) }
+{
+    spread(alloc, links, marks, start)?;
+    Ok(())
+}

@@ -1,0 +1,15 @@
+-- The files at no path that is named are the same after the edit set.
+use Rattle.std.proofs.Common.{List, ℕ, Bor, sym, subst}
+use Rattle.std.specs.List.{Contains}
+use Rattle.base_files.specs.Workspace.{Workspace}
+use Rattle.workspace_graph.specs.Filling.{names}
+use Rattle.workspace_graph.specs.Staying.{DiffersOnlyAt}
+use Rattle.workspace_snapshot.proofs.NamedPaths.{differs_only_at}
+use Rattle.workspace_snapshot.proofs.made_change.graph_after.Goals as goal
+
+pub changed-requires : goal.changed-requires
+changed-requires c =
+    let paths = names c.deref.result.now in
+    subst (λ (w : Workspace). DiffersOnlyAt paths c.args.base.now w) (sym c.requires.files)
+    (differs_only_at c.args.edits.now c.args.base.now c.requires.fits paths
+    (λ p named. subst (λ (ps : List (Bor (List ℕ))). Contains (names ps) p) (sym c.deref.ensures.value) (c.in_ok-paths.ensures p named)))

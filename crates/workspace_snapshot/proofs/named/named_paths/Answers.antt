@@ -1,0 +1,17 @@
+-- First those of the changes, then those of the added files.
+use Rattle.std.proofs.Common.{subst}
+use Rattle.workspace_graph.specs.Filling.{names}
+use Rattle.workspace_snapshot.specs.Named.{AddsPaths, IsNamed, IsOfAdded, IsOfChanges}
+use Rattle.workspace_snapshot.proofs.NamedPaths.{adds_more}
+use Rattle.workspace_snapshot.proofs.named.named_paths.Goals as goal
+
+pub returns : goal.returns
+returns c =
+    let s = c.args.edits.now in
+    let none = names c.new-paths.result.items in
+    let some = names c.add_changes.new.paths.items in
+    let all = names c.add_added.new.paths.items in
+    let first = subst (λ cs. AddsPaths (IsOfChanges cs) none some) c.changed.ensures.changed c.in_ok-add_changes.ensures in
+    let second = subst (λ es. AddsPaths (IsOfAdded es) some all) c.added.ensures c.in_ok-add_added.ensures in
+    let both = adds_more (IsOfChanges s.changed) (IsOfAdded s.added) (IsNamed s) none some all (λ p named. named) first second in
+    both.each

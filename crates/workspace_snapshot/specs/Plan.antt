@@ -1,0 +1,49 @@
+-- What a plan answers.
+use Rattle.std.specs.Prelude.{◌≡◌, ◌≢◌, ℕ, List, [], ◌∷◌, ⊤, Option, Some, None, Result, Ok, Err}
+use Rattle.std.specs.FinMap as files
+use Rattle.base_files.specs.Path.{IsPath}
+use Rattle.base_files.specs.declared.refusal.Refusal.{Refusal}
+use Rattle.base_files.specs.declared.refusal.Refusal.TheVariants.{Memory, BadPath, NoFile, TooLarge, Same}
+use Rattle.base_files.specs.Workspace.{Workspace}
+use Rattle.base_edits.specs.EditSet.{FileChanges}
+use Rattle.base_edits.specs.Inverse.{dropped}
+use Rattle.base_edits.specs.declared.change.FileChange.{FileChange}
+use Rattle.workspace_snapshot.specs.Fits.{FitsLimits}
+use Rattle.workspace_snapshot.specs.declared.snapshot.Snapshot.{Snapshot}
+use Rattle.workspace_snapshot.specs.declared.change.Change.{Change}
+use Rattle.workspace_snapshot.specs.declared.change.ChangeKind.TheVariants.{Put, Del}
+
+-- a file of this path is dropped, if there is one, and the new one is added
+abbrev pub replaced : Option (List ℕ) → List ℕ → List FileChange
+replaced None path = []
+replaced (Some old) path = dropped (path, []) ∷ []
+
+abbrev pub put_changes : Workspace → List ℕ → List ℕ → FileChanges
+put_changes w path text = record { changed = replaced (files.get w path) path; added = (path, text) ∷ [] }
+
+abbrev pub del_changes : List ℕ → FileChanges
+del_changes path = record { changed = dropped (path, []) ∷ []; added = [] }
+
+-- setting the text of one file
+abbrev pub PlansPut : Snapshot → List ℕ → List ℕ → Result Change Refusal → Type 0
+PlansPut snapshot path text (Ok change) =
+    let base = snapshot.files in
+    let new = files.insert base path text in
+    IsPath 2 path × (files.get base path ≢ Some text) × FitsLimits snapshot.limits new ×
+    (change ≡ record { base = base; kind = Put; edits = put_changes base path text; files = new })
+PlansPut snapshot path text (Err BadPath) = ¬ (IsPath 2 path)
+PlansPut snapshot path text (Err Same) = IsPath 2 path × (files.get snapshot.files path ≡ Some text)
+PlansPut snapshot path text (Err TooLarge) = IsPath 2 path × (files.get snapshot.files path ≢ Some text) ×
+    ¬ (FitsLimits snapshot.limits (files.insert snapshot.files path text))
+PlansPut snapshot path text (Err Memory) = ⊤
+PlansPut snapshot path text (Err refusal) = ⊥
+
+-- taking one file out
+abbrev pub PlansDel : Snapshot → List ℕ → Result Change Refusal → Type 0
+PlansDel snapshot path (Ok change) =
+    let base = snapshot.files in
+    IsPath 2 path × (files.get base path ≢ None) × (change ≡ record { base = base; kind = Del; edits = del_changes path; files = files.remove base path })
+PlansDel snapshot path (Err BadPath) = ¬ (IsPath 2 path)
+PlansDel snapshot path (Err NoFile) = IsPath 2 path × (files.get snapshot.files path ≡ None)
+PlansDel snapshot path (Err Memory) = ⊤
+PlansDel snapshot path (Err refusal) = ⊥

@@ -1,0 +1,58 @@
+//! The paths of the files that an edit set names.
+ghost use Rattle.std.specs.Prelude.{◌≡◌, IfOk, OnOk};
+ghost use Rattle.workspace_graph.specs.Filling.{names};
+ghost use Rattle.workspace_snapshot.specs.Named.{AddsPaths, HoldsPaths, IsNamed, IsOfAdded, IsOfChange, IsOfChanges};
+
+use base_edits::{EditSet, Fate, FileChange};
+use base_files::{FileText, Path};
+use std::alloc::{AllocError, Global};
+
+fn add_path<'a>(paths: &mut Vec<&'a Path>, path: &'a Path) -> Result<(), AllocError>
+    ensures { OnOk result (AddsPaths (λ p. path.now ≡ p) (names paths.old.items) (names paths.new.items)) }
+{
+    paths.push(path)?;
+    Ok(())
+}
+
+/// Adds the path of a changed file, and where it moves to.
+fn add_change<'a>(paths: &mut Vec<&'a Path>, change: &'a FileChange) -> Result<(), AllocError>
+    ensures { OnOk result (AddsPaths (IsOfChange change.now) (names paths.old.items) (names paths.new.items)) }
+{
+    add_path(paths, &change.path)?;
+    match &change.fate {
+        Fate::Moves(path) => add_path(paths, path),
+        Fate::Stays => Ok(()),
+        Fate::Dropped => Ok(()),
+    }
+}
+
+fn add_changes<'a>(paths: &mut Vec<&'a Path>, changes: &'a [FileChange]) -> Result<(), AllocError>
+    ensures { OnOk result (AddsPaths (IsOfChanges changes.now) (names paths.old.items) (names paths.new.items)) }
+{
+    for change in changes {
+        add_change(paths, change)?;
+    }
+    Ok(())
+}
+
+fn add_added<'a>(paths: &mut Vec<&'a Path>, added: &'a [(Path, FileText)]) -> Result<(), AllocError>
+    ensures { OnOk result (AddsPaths (IsOfAdded added.now) (names paths.old.items) (names paths.new.items)) }
+{
+    for file in added {
+        add_path(paths, &file.0)?;
+    }
+    Ok(())
+}
+
+/// The paths of all files that an edit set names. One may come several times.
+pub(crate) fn named_paths<'a>(
+    alloc: Global,
+    edits: &'a EditSet,
+) -> Result<Vec<&'a Path>, AllocError>
+    ensures { IfOk result (λ paths. HoldsPaths (IsNamed edits.now) (names paths.items)) }
+{
+    let mut paths = Vec::new(alloc);
+    add_changes(&mut paths, edits.changed())?;
+    add_added(&mut paths, edits.added())?;
+    Ok(paths)
+}
