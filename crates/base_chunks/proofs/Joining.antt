@@ -24,7 +24,7 @@ module _ {X : Type 0} where
   joined_cut (c ∷ cs) zero = refl
   joined_cut (c ∷ cs) (suc m) = ap (λ xs. c ++ xs) (joined_cut cs m) ∙ sym (append_assoc c (joined (take m cs)) (joined (drop m cs)))
 
-  -- what stands before the m-th chunk, in it and behind it
+  -- The items before chunk `m`, those of the chunk, and those behind it.
   pub joined_parts : (cs : List (List X)) (m : ℕ) → joined cs ≡ joined (take m cs) ++ (get_or cs m [] ++ joined (drop (suc m) cs))
   joined_parts cs m = joined_cut cs m ∙ ap (λ xs. joined (take m cs) ++ xs) (joined_drop cs m)
 
@@ -75,7 +75,7 @@ module _ {X : Type 0} where
       get_or-append_right c (joined cs) 64 (64 * suc q + r) d h.0 past
       ∙ ap (λ i. get_or (joined cs) i d) place ∙ full_get cs q r d h.1 (omega arith) s
 
-  -- the same chunks with another item there
+  -- Setting an item of full chunks sets it in its chunk.
   pub full_set : (cs : List (List X)) (q r : ℕ) (x : X) → AreFull cs → q < length cs → r < 64
       → set (joined cs) (64 * q + r) x ≡ joined (set cs q (set (get_or cs q []) r x))
   full_set [] q r x h lt s = absurd (omega arith)
@@ -143,7 +143,7 @@ module _ {X : Type 0} where
         (all_take (λ c. 0 < length c) old i h) (front, (back, all_drop (λ c. 0 < length c) old (i + 1) h)));
   }
 
-  -- how many items there are then
+  -- The number of items after the change.
   pub replaced_length : (old new : List (List X)) (i : ℕ) (ws : List X) (n : ℕ) → Replaces old new i ws
       → n + length (get_or old i []) ≡ length (joined old) + length ws → n ≡ length (joined new)
   replaced_length old new i ws n r e =

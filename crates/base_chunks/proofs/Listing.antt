@@ -1,4 +1,4 @@
--- Full chunks with what stands behind them.
+-- Full chunks with the last items behind them.
 use Rattle.std.proofs.Common.{◌≡◌, ℕ, ◌+◌, ◌-◌, ◌*◌, ◌/◌, ◌%◌, ◌<◌, ◌≤◌, List, [], ◌∷◌, ◌++◌, length, get_or, set, sym, ap, ◌∙◌, append_assoc, append-nil}
 use Rattle.std.proofs.Common.{arith}
 use Rattle.std.proofs.lemmas.List.{get_or_append_left, get_or-append_right, set-append_left, set-append_right}
@@ -32,7 +32,7 @@ module _ {X : Type 0} (full : List (List X)) (last : List X) (h : AreFull full) 
   pub set_behind : (i : ℕ) (x : X) → length full ≤ i / 64 → joined full ++ set last (i - 64 * length full) x ≡ set (joined full ++ last) i x
   set_behind i x le = sym (set-append_right (joined full) last (64 * length full) i x (full_length full h) (omega arith))
 
-  -- what stands behind the chunks, filled
+  -- The last items and one more, which fill a chunk.
   pub filled_up : (x : X) → joined (full ++ (last ++ x ∷ []) ∷ []) ++ [] ≡ (joined full ++ last) ++ x ∷ []
   filled_up x =
       append-nil (joined (full ++ (last ++ x ∷ []) ∷ []))

@@ -1,4 +1,4 @@
--- What a key's place among entries says of finding, setting and taking out.
+-- Finding, setting and removing an entry, by the place of its key among the entries.
 use Rattle.std.proofs.Common.{◌≡◌, ℕ, zero, suc, ◌<◌, Bool, true, false, cond, not, ◌&&◌, List, [], ◌∷◌, ◌++◌, length, get_or, take, drop, Some, None, refl}
 use Rattle.std.proofs.Common.{sym, ap, ◌∙◌, true≢false, IsTrue, arith}
 use Rattle.std.specs.Ordering.{is_lt, is_eq, is_gt, ordering_reverse}

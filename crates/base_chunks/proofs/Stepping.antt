@@ -1,4 +1,4 @@
--- Iterators that are seen as the list of what they have left.
+-- Iterators whose value is the list of the items that they have yet to give.
 use Rattle.std.proofs.Common.{List, length, Option, Some, None, ap, arith}
 use Rattle.std.proofs.iter.runs.Sources.{from_front}
 use Rattle.std.specs.Iterator.{MakesProgress, at_most}

@@ -1,4 +1,4 @@
--- Lists in chunks.
+-- Lists in chunks: their items, the invariants of a map and of a list, and the change of one chunk.
 use Rattle.std.specs.Prelude.{◌≡◌, ℕ, ◌+◌, ◌<◌, IsTrue, List, ◌++◌, length, take, drop}
 use Rattle.std.specs.List.{flat_map, AllByRecursion}
 use Rattle.std.specs.FinMap.{is_sorted}
@@ -16,18 +16,19 @@ AreFilled cs = AllByRecursion (λ c. 0 < length c) cs
 abbrev pub AreFull : {X : Type 0} → List (List X) → Type 0
 AreFull cs = AllByRecursion (λ c. length c ≡ 64) cs
 
--- the chunks of a map: none is empty, and the keys rise from the first to the last
+-- The chunks of a map: no chunk is empty, and the keys rise from the first entry to the last.
 pub record IsMap {K X : Type 0} (R : K → K → Ordering) (cs : List (List (K × X))) : Type 0 where
   pub filled : AreFilled cs
   pub ordered : IsTrue (is_sorted R (joined cs))
 
--- full chunks and what stands behind them
+-- The parts of a list of `len` items: full chunks, and fewer than 64 last items, which lie in no chunk.
 pub record IsList {X : Type 0} (full : List (List X)) (last : List X) (len : ℕ) : Type 0 where
   pub even : AreFull full
   pub short : length last < 64
   pub count : len ≡ length (joined full ++ last)
 
--- the items ws in place of those of the chunk at i; where i is the number of chunks, behind all
+-- The chunks `new` are `old` with the items `ws` in place of those of chunk `i`. Where `i` is the number of chunks, `ws` comes behind all
+-- items.
 pub record Replaces {X : Type 0} (old new : List (List X)) (i : ℕ) (ws : List X) : Type 0 where
   pub parts : joined new ≡ joined (take i old) ++ (ws ++ joined (drop (i + 1) old))
   pub filled : AreFilled old → AreFilled new

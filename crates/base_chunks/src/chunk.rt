@@ -1,4 +1,4 @@
-//! Items that several collections share.
+//! Chunks: lists of items that several collections share.
 ghost use Rattle.std.specs.Prelude.{◌≡◌, ◌≤◌, length, insert, IfOk, IfErr, OnOk, OnErr};
 
 use crate::share::Share;
@@ -6,7 +6,7 @@ use std::alloc::{AllocError, Global};
 use std::marker::Model;
 use std::sync::Arc;
 
-/// Items that no longer change. A copy shares them.
+/// A list of items behind a counted reference. A copy shares the items, and shared items don't change.
 #[derive(Drop)]
 pub(crate) struct Chunk<T> {
     items: Arc<Vec<T>, Global>,
@@ -39,7 +39,7 @@ impl<T> Chunk<T> {
 }
 
 impl<T: Drop> Chunk<T> {
-    /// Puts an item at a place, unless the items are shared. An item that cannot be put there comes back.
+    /// Inserts an item at index `at`, unless the items are shared or memory is lacking: then `Err` returns the item.
     pub(crate) fn insert_alone(&mut self, at: usize, item: T) -> Result<(), T>
         requires { at ≤ length self.old }
         ensures ok { OnOk result (self.new ≡ insert self.old at item) }

@@ -1,4 +1,4 @@
-//! Lists of chunks: where a key has its place, and one chunk changed.
+//! Operations on lists of chunks: finding the chunk of a key, and changing one chunk.
 ghost use Rattle.std.specs.Prelude.{◌≡◌, ◌+◌, ◌<◌, ◌≤◌, ◌++◌, ◌∷◌, [], IfOk, OnOk, OnErr, length, take, drop, slice_index_or, vec_len};
 ghost use Rattle.base_chunks.specs.Entries.{IsAfterAll, IsBeforeAll, is_before};
 ghost use Rattle.base_chunks.specs.Chunks.{joined, IsMap, Replaces};
@@ -9,7 +9,7 @@ use crate::entries::MOST;
 use crate::share::Share;
 use std::alloc::{AllocError, Global};
 
-/// Whether a key is below the first of the entries.
+/// Whether a key is less than the key of the first entry. False where there are no entries.
 fn is_before<K: Ord, V>(key: &K, entries: &[(K, V)]) -> bool
     ensures { result ≡ is_before K.cmp key.now entries.now }
 {
@@ -19,7 +19,7 @@ fn is_before<K: Ord, V>(key: &K, entries: &[(K, V)]) -> bool
     }
 }
 
-/// The number of the chunk in which a key has its place.
+/// The number of the chunk that has a key, or would have it. Found by binary search over the first keys of the chunks.
 pub(crate) fn chunk_of<K: Ord, V>(chunks: &[Chunk<(K, V)>], key: &K) -> usize
     requires { IsMap K.cmp chunks.now }
     ensures within { result ≤ length chunks.now }
@@ -42,7 +42,7 @@ pub(crate) fn chunk_of<K: Ord, V>(chunks: &[Chunk<(K, V)>], key: &K) -> usize
     low
 }
 
-/// The items of a chunk, and none where there is no such chunk.
+/// The items of chunk `at`, or none where there is no such chunk.
 pub(crate) fn items_at<T>(chunks: &[Chunk<T>], at: usize) -> &[T]
     ensures { result.now ≡ slice_index_or chunks.now at [] }
 {
@@ -53,7 +53,7 @@ pub(crate) fn items_at<T>(chunks: &[Chunk<T>], at: usize) -> &[T]
     }
 }
 
-/// Puts a chunk in place of another, or behind all.
+/// Replaces chunk `at`. Where `at` is the number of chunks, the new chunk is pushed.
 fn put_one<T: Drop>(
     chunks: &mut Vec<Chunk<T>>,
     at: usize,
@@ -72,7 +72,7 @@ fn put_one<T: Drop>(
     }
 }
 
-/// Puts two chunks in place of one.
+/// Replaces chunk `at` by two chunks.
 fn put_two<T: Drop>(
     chunks: &mut Vec<Chunk<T>>,
     at: usize,
@@ -88,7 +88,7 @@ fn put_two<T: Drop>(
     Ok(())
 }
 
-/// Takes a chunk out.
+/// Removes chunk `at`, if there is one.
 fn take_out<T: Drop>(chunks: &mut Vec<Chunk<T>>, at: usize)
     ensures { chunks.new.items ≡ take at chunks.old.items ++ drop (at + 1) chunks.old.items }
 {
@@ -98,7 +98,7 @@ fn take_out<T: Drop>(chunks: &mut Vec<Chunk<T>>, at: usize)
     }
 }
 
-/// The items from a number on, as a chunk of their own.
+/// Splits the items from number `at` on off, as a chunk.
 fn cut<T: Drop>(items: &mut Vec<T>, at: usize) -> Result<Chunk<T>, AllocError>
     requires { at ≤ vec_len items.old }
     ensures front { OnOk result (items.new.items ≡ take at items.old.items) }
@@ -109,8 +109,8 @@ fn cut<T: Drop>(items: &mut Vec<T>, at: usize) -> Result<Chunk<T>, AllocError>
     Chunk::new(alloc, back)
 }
 
-/// Puts two parts in place of a chunk: halves, or, where it is the last, all but one item and that one, so that items that come in order
-/// fill their chunks.
+/// Replaces chunk `at` by two chunks that have the given items. Each gets one half. Where the chunk is the last, the first part gets all
+/// items but one, so that items that are added in order fill their chunks.
 fn put_parts<T: Drop>(
     chunks: &mut Vec<Chunk<T>>,
     at: usize,
@@ -131,7 +131,8 @@ fn put_parts<T: Drop>(
     put_two(chunks, at, front, back)
 }
 
-/// Puts items in place of those of a chunk, or behind all.
+/// Replaces the items of chunk `at`. Where `at` is the number of chunks, the items come behind all others. No items remove the chunk, and
+/// more than `MOST` split it.
 fn replace<T: Drop>(chunks: &mut Vec<Chunk<T>>, at: usize, items: Vec<T>) -> Result<(), AllocError>
     requires { at ≤ vec_len chunks.old }
     ensures ok { OnOk result (Replaces chunks.old.items chunks.new.items at items.items) }
@@ -148,7 +149,8 @@ fn replace<T: Drop>(chunks: &mut Vec<Chunk<T>>, at: usize, items: Vec<T>) -> Res
     put_one(chunks, at, chunk)
 }
 
-/// Puts items in place of those of a chunk, or behind all, and tells how many there are then.
+/// Replaces the items of chunk `at`, as `replace` does. `len` is the number of all items before the change. Returns their number after the
+/// change.
 pub(crate) fn put_items<T: Drop>(
     chunks: &mut Vec<Chunk<T>>,
     len: usize,
@@ -167,7 +169,7 @@ pub(crate) fn put_items<T: Drop>(
     Ok(new_len)
 }
 
-/// Items with one more behind them, as a chunk.
+/// A chunk with copies of the items of `front`, and `item` behind them.
 pub(crate) fn chunk_and<T: Share>(
     alloc: Global,
     front: &[T],

@@ -4,7 +4,7 @@ ghost use Rattle.std.specs.Prelude.{◌≡◌, [], ◌∷◌, ◌++◌, IfOk, On
 use crate::share::Share;
 use std::alloc::{AllocError, Global};
 
-/// Copies items to the end of a list.
+/// Appends copies of the items of `from` to `to`.
 fn add_copies<T: Share>(to: &mut Vec<T>, from: &[T]) -> Result<(), AllocError>
     ensures { OnOk result (to.new.items ≡ to.old.items ++ from.now) }
 {
@@ -14,6 +14,7 @@ fn add_copies<T: Share>(to: &mut Vec<T>, from: &[T]) -> Result<(), AllocError>
     Ok(())
 }
 
+/// Copies of the items of a list.
 pub(crate) fn copies<T: Share>(alloc: Global, from: &[T]) -> Result<Vec<T>, AllocError>
     ensures { IfOk result (λ to. to.items ≡ from.now) }
 {
@@ -22,7 +23,7 @@ pub(crate) fn copies<T: Share>(alloc: Global, from: &[T]) -> Result<Vec<T>, Allo
     Ok(to)
 }
 
-/// Copies of the items of two lists.
+/// Copies of the items of `front`, followed by copies of those of `back`.
 pub(crate) fn copies_of_both<T: Share>(
     alloc: Global,
     front: &[T],
@@ -35,7 +36,7 @@ pub(crate) fn copies_of_both<T: Share>(
     Ok(to)
 }
 
-/// Copies of items, and one more item.
+/// Copies of the items of `front`, followed by `item`.
 pub(crate) fn copies_and<T: Share>(
     alloc: Global,
     front: &[T],
@@ -48,7 +49,7 @@ pub(crate) fn copies_and<T: Share>(
     Ok(to)
 }
 
-/// Copies of the items of two lists, with an item between.
+/// Copies of the items of `front`, followed by `item` and copies of the items of `back`.
 pub(crate) fn copies_around<T: Share>(
     alloc: Global,
     front: &[T],

@@ -1,4 +1,4 @@
-//! An entry set in its chunk.
+//! Sets an entry in the chunk of its key.
 ghost use Rattle.std.specs.Prelude.{◌≡◌, ◌+◌, ◌≤◌, [], IfOk, IfErr, OnOk, OnErr, length, slice_index_or, vec_len};
 ghost use Rattle.std.specs.FinMap.{put};
 ghost use Rattle.base_chunks.specs.Entries.{Rises};
@@ -10,8 +10,8 @@ use crate::entries::{gap, with_entry};
 use crate::share::Share;
 use std::alloc::AllocError;
 
-/// Puts an entry into its chunk, where the key is not there, there is room for it, and the chunk is not shared. Otherwise the entry
-/// comes back.
+/// Inserts an entry into chunk `at` in place. The chunk must not be shared, must have room, and must not have the key. Otherwise `Err`
+/// returns the entry.
 fn enter_alone<K: Ord + Share, V: Share>(
     chunks: &mut Vec<Chunk<(K, V)>>,
     at: usize,
@@ -33,7 +33,7 @@ fn enter_alone<K: Ord + Share, V: Share>(
     }
 }
 
-/// Puts an entry into a copy of its chunk, and tells how many entries there are then.
+/// Sets an entry in a copy of chunk `at`. Returns the number of entries after the change.
 fn enter_copied<K: Ord + Share, V: Share>(
     chunks: &mut Vec<Chunk<(K, V)>>,
     len: usize,
@@ -52,8 +52,8 @@ fn enter_copied<K: Ord + Share, V: Share>(
     put_items(chunks, len, at, entries)
 }
 
-/// Sets the value at a key in its chunk, which is copied where it is shared, and tells how many entries there are then; asked as the
-/// function before is, since it falls back on that.
+/// Sets an entry in chunk `at`, in place where `enter_alone` can, and otherwise in a copy of the chunk. Returns the number of entries after
+/// the change. Its contract is that of `enter_copied`.
 pub(crate) fn enter<K: Ord + Share, V: Share>(
     chunks: &mut Vec<Chunk<(K, V)>>,
     len: usize,

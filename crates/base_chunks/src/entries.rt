@@ -1,4 +1,4 @@
-//! Entries in the order of their keys.
+//! Entries in the order of their keys, as a chunk of a map has them.
 ghost use Rattle.std.specs.Prelude.{◌≡◌, ◌<◌, ◌≤◌, false, IsTrue, IfOk, IfSome, length, take, drop, insert};
 ghost use Rattle.std.specs.Option.{option_copied};
 ghost use Rattle.std.specs.FinMap.{find, put};
@@ -8,7 +8,7 @@ use crate::copies::{copies_around, copies_of_both};
 use crate::share::Share;
 use std::alloc::{AllocError, Global};
 
-/// How many entries stand before the place of a key.
+/// The number of entries whose keys are less than `key`, found by binary search.
 pub(crate) fn place<K: Ord, V>(entries: &[(K, V)], key: &K) -> usize
     requires { Rises K.cmp entries.now }
     ensures within { result ≤ length entries.now }
@@ -28,7 +28,7 @@ pub(crate) fn place<K: Ord, V>(entries: &[(K, V)], key: &K) -> usize
     low
 }
 
-/// Whether the entry of that number is that of a key.
+/// Whether there is an entry of number `at`, and its key compares equal to `key`.
 fn is_at<K: Ord, V>(entries: &[(K, V)], at: usize, key: &K) -> bool
     ensures there { result ≡ is_at K.cmp key.now (drop at entries.now) }
     ensures within { IsTrue result → at < length entries.now }
@@ -36,7 +36,7 @@ fn is_at<K: Ord, V>(entries: &[(K, V)], at: usize, key: &K) -> bool
     at < entries.len() && key.cmp(&entries[at].0).is_eq()
 }
 
-/// The value at a key.
+/// The value at a key, or `None` where the key is missing.
 pub(crate) fn value_of<'a, K: Ord, V>(entries: &'a [(K, V)], key: &K) -> Option<&'a V>
     requires { Rises K.cmp entries.now }
     ensures { option_copied result ≡ find K.cmp key.now entries.now }
@@ -49,10 +49,10 @@ pub(crate) fn value_of<'a, K: Ord, V>(entries: &'a [(K, V)], key: &K) -> Option<
     }
 }
 
-/// How many entries a chunk of a map has at most.
+/// The greatest number of entries in a chunk of a map.
 pub(crate) const MOST: usize = 64;
 
-/// The place of a key among entries, if it is not there and there is room for it.
+/// The index at which a missing key can be inserted. `None` where the key is there, or the entries fill a chunk.
 pub(crate) fn gap<K: Ord, V>(entries: &[(K, V)], key: &K) -> Option<usize>
     requires { Rises K.cmp entries.now }
     ensures within { IfSome result (λ at. at ≤ length entries.now) }
@@ -66,7 +66,7 @@ pub(crate) fn gap<K: Ord, V>(entries: &[(K, V)], key: &K) -> Option<usize>
     }
 }
 
-/// Copies of the entries with a value at a key.
+/// Copies of the entries, with `value` at `key`. Where an entry has an equal key, that key is kept.
 pub(crate) fn with_entry<K: Ord + Share, V: Share>(
     alloc: Global,
     entries: &[(K, V)],
@@ -85,7 +85,7 @@ pub(crate) fn with_entry<K: Ord + Share, V: Share>(
     }
 }
 
-/// Copies of the entries but that of a key.
+/// Copies of the entries without the one at `key`.
 pub(crate) fn without_key<K: Ord + Share, V: Share>(
     alloc: Global,
     entries: &[(K, V)],

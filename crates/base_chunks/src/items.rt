@@ -1,4 +1,4 @@
-//! The iterators of the collections. Each is seen as the list of what it has left.
+//! The iterators of the collections. The value of an iterator is the list of the items that it has yet to give.
 ghost use Rattle.std.specs.Prelude.{◌≡◌, ◌++◌, length};
 ghost use Rattle.std.specs.Iterator.{at_most};
 ghost use Rattle.std.specs.Map.Iter.{TakesFirst, deref, deref_pair};
@@ -8,7 +8,7 @@ use crate::chunk::Chunk;
 use std::marker::Model;
 use std::slice;
 
-/// Items, and those of chunks behind them.
+/// Iterates over the items of a slice, and over those of the chunks behind it.
 #[derive(Drop)]
 pub struct Items<'a, T> {
     items: slice::Iter<'a, T>,
@@ -56,7 +56,7 @@ impl<'a, T> Iterator for Items<'a, T> {
     }
 }
 
-/// The entries of a map.
+/// Iterates over the entries of a map in the order of their keys.
 #[derive(Drop)]
 pub struct Entries<'a, K, V> {
     items: Items<'a, (K, V)>,
@@ -91,7 +91,7 @@ impl<'a, K, V> Iterator for Entries<'a, K, V> {
     }
 }
 
-/// The items of a list.
+/// Iterates over the items of a list in order.
 #[derive(Drop)]
 pub struct ListItems<'a, T> {
     full: Items<'a, T>,

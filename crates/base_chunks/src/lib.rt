@@ -1,4 +1,4 @@
-//! Lists and sorted maps in chunks that copies share, so that a changed copy costs a chunk and not all items.
+//! Lists and sorted maps in chunks that copies share: a change to a copy costs one chunk, not all items.
 #![tactic(auto)]
 
 mod chunk;

@@ -1,4 +1,4 @@
-//! A list in chunks.
+//! `SharedList`: a list in chunks.
 ghost use Rattle.std.specs.Prelude.{◌≡◌, ◌<◌, ◌++◌, ◌∷◌, [], IfOk, OnOk, OnErr, length, slice_get, slice_set, slice_index_or, vec_len};
 ghost use Rattle.std.specs.Option.{option_copied};
 ghost use Rattle.std.specs.Map.Iter.{ShowsInOrder, deref};
@@ -12,7 +12,7 @@ use crate::share::Share;
 use std::alloc::{AllocError, Global};
 use std::marker::Model;
 
-/// A list. A copy shares the chunks, and a change makes one anew. What does not fill a chunk is copied.
+/// A list in chunks of 64 items. A copy shares the full chunks, and copies the items behind them. Setting an item makes its chunk anew.
 #[derive(Drop)]
 pub struct SharedList<T> {
     full: Vec<Chunk<T>>,
@@ -31,7 +31,7 @@ impl<T> Model for SharedList<T> {
     ghost invariant = { λ a. IsList a.full.items a.last.items a.len };
 }
 
-/// The items with another one in place of one of them, as a chunk.
+/// A chunk with copies of the items, but with `item` in place of the item of number `i`.
 fn chunk_with<T: Share>(
     alloc: Global,
     items: &[T],
@@ -45,7 +45,7 @@ fn chunk_with<T: Share>(
     Chunk::new(alloc, items)
 }
 
-/// Puts an item behind full chunks and what stands behind them, which it fills.
+/// Pushes a chunk with copies of `last` and `item` behind them. These are 64 items where `last` has 63.
 fn fill<T: Share>(full: &mut Vec<Chunk<T>>, last: &[T], item: T) -> Result<(), AllocError>
     ensures ok { OnOk result (full.new.items ≡ full.old.items ++ (last.now ++ item ∷ []) ∷ []) }
     ensures err { OnErr result (full.new.items ≡ full.old.items) }
@@ -55,7 +55,7 @@ fn fill<T: Share>(full: &mut Vec<Chunk<T>>, last: &[T], item: T) -> Result<(), A
     Ok(())
 }
 
-/// Puts an item behind full chunks and what stands behind them.
+/// Adds an item to `last`. Where this fills a chunk, the chunk goes to `full`, and `last` becomes empty.
 fn add<T: Share>(full: &mut Vec<Chunk<T>>, last: &mut Vec<T>, item: T) -> Result<(), AllocError>
     requires even { AreFull full.old.items }
     requires short { vec_len last.old < 64 }
@@ -74,6 +74,7 @@ fn add<T: Share>(full: &mut Vec<Chunk<T>>, last: &mut Vec<T>, item: T) -> Result
 }
 
 impl<T> SharedList<T> {
+    /// A list without items.
     pub fn new(alloc: Global) -> SharedList<T>
         ensures { result ≡ [] }
     {
@@ -84,13 +85,14 @@ impl<T> SharedList<T> {
         }
     }
 
+    /// The number of items.
     pub fn len(&self) -> usize
         ensures { result ≡ length self.now }
     {
         self.len
     }
 
-    /// The item of that number.
+    /// The item of number `i`, counted from 0.
     pub fn item(&self, i: usize) -> &T
         requires { i < length self.now }
         ensures { result.now ≡ slice_index_or self.now i result.now }
@@ -103,6 +105,7 @@ impl<T> SharedList<T> {
         }
     }
 
+    /// The item of number `i`, or `None` where there is none.
     pub fn get(&self, i: usize) -> Option<&T>
         ensures { option_copied result ≡ slice_get self.now i }
     {
@@ -123,7 +126,7 @@ impl<T> SharedList<T> {
 }
 
 impl<T: Share> SharedList<T> {
-    /// Puts another item in place of one.
+    /// Replaces the item of number `i`.
     pub fn set(&mut self, i: usize, item: T) -> Result<(), AllocError>
         requires { i < length self.old }
         ensures ok { OnOk result (self.new ≡ slice_set self.old i item) }
@@ -141,7 +144,7 @@ impl<T: Share> SharedList<T> {
         Ok(())
     }
 
-    /// Puts an item behind all others.
+    /// Adds an item at the end.
     pub fn push(&mut self, item: T) -> Result<(), AllocError>
         ensures ok { OnOk result (self.new ≡ self.old ++ item ∷ []) }
         ensures err { OnErr result (self.new ≡ self.old) }
@@ -152,7 +155,7 @@ impl<T: Share> SharedList<T> {
         Ok(())
     }
 
-    /// The same list. The full chunks are shared.
+    /// A copy of the list, which shares the full chunks.
     pub fn copy(&self) -> Result<SharedList<T>, AllocError>
         ensures { IfOk result (λ copy. copy ≡ self.now) }
     {

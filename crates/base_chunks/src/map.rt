@@ -1,4 +1,4 @@
-//! A sorted map in chunks.
+//! `SharedMap`: a sorted map in chunks.
 ghost use Rattle.std.specs.Prelude.{◌≡◌, ◌↔◌, [], length, IfOk, OnOk, OnErr, IsTrue};
 ghost use Rattle.std.specs.Option.{option_copied};
 ghost use Rattle.std.specs.Map.Iter.{ShowsInOrder, deref_pair};
@@ -15,7 +15,8 @@ use crate::share::{Same, Share};
 use std::alloc::{AllocError, Global};
 use std::marker::Model;
 
-/// A map in the order of its keys. A copy shares the chunks, and a change makes one anew where it is shared. It is seen as its entries.
+/// A map sorted by key, in chunks of at most 64 entries. A copy shares the chunks, and a change copies a chunk only where it is shared. The
+/// value of a map in contracts is the list of its entries.
 #[derive(Drop)]
 pub struct SharedMap<K: Ord, V> {
     chunks: Vec<Chunk<(K, V)>>,
@@ -34,6 +35,7 @@ impl<K: Ord, V> Model for SharedMap<K, V> {
 }
 
 impl<K: Ord, V> SharedMap<K, V> {
+    /// A map without entries.
     pub fn new(alloc: Global) -> SharedMap<K, V>
         ensures { result ≡ [] }
     {
@@ -43,6 +45,7 @@ impl<K: Ord, V> SharedMap<K, V> {
         }
     }
 
+    /// The number of entries.
     pub fn len(&self) -> usize
         ensures len { result ≡ length self.now }
         ensures ordered { IsTrue (is_sorted K.cmp self.now) }
@@ -50,6 +53,7 @@ impl<K: Ord, V> SharedMap<K, V> {
         self.len
     }
 
+    /// The value at a key, or `None` where the key is missing.
     pub fn get(&self, key: &K) -> Option<&V>
         ensures value { option_copied result ≡ find K.cmp key.now self.now }
         ensures ordered { IsTrue (is_sorted K.cmp self.now) }
@@ -60,7 +64,7 @@ impl<K: Ord, V> SharedMap<K, V> {
 }
 
 impl<K: Ord + Share, V: Share> SharedMap<K, V> {
-    /// Sets the value at a key. A key that is there stays as it is.
+    /// Sets the value at a key. Where an equal key is there, that key is kept, and only its value changes.
     pub fn insert(&mut self, key: K, value: V) -> Result<(), AllocError>
         ensures ok { OnOk result (self.new ≡ put K.cmp key value self.old) }
         ensures err { OnErr result (self.new ≡ self.old) }
@@ -71,7 +75,7 @@ impl<K: Ord + Share, V: Share> SharedMap<K, V> {
         Ok(())
     }
 
-    /// Takes a key out.
+    /// Removes the entry at a key, if there is one.
     pub fn remove(&mut self, key: &K) -> Result<(), AllocError>
         ensures ok { OnOk result (self.new ≡ without K.cmp key.now self.old) }
         ensures err { OnErr result (self.new ≡ self.old) }
@@ -84,7 +88,7 @@ impl<K: Ord + Share, V: Share> SharedMap<K, V> {
         Ok(())
     }
 
-    /// The same map. The chunks are shared.
+    /// A copy of the map, which shares the chunks.
     pub fn copy(&self) -> Result<SharedMap<K, V>, AllocError>
         ensures { IfOk result (λ copy. copy ≡ self.now) }
     {
@@ -108,7 +112,7 @@ impl<K: Ord, V> SharedMap<K, V> {
 }
 
 impl<K: Ord + Same, V: Same> SharedMap<K, V> {
-    /// Whether both have the same entries.
+    /// Whether both maps have equal entries.
     pub fn same(&self, other: &SharedMap<K, V>) -> bool
         ensures { IsTrue result ↔ (self.now ≡ other.now) }
     {

@@ -1,18 +1,18 @@
-//! What the collections ask of what they hold.
+//! The traits that keys, values and items of the collections have.
 ghost use Rattle.std.specs.Prelude.{◌≡◌, ◌↔◌, IfOk, IsTrue};
 
 use std::alloc::AllocError;
 
-/// Can be had once more, with the same value.
+/// A value that can be copied, where a copy may run out of memory.
 pub trait Share: Drop {
-    /// The same value once more.
+    /// Returns a copy, which has the same value. A counted reference shares what it points to.
     fn share(&self) -> Result<Self, AllocError>
         ensures { IfOk result (λ copy. copy ≡ self.now) };
 }
 
-/// Can be compared in all its parts.
+/// A value that can be compared in all its parts.
 pub trait Same {
-    /// Whether both have one value.
+    /// Whether both values are equal.
     fn same(&self, other: &Self) -> bool
         ensures { IsTrue result ↔ (self.now ≡ other.now) };
 }

@@ -1,4 +1,4 @@
--- What lists hold.
+-- The elements of lists that functions make of other lists.
 use Rattle.std.proofs.Common.{zero, suc, ◌≡◌, ◌<◌, ◌⊎◌, inl, inr, List, [], ◌∷◌, length, map, Option, Some, None, refl, sym, ap, subst, ◌∙◌, ⊎_elim, arith}
 use Rattle.std.specs.List.{Contains, filter_map, cons_option}
 

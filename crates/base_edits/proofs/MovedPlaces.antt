@@ -157,7 +157,8 @@ keeps_order edits one other order outside le =
     (rises edits 0 0 one other order (recursion_from_All (λ (e : Edit). (one ≤ e.span.start) ⊎ (e.span.end ≤ one)) edits outside) (omega arith) le))
 
 -- ---- bytes
--- what stands behind an offset of the new text, past the first edit
+--
+-- The bytes of the new text from an offset on, past the first edit.
 past_first : (old : ℕ) (e : Edit) (edits : List Edit) (text : List ℕ) (k : ℕ) → old ≤ e.span.start → e.span.start ≤ e.span.end → e.span.end ≤ length text
     → drop (((e.span.start - old) + length e.text) + k) (edited_from old (e ∷ edits) text) ≡ drop k (edited_from e.span.end edits text)
 past_first old e edits text k first second third =

@@ -1,4 +1,4 @@
--- The changes that lead back, one by one.
+-- The changes of an inverse, one by one.
 use Rattle.std.proofs.Common.{◌≡◌, ℕ, List, Option, Some, None, length, refl, sym, ap, subst, ◌∙◌}
 use Rattle.std.specs.Option.{option_and_then, MatchOption}
 use Rattle.std.proofs.lemmas.Option.{none-some, same_Some}

@@ -1,4 +1,4 @@
--- Where the edits of the changed files end.
+-- The table of the ends of edits, from which `Moves` computes moved offsets.
 use Rattle.std.specs.Prelude.{ℕ, ◌≡◌, ◌+◌, ◌<◌, ◌≤◌, List, length, Some, slice_get}
 use Rattle.std.specs.Global.{Vec}
 use Rattle.base_edits.specs.EditSet.{FileChanges, change_of}
@@ -7,36 +7,37 @@ use Rattle.base_edits.specs.declared.edit.Edit.{Edit}
 use Rattle.base_edits.specs.declared.change.FileChange.{FileChange}
 use Rattle.base_edits.specs.declared.moves.End.{End}
 
+-- The state behind the first `n` edits, of which the last ends at `end`.
 abbrev pub past_at : ℕ → End → Past
 past_at n end = record { edits = n; old = end.old; new = end.new }
 
--- the first n edits end there, in the old text and in the new one
+-- The first `n` edits end at `end.old` in the old text and at `end.new` in the new text.
 abbrev pub IsEnd : List Edit → ℕ → End → Type 0
 IsEnd edits n end = IsPast edits end.old (past_at n end)
 
--- the beginning of the texts, and where each of the first edits ends
+-- The list begins with offset 0 of both texts, and goes on with the ends of the first edits. It has `count` entries.
 pub record AreEndsBelow (edits : List Edit) (count : ℕ) (ends : List End) : Type 0 where
   pub size : length ends ≡ count
   pub first : (end : End) → slice_get ends 0 ≡ Some end → end.old ≡ 0
   pub each : (n : ℕ) (end : End) → slice_get ends n ≡ Some end → IsEnd edits n end
   pub at_end : (n : ℕ) (e : Edit) (end : End) → slice_get edits n ≡ Some e → slice_get ends (n + 1) ≡ Some end → end.old ≡ e.span.end
 
--- the same of all edits of a file
+-- The list has offset 0 and then the end of each edit of a file.
 abbrev pub AreEnds : List Edit → List End → Type 0
 AreEnds edits ends = AreEndsBelow edits (length edits + 1) ends
 
--- the same of each of the first changed files
+-- The table has a list of ends for each of the first `count` changed files, in their order.
 pub record AreEndsOf (changed : List FileChange) (count : ℕ) (ends : List (Vec End)) : Type 0 where
   pub size : length ends ≡ count
   pub each : (n : ℕ) (c : FileChange) (here : Vec End) → slice_get changed n ≡ Some c → slice_get ends n ≡ Some here → AreEnds c.edits here.items
 
--- the last end at an offset or before it
+-- `n` is the number of the last end at or before an old offset.
 pub record IsLastEnd (ends : List End) (offset n : ℕ) : Type 0 where
   pub within : n < length ends
   pub reached : (end : End) → slice_get ends n ≡ Some end → end.old ≤ offset
   pub behind : (end : End) → slice_get ends (n + 1) ≡ Some end → offset < end.old
 
--- the number of the change of the file of a path
+-- `n` is the number of the change of the file at the path.
 pub record IsChangeOf (s : FileChanges) (path : List ℕ) (n : ℕ) : Type 0 where
   pub within : n < length s.changed
   pub is : slice_get s.changed n ≡ change_of s path

@@ -1,4 +1,4 @@
--- The changes that take an edit set back.
+-- The inverse of an edit set: the changes that take it back.
 use Rattle.std.specs.Prelude.{◌≡◌, ℕ, ◌+◌, ◌-◌, List, [], ◌∷◌, ◌++◌, length, map, Option, Some, None}
 use Rattle.std.specs.Option.{option_and_then}
 use Rattle.std.specs.List.{slice_range, filter_map, All, Contains}
@@ -12,7 +12,8 @@ use Rattle.base_edits.specs.declared.change.FileChange.{FileChange}
 use Rattle.base_edits.specs.declared.change.Fate.{Fate}
 use Rattle.base_edits.specs.declared.change.Fate.TheVariants.{Stays, Moves, Dropped}
 
--- The edits that give the new text the old bytes back. The offset at in the old text is new in the new one.
+-- The edits of the new text that restore the old one, from an edit boundary on. The boundary is offset `at` in the old text and `new` in
+-- the new one.
 abbrev pub reversed_from : ℕ → ℕ → List Edit → List ℕ → List Edit
 reversed_from at new [] text = []
 reversed_from at new (e ∷ edits) text =
@@ -20,43 +21,47 @@ reversed_from at new (e ∷ edits) text =
     record { span = record { start = start; end = start + length e.text }; text = slice_range text e.span.start e.span.end }
     ∷ reversed_from e.span.end (start + length e.text) edits text
 
+-- The edits of the new text that restore the old text.
 abbrev pub reversed : List Edit → List ℕ → List Edit
 reversed = reversed_from 0 0
 
--- what becomes of the file that a change moved or left: it goes back. A dropped file is none
+-- The change that takes back a change of the file at `path`, with the given edits. `None` for a dropped file, which has to be added again.
 abbrev pub back_by : Fate → List ℕ → List Edit → Option FileChange
 back_by Stays path edits = Some (record { path = path; edits = edits; fate = Stays })
 back_by (Moves new) path edits = Some (record { path = new; edits = edits; fate = Moves path })
 back_by Dropped path edits = None
 
+-- The change that takes back a change of a file of the workspace `w`. `None` where the file is dropped or is not in `w`.
 abbrev pub back_of : Workspace → FileChange → Option FileChange
 back_of w c = option_and_then (λ text. back_by c.fate c.path (reversed c.edits text)) (files.get w c.path)
 
--- the file that a change dropped
+-- The file, as path and text, if its fate is to be dropped.
 abbrev pub lost_by : Fate → List ℕ × List ℕ → Option (List ℕ × List ℕ)
 lost_by Stays file = None
 lost_by (Moves new) file = None
 lost_by Dropped file = Some file
 
+-- The file, as path and text, that a change drops from the workspace `w`, if it drops one.
 abbrev pub lost_of : Workspace → FileChange → Option (List ℕ × List ℕ)
 lost_of w c = option_and_then (λ text. lost_by c.fate (c.path, text)) (files.get w c.path)
 
+-- The change that drops a file again that was added.
 abbrev pub dropped : List ℕ × List ℕ → FileChange
 dropped file = record { path = file.0; edits = []; fate = Dropped }
 
--- the changes that lead from the files after an edit set back to those before
+-- The inverse of an edit set on the workspace `w`: the changes that lead from the files after it back to those of `w`.
 abbrev pub inverse : FileChanges → Workspace → FileChanges
 inverse s w = record {
   changed = filter_map (back_of w) s.changed ++ map dropped s.added;
   added = filter_map (lost_of w) s.changed;
 }
 
--- each file is changed in one way, by edits in order
+-- No two changes are of one file, and the edits of each file are in order.
 pub record AreChanges (s : FileChanges) : Type 0 where
   pub in_order : All (λ c. AreInOrder 0 c.edits) s.changed
   pub one_way : (one other : FileChange) → Contains s.changed one → Contains s.changed other → one.path ≡ other.path → one ≡ other
 
--- the changes lead from the one workspace back to the other
+-- The changes fit the workspace `after`, and make of it the workspace `before`.
 pub record LeadsBack (s : FileChanges) (after before : Workspace) : Type 0 where
   pub fits : Fits s after
   pub back : edited s after ≡ before

@@ -1,4 +1,4 @@
--- How the map of new files is made: the changed paths are taken out, and then all new files are put.
+-- How the map of new files is made: first the changed paths are removed, and then all new files are inserted.
 use Rattle.std.specs.Prelude.{ℕ, List, [], ◌∷◌, Option, Some}
 use Rattle.std.specs.Option.{option_and_then}
 use Rattle.std.specs.List.{filter_map}
@@ -7,19 +7,20 @@ use Rattle.base_files.specs.Workspace.{Workspace}
 use Rattle.base_edits.specs.EditSet.{FileChanges, file_by}
 use Rattle.base_edits.specs.declared.change.FileChange.{FileChange}
 
--- without the files of these changes
+-- The workspace without the files of the changes.
 abbrev pub without : List FileChange → Workspace → Workspace
 without [] w = w
 without (c ∷ changes) w = without changes (files.remove w c.path)
 
--- with these files
+-- The workspace with the files inserted.
 abbrev pub with_files : List (List ℕ × List ℕ) → Workspace → Workspace
 with_files [] w = w
 with_files (file ∷ rest) w = with_files rest (files.insert w file.0 file.1)
 
--- the file that a change makes of one of w
+-- The file, as path and text, that a change makes of a file of `w`. `None` where the file is dropped or is not in `w`.
 abbrev pub made_of : Workspace → FileChange → Option (List ℕ × List ℕ)
 made_of w c = option_and_then (λ text. file_by (Some c) (c.path, text)) (files.get w c.path)
 
+-- The workspace that an edit set makes of `w`, in the order of steps of the code.
 abbrev pub made : FileChanges → Workspace → Workspace
 made s w = with_files s.added (with_files (filter_map (made_of w) s.changed) (without s.changed w))

@@ -1,22 +1,23 @@
--- How far edits of a text reach that end at an offset or before it.
+-- How the moved offset is computed edit by edit.
 use Rattle.std.specs.Prelude.{◌≡◌, ℕ, ◌+◌, ◌-◌, ◌≤◌, List, [], ◌∷◌, length, drop, nat_le, if◌then◌else◌}
 use Rattle.base_edits.specs.Edits.{AreInOrder}
 use Rattle.base_edits.specs.Moved.{moved_offset}
 use Rattle.base_edits.specs.declared.edit.Edit.{Edit}
 
--- how many edits end at an offset or before it, and where the last of them ends in the old and in the new text
+-- The first edits, up to some offset: their number, and where the last of them ends in the old text and in the new text.
 pub record Past : Type 0 where
   pub edits : ℕ
   pub old : ℕ
   pub new : ℕ
 
--- where an offset behind those edits that end at old is, which is new in the new text, with the edits that are left
+-- The new offset of an old one that lies at or behind `old`, by the edits that begin there. Offset `old` of the old text is `new` in the
+-- new text.
 abbrev pub moved_from : ℕ → ℕ → List Edit → ℕ → ℕ
 moved_from old new [] offset = new + (offset - old)
 moved_from old new (e ∷ edits) offset = if nat_le e.span.end offset then moved_from e.span.end (new + ((e.span.start - old) + length e.text)) edits offset
     else new + (offset - old)
 
--- the edits that are left lie behind, and move each offset from last on as all edits do
+-- The edits after the first ones begin at or behind their end. From `last` on, they alone move offsets as all edits do.
 pub record IsPast (edits : List Edit) (last : ℕ) (past : Past) : Type 0 where
   pub within : past.edits ≤ length edits
   pub behind : past.old ≤ last

@@ -1,18 +1,17 @@
--- A change of a workspace, as those see it who ask what it does to bindings.
+-- A change of a workspace, as the definitions see it that say what it does to bindings.
 use Rattle.std.specs.Prelude.{ℕ, ◌≡◌, List, ◌∷◌}
 use Rattle.base_files.specs.Packages.{package_files}
 use Rattle.base_files.specs.Path.{folder}
 use Rattle.base_files.specs.Workspace.{Workspace}
 use Rattle.base_files.specs.declared.place.Place.{Place}
 
--- The workspace afterwards; where each place of the one before goes; and how an identifier is called afterwards that
--- begins at a place and has a name before.
+-- A change: the workspace after it, where each place moves, and the new name of an identifier at a place, by its name before.
 pub record Revision : Type 0 where
   pub after : Workspace
   pub moved : Place → Place
   pub called : Place → List ℕ → List ℕ
 
--- where the package of a path goes: to the folder to which its first file goes
+-- The package at `path` is moved to the folder `to`: the folder to which its first file is moved.
 pub record GoesTo (w : Workspace) (r : Revision) (path to : List ℕ) : Type 0 where
   pub first : List ℕ × List ℕ
   pub others : List (List ℕ × List ℕ)

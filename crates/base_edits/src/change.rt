@@ -1,8 +1,8 @@
-//! What is changed of one file.
+//! The change of one file.
 use crate::edit::Edits;
 use base_files::Path;
 
-/// What becomes of the path of a file.
+/// Whether a file keeps its path, moves to another path, or is dropped.
 #[derive(Drop)]
 pub enum Fate {
     Stays,
@@ -10,7 +10,7 @@ pub enum Fate {
     Dropped,
 }
 
-/// The edits of the file that has a path, and what becomes of that path.
+/// The change of one file: its path before, its edits, and what becomes of its path.
 #[derive(Drop)]
 pub struct FileChange {
     pub path: Path,

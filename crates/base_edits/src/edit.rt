@@ -1,17 +1,17 @@
-//! Edits of one text.
+//! The edits of one text.
 ghost use Rattle.std.specs.Prelude.{◌≡◌};
 
 use base_files::{FileText, Span};
 use std::marker::Model;
 
-/// The bytes of a span, and those that take their place. An insertion has an empty span.
+/// Replaces the bytes of a span by those of `text`. The span of an insertion is empty.
 #[derive(Drop)]
 pub struct Edit {
     pub span: Span,
     pub text: FileText,
 }
 
-/// The edits of one file.
+/// The edits of one file, in order.
 #[derive(Drop)]
 pub struct Edits {
     edits: Vec<Edit>,
@@ -27,12 +27,14 @@ impl Model for Edits {
 }
 
 impl Edits {
+    /// The edits of a list.
     pub fn new(edits: Vec<Edit>) -> Edits
         ensures { result ≡ edits.items }
     {
         Edits { edits }
     }
 
+    /// The edits as a slice.
     pub fn as_slice(&self) -> &[Edit]
         ensures { result.now ≡ self.now }
     {

@@ -1,4 +1,4 @@
-//! Edit sets.
+//! Edit sets: changes of several files.
 ghost use Rattle.std.specs.Prelude.{◌≡◌, ◌↔◌, IsTrue};
 ghost use Rattle.base_edits.specs.Fits.{IsEditSet, Fits};
 
@@ -7,13 +7,13 @@ use crate::fits::{are_free, are_there};
 use base_files::{FileText, Files, Path};
 use std::marker::Model;
 
-/// Changes of files in the order of their paths, and files that are added.
+/// An edit set: changes of files in the order of their paths, and files that are added, with their texts.
 pub struct EditSet {
     changed: Vec<FileChange>,
     added: Vec<(Path, FileText)>,
 }
 
-/// Written out, so that crates above call it and don't prove again how each part is dropped.
+/// Written out so that crates above need not prove again how each part is dropped.
 impl Drop for EditSet {
     fn drop(self) {
         let EditSet { changed, added } = self;
@@ -34,6 +34,7 @@ impl Model for EditSet {
 }
 
 impl EditSet {
+    /// The edit set of the changes and the added files.
     pub fn new(changed: Vec<FileChange>, added: Vec<(Path, FileText)>) -> EditSet
         requires { IsEditSet (record { changed = changed.items; added = added.items }) }
         ensures { result ≡ record { changed = changed.items; added = added.items } }
@@ -41,7 +42,7 @@ impl EditSet {
         EditSet { changed, added }
     }
 
-    /// The changes in the order of their paths.
+    /// The changes in the order of the paths of their files before the change.
     pub fn changed(&self) -> &[FileChange]
         ensures changed { result.now ≡ self.now.changed }
         ensures set { IsEditSet self.now }
@@ -49,13 +50,14 @@ impl EditSet {
         self.changed.as_slice()
     }
 
+    /// The added files, as pairs of path and text.
     pub fn added(&self) -> &[(Path, FileText)]
         ensures { result.now ≡ self.now.added }
     {
         self.added.as_slice()
     }
 
-    /// Whether the changed files and the spans are there, and no two files get one path.
+    /// Whether the edit set fits the files: the changed files exist and contain the spans of their edits, and no two files get one path.
     pub fn fits(&self, files: &Files) -> bool
         ensures { IsTrue result ↔ Fits self.now files.now }
     {

@@ -1,4 +1,4 @@
-//! Whether changes fit some files.
+//! Whether changes fit the files of a workspace.
 ghost use Rattle.std.specs.Prelude.{◌≡◌, ◌↔◌, IsTrue, IfSome};
 ghost use Rattle.std.specs.Option.{option_copied};
 ghost use Rattle.std.specs.List.{All};
@@ -12,12 +12,14 @@ use crate::change::{Fate, FileChange};
 use crate::edit::Edit;
 use base_files::{FileText, Files, Path};
 
+/// Whether all spans end within a text of `size` bytes.
 fn lie_within(edits: &[Edit], size: usize) -> bool
     ensures { IsTrue result ↔ LieWithin size edits.now }
 {
     edits.iter().all(|edit| edit.span.end <= size)
 }
 
+/// Whether the file of a change exists and contains the spans of its edits.
 fn is_there(change: &FileChange, files: &Files) -> bool
     ensures { IsTrue result ↔ IsThere files.now change.now }
 {
@@ -27,14 +29,14 @@ fn is_there(change: &FileChange, files: &Files) -> bool
     }
 }
 
-/// Whether the changed files are there, with the spans of their edits.
+/// Whether all changed files exist and contain the spans of their edits.
 pub(crate) fn are_there(changed: &[FileChange], files: &Files) -> bool
     ensures { IsTrue result ↔ All (IsThere files.now) changed.now }
 {
     changed.iter().all(|change| is_there(change, files))
 }
 
-/// The change of the file that has this path.
+/// The change of the file at the path, found by binary search.
 fn change_at<'a>(changed: &'a [FileChange], path: &Path) -> Option<&'a FileChange>
     requires { IsStrictlySortedBy path_cmp (paths_of changed.now) }
     ensures { option_copied result ≡ change_in changed.now path.now }
@@ -45,7 +47,7 @@ fn change_at<'a>(changed: &'a [FileChange], path: &Path) -> Option<&'a FileChang
     }
 }
 
-/// Whether a file of this path is there, and stays where it is.
+/// Whether there is a file at the path, which the changes leave at this path.
 fn is_kept(changed: &[FileChange], files: &Files, path: &Path) -> bool
     requires { IsStrictlySortedBy path_cmp (paths_of changed.now) }
     ensures { IsTrue result ↔ IsKept changed.now files.now path.now }
@@ -59,6 +61,7 @@ fn is_kept(changed: &[FileChange], files: &Files, path: &Path) -> bool
     }
 }
 
+/// Whether a change moves its file to no path at which a file stays.
 fn has_free_target(changed: &[FileChange], files: &Files, change: &FileChange) -> bool
     requires { IsStrictlySortedBy path_cmp (paths_of changed.now) }
     ensures { IsTrue result ↔ IfSome (new_path change.now.fate) (λ path. ¬ (IsKept changed.now files.now path)) }
@@ -69,7 +72,7 @@ fn has_free_target(changed: &[FileChange], files: &Files, change: &FileChange) -
     }
 }
 
-/// Whether no file stays at a path to which one is moved or at which one is added.
+/// Whether no file stays at a path to which a file is moved or at which one is added.
 pub(crate) fn are_free(changed: &[FileChange], added: &[(Path, FileText)], files: &Files) -> bool
     requires { IsStrictlySortedBy path_cmp (paths_of changed.now) }
     ensures { IsTrue result ↔ AreFree (record { changed = changed.now; added = added.now }) files.now }

@@ -1,4 +1,4 @@
-//! What takes an edit set back.
+//! The inverse of an edit set, by which it is undone.
 ghost use Rattle.std.specs.Prelude.{◌≡◌, IfOk, IfErr, OnOk, OnErr};
 ghost use Rattle.base_edits.specs.EditSet.{edited};
 ghost use Rattle.base_edits.specs.Fits.{Fits};
@@ -11,8 +11,8 @@ use std::alloc::AllocError;
 use std::marker::Model;
 use std::mem;
 
-/// The changes that lead back to the files before an edit set: for each edited file the spans of new bytes with the old
-/// ones, and the dropped files. It cannot be dropped: it ends in `undo` or in `retire`.
+/// The changes that lead back to the files before an edit set: edits that restore the old bytes, and the dropped files. A value cannot be
+/// dropped: it ends in `undo` or in `retire`.
 #[must_use]
 pub struct Inverse {
     changed: Vec<FileChange>,
@@ -31,6 +31,7 @@ impl Model for Inverse {
 }
 
 impl Inverse {
+    /// The inverse that consists of these changes and added files.
     pub(crate) fn new(changed: Vec<FileChange>, added: Vec<(Path, FileText)>) -> Inverse
         requires { AreChanges (record { changed = changed.items; added = added.items }) }
         ensures { result ≡ record { changed = changed.items; added = added.items } }
@@ -38,7 +39,8 @@ impl Inverse {
         Inverse { changed, added }
     }
 
-    /// Gives the files back as they were before, and answers what takes that back. For want of memory the inverse comes back.
+    /// Restores the files before the edit set, and returns the inverse of that. For want of memory nothing changes, and `Err` returns
+    /// `self`.
     pub fn undo(self, files: &mut Files) -> Result<Inverse, (Inverse, AllocError)>
         requires { Fits self files.old }
         ensures done { OnOk result (files.new ≡ edited self files.old) }
@@ -61,7 +63,7 @@ impl Inverse {
         }
     }
 
-    /// Lets the inverse go. No files change.
+    /// Gives the inverse up. No files change.
     pub fn retire(self) {
         let Inverse { changed, added } = self;
         drop(changed);

@@ -1,4 +1,4 @@
-//! Edit sets: what they make of files, how they are taken back, and where they move positions.
+//! Edit sets: the files that they make, their inverses, and where they move places.
 #![tactic(auto)]
 
 mod change;

@@ -1,4 +1,4 @@
-//! How the new files are made, with what takes the changes back.
+//! Makes the new files of an edit set, together with its inverse.
 ghost use Rattle.std.specs.Prelude.{◌≡◌, [], ◌∷◌, ◌++◌, length, map, IfOk, OnOk};
 ghost use Rattle.std.specs.List.{All, cons_option, filter_map};
 ghost use Rattle.std.specs.FinMap as workspace;
@@ -15,7 +15,7 @@ use crate::reversing::reversed_edits;
 use base_files::{FileText, Files, Path};
 use std::alloc::{AllocError, Global};
 
-/// The new files as far as they are made, the changes that lead back from them, and the files that were dropped.
+/// The new files made so far, the changes that lead back from them, and the files that were dropped.
 #[derive(Drop)]
 pub(crate) struct Making {
     pub(crate) files: Files,
@@ -23,6 +23,7 @@ pub(crate) struct Making {
     pub(crate) lost: Vec<(Path, FileText)>,
 }
 
+/// Removes the files of the changes.
 fn take_out(files: &mut Files, changed: &[FileChange]) -> Result<(), AllocError>
     ensures { OnOk result (files.new ≡ without changed.now files.old) }
 {
@@ -32,6 +33,7 @@ fn take_out(files: &mut Files, changed: &[FileChange]) -> Result<(), AllocError>
     Ok(())
 }
 
+/// Inserts the added files.
 fn put_added(files: &mut Files, added: &[(Path, FileText)]) -> Result<(), AllocError>
     ensures { OnOk result (files.new ≡ with_files added.now files.old) }
 {
@@ -41,6 +43,7 @@ fn put_added(files: &mut Files, added: &[(Path, FileText)]) -> Result<(), AllocE
     Ok(())
 }
 
+/// Adds to the inverse a change for each added file, which drops it again.
 fn drop_added(back: &mut Vec<FileChange>, added: &[(Path, FileText)]) -> Result<(), AllocError>
     ensures { OnOk result (back.new.items ≡ back.old.items ++ map dropped added.now) }
 {
@@ -55,7 +58,7 @@ fn drop_added(back: &mut Vec<FileChange>, added: &[(Path, FileText)]) -> Result<
     Ok(())
 }
 
-/// Puts the edited text at a path, and notes the change that takes it back to where the file was.
+/// Inserts the edited text of a change at the path `to`. Adds to the inverse the change that restores the old text, with the fate `fate`.
 fn put_edited(
     alloc: Global,
     making: &mut Making,
@@ -82,6 +85,7 @@ fn put_edited(
     Ok(())
 }
 
+/// Makes the new file of one change, and what takes the change back. A dropped file goes to `lost`.
 fn make_change(
     alloc: Global,
     making: &mut Making,
@@ -108,6 +112,7 @@ fn make_change(
     }
 }
 
+/// Makes the new files of all changes, as `make_change` does for one.
 fn make_changes(
     alloc: Global,
     making: &mut Making,
@@ -128,7 +133,7 @@ fn make_changes(
     Ok(())
 }
 
-/// The new files, and all that takes the changes back.
+/// Makes the new files, and all that takes the changes back. A file without a change shares its text.
 pub(crate) fn made(
     alloc: Global,
     files: &Files,

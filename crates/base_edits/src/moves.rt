@@ -1,4 +1,4 @@
-//! Where edits move places, and how they call identifiers.
+//! Where an edit set moves places, and the new names of identifiers.
 ghost use Rattle.std.specs.Prelude.{◌≡◌, ◌+◌, ◌-◌, ◌<◌, ◌≤◌, ◌↔◌, List, length, None, Some, find, slice_get, unwrap_or, IfOk, IsTrue, MatchOption};
 ghost use Rattle.base_edits.specs.EditSet.{change_of};
 ghost use Rattle.base_edits.specs.Edits.{AreInOrder};
@@ -14,14 +14,14 @@ use base_files::{Path, Place};
 use std::alloc::{AllocError, Global};
 use std::marker::Model;
 
-/// Where an edit ends in the old text, and in the new one.
+/// The end of an edit: its byte offset in the old text and in the new text.
 #[derive(Clone, Copy)]
 struct End {
     old: usize,
     new: usize,
 }
 
-/// An edit set, with where the edits of each changed file end.
+/// An edit set with the table of the ends of its edits, so that a place is moved by a binary search.
 #[derive(Drop)]
 pub struct Moves<'a> {
     edits: &'a EditSet,
@@ -40,7 +40,7 @@ impl<'a> Model for Moves<'a> {
     ghost invariant = { λ a. AreEndsOf a.edits.now.changed (length a.edits.now.changed) a.ends.items };
 }
 
-/// Where the places of a file go: to which file, and where its edits end, if it is changed.
+/// How the places of one file move: to which path, and the ends of the file's edits, if it is changed.
 #[derive(Clone, Copy)]
 pub struct FileMoves<'a> {
     pub old: &'a Path,
@@ -48,7 +48,7 @@ pub struct FileMoves<'a> {
     ends: Option<&'a [End]>,
 }
 
-/// Where the file of a change goes. A file that is dropped goes nowhere.
+/// The path of a file after its change. A dropped file keeps its path here.
 fn new_path<'a>(change: &'a FileChange, path: &'a Path) -> &'a Path
     ensures { result.now ≡ goes_by change.now path.now }
 {
@@ -58,14 +58,14 @@ fn new_path<'a>(change: &'a FileChange, path: &'a Path) -> &'a Path
     }
 }
 
-/// The sum of two lengths of texts. No memory holds more bytes than a number can tell.
+/// The sum of two lengths of texts, or `AllocError` where it overflows: no memory holds so many bytes.
 fn sum(one: usize, other: usize) -> Result<usize, AllocError>
     ensures { IfOk result (λ n. n ≡ one + other) }
 {
     one.checked_add(other).ok_or(AllocError)
 }
 
-/// Where an edit ends, by where the one before it does.
+/// The end of an edit, computed from the end of the edit before it.
 fn next_end(end: End, edit: &Edit) -> Result<End, AllocError>
     requires { end.old ≤ edit.now.span.start }
     ensures { IfOk result (λ next. next ≡ record { old = edit.now.span.end; new = end.new + ((edit.now.span.start - end.old) + length edit.now.text) }) }
@@ -78,7 +78,7 @@ fn next_end(end: End, edit: &Edit) -> Result<End, AllocError>
     })
 }
 
-/// The beginning of a text, and where each of its edits ends.
+/// Offset 0 of both texts, followed by the end of each edit of a file.
 fn ends_of(alloc: Global, edits: &[Edit]) -> Result<Vec<End>, AllocError>
     requires { AreInOrder 0 edits.now }
     ensures { IfOk result (λ ends. AreEnds edits.now ends.items) }
@@ -93,7 +93,7 @@ fn ends_of(alloc: Global, edits: &[Edit]) -> Result<Vec<End>, AllocError>
     Ok(ends)
 }
 
-/// The same of each changed file.
+/// The ends of the edits of each changed file, in the order of the changes.
 fn all_ends(alloc: Global, edits: &EditSet) -> Result<Vec<Vec<End>>, AllocError>
     ensures { IfOk result (λ ends. AreEndsOf edits.now.changed (length edits.now.changed) ends.items) }
 {
@@ -105,7 +105,7 @@ fn all_ends(alloc: Global, edits: &EditSet) -> Result<Vec<Vec<End>>, AllocError>
     Ok(ends)
 }
 
-/// The number of the last end at an offset or before it.
+/// The number of the last end at or before an old offset, found by binary search.
 fn last_end(ends: &[End], offset: usize) -> usize
     requires some { 0 < length ends.now }
     requires first { (end : End) → slice_get ends.now 0 ≡ Some end → end.old ≡ 0 }
@@ -124,7 +124,7 @@ fn last_end(ends: &[End], offset: usize) -> usize
     low
 }
 
-/// Where an offset goes, by the last end before it.
+/// The new offset of an old one, by the last end at or before it.
 fn moved_by(end: End, offset: usize) -> Result<usize, AllocError>
     requires { end.old ≤ offset }
     ensures { IfOk result (λ n. n ≡ end.new + (offset - end.old)) }
@@ -132,7 +132,7 @@ fn moved_by(end: End, offset: usize) -> Result<usize, AllocError>
     sum(end.new, offset - end.old)
 }
 
-/// Where an offset goes, by the ends of the edits of its file.
+/// The new offset of an old one, by the ends of the edits of its file.
 fn moved_past(ends: &[End], offset: usize) -> Result<usize, AllocError>
     requires some { 0 < length ends.now }
     requires first { (end : End) → slice_get ends.now 0 ≡ Some end → end.old ≡ 0 }
@@ -142,7 +142,8 @@ fn moved_past(ends: &[End], offset: usize) -> Result<usize, AllocError>
     moved_by(ends[number], offset)
 }
 
-/// The text that takes the place of bytes that begin at an offset, by the number of the edits before it; a name where none does.
+/// The new bytes of the edit of that number if it begins at `offset`, and otherwise `name`. `number` counts the edits that end at or before
+/// the offset.
 fn text_at<'a>(edits: &'a [Edit], number: usize, offset: usize, name: &'a [u8]) -> &'a [u8]
     ensures { (ends : List End) → AreInOrder 0 edits.now → AreEnds edits.now ends → IsLastEnd ends offset number → result.now ≡ text_or name.now (find (replaces_at offset) edits.now) }
 {
@@ -159,6 +160,7 @@ fn text_at<'a>(edits: &'a [Edit], number: usize, offset: usize, name: &'a [u8]) 
 }
 
 impl<'a> Moves<'a> {
+    /// Computes the table of ends of an edit set.
     pub fn of(alloc: Global, edits: &'a EditSet) -> Result<Moves<'a>, AllocError>
         ensures { IfOk result (λ moves. moves ≡ edits.now) }
     {
@@ -166,7 +168,7 @@ impl<'a> Moves<'a> {
         Ok(Moves { edits, ends })
     }
 
-    /// The number of the change of the file that has a path.
+    /// The number of the change of the file at a path, if it is changed.
     fn number_of(&self, path: &Path) -> Option<usize>
         ensures { MatchOption result (change_of self.now path.now ≡ None) (IsChangeOf self.now path.now) }
     {
@@ -177,7 +179,7 @@ impl<'a> Moves<'a> {
         }
     }
 
-    /// Where the places of the file of a path go.
+    /// How the places of the file at a path move.
     pub fn file<'b>(&'b self, path: &'b Path) -> FileMoves<'b>
         ensures old { result.old.now ≡ path.now }
         ensures moves { AreMovesOf self.now result }
@@ -196,7 +198,8 @@ impl<'a> Moves<'a> {
         }
     }
 
-    /// The same, where the file that was asked about before it is often the same.
+    /// How the places of the file at a path move. Returns `near` without a search where it is of this file, as in a row of queries it often
+    /// is.
     pub fn file_near<'b>(&'b self, near: FileMoves<'b>, path: &'b Path) -> FileMoves<'b>
         requires { AreMovesOf self.now near }
         ensures old { result.old.now ≡ path.now }
@@ -209,14 +212,14 @@ impl<'a> Moves<'a> {
         }
     }
 
-    /// Where the file of a path goes. A file that is dropped goes nowhere.
+    /// The path after the edit set of the file at `path` before it. A dropped file keeps its path.
     pub fn path<'b>(&'b self, path: &'b Path) -> &'b Path
         ensures { result.now ≡ unwrap_or (path_after self.now path.now) path.now }
     {
         self.file(path).new
     }
 
-    /// Where an offset of a file goes.
+    /// The byte offset after the edit set of an offset of a file before it.
     pub fn offset(&self, file: FileMoves<'_>, offset: usize) -> Result<usize, AllocError>
         requires { AreMovesOf self.now file }
         ensures { IfOk result (λ n. n ≡ moved_offset (edits_by (change_of self.now file.entry.old.now)) offset) }
@@ -227,7 +230,7 @@ impl<'a> Moves<'a> {
         }
     }
 
-    /// Where a place goes.
+    /// The place after the edit set of a place before it.
     pub fn place(&self, path: &Path, offset: usize) -> Result<Place, AllocError>
         ensures { IfOk result (λ place. place ≡ moved self.now (record { path = path.now; offset = offset })) }
     {
@@ -238,7 +241,7 @@ impl<'a> Moves<'a> {
         })
     }
 
-    /// Whether a place of a file goes to another place.
+    /// Whether an offset of a file moves to the place `path:to`.
     pub fn goes_to(
         &self,
         file: FileMoves<'_>,
@@ -253,7 +256,7 @@ impl<'a> Moves<'a> {
         Ok(new == to && *file.new == *path)
     }
 
-    /// How an identifier is called afterwards that begins at a place and has a name before.
+    /// The name after the edit set of the identifier at `path:offset`, whose name before it is `name`.
     pub fn called<'b>(&'b self, path: &Path, offset: usize, name: &'b [u8]) -> &'b [u8]
         ensures { result.now ≡ called_by self.now (record { path = path.now; offset = offset }) name.now }
     {

@@ -6,7 +6,7 @@ use crate::edit::Edit;
 use base_files::FileText;
 use std::alloc::{AllocError, Global};
 
-/// The new text. One without edits is shared.
+/// The text after the edits. Without edits it shares the old text.
 pub(crate) fn new_text(
     alloc: Global,
     text: &FileText,

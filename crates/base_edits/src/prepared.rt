@@ -1,4 +1,4 @@
-//! An edit set whose new files are made.
+//! An edit set whose new files are made and not yet committed.
 ghost use Rattle.std.specs.Prelude.{◌≡◌, IfOk};
 ghost use Rattle.base_edits.specs.Fits.{Fits};
 ghost use Rattle.base_edits.specs.Inverse.{AreChanges, LeadsBack};
@@ -12,13 +12,14 @@ use base_files::{FileText, Files, Path};
 use std::alloc::{AllocError, Global};
 use std::mem;
 
-/// The new files, and what leads back from them. It cannot be dropped: it ends in `commit` or in `abandon`.
+/// The files after an edit set, and its inverse. A value cannot be dropped: it ends in `commit` or in `abandon`.
 #[must_use]
 pub struct Prepared {
     pub files: Files,
     pub inverse: Inverse,
 }
 
+/// Makes the new files of the changes and the added files, with the inverse.
 pub(crate) fn prepare_changes(
     alloc: Global,
     files: &Files,
@@ -37,7 +38,7 @@ pub(crate) fn prepare_changes(
     })
 }
 
-/// Makes all that the commit of an edit set needs.
+/// Makes all that the commit of an edit set needs, so that `commit` itself takes no memory.
 pub fn prepare(alloc: Global, set: &EditSet, files: &Files) -> Result<Prepared, AllocError>
     requires { Fits set.now files.now }
     ensures { IfOk result (IsPrepared set.now files.now) }
@@ -46,7 +47,7 @@ pub fn prepare(alloc: Global, set: &EditSet, files: &Files) -> Result<Prepared, 
 }
 
 impl Prepared {
-    /// Puts the new files in the place of those that the set was prepared on. It takes no memory.
+    /// Replaces the files for which the edit set was prepared by the new ones, and returns the inverse. It takes no memory.
     pub fn commit(self, files: &mut Files) -> Inverse
         requires { LeadsBack self.inverse self.files files.old }
         ensures done { files.new ≡ self.files }
@@ -60,7 +61,7 @@ impl Prepared {
         inverse
     }
 
-    /// Lets it go. No files change.
+    /// Gives the prepared files up. No files change.
     pub fn abandon(self) {
         let Prepared { files, inverse } = self;
         drop(files);

@@ -7,13 +7,14 @@ use crate::edit::{Edit, Edits};
 use base_files::{FileText, Span};
 use std::alloc::{AllocError, Global};
 
+/// A text with copies of the bytes.
 fn copied(alloc: Global, bytes: &[u8]) -> Result<FileText, AllocError>
     ensures { IfOk result (λ text. text ≡ bytes.now) }
 {
     FileText::new(alloc, Vec::from_slice(alloc, bytes)?)
 }
 
-/// The edits of the new text that give it the old bytes back.
+/// The edits of the new text that restore the old text.
 pub(crate) fn reversed_edits(
     alloc: Global,
     text: &FileText,

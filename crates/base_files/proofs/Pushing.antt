@@ -1,4 +1,4 @@
--- A path that stands behind all entries, and is added behind them.
+-- A path greater than all others, which is added at the end.
 use Rattle.std.proofs.Common.{◌≡◌, ℕ, List, [], ◌∷◌, ◌++◌, None, ap, subst, ◌∙◌, append-nil}
 use Rattle.std.specs.Ordering.{ordering_reverse}
 use Rattle.std.specs.declared.cmp.Ordering.TheVariants.{Greater}
@@ -8,17 +8,17 @@ use Rattle.base_files.proofs.WorkspaceLaws.{path_cmp_total}
 use Rattle.base_chunks.proofs.Standing.{all_append, find_parts, put_parts}
 use Rattle.base_files.specs.Entries.{StandsBehind}
 
--- it is not there
+-- A path greater than all others is not among them.
 pub none_behind : {X : Type 0} (path : List ℕ) (es : List (List ℕ × X)) → StandsBehind path es → find path_cmp path es ≡ None
 none_behind path es h =
     subst (λ xs. find path_cmp path xs ≡ None) (append-nil es) (find_parts path_cmp path es [] [] h tt)
 
--- what is put there is added behind them
+-- Putting a path greater than all others adds it at the end.
 pub put_behind : {X : Type 0} (path : List ℕ) (v : X) (es : List (List ℕ × X)) → StandsBehind path es → put path_cmp path v es ≡ es ++ (path, v) ∷ []
 put_behind path v es h =
     subst (λ xs. put path_cmp path v xs ≡ es ++ (path, v) ∷ []) (append-nil es) (put_parts path_cmp path v es [] [] h tt)
 
--- what stands behind it stands behind what it stands behind
+-- A path greater than a path that is greater than all others is greater than all others.
 
 further : (p q r : List ℕ) → path_cmp p q ≡ Greater → path_cmp q r ≡ Greater → path_cmp p r ≡ Greater
 further p q r first then =

@@ -1,4 +1,4 @@
--- What is found where what stands at a path was set.
+-- Finding the value at a path after a value was set.
 use Rattle.std.proofs.Common.{◌≡◌, ℕ, inl, inr, cond, List, Some, ap, ◌∙◌}
 use Rattle.std.specs.Ordering.{eq_by_cmp, is_eq}
 use Rattle.std.specs.Cmp.{tied_itself}

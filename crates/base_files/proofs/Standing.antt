@@ -65,7 +65,7 @@ number_path path es n d h =
     sym (path_cmp_exact path (get_or es n d).0
     (tied (path_cmp path (get_or es n d).0) (sym (is_at_at path_cmp path es n d h.within) ∙ h.here)))
 
--- what stands there is found
+-- The value of the n-th entry is the one found at its path.
 pub number_value : {X : Type 0} (path : List ℕ) (es : List (List ℕ × X)) (n : ℕ) (d : List ℕ × X) → IsNumber path es n →
     find path_cmp path es ≡ Some (get_or es n d).1
 number_value path es n d h = find_there path_cmp path es n d h.front h.here

@@ -59,7 +59,7 @@ entries_in_order es h = entries_of_rising es (rises path_cmp es h)
 pub len_in_order : (es : List (List ℕ × List ℕ)) → IsTrue (is_sorted path_cmp es) → len (from_entries {R = path_cmp} es) ≡ length es
 len_in_order es h = len-entries _ ∙ ap length (entries_in_order es h)
 
--- entries that make one workspace are the same
+-- Two sorted lists of entries that make one workspace are equal.
 pub same_entries : (es fs : List (List ℕ × List ℕ)) → IsTrue (is_sorted path_cmp es) → IsTrue (is_sorted path_cmp fs)
     → from_entries {R = path_cmp} es ≡ from_entries fs → es ≡ fs
 same_entries es fs g h e = sym (entries_in_order es g) ∙ ap entries e ∙ entries_in_order fs h

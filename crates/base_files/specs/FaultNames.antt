@@ -3,6 +3,7 @@ use Rattle.std.specs.Prelude.{ℕ, List, codes}
 use Rattle.base_files.specs.declared.fault_kind.FaultKind.{FaultKind}
 use Rattle.base_files.specs.declared.fault_kind.FaultKind.TheVariants as kind
 
+-- The word for a kind of fault in replies.
 abbrev pub name_of : FaultKind → List ℕ
 name_of kind.Encoding = codes "encoding"
 name_of kind.Number = codes "number"

@@ -1,13 +1,13 @@
--- How places and faults are written.
+-- How places and faults are written in replies.
 use Rattle.std.specs.Prelude.{ℕ, List, [], ◌∷◌, ◌++◌, codes, decimal}
 use Rattle.base_files.specs.FaultNames.{name_of}
 use Rattle.base_files.specs.declared.fault_kind.FaultKind.{FaultKind}
 use Rattle.base_files.specs.declared.place.Place.{Place}
 
--- a path, the signs :#, and a byte offset
+-- The text of a place: its path, `:#`, and its byte offset in decimal.
 abbrev pub place_text : Place → List ℕ
 place_text place = place.path ++ codes ":#" ++ decimal place.offset
 
--- a place, a space, and a kind, on a line of their own
+-- The line of a fault: its place, a blank, the word for its kind, and a line feed.
 abbrev pub fault_line : Place → FaultKind → List ℕ
 fault_line place kind = place_text place ++ 32 ∷ [] ++ name_of kind ++ 10 ∷ []

@@ -1,4 +1,4 @@
-//! Entries in the order of their paths.
+//! Operations on entries in the order of their paths.
 ghost use Rattle.std.specs.Prelude.{◌≡◌, ◌<◌, ◌≤◌, false, true, IsTrue, OnOk, OnErr, MatchOption, None, length, take, drop};
 ghost use Rattle.std.specs.FinMap.{find, put};
 ghost use Rattle.base_files.specs.Workspace.{path_cmp};
@@ -8,7 +8,7 @@ ghost use Rattle.base_files.specs.Entries.{IsPlace, IsNumber};
 use crate::shared_path::SharedPath;
 use std::alloc::AllocError;
 
-/// Whether a path stands behind all entries.
+/// Whether a path is greater than the paths of all entries.
 fn is_last<V>(entries: &[(SharedPath, V)], path: &[u8]) -> bool
     requires { Rises path_cmp entries.now }
     ensures { IsTrue result → IsAfterAll path_cmp path.now entries.now }
@@ -19,7 +19,7 @@ fn is_last<V>(entries: &[(SharedPath, V)], path: &[u8]) -> bool
     }
 }
 
-/// How many entries stand before the place of a path, by halving.
+/// The number of entries whose paths are less than `path`, found by binary search.
 fn place<V>(entries: &[(SharedPath, V)], path: &[u8]) -> usize
     requires { Rises path_cmp entries.now }
     ensures { IsPlace path.now entries.now result }
@@ -37,7 +37,7 @@ fn place<V>(entries: &[(SharedPath, V)], path: &[u8]) -> usize
     low
 }
 
-/// How many entries stand before the place of a path. The end is looked at first.
+/// The number of entries whose paths are less than `path`. The last entry is compared first, for callers that put paths in order.
 fn place_from_end<V>(entries: &[(SharedPath, V)], path: &[u8]) -> usize
     requires { Rises path_cmp entries.now }
     ensures { IsPlace path.now entries.now result }
@@ -49,7 +49,7 @@ fn place_from_end<V>(entries: &[(SharedPath, V)], path: &[u8]) -> usize
     }
 }
 
-/// Whether the entry of that number is that of a path.
+/// Whether there is an entry of number `at`, and it has the path.
 fn is_at<V>(entries: &[(SharedPath, V)], at: usize, path: &[u8]) -> bool
     ensures there { result ≡ is_at path_cmp path.now (drop at entries.now) }
     ensures within { IsTrue result → at < length entries.now }
@@ -57,7 +57,7 @@ fn is_at<V>(entries: &[(SharedPath, V)], at: usize, path: &[u8]) -> bool
     at < entries.len() && path == entries[at].0.path()
 }
 
-/// The number of the entry of a path. The one of that first number is looked at first.
+/// The number of the entry at a path, or `None` where the path is missing. The entry of number `first` is compared first.
 pub(crate) fn number_from<V>(
     entries: &[(SharedPath, V)],
     path: &[u8],
@@ -77,7 +77,7 @@ pub(crate) fn number_from<V>(
     }
 }
 
-/// Sets the value at a path. A path that is there stays as it is.
+/// Sets the value at a path. Where the path is there, only its value changes.
 pub(crate) fn put<V: Drop>(
     entries: &mut Vec<(SharedPath, V)>,
     path: SharedPath,

@@ -1,4 +1,4 @@
-//! What may be wrong with a Go file.
+//! The kinds of faults of Go files.
 ghost use Rattle.std.specs.Prelude.{◌≡◌};
 ghost use Rattle.base_files.specs.FaultNames.{name_of};
 
@@ -27,7 +27,7 @@ pub enum FaultKind {
 }
 
 impl FaultKind {
-    /// How the kind is spelled in replies.
+    /// The word for the kind in replies.
     pub fn name(self) -> &'static str
         ensures { result.now ≡ name_of self }
     {

@@ -1,4 +1,4 @@
-//! The bytes of one file, shared by everyone who holds them.
+//! The shared bytes of one file.
 ghost use Rattle.std.specs.Prelude.{◌≡◌, ℕ, ◌+◌, ◌<◌, List, length, take, count_by, ◌==◌, IfOk};
 ghost use Rattle.std.proofs.Common.{rules};
 ghost use Rattle.std.specs.Cmp.Rules.{comparing};
@@ -25,6 +25,7 @@ impl Model for FileText {
 }
 
 impl FileText {
+    /// The text with these bytes.
     pub fn new(alloc: Global, bytes: Vec<u8>) -> Result<FileText, AllocError>
         ensures { IfOk result (λ text. text ≡ bytes.items) }
     {
@@ -32,19 +33,21 @@ impl FileText {
         Ok(FileText { bytes })
     }
 
+    /// The bytes of the text.
     pub fn bytes(&self) -> &[u8]
         ensures { result.now ≡ self.now }
     {
         self.bytes.as_slice()
     }
 
+    /// The number of bytes.
     pub fn len(&self) -> usize
         ensures { result ≡ length self.now }
     {
         self.bytes.len()
     }
 
-    /// The line of a byte offset. Lines count from 1, offsets from 0; an offset past the end is of the last line.
+    /// The line of a byte offset. Lines count from 1 and offsets from 0. An offset past the end is in the last line.
     pub fn line_of(&self, offset: usize) -> usize
         ensures { result ≡ count_by (λ byte. byte == 10) (take offset self.now) + 1 }
     {

@@ -10,7 +10,7 @@ use base_chunks::{Entries, SharedMap};
 use std::alloc::{AllocError, Global};
 use std::marker::Model;
 
-/// A finite map from paths to texts.
+/// A map from paths to texts: the files of a workspace. A copy shares them.
 #[derive(Drop)]
 pub struct Files {
     texts: SharedMap<Path, FileText>,
@@ -30,6 +30,7 @@ impl Model for Files {
 }
 
 impl Files {
+    /// A workspace without files.
     pub fn new(alloc: Global) -> Files
         ensures { result ≡ map.empty }
     {
@@ -38,13 +39,14 @@ impl Files {
         }
     }
 
+    /// The text at a path, or `None` where there is no file.
     pub fn get(&self, path: &Path) -> Option<&FileText>
         ensures { option_copied result ≡ map.get self.now path.now }
     {
         self.texts.get(path)
     }
 
-    /// Sets the text of one path.
+    /// Sets the text at a path.
     pub fn insert(&mut self, path: Path, text: FileText) -> Result<(), AllocError>
         ensures ok { OnOk result (self.new ≡ map.insert self.old path text) }
         ensures err { OnErr result (self.new ≡ self.old) }
@@ -53,7 +55,7 @@ impl Files {
         Ok(())
     }
 
-    /// Takes one path out.
+    /// Removes the file at a path, if there is one.
     pub fn remove(&mut self, path: &Path) -> Result<(), AllocError>
         ensures ok { OnOk result (self.new ≡ map.remove self.old path.now) }
         ensures err { OnErr result (self.new ≡ self.old) }
@@ -62,13 +64,14 @@ impl Files {
         Ok(())
     }
 
+    /// The number of files.
     pub fn len(&self) -> usize
         ensures { result ≡ map.len self.now }
     {
         self.texts.len()
     }
 
-    /// The files in the order of their paths' bytes.
+    /// The files in the order of the bytes of their paths.
     pub fn iter(&self) -> Entries<'_, Path, FileText>
         ensures files { result ≡ map.entries self.now }
         ensures runs { ShowsInOrder (deref_pair {K = List ℕ} {X = List ℕ}) }
@@ -76,7 +79,7 @@ impl Files {
         self.texts.iter()
     }
 
-    /// The same map. The texts are shared.
+    /// A copy of the map, which shares the texts.
     pub fn copy(&self) -> Result<Files, AllocError>
         ensures { IfOk result (λ copy. copy ≡ self.now) }
     {
@@ -84,7 +87,7 @@ impl Files {
         Ok(Files { texts })
     }
 
-    /// Whether both have the same texts at the same paths.
+    /// Whether both have equal texts at equal paths.
     pub fn same(&self, other: &Files) -> bool
         ensures { IsTrue result ↔ (self.now ≡ other.now) }
     {

@@ -1,4 +1,4 @@
-//! Texts, paths, the map of files that a workspace is, and tables by shared paths of packages.
+//! Texts, paths, places, faults and refusals, the files of a workspace, and tables by shared paths of packages.
 #![tactic(auto)]
 
 mod entries;

@@ -1,7 +1,7 @@
-//! How large a workspace, its history and a session may become.
+//! The greatest sizes of a workspace, its history and a session.
 ghost use Rattle.std.specs.Prelude.{◌≡◌, ◌≤◌};
 
-/// The limits, which may be lowered and never raised.
+/// The limits of a server. They may be lowered, but no limit exceeds that of `Limits::FULL`.
 #[derive(Clone, Copy, Debug)]
 pub struct Limits {
     pub file_bytes: usize,
@@ -24,7 +24,7 @@ pub struct Limits {
 }
 
 impl Limits {
-    /// The limits of the server.
+    /// The greatest limits that a server has.
     pub const FULL: Limits = Limits {
         file_bytes: 1_048_576,
         files: 4_096,
@@ -38,7 +38,7 @@ impl Limits {
 }
 
 impl Default for Limits {
-    /// The limits of the server.
+    /// `Limits::FULL`.
     fn default() -> Limits
         ensures file_bytes { result.file_bytes ≡ 1048576 }
         ensures files { result.files ≡ 4096 }

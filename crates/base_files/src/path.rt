@@ -17,7 +17,7 @@ use std::cmp::Ordering;
 use std::marker::Model;
 use std::sync::Arc;
 
-/// A path of a file or a package, ordered by its bytes. A clone shares them.
+/// The path of a file or a package. Paths are ordered by their bytes. A clone shares them.
 #[derive(Drop)]
 pub struct Path {
     text: Arc<String, Global>,
@@ -35,36 +35,42 @@ impl Model for Path {
     ghost invariant = { λ a. IsPath 1 (string_bytes (arc_value a.text)) };
 }
 
+/// Whether a byte may be in a path: an ASCII letter or digit, or one of `_ - . ~ +`.
 fn is_path_byte(byte: u8) -> bool
     ensures { result ≡ is_path_byte byte }
 {
     byte.is_ascii_alphanumeric() || matches!(byte, b'_' | b'-' | b'.' | b'~' | b'+')
 }
 
+/// Whether a segment is `.` or `..`.
 fn is_dots(segment: &[u8]) -> bool
     ensures { result ≡ is_dots segment.now }
 {
     segment == b".".as_slice() || segment == b"..".as_slice()
 }
 
+/// Whether all bytes may be in a path.
 fn all_path_bytes(bytes: &[u8]) -> bool
     ensures { result ≡ list_all is_path_byte bytes.now }
 {
     bytes.iter().all(|byte| is_path_byte(*byte))
 }
 
+/// Whether the bytes are a segment of a path.
 fn is_segment(segment: &[u8]) -> bool
     ensures { result ≡ is_segment segment.now }
 {
     !(segment.is_empty() || is_dots(segment)) && all_path_bytes(segment)
 }
 
+/// The number of parts between slashes.
 fn segment_count(text: &[u8]) -> usize
     ensures { result ≡ length (segments text.now) }
 {
     text.iter().filter(|byte| **byte == b'/').count() + 1
 }
 
+/// Whether each part between slashes is a segment.
 fn all_segments(text: &[u8]) -> bool
     ensures { result ≡ list_all is_segment (segments text.now) }
 {
@@ -72,6 +78,7 @@ fn all_segments(text: &[u8]) -> bool
         .all(|segment| is_segment(segment))
 }
 
+/// Whether the text is a path of at least `least` segments and at most 255 bytes.
 fn is_path(text: &[u8], least: usize) -> bool
     ensures { IsTrue result ↔ IsPath least text.now }
 {
@@ -81,6 +88,7 @@ fn is_path(text: &[u8], least: usize) -> bool
     all_segments(text)
 }
 
+/// The path without its last segment and the slash before that.
 fn without_last_segment(path: &[u8]) -> &[u8]
     ensures { result.now ≡ folder path.now }
 {
@@ -92,7 +100,7 @@ fn without_last_segment(path: &[u8]) -> &[u8]
 }
 
 impl Path {
-    /// Reads a path that has at least so many segments.
+    /// Reads a path of at least `least` segments. Refuses any other text with `BadPath`.
     pub fn read(alloc: Global, text: &str, least: usize) -> Result<Path, Refusal>
         requires { 1 ≤ least }
         ensures { ReadsPath least text.now result }
@@ -105,6 +113,7 @@ impl Path {
         Ok(Path { text })
     }
 
+    /// The path as text.
     pub fn as_str(&self) -> &str
         ensures text { result.now ≡ self.now }
         ensures path { IsPath 1 self.now }
@@ -112,14 +121,14 @@ impl Path {
         self.text.as_str()
     }
 
-    /// The bytes of the path without its last segment.
+    /// The bytes of the path without its last segment: of a Go file, the path of its package.
     pub fn folder(&self) -> &[u8]
         ensures { result.now ≡ folder self.now }
     {
         without_last_segment(self.text.as_bytes())
     }
 
-    /// Whether the path is that of a Go file.
+    /// Whether the path ends in `.go`.
     pub fn is_go(&self) -> bool
         ensures { result ≡ is_go self.now }
     {

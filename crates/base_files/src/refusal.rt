@@ -1,4 +1,4 @@
-//! Why a command was refused.
+//! The reasons for which commands are refused.
 ghost use Rattle.std.specs.Prelude.{◌≡◌};
 ghost use Rattle.base_files.specs.declared.refusal.Refusal.TheVariants.{Memory};
 
@@ -7,6 +7,7 @@ use crate::path::Path;
 use crate::place::Place;
 use std::alloc::{AllocError, AllocFailed};
 
+/// The reason for which a command is refused, with the place or the number that its reply names.
 #[derive(Drop)]
 pub enum Refusal {
     Memory,

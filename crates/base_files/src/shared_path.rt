@@ -1,11 +1,11 @@
-//! A package's path, shared by all that name it.
+//! Shared paths of packages.
 ghost use Rattle.std.specs.Prelude.{◌≡◌, IfOk};
 
 use std::alloc::{AllocError, Global};
 use std::marker::Model;
 use std::sync::Arc;
 
-/// A package's path, shared by all that name it.
+/// The path of a package. A clone shares its bytes.
 #[derive(Drop)]
 pub struct SharedPath {
     path: Arc<Vec<u8>, Global>,
@@ -21,6 +21,7 @@ impl Model for SharedPath {
 }
 
 impl SharedPath {
+    /// The shared path with these bytes.
     pub fn new(alloc: Global, path: &[u8]) -> Result<SharedPath, AllocError>
         ensures { IfOk result (λ shared. shared ≡ path.now) }
     {
@@ -29,6 +30,7 @@ impl SharedPath {
         Ok(SharedPath { path })
     }
 
+    /// The bytes of the path.
     pub fn path(&self) -> &[u8]
         ensures { result.now ≡ self.now }
     {

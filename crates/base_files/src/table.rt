@@ -10,7 +10,7 @@ use crate::shared_path::SharedPath;
 use std::alloc::{AllocError, Global};
 use std::marker::Model;
 
-/// What stands at paths, in their order. It is seen as its entries.
+/// A map from paths to values, as a list that is sorted by path. The value of a table in contracts is the list of its entries.
 #[derive(Drop)]
 pub struct PathTable<V> {
     entries: Vec<(SharedPath, V)>,
@@ -28,7 +28,7 @@ impl<V> Model for PathTable<V> {
     ghost invariant = { λ a. IsTrue (is_sorted path_cmp a.entries.items) };
 }
 
-/// An entry of a table, and its number there.
+/// An entry of a table, and its number in the table, from 0.
 #[derive(Drop)]
 pub struct PathEntry<'a, V> {
     pub number: usize,
@@ -37,6 +37,7 @@ pub struct PathEntry<'a, V> {
 }
 
 impl<V> PathTable<V> {
+    /// A table without entries.
     pub fn new(alloc: Global) -> PathTable<V>
         ensures { result ≡ [] }
     {
@@ -45,7 +46,7 @@ impl<V> PathTable<V> {
         }
     }
 
-    /// An empty table with room for so many entries.
+    /// A table without entries that has room for `capacity` entries.
     pub fn with_capacity(alloc: Global, capacity: usize) -> Result<PathTable<V>, AllocError>
         ensures { IfOk result (λ table. table ≡ []) }
     {
@@ -53,8 +54,8 @@ impl<V> PathTable<V> {
         Ok(PathTable { entries })
     }
 
-    /// The entry of a path. The one of that first number is looked at first: a caller that asks in the order of the paths gives
-    /// the number behind the last one found.
+    /// The entry at a path, or `None` where the path is missing. The entry of number `first` is compared first: a caller that asks in the
+    /// order of paths gives the number behind that of the last entry found.
     pub fn entry_from(&self, path: &[u8], first: usize) -> Option<PathEntry<'_, V>>
         ensures { MatchOption result (find path_cmp path.now self.now ≡ None) (IsEntry path.now self.now) }
     {
@@ -67,7 +68,7 @@ impl<V> PathTable<V> {
         })
     }
 
-    /// What stands at a path.
+    /// The value at a path, or `None` where the path is missing.
     pub fn get(&self, path: &[u8]) -> Option<&V>
         ensures { option_copied result ≡ find path_cmp path.now self.now }
     {
@@ -79,7 +80,7 @@ impl<V> PathTable<V> {
 }
 
 impl<V: Drop> PathTable<V> {
-    /// Sets what stands at a path. Behind the last path it is pushed.
+    /// Sets the value at a path. A path behind all others is pushed.
     pub fn put(&mut self, path: SharedPath, value: V) -> Result<(), AllocError>
         ensures ok { OnOk result (self.new ≡ put path_cmp path value self.old) }
         ensures err { OnErr result (self.new ≡ self.old) }
@@ -88,7 +89,7 @@ impl<V: Drop> PathTable<V> {
         Ok(())
     }
 
-    /// Adds a path behind all that are there, and what stands at it. No path is compared: it is known that this one stands behind them.
+    /// Adds a path behind all others, with its value. The path is not compared: the caller knows that it is the greatest.
     pub fn push(&mut self, path: SharedPath, value: V) -> Result<(), AllocError>
         requires { StandsBehind path self.old }
         ensures ok { OnOk result (self.new ≡ self.old ++ (path, value) ∷ []) }

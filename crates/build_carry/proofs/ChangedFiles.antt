@@ -20,7 +20,7 @@ same_texts v w p same path is = one_option (get w path) (get v path)
     (λ t got. file_of v p (path, t) ((same (path, t)).1 (in_package w p path t is got)))
     (λ t got. file_of w p (path, t) ((same (path, t)).0 (in_package v p path t is got)))
 
--- the folders of those of some files were found that are not the same afterwards
+-- `found` are folders whose files differ between v and w. Each Go file of `paths` that differs is in one of them.
 pub record AreNoted (v w : Workspace) (paths found : List (List ℕ)) : Type 0 where
   pub changed : (q : List ℕ) → Contains found q → HasSameFiles v w q → ⊥
   pub kept : (path : List ℕ) → Contains paths path → (Contains found (folder path) → ⊥) → KeepsFile v w path

@@ -1,5 +1,5 @@
--- What holds of the texts of closures: where no package of a closure has other files, the closure stays; and the inputs of a
--- package have the same closure as the workspace that they were taken of.
+-- The texts of closures. A closure stays where none of its packages has other files. The inputs of a package have its closure in the
+-- workspace that they come from.
 use Rattle.std.proofs.Common.{ℕ, List}
 use Rattle.std.specs.FinMap.{entries}
 use Rattle.std.specs.List.{Contains}
@@ -15,8 +15,7 @@ use Rattle.workspace_check.proofs.Local.{closed_there}
 use Rattle.build_unit.specs.Inputs.{AreInputs}
 use Rattle.build_carry.specs.Changes.{HasSameFiles, KeepsClosure}
 
--- ---- the closure
--- what a package imports is told by its files
+-- ---- the closure: the imports of a package depend on its files alone
 imports_same : (v w : Workspace) (p q : List ℕ) → HasSameFiles v w p → PackageImports v p q → PackageImports w p q
 imports_same v w p q same i = record { entry = i.entry; of_package = (same i.entry).0 i.of_package; file = i.file; parsed = i.parsed; imports = i.imports }
 

@@ -1,4 +1,4 @@
--- The inputs of a package have the closures of the workspace that they are of, so that what is found in them is right of it.
+-- The inputs of a package have the closures of the workspace that they come from. So verdicts found in them are right in this workspace.
 use Rattle.std.proofs.Common.{ℕ, List, sym, subst, ◌∙◌}
 use Rattle.std.specs.FinMap.{entries}
 use Rattle.std.specs.Prelude.{Contains}

@@ -61,8 +61,7 @@ module _ {X Y : Type 0} (f : X → Y) where
   pub same_length : (xs ys : List X) → mapped f xs ≡ mapped f ys → length xs ≡ length ys
   same_length xs ys same = sym (length-map xs f) ∙ ap length same ∙ length-map ys f
 
--- ---- the files of a package
--- what has trees and what has none is told by the files
+-- ---- the files of a package decide which of them have trees
 pub one_parsed : {es : List (List ℕ × List ℕ)} {ts us : List FileParts} {fs gs : List FaultyParts} → AreParsed es ts fs → AreParsed es us gs →
     (mapped tree_file ts ≡ mapped tree_file us) × (mapped faulty_file fs ≡ mapped faulty_file gs)
 one_parsed none none = (refl, refl)

@@ -8,14 +8,14 @@ use Rattle.build_carry.specs.Changes.{AreMarks}
 use Rattle.build_carry.specs.Finished.{Table, IsFinished}
 use Rattle.build_carry.specs.declared.changes.Marks.{Marks}
 
--- Whether the closure of a package has the same texts before and after a change, where these are the marks of the change, and the
--- numbers are those of the package before and after.
+-- `kept` is true exactly where the closure of a package has the same texts in the workspaces v and w, before and after a change. `old` and
+-- `new` are the numbers of the package in v and in w. `marks` are any marks of the change from v to w.
 abbrev pub TellsKept : Marks → (old new : ℕ) → Bool → Type 0
 TellsKept marks old new kept = (v w : Workspace) → AreMarks v w marks.before.items → AreMarks w v marks.after.items → (p : List ℕ) →
     slice_get (package_paths v) old ≡ Some p → slice_get (package_paths w) new ≡ Some p → IsTrue kept ↔ HasSameClosure v w p
 
--- Of a change from the files v to the files w: the unit of each finished package whose closure has the same texts, and of no
--- other. There is one such table.
+-- `new` is the table after a change from v to w that carries over the units of `old`. It has a place for each package of w. A package has a
+-- unit in it exactly where it has this unit in `old` and its closure keeps its texts. There is one such table.
 pub record IsCarried (v : Workspace) (old : Table) (w : Workspace) (new : Table) : Type 0 where
   pub size : length new ≡ length (package_paths w)
   pub each : (p : List ℕ) (unit : PackageUnit) → IsFinished w new p unit ↔ (IsFinished v old p unit × HasSameClosure v w p)

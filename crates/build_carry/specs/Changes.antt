@@ -1,4 +1,4 @@
--- Which packages have other files after a change, and in whose closures these are.
+-- The packages whose files a change changes, and the packages in whose closures these are.
 use Rattle.std.specs.Prelude.{◌≡◌, ℕ, ◌↔◌, Bool, List, length, Option, Some, slice_get}
 use Rattle.std.specs.List.{Contains}
 use Rattle.std.specs.FinMap as map
@@ -10,49 +10,52 @@ use Rattle.workspace_check.specs.Closures.{HasSameClosure}
 use Rattle.build_unit.specs.declared.unit.Unit.{Unit as PackageUnit}
 use Rattle.build_carry.specs.Finished.{Table, IsFinished}
 
--- the package p has the same files in both workspaces
+-- The package p has the same files, with the same texts, in both workspaces.
 abbrev pub HasSameFiles : Workspace → Workspace → List ℕ → Type 0
 HasSameFiles v w p = (e : List ℕ × List ℕ) → Contains (package_files v p) e ↔ Contains (package_files w p) e
 
--- the file is there with the same text
+-- The workspace w has the file e, a path with a text.
 abbrev pub HasText : Workspace → List ℕ × List ℕ → Type 0
 HasText w e = map.get w e.0 ≡ Some e.1
 
--- these files are there, each with its text
+-- The workspace w has each of these files, with its text.
 abbrev pub HaveTexts : Workspace → List (List ℕ × List ℕ) → Type 0
 HaveTexts w files = (e : List ℕ × List ℕ) → Contains files e → HasText w e
 
--- exactly the packages that have not the same files in both
+-- `folders` lists exactly the packages whose files differ between v and w.
 pub record AreChanged (v w : Workspace) (folders : List (List ℕ)) : Type 0 where
   pub changed : (q : List ℕ) → Contains folders q → HasSameFiles v w q → ⊥
   pub same : (q : List ℕ) → (Contains folders q → ⊥) → HasSameFiles v w q
 
--- the packages of the closure of p have the same files in both workspaces
+-- Each package in the closure of p in v has the same files in v and w.
 abbrev pub KeepsClosure : Workspace → Workspace → List ℕ → Type 0
 KeepsClosure v w p = (q : List ℕ) → IsInClosure v p q → HasSameFiles v w q
 
--- a mark for each package of v in whose closure one has other files in w
+-- `marks` has one mark for each package of v, by its number. A package is marked exactly where a package in its closure has other files in
+-- w.
 pub record AreMarks (v w : Workspace) (marks : List Bool) : Type 0 where
   pub size : length marks ≡ length (package_paths v)
   pub changed : (i : ℕ) (p : List ℕ) → slice_get (package_paths v) i ≡ Some p → IsMarked marks i → KeepsClosure v w p → ⊥
   pub same : (i : ℕ) (p : List ℕ) → slice_get (package_paths v) i ≡ Some p → (IsMarked marks i → ⊥) → KeepsClosure v w p
 
--- a mark for each package that is among some folders
+-- `marks` has one mark for each package of w, by its number. A package is marked exactly where its path is among `folders`.
 pub record MarkFolders (w : Workspace) (folders : List (List ℕ)) (marks : List Bool) : Type 0 where
   pub size : length marks ≡ length (package_paths w)
   pub each : (i : ℕ) (q : List ℕ) → slice_get (package_paths w) i ≡ Some q → IsMarked marks i ↔ Contains folders q
 
--- one of some folders is that of a package in the closure of p
+-- The closure of the package p in w contains a package whose path is among `folders`.
 pub record HoldsFolder (w : Workspace) (folders : List (List ℕ)) (p : List ℕ) : Type 0 where
   pub path : List ℕ
   pub among : Contains folders path
   pub in_closure : IsInClosure w p path
 
--- a mark for each package whose closure holds one that is among some folders
+-- `marks` has one mark for each package of w, by its number. A package is marked exactly where its closure contains a package whose path is
+-- among `folders`.
 pub record MarkClosures (w : Workspace) (folders : List (List ℕ)) (marks : List Bool) : Type 0 where
   pub size : length marks ≡ length (package_paths w)
   pub each : (i : ℕ) (p : List ℕ) → slice_get (package_paths w) i ≡ Some p → IsMarked marks i ↔ HoldsFolder w folders p
 
--- the unit that the package p keeps, if it is finished and its closure has the same texts
+-- `found` is the unit that the package p keeps over a change from v to w. It has one exactly where p is finished in the table `old` of v,
+-- and its closure has the same texts in v and w.
 abbrev pub KeepsUnit : Workspace → Table → Workspace → List ℕ → Option PackageUnit → Type 0
 KeepsUnit v old w p found = (unit : PackageUnit) → (found ≡ Some unit) ↔ (IsFinished v old p unit × HasSameClosure v w p)

@@ -1,4 +1,4 @@
-//! The finished units that a change carries over: those of the packages whose closure holds no changed package.
+//! Carries finished units over a change: the units of the packages whose closures keep their texts.
 ghost use Rattle.std.specs.Prelude.{◌<◌, IfOk, length};
 ghost use Rattle.base_files.specs.Packages.{package_paths};
 ghost use Rattle.base_files.specs.Workspace.{Workspace};
@@ -16,8 +16,8 @@ use std::alloc::{AllocError, Global};
 use workspace_check::is_marked;
 use workspace_graph::Graph;
 
-/// Whether the closure of a package has the same texts before and after a change. The numbers are those that the package has
-/// before and after.
+/// Whether the closure of a package has the same texts before and after a change. `old` and `new` are the numbers of the package before and
+/// after.
 pub fn keeps_texts(marks: &Marks, old: usize, new: usize) -> bool
     ensures { TellsKept marks.now old new result }
 {
@@ -30,7 +30,8 @@ pub fn keeps_texts(marks: &Marks, old: usize, new: usize) -> bool
     true
 }
 
-/// The unit that a package keeps: it is finished before, and its closure has the same texts after.
+/// The unit that the package `number` of `after` keeps: `None` where it was not finished before, or its closure has other texts after the
+/// change.
 fn kept_unit(
     before: &Graph,
     finished: &Finished,
@@ -57,7 +58,7 @@ fn kept_unit(
     Ok(Some(unit))
 }
 
-/// The table after a change where no package is finished before it, in whatever workspace: none is.
+/// Makes the table after a change where no package was finished before: it has no unit, whatever the workspace before was.
 pub fn none_carried(
     alloc: Global,
     finished: &Finished,
@@ -70,7 +71,7 @@ pub fn none_carried(
     Ok(table)
 }
 
-/// The table of finished units that a change carries over. Nothing is built for it.
+/// Makes the table of finished units after a change. It copies units, and builds none.
 pub fn carried_units(
     alloc: Global,
     before: &Graph,

@@ -1,4 +1,4 @@
-//! What is known of packages, as it goes from a state to the next.
+//! Carries verdicts on packages over a change, one by one, without the earlier ones that a state keeps beside them.
 ghost use Rattle.std.specs.Prelude.{◌<◌, IfOk, length};
 ghost use Rattle.base_files.specs.Packages.{package_paths};
 ghost use Rattle.workspace_graph.specs.Graphs.{OfPackage};
@@ -13,7 +13,7 @@ use std::alloc::{AllocError, Global};
 use workspace_check::{Known, KnownVerdict};
 use workspace_graph::Graph;
 
-/// The verdict on a package after a change, if it is known before and the closure stays.
+/// The verdict on the package `number` of `after`: `None` where none was known before, or its closure has other texts after the change.
 fn kept_verdict(
     before: &Graph,
     known: &Known,
@@ -41,7 +41,7 @@ fn kept_verdict(
     Ok(Some(verdict))
 }
 
-/// What is known of packages, as far as their closures keep their texts.
+/// Gathers the known verdicts on the packages of `after` whose closures keep their texts.
 pub fn verdicts_after(
     alloc: Global,
     before: &Graph,

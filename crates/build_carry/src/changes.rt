@@ -1,4 +1,4 @@
-//! In whose closures the packages are that have other files after a change.
+//! Marks the packages in whose closures a change changes files.
 ghost use Rattle.std.specs.Prelude.{IfOk};
 ghost use Rattle.workspace_graph.specs.Filling.{names};
 ghost use Rattle.build_carry.specs.Changes.{MarkClosures};
@@ -7,7 +7,7 @@ use crate::folders::folder_marks;
 use std::alloc::{AllocError, Global};
 use workspace_graph::Graph;
 
-/// A mark for each package whose closure holds one that is among some folders. One search finds them all.
+/// Marks each package whose closure contains a package of one of these folders. One search along importers finds them all.
 pub fn closure_marks(
     alloc: Global,
     graph: &Graph,
@@ -19,7 +19,8 @@ pub fn closure_marks(
     graph.reaching(alloc, &marks)
 }
 
-/// The packages of two workspaces in whose closures one has not the same files in both, marked in each of them.
+/// The marks of a change: in the workspace before and in the one after, each package in whose closure a package has other files in the
+/// other workspace.
 #[derive(Drop)]
 pub struct Marks {
     pub before: Vec<bool>,

@@ -1,4 +1,4 @@
-//! The packages of a workspace that are finished, with their units.
+//! The table of finished packages of a workspace, with their units.
 ghost use Rattle.std.specs.Prelude.{◌≡◌, ◌<◌, ◌≤◌, ◌↔◌, [], IfOk, IsTrue, MatchOption, Some, length, slice_get, slice_set};
 ghost use Rattle.build_unit.specs.declared.unit.Unit.{Unit as PackageUnit};
 ghost use Rattle.build_carry.specs.Finished.{AreFinishedBelow, HasNone};
@@ -9,15 +9,16 @@ use std::alloc::{AllocError, Global};
 use std::marker::Model;
 use std::sync::Arc;
 
-/// For each package of a workspace, by its number, its unit if it is finished, a number below which each is, and whether none is. A clone shares the
-/// table, and one in which a package more is finished shares all but a chunk of it.
+/// The finished packages of a workspace: for each package, by its number, its unit if it is finished. It keeps a number below which each
+/// package is finished (`front`), and whether no package is. A clone shares the table. A table that gains one unit shares all but a chunk
+/// of it.
 pub struct Finished {
     units: Arc<SharedList<Option<Unit>>, Global>,
     front: usize,
     is_empty: bool,
 }
 
-/// Written out, so that crates above call it and don't prove again how each part is dropped.
+/// Written out, so that crates above call it and need not prove again how each part is dropped.
 impl Drop for Finished {
     fn drop(self) {
         let Finished {
@@ -57,7 +58,7 @@ fn unit_at(units: &SharedList<Option<Unit>>, number: usize) -> Option<&Unit>
     }
 }
 
-/// A number below which each package is finished, where each is below another.
+/// The first unfinished number from `least` on, or the number of packages. Each package below `least` must be finished.
 fn front_from(units: &SharedList<Option<Unit>>, least: usize) -> usize
     requires { AreFinishedBelow units.now least }
     ensures { AreFinishedBelow units.now result }
@@ -70,7 +71,7 @@ fn front_from(units: &SharedList<Option<Unit>>, least: usize) -> usize
     units.len().max(least)
 }
 
-/// Whether a package is finished.
+/// Whether the package `number` is finished.
 fn has_unit(units: &SharedList<Option<Unit>>, number: usize) -> bool
     ensures { IsTrue result ↔ ((unit : PackageUnit) × (slice_get units.now number ≡ Some (Some unit))) }
 {
@@ -92,7 +93,7 @@ fn has_none(units: &SharedList<Option<Unit>>) -> bool
     true
 }
 
-/// A list in which no package is finished, or none of its places where it has more of them than so many packages.
+/// A copy of a list without units, which shares its places, or an empty list where it has more than `count` places.
 fn first_units(
     alloc: Global,
     units: &SharedList<Option<Unit>>,
@@ -108,7 +109,7 @@ fn first_units(
     units.copy()
 }
 
-/// A place for each of so many packages, of which none is finished. The places of such a list are shared, as far as they are no more.
+/// Makes a list of `count` places without a unit. It shares the places of `units` where these are no more than `count`.
 fn unfinished_units(
     alloc: Global,
     units: &SharedList<Option<Unit>>,
@@ -126,14 +127,14 @@ fn unfinished_units(
 }
 
 impl Finished {
-    /// The table of no package.
+    /// The table of a workspace without packages.
     pub fn new(alloc: Global) -> Result<Finished, AllocError>
         ensures { IfOk result (λ table. table ≡ []) }
     {
         Finished::of(alloc, SharedList::new(alloc))
     }
 
-    /// The table of these units.
+    /// The table of these units, by the numbers of their packages.
     pub fn of(alloc: Global, units: SharedList<Option<Unit>>) -> Result<Finished, AllocError>
         ensures { IfOk result (λ table. table ≡ units) }
     {
@@ -142,6 +143,7 @@ impl Finished {
         Finished::shared(alloc, units, front, is_empty)
     }
 
+    /// Shares a table whose `front` and emptiness are known.
     fn shared(
         alloc: Global,
         units: SharedList<Option<Unit>>,
@@ -160,14 +162,14 @@ impl Finished {
         })
     }
 
-    /// The unit of a package, if it is finished.
+    /// The unit of the package `number`, if it is finished.
     pub fn get(&self, number: usize) -> Option<&Unit>
         ensures { MatchOption result ((unit : PackageUnit) → slice_get self.now number ≡ Some (Some unit) → ⊥) (λ unit. slice_get self.now number ≡ Some (Some unit.now)) }
     {
         unit_at(&self.units, number)
     }
 
-    /// A number below which each package is finished: to look for one that is not may begin there.
+    /// A number below which each package is finished. A search for an unfinished package may begin there.
     pub fn front(&self) -> usize
         ensures { AreFinishedBelow self.now result }
     {
@@ -181,8 +183,8 @@ impl Finished {
         self.is_empty
     }
 
-    /// The table of so many packages where none is finished, as none is in this one. It is shared if it is of as many, and what is missing is
-    /// added to its places if it is of fewer.
+    /// Makes a table of `count` packages, none of which is finished. This table has no unit either. It is shared where it has `count`
+    /// places, and extended where it has fewer.
     pub fn unfinished(&self, alloc: Global, count: usize) -> Result<Finished, AllocError>
         requires { HasNone self.now }
         ensures size { IfOk result (λ table. length table ≡ count) }
@@ -196,7 +198,7 @@ impl Finished {
         Finished::shared(alloc, units, 0, true)
     }
 
-    /// The table in which one package more is finished.
+    /// Makes the table in which the package `number` has become finished, with this unit.
     pub fn with_unit(
         &self,
         alloc: Global,

@@ -1,4 +1,4 @@
-//! Which packages are among some folders.
+//! Marks the packages of some folders.
 ghost use Rattle.std.specs.Prelude.{IfOk};
 ghost use Rattle.workspace_graph.specs.Filling.{names};
 ghost use Rattle.build_carry.specs.Changes.{MarkFolders};
@@ -6,7 +6,7 @@ ghost use Rattle.build_carry.specs.Changes.{MarkFolders};
 use std::alloc::{AllocError, Global};
 use workspace_graph::Graph;
 
-/// A mark for each package that is among some folders.
+/// Marks each package whose path is among these folders.
 pub fn folder_marks(
     alloc: Global,
     graph: &Graph,

@@ -1,4 +1,4 @@
-//! What is known of packages, as it goes from a state to the next.
+//! Carries what a state knows of its packages to the next state: verdicts, with the earlier ones kept beside them.
 ghost use Rattle.std.specs.Prelude.{IfOk};
 ghost use Rattle.base_files.specs.Workspace.{Workspace};
 ghost use Rattle.workspace_check.specs.Found.{KnowsVerdicts};
@@ -11,7 +11,7 @@ use std::alloc::{AllocError, Global};
 use workspace_check::{Known, SharedKnown};
 use workspace_graph::Graph;
 
-/// Nothing is known of packages still. What was known before is kept, as it is kept elsewhere.
+/// Knows no verdict on any package. The earlier verdicts that `known` keeps are shared.
 fn still_nothing(alloc: Global, known: &Known) -> Result<Known, AllocError>
     ensures { IfOk result (λ nothing. (w : Workspace) → KnowsVerdicts w nothing) }
 {
@@ -20,7 +20,7 @@ fn still_nothing(alloc: Global, known: &Known) -> Result<Known, AllocError>
     Ok(nothing)
 }
 
-/// What is known of packages, as far as their closures keep their texts. What was known before is kept with it.
+/// Keeps the known verdicts on packages whose closures keep their texts. The other verdicts of `known` are kept as earlier ones.
 fn kept_verdicts(
     alloc: Global,
     before: &Graph,
@@ -41,7 +41,7 @@ fn kept_verdicts(
     Ok(carried)
 }
 
-/// What is known of packages, as far as a change carries it over.
+/// Keeps what is known of packages over a change, as a shared value for the next state.
 pub fn kept(
     alloc: Global,
     before: &Graph,
@@ -58,8 +58,7 @@ pub fn kept(
     SharedKnown::new(alloc, carried)
 }
 
-/// What is known of the packages of a workspace in which some files of another are changed, by what is known of those and by the marks
-/// of the change.
+/// Keeps what is known of packages over a change, by the marks of the change, as a value of its own.
 pub fn known_after(
     alloc: Global,
     before: &Graph,
@@ -75,7 +74,7 @@ pub fn known_after(
     kept_verdicts(alloc, before, known, after, marks)
 }
 
-/// What a change carries over where no package is finished before it, and nothing need be known: nothing. So it need not be marked.
+/// Carries over nothing: no unit, as no package was finished before, and no verdict. Such a change need not be marked.
 pub fn nothing_carried(
     alloc: Global,
     finished: &Finished,

@@ -1,4 +1,4 @@
-//! What a state learns of packages, where one of them was built.
+//! Takes in what a build found of packages into what a state knows.
 ghost use Rattle.std.specs.Prelude.{◌≤◌, IfOk, OnOk, length};
 ghost use Rattle.base_files.specs.Packages.{package_paths};
 ghost use Rattle.workspace_check.specs.Found.{AreVerdictsOf, KnowsVerdicts};
@@ -10,7 +10,7 @@ use std::alloc::{AllocError, Global};
 use workspace_check::{Known, KnownVerdict, SharedKnown};
 use workspace_graph::Graph;
 
-/// Takes in a verdict on the package of its path, if nothing is known of this.
+/// Takes in the verdict on a package, if this package is in the workspace and no verdict on it is known.
 fn take_in(files: &Graph, verdict: &KnownVerdict, known: &mut Known) -> Result<(), AllocError>
     requires verdict { TellsVerdict files.now verdict.now.finding.path verdict.now }
     requires room { length (package_paths files.now) ≤ length known.old.verdicts.items }
@@ -29,7 +29,7 @@ fn take_in(files: &Graph, verdict: &KnownVerdict, known: &mut Known) -> Result<(
     Ok(())
 }
 
-/// What is known of the packages of a workspace, with verdicts on some of them.
+/// Adds verdicts on some packages of a workspace to what is known of it.
 fn with_verdicts(
     alloc: Global,
     files: &Graph,
@@ -47,7 +47,7 @@ fn with_verdicts(
     SharedKnown::new(alloc, known)
 }
 
-/// What is known of the packages of a workspace, with what was found where one of them was built. Where that is nothing it is shared.
+/// Adds the verdicts that a build found to what is known of a workspace. Where it found none, what is known is shared.
 pub fn learned(
     alloc: Global,
     files: &Graph,

@@ -1,4 +1,4 @@
-//! The built packages that a change carries over, and the inputs that tell them.
+//! Carries finished units and verdicts over a change, and compares the inputs of a build with a workspace.
 #![tactic(auto)]
 
 mod carried;

@@ -1,4 +1,4 @@
-//! Which packages have other files after a change: those in whose folders a Go file that it names has another text.
+//! Marks the packages that a change affects, by the Go files at the paths that its edit set names.
 ghost use Rattle.std.specs.Prelude.{◌≡◌, ◌↔◌, Contains, IfOk, IsTrue, OnOk};
 ghost use Rattle.workspace_graph.specs.Filling.{names};
 ghost use Rattle.workspace_graph.specs.Staying.{DiffersOnlyAt};
@@ -11,8 +11,8 @@ use std::alloc::{AllocError, Global};
 use workspace_graph::Graph;
 use workspace_snapshot::MadeChange;
 
-/// Whether the Go file of a path has the same text before and after a change, or is there neither before nor after. Of another file
-/// nothing is asked.
+/// Whether the Go file at `path` has the same text before and after a change, or is in neither workspace. For the path of any other file it
+/// is true.
 fn keeps_file(before: &Graph, after: &Graph, path: &Path) -> bool
     ensures { IsTrue result ↔ KeepsFile before.now after.now path.now }
 {
@@ -25,7 +25,7 @@ fn keeps_file(before: &Graph, after: &Graph, path: &Path) -> bool
     }
 }
 
-/// Whether a folder is the last of some.
+/// Whether `folder` is the last of these folders.
 fn is_last(folders: &[&[u8]], folder: &[u8]) -> bool
     ensures { IsTrue result → Contains (names folders.now) folder.now }
 {
@@ -35,7 +35,7 @@ fn is_last(folders: &[&[u8]], folder: &[u8]) -> bool
     }
 }
 
-/// Adds a folder, unless it is the last one.
+/// Adds a folder, unless it is the last one already.
 fn add_folder<'a>(folders: &mut Vec<&'a [u8]>, folder: &'a [u8]) -> Result<(), AllocError>
     ensures { OnOk result (AddsFolder folder.now (names folders.old.items) (names folders.new.items)) }
 {
@@ -45,7 +45,7 @@ fn add_folder<'a>(folders: &mut Vec<&'a [u8]>, folder: &'a [u8]) -> Result<(), A
     Ok(())
 }
 
-/// The folders that have not the same Go files before and after a change. Only files at the paths that it names are looked at.
+/// The folders whose Go files differ before and after a change. It compares only the files at `paths`.
 fn changed_among<'a>(
     alloc: Global,
     before: &Graph,
@@ -64,8 +64,7 @@ fn changed_among<'a>(
     Ok(changed)
 }
 
-/// Marks the packages in whose closures one has not the same files before and after a change. Only files at the paths that it names
-/// are looked at.
+/// Marks the packages in whose closures files differ before and after a change. It compares only the files at `paths`.
 fn marks_among(
     alloc: Global,
     before: &Graph,
@@ -83,8 +82,8 @@ fn marks_among(
     })
 }
 
-/// Marks the packages in whose closures a change changes one, in its base and afterwards. Only the files that its edit set names are
-/// looked at.
+/// Marks the packages in whose closures a change changes files, in its base and after it. It compares only the files that the edit set
+/// names.
 pub fn marks_of(alloc: Global, base: &Graph, change: &MadeChange) -> Result<Marks, AllocError>
     requires { change.now.base ≡ base.now }
     ensures before { IfOk result (λ marks. AreMarks base.now change.now.files marks.before.items) }

@@ -1,11 +1,11 @@
-//! The numbers of packages, where they are nearly known.
+//! Finds the number of a package that had nearly this number before a change.
 ghost use Rattle.std.specs.Prelude.{◌≡◌, IsTrue, MatchOption, Some, slice_get};
 ghost use Rattle.std.specs.List.{Contains};
 ghost use Rattle.base_files.specs.Packages.{package_paths};
 
 use workspace_graph::Graph;
 
-/// Whether the package of a number has a path.
+/// Whether the package `number` has this path.
 fn is_at(graph: &Graph, number: usize, path: &[u8]) -> bool
     ensures { IsTrue result → slice_get (package_paths graph.now) number ≡ Some path.now }
 {
@@ -15,8 +15,8 @@ fn is_at(graph: &Graph, number: usize, path: &[u8]) -> bool
     graph.package(number).path.as_slice() == path
 }
 
-/// The number of the package that has a path. It is not searched for where it is the number that a package has among as many as
-/// are told, counted from the first or from the last of them.
+/// The number of the package at `path`, if there is one. It first tries `number`, which the package has among `count` packages, and then
+/// the place as far from the last package. Only else does it search.
 pub fn number_near(graph: &Graph, path: &[u8], number: usize, count: usize) -> Option<usize>
     ensures { MatchOption result (Contains (package_paths graph.now) path.now → ⊥) (λ n. slice_get (package_paths graph.now) n ≡ Some path.now) }
 {

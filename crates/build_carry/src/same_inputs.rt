@@ -1,4 +1,4 @@
-//! Whether some inputs are those of a package, told by their packages, one after another: nothing is gathered.
+//! Compares inputs with the closure of a package, one package after another. It gathers nothing.
 ghost use Rattle.std.specs.Prelude.{◌≡◌, ◌<◌, ◌↔◌, ℕ, Contains, IsTrue, List, Some, length, map as mapped, slice_get};
 ghost use Rattle.std.specs.List.{All};
 ghost use Rattle.std.specs.List.Sorted.{IsStrictlyIncreasing};
@@ -22,7 +22,7 @@ fn is_same_file(path: &Path, text: &FileText, other_path: &Path, other_text: &Fi
     *path == *other_path && text.bytes() == other_text.bytes()
 }
 
-/// Whether files that have trees are the same as others, one after another.
+/// Whether two lists of files with trees have the same paths and texts, one after another.
 fn are_same_trees(trees: &[FileTree], others: &[FileTree]) -> bool
     ensures { IsTrue result ↔ (mapped tree_file trees.now ≡ mapped tree_file others.now) }
 {
@@ -44,7 +44,7 @@ fn are_same_trees(trees: &[FileTree], others: &[FileTree]) -> bool
     true
 }
 
-/// Whether files that have none are the same as others, one after another.
+/// Whether two lists of files without trees have the same paths and texts, one after another.
 fn are_same_faulty(faulty: &[FaultyFile], others: &[FaultyFile]) -> bool
     ensures { IsTrue result ↔ (mapped faulty_file faulty.now ≡ mapped faulty_file others.now) }
 {
@@ -61,7 +61,7 @@ fn are_same_faulty(faulty: &[FaultyFile], others: &[FaultyFile]) -> bool
     true
 }
 
-/// Whether a package of a graph has the path and the files of one of some inputs.
+/// Whether the package `number` of a graph and the package `place` of inputs have the same path and the same files.
 fn is_same_package(graph: &Graph, number: usize, other: &PackageInputs, place: usize) -> bool
     requires number { number < length (package_paths graph.now) }
     requires place { place < length (package_paths other.now) }
@@ -78,8 +78,8 @@ fn is_same_package(graph: &Graph, number: usize, other: &PackageInputs, place: u
     are_same_faulty(&own.faulty, &there.faulty)
 }
 
-/// Whether a package of a graph has the path and the files of one of each of two inputs. Where these share texts, each text is at hand
-/// when it is compared again.
+/// Whether the package `number` of a graph has the path and the files of the package `place` in both inputs. Where both share texts, a text
+/// is still in the cache for the second comparison.
 fn is_package_of_both(
     graph: &Graph,
     number: usize,
@@ -99,7 +99,7 @@ fn is_package_of_both(
     is_same_package(graph, number, second, place)
 }
 
-/// Whether the packages of each of two inputs are those of a graph with some numbers, in the order of these, each with the same files.
+/// Whether the packages of both inputs are the packages of a graph with these numbers, in their order, each with the same files.
 fn are_packages_of_both(
     graph: &Graph,
     numbers: &[usize],
@@ -123,7 +123,7 @@ fn are_packages_of_both(
     true
 }
 
-/// Whether each of two inputs is that of a package, by the numbers of the packages in its closure.
+/// Whether both are the inputs of a package, whose closure has these numbers.
 pub fn are_inputs_of_both(
     graph: &Graph,
     closure: &[usize],

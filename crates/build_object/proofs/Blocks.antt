@@ -100,7 +100,7 @@ each_turn s slots r marks {old} {mid} {new} xs i x some lt is w p q =
     ap (λ y. statement_lines s slots r y (stmt_view x.statement) ++ rest) (sym leads)))
     (puts_then p q)
 
--- What stands behind `else`
+-- The code behind `else`
 
 pub else_nothing : (c : Code) → PutsElse None false c c
 else_nothing c = record { has = refl; put = refl }
@@ -135,7 +135,8 @@ else_exits marks (Some other) true k {c0} {c1} {c2} w e j =
     let size : length (lines_in c2) ≡ suc (length other) + length (lines_in c0) = let h = puts_length there in let g = puts_length j in omega arith in
     sym (ap (exits_of marks) size ∙ exits_more marks (suc (length other)) (length (lines_in c0)) w)
 
--- the parts of an `if` as they are put: what stands behind `else` and the jump over it, the block, the condition, what is done first
+-- The parts of an `if` as they are put: the code behind `else`, the jump over it, the block, the condition, and the simple statement before
+-- it.
 branches_put : (other : Option (List Line)) (has : Bool) (body condition first : List Line) {c0 c1 c2 c3 c4 c5 : Code} → PutsElse other has c0 c1 →
     Puts (else_jump has (length (lines_in c1) - length (lines_in c0))) c1 c2 → Puts body c2 c3 →
     Puts (condition ++ (JumpUnless (length (lines_in c3) - length (lines_in c1)) ∷ [])) c3 c4 → Puts first c4 c5 →
@@ -157,7 +158,7 @@ branches_put (Some other) true body condition first {c0} {c1} {c2} {c3} e j b t 
     (body ++ (Jump (length (lines_in c1) - length (lines_in c0)) ∷ other))))))
     (puts_then (puts_then (puts_then (puts_then there j) b) t) f)
 
--- an `if`; end and skipped: how many lines there were at first, and with what stands behind `else`
+-- An `if`. `end` is the number of lines at first. `skipped` is that with the code behind `else`.
 pub if_put : (s : Source) (slots : List ℕ) (r : ℕ) (marks : JumpMarks) (i : IfStmt) (end skipped : ℕ) (has : Bool) {c0 c1 c2 c3 c4 c5 : Code} →
     AreWithin marks (length (lines_in c0)) →
     end ≡ length (lines_in c0) → skipped ≡ length (lines_in c1) →

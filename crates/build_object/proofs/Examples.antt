@@ -158,10 +158,27 @@ unfolding operand_of operations bound_name named_meaning simple_lines set_left f
     declared_from function_text type_text operator_text words_of declaration_text digits
 second_text = refl
 
--- The code of each form. 10 is a local s of slot 0; 11 a local p of slot 1, a pointer to the struct T; 12 a local t of slot 2, a T; 13 a package-level
--- variable; 14 true and 15 false; 16 nil; 20 a function f with two results; 21 the type T; 22 the package b, and 23 its variable X; 30 to 33 len,
--- append, print, panic; 40 the field 1 of T behind t, 41 the same behind p; 42 the method m() of T behind t, 43 behind p; 44 the method q() of *T behind t,
--- 45 behind p; 46 the key of the field 1; 50 the integer 7; 51 the string "hi"; 60 the type int
+-- The code of each form of expression, by the token that it begins with.
+--
+--   10  a local s of slot 0
+--   11  a local p of slot 1, a pointer to the struct T
+--   12  a local t of slot 2, a T
+--   13  a package-level variable
+--   14  true
+--   15  false
+--   16  nil
+--   20  a function f with two results
+--   21  the type T
+--   22  the package b
+--   23  the variable X of b
+--   30  len, 31 append, 32 print, 33 panic
+--   40  the field 1 of T behind t, 41 behind p
+--   42  the method m() of T behind t, 43 behind p
+--   44  the method q() of *T behind t, 45 behind p
+--   46  the key of the field 1
+--   50  the integer 7
+--   51  the string "hi"
+--   60  the type int
 abbrev struct_t : Symbol
 struct_t = record { «package» = codes "a"; rank = 0 }
 

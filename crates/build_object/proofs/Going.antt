@@ -1,4 +1,4 @@
--- Links that are gone over from the last to the first, and what is wanted of what stands before them.
+-- Links are gone over from the last to the first: the lines wanted of the operand before each, by its `Operands.Standing`.
 use Rattle.std.proofs.Common.{ℕ, ◌≡◌, ◌+◌, ◌-◌, ◌<◌, ◌≤◌, ◌∷◌, ◌++◌, [], List, ap, sym, ◌∙◌, refl, take, length, get_or, subst, append_assoc, Bool, arith}
 use Rattle.std.proofs.lemmas.List.{take_more}
 use Rattle.go_ast.specs.declared.tree.Link.{Link}
@@ -77,7 +77,7 @@ puts_on o same g p = record { put = p.put ∙ sym (g.on o same) }
 pub puts_from : {rule : List Line → List Line} {v : List Line} {old mid new : Code} → GoesOnFrom rule old mid → Puts v mid new → Puts (rule v) old new
 puts_from {rule} {v} g p = record { put = p.put ∙ sym (g.on v) }
 
--- what is wanted of operands whose two kinds of lines are told alike
+-- The lines wanted of operands whose value and address have equal lines
 
 pub plain_lines : (w : Wanted) (lines : List Line) → lines_for w (ops.plain lines) ≡ lines
 plain_lines wanted.Value lines = refl

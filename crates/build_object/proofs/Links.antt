@@ -1,4 +1,4 @@
--- What stands behind the last of some links, and the lines of tests and operators.
+-- The operand behind the last of some links, and the lines of tests and operators.
 use Rattle.std.proofs.Common.{ℕ, Option, Some, None, true, false, drop, ◌≡◌, ◌+◌, ◌-◌, ◌<◌, ◌≤◌, ◌∷◌, ◌++◌, [], List, ap, sym, ◌∙◌, refl, Bool, ◌==◌, ◌&&◌}
 use Rattle.std.proofs.Common.{zero, suc, take, take_all, length, get_or, arith, append_assoc}
 use Rattle.go_ast.specs.declared.syntax.BinaryOp.{BinaryOp}

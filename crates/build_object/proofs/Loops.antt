@@ -84,7 +84,7 @@ pub rest_at : {X Y : Type 0} (F : List X → List Y) (f : X → List Y) → ((x 
     i < length xs → now ++ F (drop i xs) ≡ total → new ≡ now ++ f (get_or xs i d) → new ++ F (drop (i + 1) xs) ≡ total
 rest_at F f step total now new xs i d lt h e = rest_step F f step total now new xs i (get_or xs i d) lt (same_item xs i d (get_or xs i d) lt) h e
 
--- the same for each item
+-- A list that is made item by item from its end, where each item adds an equal list.
 pub rest_alike : {X Y : Type 0} (F : List X → List Y) (z : List Y) → ((x : X) (xs : List X) → F (x ∷ xs) ≡ z ++ F xs) →
     (total now new : List Y) (xs : List X) (i : ℕ) →
     i < length xs → now ++ F (drop i xs) ≡ total → new ≡ now ++ z → new ++ F (drop (i + 1) xs) ≡ total

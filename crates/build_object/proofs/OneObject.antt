@@ -170,7 +170,7 @@ one_source p formed rising files_of file f s t a b =
       position = x;
     }) position))))))
 
--- lists of one length whose items are the same
+-- Two lists of one length with equal items are equal.
 
 same_items : {X : Type 0} (xs ys : List X) → length xs ≡ length ys → ((k : ℕ) (x y : X) → slice_get xs k ≡ Some x → slice_get ys k ≡ Some y → x ≡ y) → xs ≡ ys
 same_items [] [] e h = refl

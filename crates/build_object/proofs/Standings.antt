@@ -1,4 +1,4 @@
--- What stands behind links, and what the links see of what stands before them.
+-- The modes of chains behind their links, and the mode of the operand before each link, as far as this link depends on it.
 use Rattle.std.proofs.Common.{ℕ, ◌≡◌, ◌∷◌, ◌++◌, [], List, ap, sym, ◌∙◌, refl, Bool, true, false, Option, Some, None, zero, suc, ◌+◌, ◌<◌, ◌==◌, ◌&&◌}
 use Rattle.std.proofs.Common.{length, take, get_or, arith}
 use Rattle.std.proofs.Math.Seq.{take-suc}

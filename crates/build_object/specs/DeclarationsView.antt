@@ -1,4 +1,4 @@
--- Parts of declarations in src/, as the definition has them.
+-- The parts of declarations that the program keeps, as values of the definitions.
 use Rattle.std.specs.Prelude.{ℕ, ◌≡◌, Option, Some, None, map}
 use Rattle.go_ast.specs.declared.tree.Item.{Item}
 use Rattle.go_ast.specs.declared.tree.BasicLit.{BasicLit}
@@ -16,20 +16,22 @@ use Rattle.build_object.specs.LineView.{function_of}
 use Rattle.build_object.specs.Source.{Source}
 use Rattle.build_object.specs.Objects as object
 
+-- The first value of a variable, as a value of the definitions.
 unfoldable pub initial_view : Initial → object.Initial
 initial_view (initial.Integer n) = object.IntegerValue n
 initial_view (initial.Text bytes) = object.TextValue bytes.now
 
+-- What a type is defined as, as a value of the definitions.
 unfoldable pub definition_view : DefinitionLine → object.Definition
 definition_view (definition.SameAs t) = object.SameAs (type_of t)
 definition_view (definition.Fields ts) = object.Fields (map type_of ts.items)
 
--- the value of a literal, where there is one
+-- The value of a literal, if there is one.
 abbrev pub literal_at : Source → Option (Item BasicLit) → Option object.Initial
 literal_at s None = None
 literal_at s (Some i) = object.initial_of s (basic_view i.value)
 
--- what stands on the first line of a function of that name with so many slots
+-- `s` is the header of the function `f`, with this name and so many slots. The header doesn't count the lines of code.
 pub record IsSignature (w : World) (f : FuncTree) (name : FunctionName) (slots : ℕ) (s : FunctionSignature) : Type 0 where
   pub named : function_of s.name ≡ name
   pub parameters : map type_of s.parameters.items ≡ object.parameters_of w f

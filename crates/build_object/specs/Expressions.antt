@@ -12,41 +12,46 @@ use Rattle.build_object.specs.Source.{Source}
 use Rattle.build_object.specs.Operands.{Operand, plain, standing_as, Values, name_operand, prefixed, operated, selected, indexed, called, settled, grouped}
 use Rattle.build_object.specs.Operands.{value_count}
 
+-- The number of arguments of a call.
 unfoldable pub argument_count : ArgumentTrees → ℕ
 argument_count no_argument = 0
 argument_count (argument e c rest) = suc (argument_count rest)
 
+-- The number of elements of a composite literal.
 unfoldable pub element_count : ElementTrees → ℕ
 element_count no_element = 0
 element_count (element k e c rest) = suc (element_count rest)
 
--- Keys: where the field that the key at a token names stands in its struct
+-- Keys of composite literals: the position of the field in its struct.
 
+-- The position of a field in its struct, if the member is a field.
 abbrev pub field_position : Source → Option Member → Option ℕ
 field_position s None = None
 field_position s (Some (AField f t)) = s.position f
 field_position s (Some (AMethod m on_pointer signature)) = None
 field_position s (Some (ABrokenMethod m)) = None
 
+-- The position of the field that the key at token n names in a literal of this type.
 abbrev pub keyed_in : Source → ℕ → Option PlainType → Option ℕ
 keyed_in s n None = None
 keyed_in s n (Some t) = field_position s (s.world.member n t)
 
--- a struct's element has a key
+-- The position of the field that a key names, if there is a key.
 abbrev pub key_position : Source → Option (ℕ × ℕ) → Option ℕ
 key_position s None = None
 key_position s (Some k) = keyed_in s k.0 (s.before k.0)
 
--- A literal: a struct begins with zeros, and its elements are set in it; a slice is made of its elements.
+-- The code of a composite literal. A struct begins as a zero value, and its elements are set in it. A slice is made of its elements.
 abbrev pub literal_of : Bool → PlainType → (keyed bare : List Line) → ℕ → List Line
 literal_of true t keyed bare n = Zero t ∷ keyed
 literal_of false t keyed bare n = bare ++ (MakeSlice n ∷ [])
 
+-- The code of a composite literal of this type, and none where the type is broken.
 unfoldable pub typed_literal : Source → Option PlainType → (keyed bare : List Line) → ℕ → List Line
 typed_literal s None keyed bare n = []
 typed_literal s (Some t) keyed bare n = literal_of (is_struct (underlying s.world t)) t keyed bare n
 
--- slots: the places where the parameters and locals of the function are declared
+-- The operand of an expression. `slots` are the tokens at which the parameters and locals of the function are declared.
 unfoldable mutual
   pub operand_of : Source → (slots : List ℕ) → ExprTree → Operand
   operand_of s slots (Number p) = plain (line_if_known line.Integer (s.number p))
@@ -60,46 +65,51 @@ unfoldable mutual
   operand_of s slots (Chain e links) = settled (linked s slots (operand_of s slots e) links)
   operand_of s slots (Binary e rest) = plain (operations s slots (operand_of s slots e).value rest)
 
-  -- a: the lines of what stands before the operators
+  -- The lines of binary operators and their right operands, behind the lines `a` of the left operand.
   pub operations : Source → (slots : List ℕ) → List Line → OperandTrees → List Line
   operations s slots a no_operand = a
   operations s slots a (operand o p e rest) = operations s slots (operated o a (operand_of s slots e).value) rest
 
-  -- o: the chain so far
+  -- The operand of a chain: selectors, indexes and calls behind the operand `o`.
   pub linked : Source → (slots : List ℕ) → Operand → LinkTrees → Operand
   linked s slots o no_link = o
   linked s slots o (selector d n rest) = linked s slots (selected s slots n o) rest
   linked s slots o (index b e c rest) = linked s slots (indexed o (operand_of s slots e).value) rest
   linked s slots o (call b args c rest) = linked s slots (called o (argument_count args) (argument_lines s slots args)) rest
 
+  -- The lines that leave the values of arguments, in order.
   pub argument_lines : Source → (slots : List ℕ) → ArgumentTrees → List Line
   argument_lines s slots no_argument = []
   argument_lines s slots (argument e c rest) = (operand_of s slots e).value ++ argument_lines s slots rest
 
+  -- The lines of a composite literal.
   pub literal_lines : Source → (slots : List ℕ) → LiteralTree → List Line
   literal_lines s slots (literal t o es c) =
       typed_literal s (judge_type s.world t).type_of (keyed_lines s slots es) (bare_lines s slots es) (element_count es)
 
+  -- The lines of the elements of a struct's literal: each value is set in its field.
   pub keyed_lines : Source → (slots : List ℕ) → ElementTrees → List Line
   keyed_lines s slots no_element = []
   keyed_lines s slots (element k e c rest) = (operand_of s slots e).value ++ (line_if_known With (key_position s k) ++ keyed_lines s slots rest)
 
+  -- The lines that leave the values of the elements of a slice's literal.
   pub bare_lines : Source → (slots : List ℕ) → ElementTrees → List Line
   bare_lines s slots no_element = []
   bare_lines s slots (element k e c rest) = (operand_of s slots e).value ++ bare_lines s slots rest
 
--- the lines that leave the values of an expression, and those that leave its address
+-- The lines that leave the values of an expression.
 abbrev pub value_lines : Source → (slots : List ℕ) → ExprTree → List Line
 value_lines s slots e = (operand_of s slots e).value
 
+-- The lines that leave the address of an expression's value.
 abbrev pub address_lines : Source → (slots : List ℕ) → ExprTree → List Line
 address_lines s slots e = (operand_of s slots e).address
 
--- how many values an expression leaves
+-- The number of values that an expression leaves.
 abbrev pub values_left : Source → (slots : List ℕ) → ExprTree → ℕ
 values_left s slots e = value_count (operand_of s slots e).standing
 
--- the first of some links, behind what stands before it
+-- The operand behind the first link of a chain, where `o` is the operand before it.
 unfoldable pub one_link : Source → (slots : List ℕ) → LinkTrees → Operand → Operand
 one_link s slots no_link o = o
 one_link s slots (selector d n rest) o = selected s slots n o

@@ -3,7 +3,7 @@ use Rattle.std.specs.Prelude.{ℕ, suc, ◌≡◌, ◌<◌, ◌≤◌, ⊤, List
 use Rattle.build_object.specs.Lines.{Line, Local, LocalAddress, Set, Jump, JumpUnless, JumpIf, JumpBack}
 use Rattle.build_object.specs.Objects.{Function}
 
--- a line of a function with so many slots, before and behind which so many of its lines stand
+-- The line fits in a function with so many slots. `before` of its lines stand before this one, and `behind` stand behind it.
 abbrev pub FitsAt : (slots before behind : ℕ) → Line → Type 0
 FitsAt slots before behind (Local slot) = slot < slots
 FitsAt slots before behind (LocalAddress slot) = slot < slots
@@ -14,6 +14,6 @@ FitsAt slots before behind (JumpIf n) = n < behind
 FitsAt slots before behind (JumpBack n) = n ≤ suc before
 FitsAt slots before behind line = ⊤
 
--- each line of a function
+-- Each line of the function fits in it.
 abbrev pub HasFittingCode : Function → Type 0
 HasFittingCode f = (before behind : List Line) (line : Line) → f.code ≡ before ++ (line ∷ behind) → FitsAt f.slots (length before) (length behind) line

@@ -1,4 +1,4 @@
--- The lines of src/, without where their parts lie in memory.
+-- The lines that the program keeps, as values of the definitions.
 use Rattle.std.specs.Prelude.{◌≡◌, List, ◌++◌, map, reverse}
 use Rattle.types_expr.specs.View.{type_of}
 use Rattle.build_object.specs.declared.instructions.GlobalName.{GlobalName}
@@ -9,14 +9,17 @@ use Rattle.build_object.specs.declared.instructions.Instruction.TheVariants as i
 use Rattle.build_object.specs.declared.code.Code.{Code}
 use Rattle.build_object.specs.Lines as line
 
+-- The name of a package-level declaration, as a value of the definitions.
 abbrev pub global_of : GlobalName → line.GlobalName
 global_of g = record { path = g.path.now; name = g.name.now }
 
+-- The name of a function, as a value of the definitions.
 unfoldable pub function_of : FunctionName → line.FunctionName
 function_of (function.Plain g) = line.Plain (global_of g)
 function_of (function.Method g name) = line.Method (global_of g) name.now
 function_of (function.Initializer path k) = line.Initializer path.now k
 
+-- A line of code, as a value of the definitions.
 unfoldable pub line_of : Instruction → line.Line
 line_of (instruction.Integer n) = line.Integer n
 line_of (instruction.Text bytes) = line.Text bytes.now
@@ -53,10 +56,10 @@ line_of (instruction.Assign n) = line.Assign n
 line_of (instruction.Return n) = line.Return n
 line_of instruction.End = line.End
 
--- code as it is made: its lines, of which the program keeps the last one first
+-- The lines of code that is being made, from the first to the last. The program keeps the last line first.
 abbrev pub lines_in : Code → List line.Line
 lines_in c = reverse (map line_of c.lines.items)
 
--- lines were put before those that were there
+-- Lines are put before the lines of the code.
 pub record Puts (lines : List line.Line) (old new : Code) : Type 0 where
   pub put : lines_in new ≡ lines ++ lines_in old

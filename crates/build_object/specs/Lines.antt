@@ -1,22 +1,23 @@
--- The lines of the code of a function, and what they name.
+-- The lines of a function's code, and the names in them.
 use Rattle.std.specs.Prelude.{ℕ, zero, suc, Bool, List, [], ◌∷◌, Option, Some, None}
 use Rattle.go_ast.specs.declared.syntax.BinaryOp.{BinaryOp}
 use Rattle.types_expr.specs.declared.types.Builtin.{Builtin}
 use Rattle.types_expr.specs.Types.{PlainType}
 
--- a declaration of a package's block, by the package's path and its name
+-- A package-level declaration, by the package's path and the name.
 pub record GlobalName : Type 0 where
   pub path : List ℕ
   pub name : List ℕ
 
--- a function; a method, by the name of its receiver's type; a function `init`, by its number among those of its package
+-- The name of a function in objects. A method has the name of its receiver's type too. A function `init` has its number among those of its
+-- package, from 0.
 pub data FunctionName : Type 0 where
   Plain : GlobalName → FunctionName
   Method : GlobalName → List ℕ → FunctionName
   Initializer : List ℕ → ℕ → FunctionName
 
--- A line works on a stack of values. The number of a jump says how many lines behind the next one it leads to, that of a
--- jump back how many lines before the next one.
+-- A line of code, which works on a stack of values. The number of a jump counts the lines between the jump and its target. The number of
+-- `JumpBack` counts lines back from the next line.
 pub data Line : Type 0 where
   Integer : ℕ → Line
   Text : List ℕ → Line
@@ -53,12 +54,12 @@ pub data Line : Type 0 where
   Return : ℕ → Line
   End : Line
 
--- a line for what is known, and none for what is not; in a package without faults all that is asked for is known
+-- One line for a known value, and none for an unknown one. In a package without faults all values in its code are known.
 abbrev pub line_if_known : {X : Type 0} → (X → Line) → Option X → List Line
 line_if_known line None = []
 line_if_known line (Some x) = line x ∷ []
 
--- the lines that drop so many values
+-- The lines that drop so many values.
 unfoldable pub pops : ℕ → List Line
 pops zero = []
 pops (suc n) = Pop ∷ pops n

@@ -2,6 +2,6 @@
 use Rattle.std.specs.Prelude.{ℕ, ◌^◌, nat_lt, if◌then◌else◌, List, Option, Some, None}
 use Rattle.go_scanner.specs.Integers.{integer_value}
 
--- the value of an integer literal of those bytes; none where it is over the limit of literals
+-- The value of the integer literal with these bytes. There is none where it is 2^63 or more.
 abbrev pub number_of : List ℕ → Option ℕ
 number_of bytes = if nat_lt (integer_value bytes) (2 ^ 63) then Some (integer_value bytes) else None

@@ -1,4 +1,4 @@
--- What calls of src/ put before code that is there.
+-- The lines that functions of src/ put before code that is made already.
 use Rattle.std.specs.Prelude.{ℕ, suc, ◌≡◌, Bool, true, false, List, [], ◌∷◌, ◌++◌, Option}
 use Rattle.go_ast.specs.declared.syntax.BinaryOp.{BinaryOp}
 use Rattle.go_ast.specs.declared.syntax.BinaryOp.TheVariants as op
@@ -12,10 +12,12 @@ use Rattle.build_object.specs.LineView.{function_of, lines_in}
 use Rattle.build_object.specs.Operands.{Operand, Values, Called, Converts, Predeclared, Qualifies, qualifies}
 use Rattle.build_object.specs.Operands as pure
 
+-- The lines of an operand that are wanted: those of its value, or those of its address.
 abbrev pub lines_for : Wanted → Operand → List Line
 lines_for wanted.Value o = o.value
 lines_for wanted.Address o = o.address
 
+-- The mode of an operand of the program, as an `Operands.Standing` of the definitions.
 unfoldable pub standing_of : OperandPlace → pure.Standing
 standing_of (standing.Values n) = Values n
 standing_of (standing.Called received f results) = Called received (function_of f) results
@@ -23,7 +25,7 @@ standing_of standing.Converts = Converts
 standing_of (standing.Predeclared b) = Predeclared b
 standing_of standing.Qualifies = Qualifies
 
--- a standing as a link behind it sees it: of values it does not matter how many they are
+-- A mode as far as a link behind it depends on it: the number of values doesn't matter.
 unfoldable pub before_link : pure.Standing → pure.Standing
 before_link (Values n) = Values 0
 before_link (Called received f results) = Called received f results
@@ -31,35 +33,36 @@ before_link Converts = Converts
 before_link (Predeclared b) = Predeclared b
 before_link Qualifies = Qualifies
 
--- the lines of a field by themselves
+-- The lines that a field adds to its operand.
 abbrev pub field_lines : Wanted → (through : Bool) → Option ℕ → List Line
 field_lines wanted.Value true i = line_if_known FieldThrough i
 field_lines wanted.Value false i = line_if_known Field i
 field_lines wanted.Address through i = line_if_known FieldAddress i
 
--- the line of an index by itself
+-- The line that an index adds to its operand.
 abbrev pub index_lines : Wanted → List Line
 index_lines wanted.Value = Index ∷ []
 index_lines wanted.Address = IndexAddress ∷ []
 
--- what stands between the operands of `&&` or `||`, the second of which has so many lines
+-- The lines between the operands of `&&` or `||`, where the second operand has n lines.
 abbrev pub test_lines : BinaryOp → ℕ → List Line
 test_lines op.Or n = Duplicate ∷ JumpIf (suc n) ∷ Pop ∷ []
 test_lines o n = Duplicate ∷ JumpUnless (suc n) ∷ Pop ∷ []
 
--- The lines of what an operand becomes by a rule were put, but for those of the operand itself, of which the second are wanted:
--- for each operand of that standing.
+-- The lines that `rule` adds to an operand are put before the code. The operand's own lines are left, those for `left`, and the `asked`
+-- lines of the result are complete with them. This is so for each operand with this mode.
 pub record GoesOn (rule : Operand → Operand) (stands : pure.Standing) (asked left : Wanted) (old new : Code) : Type 0 where
   pub on : (o : Operand) → before_link o.standing ≡ before_link stands → lines_for asked (rule o) ++ lines_in old ≡ lines_for left o ++ lines_in new
 
--- the same for operands that are the name of a package, or that are none
+-- The lines that `rule` adds to an operand are put before the code, as in `GoesOn`. This is so for each operand that is the name of a
+-- package, if `qualified`, or else for each that is not.
 pub record GoesOnBehind (rule : Operand → Operand) (qualified : Bool) (asked left : Wanted) (old new : Code) : Type 0 where
   pub on : (o : Operand) → qualifies o.standing ≡ qualified → lines_for asked (rule o) ++ lines_in old ≡ lines_for left o ++ lines_in new
 
--- the same for a rule of lines, as the operators behind a first operand are one
+-- The lines that `rule` adds to lines are put before the code, as binary operators add lines to those of their left operand.
 pub record GoesOnFrom (rule : List Line → List Line) (old new : Code) : Type 0 where
   pub on : (a : List Line) → rule a ++ lines_in old ≡ a ++ lines_in new
 
--- The same as GoesOn for each operand, whatever stands there.
+-- The lines that `rule` adds to an operand are put before the code, as in `GoesOn`. This is so for each operand, whatever its mode.
 pub record GoesOnAlways (rule : Operand → Operand) (asked left : Wanted) (old new : Code) : Type 0 where
   pub on : (o : Operand) → lines_for asked (rule o) ++ lines_in old ≡ lines_for left o ++ lines_in new

@@ -1,4 +1,4 @@
--- What the types, functions and fields of packages are called in objects, by their symbols: told by the packages' files.
+-- The names of types and functions in objects, and the positions of fields in their structs, by the files of packages.
 use Rattle.std.specs.Prelude.{ℕ, suc, ◌==◌, ◌+◌, Bool, false, if◌then◌else◌, List, [], ◌∷◌, map, Option, Some, None, slice_get}
 use Rattle.std.specs.List.{flat_map}
 use Rattle.std.specs.Cmp.Lexicographic.{pointwise}
@@ -9,86 +9,100 @@ use Rattle.types_expr.specs.declared.symbol.Symbol.{Symbol}
 use Rattle.types_declared.specs.Package.{PlacedType, PlacedFunction, declared_types, declared_functions, spelled_at}
 use Rattle.build_object.specs.Lines.{GlobalName, FunctionName, Plain, Method, Initializer}
 
--- how a token of a file is spelled, by the rank of the file
+-- The spelling of a token, by the rank of its file.
 abbrev pub spelled_in : List SourceFile → (file token : ℕ) → List ℕ
 spelled_in files file token = spelled_at (slice_get files file) token
 
--- Types, by their ranks
+-- Types, by their ranks.
 
+-- The name of a type definition in objects.
 abbrev pub type_called : (path : List ℕ) → List SourceFile → PlacedType → GlobalName
 type_called path files t = record { path = path; name = spelled_in files t.file t.spec.name }
 
+-- The names of the type definitions of a package, by their ranks.
 abbrev pub type_names : (path : List ℕ) → List SourceFile → List GlobalName
 type_names path files = map (type_called path files) (declared_types files)
 
--- Functions, methods and functions `init`, by their ranks
+-- Functions, methods and functions `init`, by their ranks.
 
--- a function `init` has no receiver
+-- Whether a function with this receiver and name is a function `init`: it has no receiver.
 abbrev pub is_named_init : Option ReceiverTree → (name : List ℕ) → Bool
 is_named_init None name = pointwise ◌==◌ name init_name
 is_named_init (Some r) name = false
 
+-- Whether a function of the files is a function `init`.
 abbrev pub is_initializer : List SourceFile → PlacedFunction → Bool
 is_initializer files f = is_named_init f.function.receiver (spelled_in files f.file f.function.name)
 
+-- The name of a receiver's type in objects.
 abbrev pub receiver_called : (path : List ℕ) → List SourceFile → ℕ → ReceiverTree → GlobalName
 receiver_called path files file r = record { path = path; name = spelled_in files file r.type_name }
 
--- a function or method of that name in a file
+-- The name in objects of a function or method with this name in a file.
 abbrev pub function_named : (path : List ℕ) → List SourceFile → (file : ℕ) → Option ReceiverTree → (name : List ℕ) → FunctionName
 function_named path files file None name = Plain (record { path = path; name = name })
 function_named path files file (Some r) name = Method (receiver_called path files file r) name
 
--- a function that is no `init`
+-- The name in objects of a function that is no `init`.
 abbrev pub function_called : (path : List ℕ) → List SourceFile → PlacedFunction → FunctionName
 function_called path files f = function_named path files f.file f.function.receiver (spelled_in files f.file f.function.name)
 
--- behind so many functions `init`
+-- The name of a function in objects, where k functions `init` stand before it.
 abbrev pub function_behind : (path : List ℕ) → List SourceFile → ℕ → PlacedFunction → FunctionName
 function_behind path files k f = if is_initializer files f then Initializer path k else function_called path files f
 
--- how many functions `init` there are with this function, behind so many
+-- The number of functions `init` up to this function, where k stand before it.
 abbrev pub initializers_with : List SourceFile → ℕ → PlacedFunction → ℕ
 initializers_with files k f = if is_initializer files f then k + 1 else k
 
--- how many there are with these functions, behind so many
+-- The number of functions `init` up to the last of these functions, where k stand before them.
 abbrev pub initializers_among : List SourceFile → ℕ → List PlacedFunction → ℕ
 initializers_among files k [] = k
 initializers_among files k (f ∷ fs) = initializers_among files (initializers_with files k f) fs
 
+-- The names of functions in objects, where k functions `init` stand before them.
 abbrev pub functions_behind : (path : List ℕ) → List SourceFile → ℕ → List PlacedFunction → List FunctionName
 functions_behind path files k [] = []
 functions_behind path files k (f ∷ fs) = function_behind path files k f ∷ functions_behind path files (initializers_with files k f) fs
 
+-- The names of the functions of a package in objects, by their ranks.
 abbrev pub function_names : (path : List ℕ) → List SourceFile → List FunctionName
 function_names path files = functions_behind path files 0 (declared_functions files)
 
--- Fields: for each, by its rank, where it stands in its struct
+-- Fields, by their ranks: the position of each in its struct, from 0.
 
+-- The positions of these field names, from n on.
 abbrev pub positions_from : ℕ → List (Item ℕ) → List ℕ
 positions_from n [] = []
 positions_from n (i ∷ is) = n ∷ positions_from (suc n) is
 
+-- The names of the fields of a struct, in order.
 abbrev pub names_of_fields : List (Item FieldTree) → List (Item ℕ)
 names_of_fields fs = flat_map (λ i. i.value.names) fs
 
+-- The positions of the fields of a type definition's body.
 abbrev pub body_positions : BodyTree → List ℕ
 body_positions (Other t) = []
 body_positions (Struct k o fs c) = positions_from 0 (names_of_fields fs)
 
+-- The positions of the fields of a type definition.
 abbrev pub type_positions : PlacedType → List ℕ
 type_positions t = body_positions t.spec.body
 
+-- The positions of all fields of a package, by their ranks.
 abbrev pub field_positions : List SourceFile → List ℕ
 field_positions files = flat_map type_positions (declared_types files)
 
--- The same by symbols; files_of: the files of the package of a path
+-- Types, functions and fields, by their symbols. `files_of` gives the files of the package at a path.
 
+-- The name of a type definition in objects, by its symbol.
 abbrev pub type_name : (List ℕ → List SourceFile) → Symbol → Option GlobalName
 type_name files_of s = slice_get (type_names s.package (files_of s.package)) s.rank
 
+-- The name of a function in objects, by its symbol.
 abbrev pub function_name : (List ℕ → List SourceFile) → Symbol → Option FunctionName
 function_name files_of s = slice_get (function_names s.package (files_of s.package)) s.rank
 
+-- The position of a field in its struct, by its symbol.
 abbrev pub field_position : (List ℕ → List SourceFile) → Symbol → Option ℕ
 field_position files_of s = slice_get (field_positions (files_of s.package)) s.rank

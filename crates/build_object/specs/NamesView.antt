@@ -1,4 +1,4 @@
--- What is known of the names of a package, by its files.
+-- The names of a package's declarations, as the program keeps them.
 use Rattle.std.specs.Prelude.{ℕ, ◌≡◌, List, Option, Some, map}
 use Rattle.go_ast.specs.SourceFile.{SourceFile, source_of}
 use Rattle.types_declared.specs.DeclaredView.{type_of, function_of as placed_function}
@@ -7,13 +7,13 @@ use Rattle.build_object.specs.declared.called.CalledNames.{CalledNames}
 use Rattle.build_object.specs.declared.called.DeclaredTables.{DeclaredTables}
 use Rattle.build_object.specs.Names.{field_positions}
 
--- tables of what files declare
+-- The tables are those of the declarations of these files.
 pub record AreTablesOf (files : List SourceFile) (tables : DeclaredTables) : Type 0 where
   pub types : map type_of tables.declared.types.items ≡ declared_types files
   pub functions : map placed_function tables.declared.functions.items ≡ declared_functions files
   pub positions : tables.positions.items ≡ field_positions files
 
--- what is known of the package of a path, from its files; if there are tables, they are of these
+-- The names are those of the package at this path, with these files. If there are tables, they are those of these files.
 pub record AreNamesOf (path : List ℕ) (files : List SourceFile) (names : CalledNames) (made : Option DeclaredTables) : Type 0 where
   pub has_path : names.path.now ≡ path
   pub has_files : map source_of names.files.now ≡ files

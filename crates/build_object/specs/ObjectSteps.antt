@@ -19,24 +19,24 @@ use Rattle.build_object.specs.Objects.{Object, declared_from, names_behind_all}
 use Rattle.build_object.specs.ObjectText.{declaration_text, first_line, import_line}
 use Rattle.build_object.specs.ObjectView.{HaveNames}
 
--- the member uses of a file; none where nothing is known of it
+-- The uses of members of a file, and none where they are unknown.
 abbrev pub uses_or_none : Option (Vec MemberUse) → List MemberUse
 uses_or_none None = []
 uses_or_none (Some uses) = uses.items
 
--- the first lines of the object of a package: its own, and those of its imports
+-- The first lines of the object of the package are added: its own line, and those of its imports.
 pub record PutsHead (p : Package) (old new : List ℕ) : Type 0 where
   pub imports : List (List ℕ)
   pub are_imports : AreImports p.files imports
   pub text : (o : Object) → o.path ≡ p.path → o.name ≡ package_name p.files → o.imports ≡ imports →
       new ≡ old ++ (first_line o ++ flat_map import_line o.imports)
 
--- what the functions behind some files are called
+-- The names of functions that are left behind these files.
 unfoldable pub names_after : List FunctionName → List FileTree → List FunctionName
 names_after names [] = names
 names_after names (t ∷ ts) = names_after (names_behind_all names t.decls) ts
 
--- what the files below n declare was added; the names of the functions behind them begin at a number
+-- The text of the declarations of the files below n is added. `others` names of functions are used up by these files.
 pub record PutsFiles (p : Package) (n : ℕ) (members : List (Vec MemberUse)) (packages : CalledPackages) (names : List program.FunctionName) (others : ℕ)
     (old new : List ℕ) : Type 0 where
   pub sources : List Source

@@ -1,4 +1,4 @@
--- What is known where the object of a package is printed, and what the texts of its files add.
+-- The values from which the object of a package is printed, and the text that a file adds.
 use Rattle.std.specs.Prelude.{ℕ, ◌≡◌, ◌≤◌, List, [], ◌++◌, drop, map, length, Option, Some, None, slice_get, MatchOption}
 use Rattle.std.specs.List.{flat_map}
 use Rattle.go_ast.specs.SourceFile.{FileParts, SourceFile}
@@ -21,20 +21,19 @@ use Rattle.build_object.specs.PackagesView.{package_in, tables_in, type_in}
 use Rattle.build_object.specs.Objects.{declared_in, names_behind_all}
 use Rattle.build_object.specs.ObjectText.{declaration_text}
 
--- the type definitions of a package as other packages see them
+-- `found` are the type definitions of the package p as other packages see them, by their ranks.
 pub record AreOwnDefinitions (p : Package) (found : List Definition) : Type 0 where
   pub own : (rank : ℕ) (d : PlacedType) → slice_get (package_types p) rank ≡ Some d →
       IsDefinition p rank (definition_or_none (symbol_in p rank) (slice_get found rank))
   pub beyond : (rank : ℕ) → slice_get (package_types p) rank ≡ None →
       definition_or_none (symbol_in p rank) (slice_get found rank) ≡ no_definition (symbol_in p rank)
 
--- the names of the packages whose files are known
+-- `packages` has the names of exactly the packages whose files `files_of` gives.
 abbrev pub HaveNames : CalledPackages → (List ℕ → List SourceFile) → Type 0
 HaveNames packages files_of = (path : List ℕ) → MatchOption (package_in packages path) (files_of path ≡ [])
     (λ names. AreNamesOf path (files_of path) names (tables_in packages path))
 
--- the text of what a file of the package declares was added; its functions are those behind so many, and those of the files
--- behind it are the others
+-- The text of the declarations of a file of the package is added. Of `names`, `number` are used up before this file, and `others` with it.
 pub record PutsFile (p : Package) (file : ℕ) (members : List MemberUse) (packages : CalledPackages) (names : List FunctionName) (number others : ℕ)
     (old new : List ℕ) : Type 0 where
   pub file_at : SourceFile
@@ -46,14 +45,13 @@ pub record PutsFile (p : Package) (file : ℕ) (members : List MemberUse) (packa
   pub others_are : map function_of (drop others names) ≡ names_behind_all (map function_of (drop number names)) file_at.tree.decls
   pub within : others ≤ length names
 
--- What is known of the package that is checked, by its path, its files, and the names and interfaces of the packages that it
--- sees
+-- The package that is checked: by its path, its files, and the names and export data of the packages that it sees.
 
--- its own type definitions
+-- `found` are the type definitions of this package as other packages see them.
 abbrev pub OwnDefinitionsOf : (path : List ℕ) → List FileParts → (List ℕ → Option (List ℕ)) → (List ℕ → Interface) → List Definition → Type 0
 OwnDefinitionsOf path files name_of interface_of found = (p : Package) → IsPackageOf path files name_of interface_of p → AreOwnDefinitions p found
 
--- the text of its object, where these are its uses of members, and the files of packages have these names
+-- `text` is the text of the object of this package, where these are its uses of members, and `packages` has the names of declarations.
 abbrev pub IsObjectTextOf : (path : List ℕ) → List FileParts → (List ℕ → Option (List ℕ)) → (List ℕ → Interface) → List (List plain.MemberUse) →
     CalledPackages →
     List ℕ → Type 0

@@ -1,4 +1,4 @@
--- What an expression is to the code, and the rules by which it grows: one for each form, without recursion.
+-- The operands of code: what an expression is to the code around it, and a rule for each form of expression, without recursion.
 use Rattle.std.specs.Prelude.{ℕ, suc, Bool, true, false, List, [], ◌∷◌, ◌++◌, Option, Some, None, length}
 use Rattle.go_ast.specs.declared.syntax.BinaryOp.{BinaryOp}
 use Rattle.go_ast.specs.declared.syntax.BinaryOp.TheVariants as op
@@ -17,8 +17,9 @@ use Rattle.build_object.specs.Lines.{IndexAddress, line_if_known}
 use Rattle.build_object.specs.Source.{Source}
 use Rattle.build_object.specs.Numbering.{slot_of}
 
--- What stands there: so many values; a function, or a method whose receiver is there, with how many results it has; a type,
--- whose call is a conversion; a predeclared function; the name of a package.
+-- The mode of an operand: what the code around it can do with it. `Values`: it leaves so many values. `Called`: it is a function with so
+-- many results, or a method whose receiver is on the stack. `Converts`: it is a type, whose call is a conversion. `Predeclared`: it is a
+-- predeclared function. `Qualifies`: it is the name of a package.
 pub data Standing : Type 0 where
   Values : ℕ → Standing
   Called : (received : Bool) → FunctionName → (results : ℕ) → Standing
@@ -26,45 +27,52 @@ pub data Standing : Type 0 where
   Predeclared : Builtin → Standing
   Qualifies : Standing
 
--- The lines that leave the values, of a method those that leave its receiver; and the lines that leave the address of the value.
--- The address is only asked for where the value has one; else the same lines stand for it.
+-- An operand of code. `value` are the lines that leave its values, or the receiver of a method. `address` are the lines that leave the
+-- address of its value, which is used only where the value has one.
 pub record Operand : Type 0 where
   pub value : List Line
   pub address : List Line
   pub standing : Standing
 
--- one value without an address; the value of a variable; what has no lines
+-- One value without an address.
 abbrev pub plain : List Line → Operand
 plain lines = record { value = lines; address = lines; standing = Values 1 }
 
+-- The value of a variable, which has an address.
 abbrev pub variable : List Line → List Line → Operand
 variable value address = record { value = value; address = address; standing = Values 1 }
 
+-- An operand without lines.
 abbrev pub standing_as : Standing → Operand
 standing_as s = record { value = []; address = []; standing = s }
 
 -- Names
 
+-- A parameter or local, by its slot.
 abbrev pub local_operand : Option ℕ → Operand
 local_operand slot = variable (line_if_known Local slot) (line_if_known LocalAddress slot)
 
+-- A package-level variable, by its name.
 abbrev pub global_operand : Option GlobalName → Operand
 global_operand name = variable (line_if_known Global name) (line_if_known GlobalAddress name)
 
+-- The mode of a function or method, if its name is known.
 abbrev pub function_standing : Option FunctionName → (received : Bool) → (results : ℕ) → Standing
 function_standing None received results = Values 0
 function_standing (Some f) received results = Called received f results
 
+-- The name of a function without a receiver.
 abbrev pub plain_function : Option GlobalName → Option FunctionName
 plain_function None = None
 plain_function (Some name) = Some (Plain name)
 
--- a name that means a value of that kind
+-- The operand of a name at token n that means a value of this kind.
 abbrev pub value_name : Source → ℕ → Kind → Operand
 value_name s n (Typed t) = global_operand (s.global n)
 value_name s n (Untyped b) = plain (Truth (s.truth n) ∷ [])
 value_name s n NilKind = plain (Nil ∷ [])
 
+-- The operand of a name at token n with this meaning.
 unfoldable pub named_meaning : Source → ℕ → Meaning → Operand
 named_meaning s n (Value k a) = value_name s n k
 named_meaning s n (TypeName t) = standing_as Converts
@@ -74,6 +82,7 @@ named_meaning s n Package = standing_as Qualifies
 named_meaning s n (Results ts) = standing_as (Values 0)
 named_meaning s n Broken = standing_as (Values 0)
 
+-- The operand of a name at token n that is bound so.
 unfoldable pub bound_name : Source → (slots : List ℕ) → ℕ → Bound → Operand
 bound_name s slots n (LocalName place) = local_operand (slot_of slots place)
 bound_name s slots n (Means m) = named_meaning s n m
@@ -81,19 +90,20 @@ bound_name s slots n BrokenVariable = standing_as (Values 0)
 bound_name s slots n BrokenFunction = standing_as (Values 0)
 bound_name s slots n BrokenType = standing_as (Values 0)
 
--- the name at a token
+-- The operand of the name at token n.
 abbrev pub name_operand : Source → (slots : List ℕ) → ℕ → Operand
 name_operand s slots n = bound_name s slots n (s.world.bound n)
 
 -- Operators
 
+-- The operand of a unary operator, where x are the lines of its operand's value.
 abbrev pub prefixed : PrefixOp → List Line → Operand
 prefixed prefix.Plus x = plain x
 prefixed prefix.Minus x = plain (x ++ (Negate ∷ []))
 prefixed prefix.Not x = plain (x ++ (Not ∷ []))
 prefixed prefix.Deref x = variable (x ++ (Load ∷ [])) x
 
--- `a && b` and `a || b` look at b only where a does not tell
+-- The lines of a binary operator between operands with the lines a and b. The code of `&&` and `||` skips b where a decides the result.
 abbrev pub operated : BinaryOp → List Line → List Line → List Line
 operated op.And a b = a ++ (Duplicate ∷ JumpUnless (suc (length b)) ∷ Pop ∷ b)
 operated op.Or a b = a ++ (Duplicate ∷ JumpIf (suc (length b)) ∷ Pop ∷ b)
@@ -101,35 +111,38 @@ operated o a b = a ++ (b ++ (Operate o ∷ []))
 
 -- Selectors
 
--- whether it is the name of a package
+-- Whether the operand is the name of a package.
 abbrev pub qualifies : Standing → Bool
 qualifies Qualifies = true
 qualifies s = false
 
--- a name behind the name of a package; what it names stands alone
+-- The mode of the selector of a qualified identifier. A package is never such a selector's meaning.
 abbrev pub unqualified : Standing → Standing
 unqualified Qualifies = Values 0
 unqualified s = s
 
+-- The operand of a qualified identifier, where the package's name has these lines.
 abbrev pub behind : List Line → Operand → Operand
 behind lines o = record { value = lines ++ o.value; address = lines ++ o.address; standing = unqualified o.standing }
 
--- a field of a value, or of what a pointer points to
+-- The operand of a field of a value, or of the struct that a pointer points to.
 abbrev pub field_operand : Operand → (through : Bool) → Option ℕ → Operand
 field_operand o true i = variable (o.value ++ line_if_known FieldThrough i) (o.value ++ line_if_known FieldAddress i)
 field_operand o false i = variable (o.value ++ line_if_known Field i) (o.address ++ line_if_known FieldAddress i)
 
--- The receiver of a method: a value by itself or loaded through a pointer, a pointer by itself or as the address of a value.
+-- The lines of a method's receiver. A value receiver is the value itself, or the value that a pointer points to. A pointer receiver is the
+-- pointer itself, or the address of the value.
 abbrev pub receiver_lines : Operand → (is_pointer on_pointer : Bool) → List Line
 receiver_lines o true true = o.value
 receiver_lines o true false = o.value ++ (Load ∷ [])
 receiver_lines o false true = o.address
 receiver_lines o false false = o.value
 
+-- The operand of a method, whose receiver has these lines.
 abbrev pub method_operand : List Line → Option FunctionName → (results : ℕ) → Operand
 method_operand receiver name results = record { value = receiver; address = receiver; standing = function_standing name true results }
 
--- the member of a value of type t
+-- The operand of a member of a value of type t.
 unfoldable pub member_operand : Source → Operand → PlainType → Option Member → Operand
 member_operand s o t None = record { value = o.value; address = o.value; standing = Values 0 }
 member_operand s o t (Some (AField f own)) = field_operand o (points (underlying s.world t)) (s.position f)
@@ -137,23 +150,27 @@ member_operand s o t (Some (AMethod m on_pointer signature)) =
     method_operand (receiver_lines o (is_pointer t) on_pointer) (s.function m) (length signature.results)
 member_operand s o t (Some (ABrokenMethod m)) = record { value = o.value; address = o.value; standing = Values 0 }
 
+-- The operand of the selector at token n, behind a value of this type.
 unfoldable pub typed_selector : Source → ℕ → Operand → Option PlainType → Operand
 typed_selector s n o None = record { value = o.value; address = o.value; standing = Values 0 }
 typed_selector s n o (Some t) = member_operand s o t (s.world.member n t)
 
+-- The operand of the selector at token n, behind an operand with this mode.
 unfoldable pub selected_by : Source → (slots : List ℕ) → ℕ → Operand → Standing → Operand
 selected_by s slots n o Qualifies = behind o.value (name_operand s slots n)
 selected_by s slots n o standing = typed_selector s n o (s.before n)
 
--- the selector of the name at a token
+-- The operand of the selector at token n, behind the operand o.
 abbrev pub selected : Source → (slots : List ℕ) → ℕ → Operand → Operand
 selected s slots n o = selected_by s slots n o o.standing
 
 -- Indexes and calls
 
+-- The operand of an index expression, where the index has the lines i.
 abbrev pub indexed : Operand → List Line → Operand
 indexed o i = variable (o.value ++ (i ++ (Index ∷ []))) (o.value ++ (i ++ (IndexAddress ∷ [])))
 
+-- The number of results of a predeclared function.
 abbrev pub builtin_results : Builtin → ℕ
 builtin_results builtin.Append = 1
 builtin_results builtin.Len = 1
@@ -161,12 +178,12 @@ builtin_results builtin.Panic = 0
 builtin_results builtin.Print = 0
 builtin_results builtin.Println = 0
 
--- a receiver is counted as an argument
+-- The number of arguments, where a receiver counts as one more.
 abbrev pub counted : (received : Bool) → ℕ → ℕ
 counted true n = suc n
 counted false n = n
 
--- the line of a call with so many arguments of its own, and what it leaves; a conversion has none, and leaves its argument
+-- The line of a call with n arguments. A conversion has none, and leaves its argument.
 unfoldable pub calling : ℕ → Standing → List Line
 calling n (Called received f results) = Call f (counted received n) ∷ []
 calling n (Predeclared b) = CallBuiltin b n ∷ []
@@ -174,6 +191,7 @@ calling n Converts = []
 calling n (Values k) = []
 calling n Qualifies = []
 
+-- The number of values that a call leaves.
 unfoldable pub left_by_call : Standing → ℕ
 left_by_call (Called received f results) = results
 left_by_call (Predeclared b) = builtin_results b
@@ -181,6 +199,7 @@ left_by_call Converts = 1
 left_by_call (Values k) = 0
 left_by_call Qualifies = 0
 
+-- The operand of a call with n arguments, which have these lines.
 abbrev pub called : Operand → ℕ → List Line → Operand
 called o n arguments = record {
   value = o.value ++ (arguments ++ calling n o.standing);
@@ -188,14 +207,17 @@ called o n arguments = record {
   standing = Values (left_by_call o.standing);
 }
 
--- Chains and parentheses as expressions: how many values they leave
+-- Chains and expressions in parentheses
 
+-- The number of values that an operand with this mode leaves.
 abbrev pub value_count : Standing → ℕ
 value_count (Values n) = n
 value_count s = 0
 
+-- The operand of a whole chain: it stands for its values alone.
 abbrev pub settled : Operand → Operand
 settled o = record { value = o.value; address = o.address; standing = Values (value_count o.standing) }
 
+-- The operand of an expression in parentheses: it stands for one value.
 abbrev pub grouped : Operand → Operand
 grouped o = record { value = o.value; address = o.address; standing = Values 1 }

@@ -1,4 +1,4 @@
--- What is known of the names of packages.
+-- The names of packages' declarations, as the program looks them up.
 use Rattle.std.specs.Prelude.{ℕ, List, Option, Some, None, map, option_map, slice_get}
 use Rattle.std.specs.FinMap.{find}
 use Rattle.base_files.specs.Workspace.{path_cmp}
@@ -12,45 +12,54 @@ use Rattle.build_object.specs.declared.called.CalledPackages.{CalledPackages}
 use Rattle.build_object.specs.Lines.{GlobalName, FunctionName}
 use Rattle.build_object.specs.Names.{type_called, function_names, functions_behind, field_positions}
 
--- the names of the package of a path
+-- The names of the package at a path.
 abbrev pub package_in : CalledPackages → List ℕ → Option CalledNames
 package_in ps path = find path_cmp path ps.names
 
--- tables of what it declares
+-- The tables of the declarations of the package at a path.
 abbrev pub tables_in : CalledPackages → List ℕ → Option DeclaredTables
 tables_in ps path = find path_cmp path ps.tables
 
--- by the tables of a package, or else by its files
+-- Declarations by rank, found in the tables of a package, or else in its files.
 
+-- The type definition with this rank.
 abbrev pub type_of_rank : List SourceFile → Option DeclaredTables → ℕ → Option PlacedType
 type_of_rank files None rank = slice_get (declared_types files) rank
 type_of_rank files (Some t) rank = option_map type_of (slice_get t.declared.types.items rank)
 
+-- The name in objects of the function with this rank.
 abbrev pub function_of_rank : (path : List ℕ) → List SourceFile → Option DeclaredTables → ℕ → Option FunctionName
 function_of_rank path files None rank = slice_get (function_names path files) rank
 function_of_rank path files (Some t) rank = slice_get (functions_behind path files 0 (map placed_function t.declared.functions.items)) rank
 
+-- The position in its struct of the field with this rank.
 abbrev pub position_of_rank : List SourceFile → Option DeclaredTables → ℕ → Option ℕ
 position_of_rank files None rank = slice_get (field_positions files) rank
 position_of_rank files (Some t) rank = slice_get t.positions.items rank
 
+-- The name in objects of the type definition with this rank, in a package with these names.
 abbrev pub type_at : Option CalledNames → Option DeclaredTables → ℕ → Option GlobalName
 type_at None t rank = None
 type_at (Some p) t rank = option_map (type_called p.path.now (map source_of p.files.now)) (type_of_rank (map source_of p.files.now) t rank)
 
+-- The name of a type definition in objects, by its symbol.
 abbrev pub type_in : CalledPackages → Symbol → Option GlobalName
 type_in ps s = type_at (package_in ps s.package) (tables_in ps s.package) s.rank
 
+-- The name in objects of the function with this rank, in a package with these names.
 abbrev pub function_at : Option CalledNames → Option DeclaredTables → ℕ → Option FunctionName
 function_at None t rank = None
 function_at (Some p) t rank = function_of_rank p.path.now (map source_of p.files.now) t rank
 
+-- The name of a function in objects, by its symbol.
 abbrev pub function_in : CalledPackages → Symbol → Option FunctionName
 function_in ps s = function_at (package_in ps s.package) (tables_in ps s.package) s.rank
 
+-- The position in its struct of the field with this rank, in a package with these names.
 abbrev pub position_at : Option CalledNames → Option DeclaredTables → ℕ → Option ℕ
 position_at None t rank = None
 position_at (Some p) t rank = position_of_rank (map source_of p.files.now) t rank
 
+-- The position of a field in its struct, by its symbol.
 abbrev pub position_in : CalledPackages → Symbol → Option ℕ
 position_in ps s = position_at (package_in ps s.package) (tables_in ps s.package) s.rank

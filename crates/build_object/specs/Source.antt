@@ -1,14 +1,17 @@
--- What the code of a file is made of beside its tree. All spellings that code depends on are among it: those of literals, and
--- the names of what is declared in packages.
+-- The source of the code of a file: all that the code depends on beside the file's tree. It has all spellings that code depends on.
 use Rattle.std.specs.Prelude.{ℕ, Bool, List, Option}
 use Rattle.types_expr.specs.declared.symbol.Symbol.{Symbol}
 use Rattle.types_expr.specs.Types.{PlainType}
 use Rattle.types_expr.specs.World.{World}
 use Rattle.build_object.specs.Lines.{GlobalName, FunctionName}
 
--- By token: what names are bound to; the type before a name behind a dot, or the one of the literal that a key stands in; the
--- declaration of a package's block that a name is bound to; whether a truth value is the true one; the values of integers and
--- of strings. By symbol: what a function or method is called, and where a field stands in its struct.
+-- The source of the code of a file.
+--
+-- By token: `world` has the meaning of a name. `before` is the type before a selector, or of the composite literal around a key. `global`
+-- is the package-level declaration to which a name is bound. `truth` is the value of a truth value. `number` and `text` are the values of
+-- integer and string literals.
+--
+-- By symbol: `function` is the name of a function or method in objects. `position` is that of a field in its struct.
 pub record Source : Type 0 where
   pub world : World
   pub before : ℕ → Option PlainType

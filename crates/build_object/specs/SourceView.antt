@@ -1,4 +1,4 @@
--- What the program makes code of, as the definition has it.
+-- The source of the code of a file, as the program keeps it.
 use Rattle.std.specs.Prelude.{ℕ, Bool, false, List, Option, Some, None, option_map, slice_get, slice_index_or}
 use Rattle.types_expr.specs.declared.found.MemberUse.{MemberUse}
 use Rattle.types_expr.specs.Types.{PlainType}
@@ -13,20 +13,22 @@ use Rattle.build_object.specs.PackagesView.{function_in, position_in}
 use Rattle.build_object.specs.Numbering.{slot_of}
 use Rattle.build_object.specs.Literals.{number_of}
 
--- the type before the use of a number
+-- The type before the use of a member, by the number of the use.
 abbrev pub type_used : List MemberUse → Option ℕ → Option PlainType
 type_used uses None = None
 type_used uses (Some number) = option_map (λ u. type_of u.before) (slice_get uses number)
 
--- what a name is to code; nothing where nothing is known of it
+-- The package-level declaration of a name's mark, if it has one.
 abbrev pub global_in : Option Mark → Option GlobalName
 global_in None = None
 global_in (Some m) = option_map global_of m.global
 
+-- The truth value of a name's mark, false where there is no mark.
 abbrev pub truth_in : Option Mark → Bool
 truth_in None = false
 truth_in (Some m) = m.truth
 
+-- The source of the program, as a value of the definitions.
 abbrev pub source_of : Source → pure.Source
 source_of s = record {
   world = world_of s.world;

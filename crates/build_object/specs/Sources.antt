@@ -1,4 +1,4 @@
--- What the code of the files of a package is made of, and which object a package has.
+-- The sources of the code of a package's files, and the object of a package.
 use Rattle.std.specs.Prelude.{ℕ, suc, ◌≡◌, ◌==◌, ◌↔◌, true, if◌then◌else◌, List, [], ◌∷◌, map, Option, Some, None, length, slice_get, codes, Contains}
 use Rattle.std.specs.List.Sorted.{IsStrictlySortedBy}
 use Rattle.base_files.specs.Workspace.{path_cmp}
@@ -24,12 +24,12 @@ use Rattle.build_object.specs.Names.{type_name, function_name, function_names, f
 use Rattle.build_object.specs.Objects.{Object, object_of}
 use Rattle.build_object.specs.ObjectText.{object_text}
 
--- the type in the first of some member uses that stands at a token
+-- The type before the first use of a member at the token.
 abbrev pub type_before : List MemberUse → ℕ → Option PlainType
 type_before [] token = None
 type_before (u ∷ us) token = if u.place == token then Some u.before else type_before us token
 
--- the name at a token stands behind the name of an import of that path
+-- The name at a token is the selector of a qualified identifier, behind the name of an import of this path.
 pub record IsBehindImport (p : Package) (file token : ℕ) (path : List ℕ) : Type 0 where
   pub before : ℕ
   pub behind_dot : token ≡ suc (suc before)
@@ -40,29 +40,29 @@ pub record IsBehindImport (p : Package) (file token : ℕ) (path : List ℕ) : T
   pub binds : BindsToken p file before import
   pub of_path : DeclaresImport p import path
 
--- The name at a token is bound to a declaration of the package's block, which declares it in the package of the path; or it
--- stands behind the name of an imported package.
+-- The name at a token is bound to this package-level declaration: one of its own package, or one of an imported package, as the selector of
+-- a qualified identifier.
 pub data IsGlobalAt (p : Package) (file token : ℕ) : GlobalName → Type 0 where
   own : {d : ℕ} → BindsToken p file token d → IsPackageLevel p.layout d → IsGlobalAt p file token (record { path = p.path; name = spelled p file token })
   imported : {path : List ℕ} → IsBehindImport p file token path → IsGlobalAt p file token (record { path = path; name = spelled p file token })
 
+-- `None`: the name at the token is bound to no package-level declaration. `Some`: it is bound to this one.
 abbrev pub IsGlobal : Package → (file token : ℕ) → Option GlobalName → Type 0
 IsGlobal p file token None = (g : GlobalName) → IsGlobalAt p file token g → ⊥
 IsGlobal p file token (Some g) = IsGlobalAt p file token g
 
--- the name at a token is bound to the predeclared `true`
+-- The name at the token is bound to the predeclared `true`.
 pub record IsTrueAt (p : Package) (file token : ℕ) : Type 0 where
   pub declaration : ℕ
   pub binds : BindsToken p file token declaration
   pub predeclared : IsPredeclared p declaration (codes "true")
 
--- the value of the string literal at a token; none of any other token
+-- The value of the string literal at the token, and `None` for any other token.
 abbrev pub IsTextAt : SourceFile → ℕ → Option (List ℕ) → Type 0
 IsTextAt source token None = (value : List ℕ) → HasLiteral source token value → ⊥
 IsTextAt source token (Some value) = HasLiteral source token value
 
--- What the code of a file of a package is made of; there is one such at most. files_of: the files of the packages by their
--- paths.
+-- `s` is the source of the code of a file of the package. There is at most one. `files_of` gives the files of packages by their paths.
 pub record IsSourceOf (p : Package) (files_of : List ℕ → List SourceFile) (file : ℕ) (f : SourceFile) (s : Source) : Type 0 where
   pub world : IsWorldOf p file f s.world
   pub before : (token : ℕ) → s.before token ≡ type_before (check_file s.world (is_init f) f.tree).uses token
@@ -73,12 +73,12 @@ pub record IsSourceOf (p : Package) (files_of : List ℕ → List SourceFile) (f
   pub function : (symbol : Symbol) → s.function symbol ≡ function_name files_of symbol
   pub position : (symbol : Symbol) → s.position symbol ≡ field_position files_of symbol
 
--- the direct imports of a package, each once and by bytes
+-- The paths that the files import, each once, sorted by bytes.
 pub record AreImports (files : List SourceFile) (imports : List (List ℕ)) : Type 0 where
   pub each : (path : List ℕ) → Contains imports path ↔ ((f : SourceFile) × (Contains files f × ImportsPath f path))
   pub sorted : IsStrictlySortedBy path_cmp imports
 
--- The object of a package without faults. There is one at most.
+-- `o` is the object of the package p without faults. There is at most one.
 pub record IsObjectOf (p : Package) (files_of : List ℕ → List SourceFile) (o : Object) : Type 0 where
   pub sources : List Source
   pub all : length sources ≡ length p.files
@@ -87,7 +87,7 @@ pub record IsObjectOf (p : Package) (files_of : List ℕ → List SourceFile) (o
   pub are_imports : AreImports p.files imports
   pub is_object : o ≡ object_of sources p.path (package_name p.files) imports (function_names p.path p.files) (map (λ f. f.tree) p.files)
 
--- its text
+-- `text` is the text of the object of the package p.
 pub record IsObjectText (p : Package) (files_of : List ℕ → List SourceFile) (text : List ℕ) : Type 0 where
   pub object : Object
   pub of_package : IsObjectOf p files_of object

@@ -1,4 +1,4 @@
--- What is found of a file's tokens, as the program keeps it.
+-- The tables of a file's tokens from which its code is made.
 use Rattle.std.specs.Prelude.{ℕ, ◌≡◌, ◌↔◌, true, List, Option, Some, None, option_map, slice_get, slice_index_or, map}
 use Rattle.std.specs.Global.{Vec}
 use Rattle.go_ast.specs.SourceFile.{SourceFile}
@@ -11,19 +11,20 @@ use Rattle.build_object.specs.declared.source.Source.{Source}
 use Rattle.build_object.specs.Sources.{IsGlobal, IsTextAt, IsTrueAt}
 use Rattle.build_object.specs.SourceView.{global_in, truth_in}
 
--- what the name at a token is to code
+-- `m` is the mark of the name at a token: its package-level declaration, and whether it is the predeclared `true`.
 pub record IsMarkAt (p : Package) (file token : ℕ) (m : Option Mark) : Type 0 where
   pub global : IsGlobal p file token (global_in m)
   pub truth : (truth_in m ≡ true) ↔ IsTrueAt p file token
 
--- by tokens, none beyond the last one
+-- `marks` are the marks of the names of a file, by their tokens. Behind the last one no token has a mark.
 abbrev pub AreMarks : Package → (file : ℕ) → List Mark → Type 0
 AreMarks p file marks = (token : ℕ) → IsMarkAt p file token (slice_get marks token)
 
+-- `texts` are the values of the string literals of a file, by their tokens.
 abbrev pub AreTexts : SourceFile → List (Option (Vec ℕ)) → Type 0
 AreTexts f texts = (token : ℕ) → IsTextAt f token (option_map (λ v. v.items) (slice_index_or texts token None))
 
--- what the code of a file is made of, by tables
+-- `s` is the source of the code of a file, by its world, its uses of members and the names of packages.
 pub record IsTabled (p : Package) (file : ℕ) (judged_by : World) (found : List MemberUse) (known : CalledPackages) (s : Source) : Type 0 where
   pub world : s.world ≡ judged_by
   pub uses : s.uses.now ≡ found

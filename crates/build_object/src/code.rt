@@ -1,4 +1,4 @@
-//! Code as it is made: from its last line to its first, so that where a jump leads is known when it is made.
+//! Code that is being made, from its last line to its first. So the target of a jump is known when the jump is made.
 ghost use Rattle.std.specs.Prelude.{◌≡◌, ◌<◌, ◌∷◌, ◌++◌, [], suc, List, length, map, reverse, OnOk};
 ghost use Rattle.build_object.specs.Lines.{Line, JumpBack, pops};
 ghost use Rattle.build_object.specs.LineView.{line_of, lines_in, Puts};
@@ -6,14 +6,14 @@ ghost use Rattle.build_object.specs.LineView.{line_of, lines_in, Puts};
 use crate::instructions::Instruction;
 use std::alloc::{AllocError, Global};
 
-/// The lines of a function's code, the last one first.
+/// The lines of a function's code, the last line first.
 #[derive(Drop)]
 pub struct Code<'a> {
     lines: Vec<Instruction<'a>>,
 }
 
 impl<'a> Code<'a> {
-    /// No line.
+    /// Code without lines.
     pub fn new(alloc: Global) -> Code<'a>
         ensures { lines_in result ≡ [] }
     {
@@ -22,7 +22,7 @@ impl<'a> Code<'a> {
         }
     }
 
-    /// How many lines there are.
+    /// The number of lines.
     #[tactic(auto, using(crate::proofs::Putting::lines_length))]
     pub fn len(&self) -> usize
         ensures { result ≡ length (lines_in self.now) }
@@ -30,7 +30,7 @@ impl<'a> Code<'a> {
         self.lines.len()
     }
 
-    /// The lines, the last one first.
+    /// The lines, the last line first.
     pub fn lines(&self) -> &[Instruction<'a>]
         ensures { reverse (map line_of result.now) ≡ lines_in self.now }
     {
@@ -45,7 +45,7 @@ impl<'a> Code<'a> {
         Ok(())
     }
 
-    /// Puts lines that drop so many values.
+    /// Puts lines that drop `count` values before the others.
     pub fn put_pops(&mut self, count: usize) -> Result<(), AllocError>
         ensures { OnOk result (Puts (pops count) self.old self.new) }
     {
@@ -55,7 +55,7 @@ impl<'a> Code<'a> {
         Ok(())
     }
 
-    /// Puts a jump back to the first line of all in the place of the line that stands before the last `end` ones.
+    /// Replaces the line before the last `end` lines by a jump back to the first line of the code.
     pub fn turn_back(&mut self, end: usize)
         requires { end < length (lines_in self.old) }
         ensures { (lines rest : List Line) (l : Line) → length rest ≡ end → lines_in self.old ≡ lines ++ (l ∷ rest) → lines_in self.new ≡ lines ++ (JumpBack (suc (length lines)) ∷ rest) }

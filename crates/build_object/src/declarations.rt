@@ -1,4 +1,4 @@
-//! The text of what files declare.
+//! Prints the declarations of files.
 ghost use Rattle.std.specs.Prelude.{◌≡◌, ◌≤◌, ◌++◌, [], Some, drop, length, map, option_map, slice_get, IfOk, OnOk};
 ghost use Rattle.std.specs.List.{flat_map};
 ghost use Rattle.go_ast.specs.View.{list_view, option_view, group_view};
@@ -35,21 +35,21 @@ use std::alloc::{AllocError, Global};
 use types_expr::types::GoType;
 use types_expr::world::World;
 
-/// The value that a variable begins with.
+/// The first value of a variable.
 #[derive(Clone, Copy)]
 pub enum Initial<'a> {
     Integer(u64),
     Text(&'a [u8]),
 }
 
-/// What a type is defined as.
+/// What a type is defined as: another type, or a struct with fields of these types.
 #[derive(Drop)]
 pub enum DefinitionLine {
     SameAs(GoType),
     Fields(Vec<GoType>),
 }
 
-/// What stands on the first line of a function, but for how many lines of code it has.
+/// The header of a function, without its number of lines.
 #[derive(Drop)]
 pub struct FunctionSignature<'a> {
     pub name: FunctionName<'a>,
@@ -58,7 +58,7 @@ pub struct FunctionSignature<'a> {
     pub slots: usize,
 }
 
-/// Adds the type of fields, once for each name.
+/// Adds the type of a field declaration, once for each of its names.
 #[tactic(auto, unfolding(go_ast::specs::FileView::field_view))]
 fn add_field(
     alloc: Global,
@@ -89,7 +89,7 @@ fn field_types(
     Ok(types)
 }
 
-/// What a type is defined as, where that is known.
+/// What a type is defined as, if that is known.
 #[tactic(auto, unfolding(go_ast::specs::FileView::body_view, crate::specs::Objects::definition_of, crate::specs::DeclarationsView::definition_view))]
 fn defined_as(
     alloc: Global,
@@ -110,7 +110,7 @@ fn defined_as(
     }
 }
 
-/// Adds the text of what a type is defined as.
+/// Prints what a type is defined as.
 #[tactic(auto, unfolding(crate::specs::DeclarationsView::definition_view))]
 fn push_definition(
     text: &mut Vec<u8>,
@@ -129,7 +129,7 @@ fn push_definition(
     }
 }
 
-/// Adds the line of a type definition.
+/// Prints the line of a type definition.
 #[tactic(auto, unfolding(crate::specs::ObjectText::declaration_text))]
 fn push_type_line(
     text: &mut Vec<u8>,
@@ -145,7 +145,7 @@ fn push_type_line(
     push_word(text, b"\n")
 }
 
-/// Adds the line of a type definition, where all of it is known.
+/// Prints the line of a type definition, if its name and its definition are known.
 #[tactic(auto, unfolding(go_ast::specs::FileView::type_spec_view))]
 fn push_type_spec(
     alloc: Global,
@@ -164,7 +164,7 @@ fn push_type_spec(
     }
 }
 
-/// Adds the lines of type definitions.
+/// Prints the lines of the type definitions of a `type`.
 #[tactic(auto, unfolding(go_ast::specs::View::group_view))]
 fn push_type_specs(
     alloc: Global,
@@ -185,7 +185,7 @@ fn push_type_specs(
     }
 }
 
-/// The literals behind the `=` of variables, if there is one.
+/// The literals behind the `=` of variables, and none where there is no `=`.
 fn literals(values: &Option<VarValues>) -> &[Item<BasicLit>]
     ensures { list_view basic_view result.now ≡ literals_of (option_view var_values_view values.now) }
 {
@@ -195,7 +195,7 @@ fn literals(values: &Option<VarValues>) -> &[Item<BasicLit>]
     }
 }
 
-/// The value of the literal of a number.
+/// The value of the literal with this number.
 #[tactic(auto, unfolding(crate::specs::Objects::initial_of, crate::specs::DeclarationsView::initial_view))]
 fn initial_at<'s>(
     source: &'s Source<'_>,
@@ -219,7 +219,7 @@ fn initial_at<'s>(
     }
 }
 
-/// Adds the text of a value, if there is one.
+/// Prints the first value of a variable, if it has one.
 #[tactic(auto, unfolding(crate::specs::DeclarationsView::initial_view))]
 fn push_initial(text: &mut Vec<u8>, value: Option<Initial<'_>>) -> Result<(), AllocError>
     ensures { OnOk result (text.new.items ≡ text.old.items ++ initial_text (option_map initial_view value.entry)) }
@@ -231,7 +231,7 @@ fn push_initial(text: &mut Vec<u8>, value: Option<Initial<'_>>) -> Result<(), Al
     }
 }
 
-/// Adds the line of a variable.
+/// Prints the line of a variable.
 #[tactic(auto, unfolding(crate::specs::ObjectText::declaration_text))]
 fn push_variable(
     text: &mut Vec<u8>,
@@ -248,7 +248,7 @@ fn push_variable(
     push_word(text, b"\n")
 }
 
-/// Adds the line of the variable of a name, where that is known.
+/// Prints the line of the variable whose name stands at token `name`, if this name is known.
 fn push_named(
     source: &Source<'_>,
     name: usize,
@@ -264,7 +264,7 @@ fn push_named(
     }
 }
 
-/// Adds the lines of variables of one type.
+/// Prints the lines of variables of one type.
 fn push_typed(
     source: &Source<'_>,
     names: &[Item<usize>],
@@ -281,7 +281,7 @@ fn push_typed(
     Ok(())
 }
 
-/// Adds the lines of variables, where their type is known.
+/// Prints the lines of variables, if their type is known.
 #[tactic(auto, unfolding(go_ast::specs::FileView::global_view))]
 fn push_var_spec(
     alloc: Global,
@@ -297,7 +297,7 @@ fn push_var_spec(
     }
 }
 
-/// Adds the lines of all variables of a `var`.
+/// Prints the lines of all variables of a `var`.
 #[tactic(auto, unfolding(go_ast::specs::View::group_view))]
 fn push_var_specs(
     alloc: Global,
@@ -318,7 +318,7 @@ fn push_var_specs(
     }
 }
 
-/// Adds the types of the parameters and of the results of a function.
+/// Prints the types of a function's parameters and results.
 fn push_signature(
     text: &mut Vec<u8>,
     packages: &CalledPackages<'_>,
@@ -331,7 +331,7 @@ fn push_signature(
     push_type_list(text, packages, results)
 }
 
-/// Adds how many slots and how many lines a function has.
+/// Prints the numbers of a function's slots and lines.
 fn push_counts(text: &mut Vec<u8>, slots: usize, lines: usize) -> Result<(), AllocError>
     ensures { OnOk result (text.new.items ≡ text.old.items ++ counts_text slots lines) }
 {
@@ -339,7 +339,7 @@ fn push_counts(text: &mut Vec<u8>, slots: usize, lines: usize) -> Result<(), All
     push_numbered(text, b" ", lines)
 }
 
-/// Adds the first line of a function with so many lines of code.
+/// Prints the header of a function with so many lines of code.
 fn push_header(
     text: &mut Vec<u8>,
     packages: &CalledPackages<'_>,
@@ -354,7 +354,7 @@ fn push_header(
     push_word(text, b"\n")
 }
 
-/// Adds the first line of a function and its code.
+/// Prints the header of a function and its code.
 fn push_function(
     text: &mut Vec<u8>,
     packages: &CalledPackages<'_>,
@@ -367,7 +367,7 @@ fn push_function(
     push_lines(text, packages, code.lines())
 }
 
-/// What stands on the first line of a function of that name with so many slots.
+/// The header of a function with this name and so many slots.
 fn signature_of<'a>(
     alloc: Global,
     world: &World<'_>,
@@ -387,7 +387,7 @@ fn signature_of<'a>(
     })
 }
 
-/// Adds the lines of a function, whose slots are those of the scope.
+/// Prints a function, whose slots are those of the scope.
 fn push_scoped(
     alloc: Global,
     scope: SlotScope<'_>,
@@ -404,7 +404,7 @@ fn push_scoped(
     push_function(text, source.packages, &signature, &code)
 }
 
-/// Adds the lines of a function.
+/// Prints a function.
 fn push_func(
     alloc: Global,
     source: &Source<'_>,
@@ -422,7 +422,7 @@ fn push_func(
     push_scoped(alloc, scope, name, func, text)
 }
 
-/// Adds the lines of a function, the first of those behind so many, and answers behind how many the next one stands.
+/// Prints a function, whose name is the one at `number`. Returns the number of the next function.
 fn push_next(
     alloc: Global,
     source: &Source<'_>,
@@ -444,7 +444,7 @@ fn push_next(
     }
 }
 
-/// Adds the lines of what one keyword declares, and answers behind how many functions the next one stands.
+/// Prints a declaration of a file. Its first function has the name at `number`. Returns the number of the next function.
 #[tactic(auto, unfolding(go_ast::specs::FileView::decl_view, crate::specs::Objects::declared_by))]
 fn push_decl(
     alloc: Global,
@@ -472,8 +472,7 @@ fn push_decl(
     }
 }
 
-/// Adds the lines of what a file declares, whose functions are those behind so many, and answers behind how many those of
-/// the next file stand.
+/// Prints the declarations of a file. Its first function has the name at `number`. Returns the number of the next file's first function.
 pub fn push_decls(
     alloc: Global,
     source: &Source<'_>,

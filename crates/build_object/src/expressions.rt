@@ -1,4 +1,4 @@
-//! The code of expressions, made from its last line to its first.
+//! Makes the code of expressions, from its last line to its first.
 ghost use Rattle.std.specs.Prelude.{ℕ, suc, ◌∷◌, [], ◌≡◌, ◌==◌, ◌&&◌, ◌≤◌, ◌<◌, ◌+◌, ◌-◌, ◌^◌, IfOk, OnOk, take, length};
 ghost use Rattle.go_ast.specs.Tree.{no_link};
 ghost use Rattle.go_ast.specs.View.{expr_view, link_view, literal_view};
@@ -20,7 +20,7 @@ use go_ast::syntax::{BinaryOp, PrefixOp};
 use go_ast::tree::{CompositeLit, Element, Expr, ExprItem, Link, Operand};
 use std::alloc::{AllocError, Global};
 
-/// Whether an operand that stands so is the name of a package when so many links stand behind it.
+/// Whether an operand with this mode is the name of a package, and no link stands between it and the next link.
 fn is_qualifier(head: OperandPlace<'_>, links: usize) -> bool
     ensures { result ≡ (links == 0 && qualifies (standing_of head.entry)) }
 {
@@ -28,7 +28,7 @@ fn is_qualifier(head: OperandPlace<'_>, links: usize) -> bool
 }
 
 impl<'a> SlotScope<'a> {
-    /// What an operand behind which links stand is to the code before the link of that number, as that link sees it.
+    /// The mode of a chain before the link `number`, as far as this link depends on it. `head` is the mode of the chain's first operand.
     fn standing_before(
         self,
         head: OperandPlace<'a>,
@@ -52,7 +52,7 @@ impl<'a> SlotScope<'a> {
         }
     }
 
-    /// How many values the last of some links leaves.
+    /// The number of values that a chain leaves up to the link `last`.
     fn left_by_links(self, head: OperandPlace<'a>, links: &[Link], last: usize) -> usize
         requires { last < length links.now }
         ensures { (o : operands.Operand) → before_link o.standing ≡ before_link (standing_of head.entry) →
@@ -67,7 +67,7 @@ impl<'a> SlotScope<'a> {
         }
     }
 
-    /// What an expression is to the code.
+    /// The mode of an expression.
     pub fn standing(self, e: &Expr) -> OperandPlace<'a>
         ensures { standing_of result ≡ (operand_of (source_of self.entry.source.now) self.entry.slots.now.places.items (expr_view e.now)).standing }
     {
@@ -92,7 +92,7 @@ impl<'a> SlotScope<'a> {
     }
 }
 
-/// Puts the line of a prefix operator, and answers what is wanted of its operand.
+/// Puts the line of a unary operator before the code. The value of its operand is wanted before it.
 #[tactic(auto, unfolding(crate::specs::LineView::line_of))]
 fn put_prefix(op: PrefixOp, want: Wanted, code: &mut Code<'_>) -> Result<(), AllocError>
     ensures { OnOk result (GoesOnFrom (λ a. lines_for want (prefixed op a)) code.old code.new) }
@@ -105,7 +105,7 @@ fn put_prefix(op: PrefixOp, want: Wanted, code: &mut Code<'_>) -> Result<(), All
     }
 }
 
-/// Puts the line of a call with so many arguments of what stands so.
+/// Puts the line of a call with `count` arguments, by the mode of what is called.
 #[tactic(auto, unfolding(crate::specs::LineView::line_of, crate::specs::Operands::calling, crate::specs::Making::standing_of))]
 fn put_call<'a>(
     standing: OperandPlace<'a>,
@@ -135,7 +135,7 @@ fn put_call<'a>(
     }
 }
 
-/// Puts the line of an index, by what is wanted.
+/// Puts the line of an index, for its value or its address.
 #[tactic(auto, unfolding(crate::specs::LineView::line_of))]
 fn put_index(want: Wanted, code: &mut Code<'_>) -> Result<(), AllocError>
     ensures { OnOk result (Puts (index_lines want) code.old code.new) }
@@ -146,7 +146,7 @@ fn put_index(want: Wanted, code: &mut Code<'_>) -> Result<(), AllocError>
     }
 }
 
-/// The jump of `&&` or `||` over so many lines.
+/// The jump of `&&` or `||` over `passed` lines.
 #[tactic(auto, unfolding(crate::specs::LineView::line_of))]
 fn test_line<'a>(op: BinaryOp, passed: usize) -> Instruction<'a>
     ensures { (n : ℕ) → passed ≡ suc n → test_lines op n ≡ Duplicate ∷ line_of result ∷ Pop ∷ [] }
@@ -157,7 +157,7 @@ fn test_line<'a>(op: BinaryOp, passed: usize) -> Instruction<'a>
     }
 }
 
-/// Puts what stands between the operands of `&&` or `||`, behind the second of which there were `end` lines.
+/// Puts the lines between the operands of `&&` or `||`. The code had `end` lines before the second operand was put.
 fn put_test(op: BinaryOp, end: usize, code: &mut Code<'_>) -> Result<(), AllocError>
     requires { end ≤ length (lines_in code.old) }
     ensures { OnOk result (Puts (test_lines op (length (lines_in code.old) - end)) code.old code.new) }
@@ -168,7 +168,7 @@ fn put_test(op: BinaryOp, end: usize, code: &mut Code<'_>) -> Result<(), AllocEr
     code.put(Instruction::Duplicate)
 }
 
-/// The lines of an expression, of its value or its address as is wanted.
+/// Puts the lines of an expression, for its value or its address.
 #[cycle(expression)]
 pub fn operand<'a>(
     alloc: Global,
@@ -210,7 +210,7 @@ pub fn operand<'a>(
     }
 }
 
-/// The links behind an operand that stands so; answers what is wanted of it.
+/// Puts the lines of links behind an operand with the mode `head`. Returns what is wanted of this operand.
 #[cycle(expression)]
 fn chain<'a>(
     alloc: Global,
@@ -230,7 +230,7 @@ fn chain<'a>(
     Ok(want)
 }
 
-/// One link behind an operand that stands so; answers what is wanted of it.
+/// Puts the lines of a link behind an operand with this mode. Returns what is wanted of this operand.
 #[cycle(expression)]
 fn link<'a>(
     alloc: Global,
@@ -260,7 +260,7 @@ fn link<'a>(
     }
 }
 
-/// The operators and operands behind a first operand.
+/// Puts the lines of the binary operators and operands behind a first operand.
 #[cycle(expression)]
 fn operations<'a>(
     alloc: Global,
@@ -276,7 +276,7 @@ fn operations<'a>(
     Ok(())
 }
 
-/// One operator with the operand behind it.
+/// Puts the lines of one binary operator and its right operand.
 #[cycle(expression)]
 fn operation<'a>(
     alloc: Global,
@@ -299,7 +299,7 @@ fn operation<'a>(
     }
 }
 
-/// The arguments of a call, or other values in turn.
+/// Puts the lines of the arguments of a call, or of other values in order.
 #[cycle(expression)]
 pub fn arguments<'a>(
     alloc: Global,
@@ -315,7 +315,7 @@ pub fn arguments<'a>(
     Ok(())
 }
 
-/// A composite literal.
+/// Puts the lines of a composite literal.
 #[cycle(expression)]
 fn literal<'a>(
     alloc: Global,
@@ -336,7 +336,7 @@ fn literal<'a>(
     bare(alloc, scope, &lit.elements, code)
 }
 
-/// The elements of a struct's literal.
+/// Puts the lines of the elements of a struct's literal.
 #[cycle(expression)]
 fn keyed<'a>(
     alloc: Global,
@@ -353,7 +353,7 @@ fn keyed<'a>(
     Ok(())
 }
 
-/// The elements of a slice's literal.
+/// Puts the lines of the elements of a slice's literal.
 #[cycle(expression)]
 fn bare<'a>(
     alloc: Global,

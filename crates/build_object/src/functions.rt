@@ -1,4 +1,4 @@
-//! The code of functions, and the types in their headers.
+//! Makes the code of functions, and finds the types in their headers.
 ghost use Rattle.std.specs.Prelude.{◌≡◌, ◌++◌, length, map, option_map, option_to_list, IfOk, OnOk};
 ghost use Rattle.std.specs.List.{flat_map};
 ghost use Rattle.go_ast.specs.View.{list_view, option_view, type_view};
@@ -21,7 +21,7 @@ use std::alloc::{AllocError, Global};
 use types_expr::types::GoType;
 use types_expr::world::World;
 
-/// How many results a function has.
+/// The number of a function's results.
 #[tactic(auto, unfolding(go_ast::specs::FileView::results_view))]
 fn result_count(results: &Results) -> usize
     ensures { result ≡ length (result_types (results_view results.now)) }
@@ -33,7 +33,7 @@ fn result_count(results: &Results) -> usize
     }
 }
 
-/// The code of a function's body.
+/// Makes the code of a function's body.
 #[tactic(auto, unfolding(go_ast::specs::FileView::func_view, crate::specs::LineView::line_of))]
 pub fn body<'a>(
     alloc: Global,
@@ -54,7 +54,7 @@ pub fn body<'a>(
     Ok(code)
 }
 
-/// Adds a type, where it is known.
+/// Adds a type, if it is known.
 fn add_known(types: &mut Vec<GoType>, known: Option<GoType>) -> Result<(), AllocError>
     ensures { OnOk result (map type_of types.new.items ≡ map type_of types.old.items ++ option_to_list (option_map type_of known)) }
 {
@@ -67,7 +67,7 @@ fn add_known(types: &mut Vec<GoType>, known: Option<GoType>) -> Result<(), Alloc
     }
 }
 
-/// Adds the type that is written, where it is known.
+/// Adds the type that is written, if it is not broken.
 pub fn add_written(
     alloc: Global,
     world: &World<'_>,
@@ -80,7 +80,7 @@ pub fn add_written(
     add_known(types, known)
 }
 
-/// The type that a receiver names, with its star.
+/// The type that a receiver names, a pointer type where it has a star.
 #[tactic(auto, unfolding(go_ast::specs::FileView::receiver_view, types_expr::specs::View::type_of))]
 fn received_type(
     alloc: Global,
@@ -96,7 +96,7 @@ fn received_type(
     }
 }
 
-/// Adds the type of a receiver, where there is one.
+/// Adds the type of the receiver, if there is one.
 fn add_receiver(
     alloc: Global,
     world: &World<'_>,
@@ -112,7 +112,7 @@ fn add_receiver(
     add_known(types, known)
 }
 
-/// Adds the type of parameters, once for each name.
+/// Adds the type of a parameter declaration, once for each of its names.
 #[tactic(auto, unfolding(go_ast::specs::FileView::param_view))]
 fn add_param(
     alloc: Global,
@@ -173,7 +173,7 @@ fn add_items(
     Ok(())
 }
 
-/// Adds the types of results.
+/// Adds the types of the results.
 #[tactic(auto, unfolding(go_ast::specs::FileView::results_view))]
 fn add_results(
     alloc: Global,

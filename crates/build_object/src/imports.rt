@@ -1,4 +1,4 @@
-//! The lines of what a package imports.
+//! Prints the imports of a package.
 ghost use Rattle.std.specs.Prelude.{◌≡◌, ◌++◌, OnOk};
 ghost use Rattle.std.specs.List.{flat_map};
 ghost use Rattle.std.specs.List.Sorted.{IsStrictlySortedBy};
@@ -10,7 +10,7 @@ use crate::printing::push_between;
 use std::alloc::AllocError;
 use std::collections::BTreeSet;
 
-/// Adds the lines of imports, by bytes.
+/// Prints the lines of imports, sorted by bytes.
 pub fn push_imports(text: &mut Vec<u8>, paths: &BTreeSet<Vec<u8>>) -> Result<(), AllocError>
     ensures lines { OnOk result (text.new.items ≡ text.old.items ++ flat_map import_line (bytes_of_paths paths.now.keys)) }
     ensures sorted { OnOk result (IsStrictlySortedBy path_cmp (bytes_of_paths paths.now.keys)) }

@@ -1,15 +1,16 @@
-//! The lines of a function's code, and what they name.
+//! The lines of a function's code, and the names in them.
 use go_ast::syntax::BinaryOp;
 use types_expr::types::{Builtin, GoType};
 
-/// A declaration of a package's block, by the package's path and its name.
+/// A package-level declaration, by the package's path and the name.
 #[derive(Clone, Copy)]
 pub struct GlobalName<'a> {
     pub path: &'a [u8],
     pub name: &'a [u8],
 }
 
-/// A function; a method, by the name of its receiver's type; a function `init`, by its number among those of its package.
+/// The name of a function in objects. A method has the name of its receiver's type too. A function `init` has its number among those of its
+/// package, from 0.
 #[derive(Clone, Copy)]
 pub enum FunctionName<'a> {
     Plain(GlobalName<'a>),
@@ -23,8 +24,8 @@ pub enum FunctionName<'a> {
     },
 }
 
-/// A line of code, which works on a stack of values. The number of a jump says how many lines behind the next one it leads
-/// to, that of a jump back how many lines before the next one.
+/// A line of code, which works on a stack of values. The number of a jump counts the lines between the jump and its target. The number of
+/// `JumpBack` counts lines back from the next line.
 #[derive(Drop)]
 pub enum Instruction<'a> {
     Integer(u64),

@@ -1,4 +1,4 @@
-//! The object of a package, which is what building it makes: the code of its functions, for a machine with a stack, and its text.
+//! Makes the object of a package, and prints it: the code of its functions, for a machine with a stack.
 #![tactic(auto)]
 
 mod called;

@@ -1,4 +1,4 @@
-//! Selectors and keys, as the code of a function uses them.
+//! Puts the lines of selectors and keys.
 ghost use Rattle.std.specs.Prelude.{◌≡◌, ◌++◌, ◌∷◌, [], IfOk, OnOk};
 ghost use Rattle.go_ast.specs.View.{key_view};
 ghost use Rattle.types_expr.specs.View.{type_of};
@@ -19,7 +19,7 @@ use std::alloc::AllocError;
 use types_expr::types::GoType;
 use types_expr::world::Member;
 
-/// The line of a field that stands at a place of its struct.
+/// The line of the field at this position of its struct. `through`: the value before it is a pointer.
 #[tactic(auto, unfolding(crate::specs::LineView::line_of))]
 fn field_line<'a>(position: usize, through: bool, want: Wanted) -> Instruction<'a>
     ensures { line_of result ∷ [] ≡ field_lines want through (Some position) }
@@ -31,7 +31,7 @@ fn field_line<'a>(position: usize, through: bool, want: Wanted) -> Instruction<'
     }
 }
 
-/// Puts the line of a field, and answers what is wanted of the value before it.
+/// Puts the line of a field, if its position is known. Returns what is wanted of the value before it.
 fn put_field(
     position: Option<usize>,
     through: bool,
@@ -46,7 +46,7 @@ fn put_field(
     if through { Ok(Wanted::Value) } else { Ok(want) }
 }
 
-/// Puts the line of a receiver, and answers what is wanted of the value before the method.
+/// Puts the line of a method's receiver. Returns what is wanted of the value before the method.
 #[tactic(auto, unfolding(crate::specs::LineView::line_of))]
 fn put_receiver(
     is_pointer: bool,
@@ -66,7 +66,7 @@ fn put_receiver(
 }
 
 impl<'a> SlotScope<'a> {
-    /// Puts the line of a member of values of that type, and answers what is wanted of the value before it.
+    /// Puts the line of a member of a value of type `before`. Returns what is wanted of this value.
     #[tactic(auto, unfolding(types_expr::specs::WorldView::member_of, crate::specs::Operands::member_operand))]
     fn put_member(
         self,
@@ -94,7 +94,7 @@ impl<'a> SlotScope<'a> {
         }
     }
 
-    /// Puts the line of the name at a token behind a dot, and answers what is wanted of the value before it.
+    /// Puts the line of the selector at a token, behind a value. Returns what is wanted of this value.
     #[tactic(auto, unfolding(crate::specs::Operands::typed_selector, crate::specs::Operands::member_operand))]
     fn put_typed(
         self,
@@ -113,7 +113,7 @@ impl<'a> SlotScope<'a> {
         }
     }
 
-    /// Puts the lines of a selector behind the name of a package or another operand, and answers what is wanted of the operand.
+    /// Puts the lines of a selector, behind the name of a package (`qualified`) or another operand. Returns what is wanted of this operand.
     #[tactic(auto, unfolding(crate::specs::Operands::selected_by))]
     pub fn put_selector(
         self,
@@ -131,7 +131,7 @@ impl<'a> SlotScope<'a> {
         Ok(Wanted::Value)
     }
 
-    /// What the name at a token behind a dot is to the code.
+    /// The mode of the selector at a token, behind a value.
     #[tactic(auto, unfolding(types_expr::specs::WorldView::member_of, crate::specs::Operands::typed_selector, crate::specs::Operands::member_operand, crate::specs::Making::standing_of))]
     fn typed_standing(self, token: usize) -> OperandPlace<'a>
         ensures { (o : Operand) → (typed_selector (source_of self.entry.source.now) token o ((source_of self.entry.source.now).before token)).standing ≡ standing_of result }
@@ -153,7 +153,7 @@ impl<'a> SlotScope<'a> {
         }
     }
 
-    /// What a selector is to the code behind the name of a package or another operand.
+    /// The mode of the selector at a token, behind the name of a package (`qualified`) or another operand.
     #[tactic(auto, unfolding(crate::specs::Operands::selected_by))]
     pub fn selector_standing(self, token: usize, qualified: bool) -> OperandPlace<'a>
         ensures { (o : Operand) → qualifies o.standing ≡ qualified →
@@ -166,7 +166,7 @@ impl<'a> SlotScope<'a> {
         }
     }
 
-    /// Where the field that a key names stands in its struct.
+    /// The position in its struct of the field that a key names.
     #[tactic(auto, unfolding(types_expr::specs::WorldView::member_of))]
     fn key_position(self, key: &Option<Key>) -> Option<usize>
         ensures { result ≡ key_position (source_of self.entry.source.now) (key_view key.now) }

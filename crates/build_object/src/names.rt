@@ -1,4 +1,4 @@
-//! What the declarations of packages are called, made from their files.
+//! Makes the names of packages' declarations in objects from their files.
 ghost use Rattle.std.specs.Prelude.{◌≡◌, ◌<◌, ◌≤◌, ◌+◌, ◌-◌, ◌^◌, ◌++◌, length, map, IfOk, OnOk};
 ghost use Rattle.std.specs.List.{flat_map};
 ghost use Rattle.go_ast.specs.View.{list_view};
@@ -16,7 +16,7 @@ use go_ast::tree::{FieldDecl, Item, TypeBody};
 use std::alloc::{AllocError, Global};
 use types_declared::{Declared, Function, TypeDef};
 
-/// How a token of a file is spelled, by the rank of the file.
+/// The spelling of a token, by the rank of its file.
 fn spelling(files: &[FileTree], file: usize, token: usize) -> &[u8]
     ensures { result.now ≡ spelled_in (map source_of files.now) file token }
 {
@@ -26,7 +26,7 @@ fn spelling(files: &[FileTree], file: usize, token: usize) -> &[u8]
     }
 }
 
-/// What a type definition is called.
+/// The name of a type definition in objects.
 #[tactic(auto, unfolding(go_ast::specs::FileView::type_spec_view))]
 pub(crate) fn type_called<'a>(
     path: &'a [u8],
@@ -52,7 +52,7 @@ pub(crate) fn is_initializer(files: &[FileTree], function: Function<'_>) -> bool
     }
 }
 
-/// What a function is called that is no `init`.
+/// The name in objects of a function that is no `init`.
 #[tactic(auto, unfolding(go_ast::specs::FileView::func_view, go_ast::specs::FileView::receiver_view, crate::specs::LineView::function_of))]
 pub(crate) fn function_called<'a>(
     path: &'a [u8],
@@ -74,7 +74,7 @@ pub(crate) fn function_called<'a>(
     }
 }
 
-/// What a function is called behind so many functions `init`.
+/// The name of a function in objects, where `number` functions `init` stand before it.
 #[tactic(auto, unfolding(crate::specs::LineView::function_of))]
 fn function_behind<'a>(
     path: &'a [u8],
@@ -91,7 +91,7 @@ fn function_behind<'a>(
     }
 }
 
-/// How many functions `init` there are with this function, behind so many.
+/// The number of functions `init` up to this function, where `number` stand before it.
 pub(crate) fn initializers_with(files: &[FileTree], number: usize, function: Function<'_>) -> usize
     requires { number + 1 < 2 ^ 64 }
     ensures counted { result ≡ initializers_with (map source_of files.now) number (placed_function function.entry) }
@@ -104,7 +104,7 @@ pub(crate) fn initializers_with(files: &[FileTree], number: usize, function: Fun
     }
 }
 
-/// How many functions `init` are among functions.
+/// The number of functions `init` among these functions.
 pub(crate) fn initializers(files: &[FileTree], functions: &[Function<'_>]) -> usize
     ensures { result ≡ initializers_among (map source_of files.now) 0 (map placed_function functions.now) }
 {
@@ -115,7 +115,7 @@ pub(crate) fn initializers(files: &[FileTree], functions: &[Function<'_>]) -> us
     number
 }
 
-/// What the functions of a package are called.
+/// The names of a package's functions in objects.
 pub fn function_names<'a>(
     alloc: Global,
     path: &'a [u8],
@@ -134,7 +134,7 @@ pub fn function_names<'a>(
     Ok(names)
 }
 
-/// Adds where fields of one type stand, the fields of whose struct begin behind so many positions.
+/// Adds the positions of the fields of one field declaration. The positions of the struct begin at `begin` in the list.
 fn add_field(positions: &mut Vec<usize>, begin: usize, field: &FieldDecl) -> Result<(), AllocError>
     requires { begin ≤ length positions.old.items }
     ensures { OnOk result (positions.new.items ≡ positions.old.items ++ positions_from (length positions.old.items - begin) (field_view field.now).names) }
@@ -146,7 +146,7 @@ fn add_field(positions: &mut Vec<usize>, begin: usize, field: &FieldDecl) -> Res
     Ok(())
 }
 
-/// Adds where the fields of a struct stand in it.
+/// Adds the positions of the fields of a struct.
 fn add_fields(positions: &mut Vec<usize>, fields: &[Item<FieldDecl>]) -> Result<(), AllocError>
     ensures { OnOk result (positions.new.items ≡ positions.old.items ++ positions_from 0 (names_of_fields (list_view field_view fields.now))) }
 {
@@ -157,7 +157,7 @@ fn add_fields(positions: &mut Vec<usize>, fields: &[Item<FieldDecl>]) -> Result<
     Ok(())
 }
 
-/// Adds where the fields of what a type is defined as stand.
+/// Adds the positions of the fields of a type definition's body.
 #[tactic(auto, unfolding(go_ast::specs::FileView::body_view))]
 fn add_body(positions: &mut Vec<usize>, body: &TypeBody) -> Result<(), AllocError>
     ensures { OnOk result (positions.new.items ≡ positions.old.items ++ body_positions (body_view body.now)) }
@@ -168,7 +168,7 @@ fn add_body(positions: &mut Vec<usize>, body: &TypeBody) -> Result<(), AllocErro
     }
 }
 
-/// Where the fields of a package's structs stand in them.
+/// The positions of all fields of a package in their structs.
 #[tactic(auto, unfolding(go_ast::specs::FileView::type_spec_view))]
 fn field_positions(alloc: Global, types: &[TypeDef<'_>]) -> Result<Vec<usize>, AllocError>
     ensures { IfOk result (λ positions. positions.items ≡ flat_map type_positions (map type_of types.now)) }
@@ -181,7 +181,7 @@ fn field_positions(alloc: Global, types: &[TypeDef<'_>]) -> Result<Vec<usize>, A
 }
 
 impl<'a> DeclaredTables<'a> {
-    /// What a package declares, by tables. Its files are in the order of their paths.
+    /// Makes the tables of a package's declarations. The files are in the order of their paths.
     pub fn of(alloc: Global, files: &'a [FileTree]) -> Result<DeclaredTables<'a>, AllocError>
         ensures { IfOk result (AreTablesOf (map source_of files.now)) }
     {

@@ -1,4 +1,4 @@
-//! Places in a list, found again in one step.
+//! Finds the number of a place in a list in one step.
 ghost use Rattle.std.specs.Prelude.{◌≡◌, ◌==◌, ℕ, IfOk, OnOk};
 ghost use Rattle.std.specs.BTreeMap.{get};
 ghost use Rattle.std.specs.Ordering.{nat_cmp};
@@ -7,7 +7,7 @@ ghost use Rattle.build_object.specs.Numbering.{slot_of, first_of};
 use std::alloc::{AllocError, Global};
 use std::collections::BTreeMap;
 
-/// Places, each numbered by where it first stands in the list.
+/// Places, each numbered by its first position in the list.
 #[derive(Drop)]
 pub struct NumberedUses {
     pub places: Vec<usize>,
@@ -16,7 +16,7 @@ pub struct NumberedUses {
 }
 
 impl NumberedUses {
-    /// These places.
+    /// Numbers these places.
     pub fn of(alloc: Global, places: Vec<usize>) -> Result<NumberedUses, AllocError>
         ensures { IfOk result (λ n. n.places.items ≡ places.items) }
     {
@@ -24,7 +24,7 @@ impl NumberedUses {
         Ok(NumberedUses { places, numbers })
     }
 
-    /// The number of a place.
+    /// The number of a place, if it is in the list.
     pub fn get(&self, place: usize) -> Option<usize>
         ensures { result ≡ slot_of self.now.places.items place }
     {
@@ -32,7 +32,7 @@ impl NumberedUses {
     }
 }
 
-/// Numbers a place, unless it has a number.
+/// Gives a place a number, unless it has one.
 fn note(numbers: &mut BTreeMap<usize, usize>, place: usize, number: usize) -> Result<(), AllocError>
     ensures { OnOk result ((p : ℕ) → get nat_cmp numbers.new p ≡ first_of (get nat_cmp numbers.old p) (place == p) number) }
 {

@@ -1,4 +1,4 @@
-//! The text of the object of a package without faults.
+//! Prints the object of a package without faults.
 ghost use Rattle.std.specs.Prelude.{◌≡◌, ◌<◌, ◌≤◌, ◌++◌, ℕ, List, IfOk, OnOk, Some, length, map, slice_get};
 ghost use Rattle.go_ast.specs.SourceFile.{SourceFile, source_of};
 ghost use Rattle.go_scope.specs.Scoped.{scoped};
@@ -40,8 +40,8 @@ use types_expr::world::{Bound, Definition, Name, World};
 use types_info::{Bounds, bounds_of, file_names, one_world};
 use workspace_graph::import_paths::import_paths;
 
-/// A package without faults: its path and its files, in the order of their paths; its own type definitions, and the uses of
-/// members that checking found, by files.
+/// A package without faults: its path, and its files in the order of their paths. `definitions` are its type definitions as other packages
+/// see them. `members` are the uses of members that checking found in each file.
 #[derive(Clone, Copy)]
 pub struct Faultless<'a> {
     pub path: &'a SharedPath,
@@ -50,15 +50,15 @@ pub struct Faultless<'a> {
     pub members: &'a [Vec<MemberUse>],
 }
 
-/// A file, and behind how many of the functions of its package those that it declares stand.
+/// A file, and how many functions of its package stand in the files before it.
 #[derive(Clone, Copy)]
 struct Turn {
     file: usize,
     number: usize,
 }
 
-/// What a file is judged by, with the type definitions of its package as other packages see them. Checking judges it by the type
-/// definitions as it found them, which types_check has and no crate below both.
+/// The world of a file, with the type definitions of its package as other packages see them. Checking has another form of these
+/// definitions, which belongs to `types_check`.
 fn own_world<'w>(
     unit: Package<'w>,
     names: &'w [Name<'w>],
@@ -80,8 +80,7 @@ fn own_world<'w>(
     }
 }
 
-/// Adds what a file declares, by its names and what they mean. The names of the functions behind its own begin at the number
-/// that is answered.
+/// Prints the declarations of a file, by the names in it and their meanings. Returns the number of the next file's first function.
 fn push_judged<'w>(
     alloc: Global,
     origin: Origin<'w>,
@@ -112,7 +111,7 @@ fn push_judged<'w>(
     )
 }
 
-/// Adds what a file declares.
+/// Prints the declarations of a file. Returns the number of the next file's first function.
 fn push_file(
     alloc: Global,
     origin: Origin<'_>,
@@ -133,7 +132,7 @@ fn push_file(
     push_judged(alloc, origin, &spelled, bounds.list(), turn, text)
 }
 
-/// Adds what the files of a package declare.
+/// Prints the declarations of all files of a package. Returns the number of its functions.
 fn push_files(
     alloc: Global,
     origin: Origin<'_>,
@@ -157,7 +156,7 @@ fn push_files(
     Ok(others)
 }
 
-/// The name in the clause of a package's first file.
+/// The name in the package clause of the first file, and no name where there is no file.
 #[tactic(auto, unfolding(go_ast::specs::FileView::file_view))]
 fn package_name(files: &[FileTree]) -> &[u8]
     ensures { result.now ≡ package_name (map source_of files.now) }
@@ -168,7 +167,7 @@ fn package_name(files: &[FileTree]) -> &[u8]
     }
 }
 
-/// Adds the first line of an object.
+/// Prints the first line of an object.
 fn push_first_line(text: &mut Vec<u8>, path: &[u8], name: &[u8]) -> Result<(), AllocError>
     ensures { OnOk result ((o : Object) → o.path ≡ path.now → o.name ≡ name.now → text.new.items ≡ text.old.items ++ first_line o) }
 {
@@ -176,7 +175,7 @@ fn push_first_line(text: &mut Vec<u8>, path: &[u8], name: &[u8]) -> Result<(), A
     push_words(text, name, b"\n")
 }
 
-/// Adds the first lines of an object: its own, and those of its imports.
+/// Prints the first lines of an object: its own line, and those of its imports.
 fn push_head(alloc: Global, unit: Package<'_>, text: &mut Vec<u8>) -> Result<(), AllocError>
     ensures { OnOk result (PutsHead (package_of unit.entry) text.old.items text.new.items) }
 {
@@ -185,7 +184,7 @@ fn push_head(alloc: Global, unit: Package<'_>, text: &mut Vec<u8>) -> Result<(),
     push_imports(text, &paths)
 }
 
-/// The text of the object of a package, where it is known what its declarations mean.
+/// Prints the object of a package, by the meanings of its declarations.
 fn meant_text(alloc: Global, origin: Origin<'_>, bounds: &mut Bounds) -> Result<Vec<u8>, AllocError>
     requires index { IsIndexOf (package_of origin.unit) origin.index.now }
     requires bounds { AreBounds (package_of origin.unit) bounds.old.list.items bounds.old.of.items }
@@ -200,7 +199,7 @@ fn meant_text(alloc: Global, origin: Origin<'_>, bounds: &mut Bounds) -> Result<
     Ok(text)
 }
 
-/// What the declarations of a package mean.
+/// The meanings of a package's declarations.
 fn all_bounds(alloc: Global, unit: Package<'_>, index: &Index<'_>) -> Result<Bounds, AllocError>
     requires { IsIndexOf (package_of unit) index.now }
     ensures { IfOk result (λ bounds. AreBounds (package_of unit.entry) bounds.list.items bounds.of.items) }
@@ -209,8 +208,8 @@ fn all_bounds(alloc: Global, unit: Package<'_>, index: &Index<'_>) -> Result<Bou
     bounds_of(alloc, unit, index, &broken)
 }
 
-/// The text of the object of a package that has no fault, by what is found once in it and by what its declarations mean. What other
-/// packages export may be added to the list of meanings.
+/// Prints the object of a package without faults, by its index and the meanings of its declarations. It may add the exports of other
+/// packages to `bounds`.
 pub fn checked_object<'a>(
     alloc: Global,
     unit: Package<'a>,
@@ -242,8 +241,8 @@ pub fn checked_object<'a>(
     meant_text(alloc, origin, bounds)
 }
 
-/// The table of a package in which each import without a name declares the name of the imported package. `types_check` lays the same
-/// for itself, in two calls: neither crate lists the other.
+/// The scope table of a package, in which each import without a name declares the name of the imported package. `types_check` makes this
+/// table for itself too, as neither crate lists the other.
 fn laid<'a>(
     alloc: Global,
     files: &'a [FileTree],
@@ -255,7 +254,7 @@ fn laid<'a>(
     lay_names(alloc, &plain, files, interfaces)
 }
 
-/// The text of the object of a package with that table.
+/// Prints the object of a package with this scope table.
 fn laid_text(
     alloc: Global,
     given: Faultless<'_>,
@@ -278,8 +277,8 @@ fn laid_text(
     checked_object(alloc, unit, &index, &mut bounds, given, packages)
 }
 
-/// The text of the object of a package that has no fault, by what is known of the packages that it sees and what packages call
-/// what they declare.
+/// Prints the object of a package without faults. `interfaces` has the export data of the packages that it sees, and `packages` the names
+/// of declarations.
 pub fn object(
     alloc: Global,
     given: Faultless<'_>,

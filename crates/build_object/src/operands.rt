@@ -1,4 +1,4 @@
-//! What expressions are to the code that uses them.
+//! The modes of operands: what an expression is to the code around it.
 ghost use Rattle.std.specs.Prelude.{◌≡◌, option_map};
 ghost use Rattle.build_object.specs.Operands.{qualifies, left_by_call, unqualified, value_count, function_standing};
 ghost use Rattle.build_object.specs.LineView.{function_of};
@@ -7,15 +7,16 @@ ghost use Rattle.build_object.specs.Making.{standing_of};
 use crate::instructions::FunctionName;
 use types_expr::types::Builtin;
 
-/// What of an expression is wanted: its value, or the address of its value.
+/// What is wanted of an expression: its value, or the address of its value.
 #[derive(Clone, Copy)]
 pub enum Wanted {
     Value,
     Address,
 }
 
-/// What stands there: so many values; a function, or a method whose receiver is there, with how many results it has; a type,
-/// whose call is a conversion; a predeclared function; the name of a package.
+/// The mode of an operand. `Values`: it leaves so many values. `Called`: it is a function with so many results, or a method whose receiver
+/// is on the stack. `Converts`: it is a type, whose call is a conversion. `Predeclared`: it is a predeclared function. `Qualifies`: it is
+/// the name of a package.
 #[derive(Clone, Copy)]
 pub enum OperandPlace<'a> {
     Values(usize),
@@ -30,7 +31,7 @@ pub enum OperandPlace<'a> {
 }
 
 impl<'a> OperandPlace<'a> {
-    /// A function or method of that name.
+    /// The mode of a function or method, if its name is known.
     #[tactic(auto, unfolding(crate::specs::Making::standing_of))]
     pub fn of_function(
         name: Option<FunctionName<'a>>,
@@ -49,7 +50,7 @@ impl<'a> OperandPlace<'a> {
         }
     }
 
-    /// Whether it is the name of a package.
+    /// Whether the operand is the name of a package.
     #[tactic(auto, unfolding(crate::specs::Making::standing_of))]
     pub fn qualifies(self) -> bool
         ensures { result ≡ qualifies (standing_of self.entry) }
@@ -57,7 +58,7 @@ impl<'a> OperandPlace<'a> {
         matches!(self, OperandPlace::Qualifies)
     }
 
-    /// What stands behind a package's name alone.
+    /// The mode of the selector of a qualified identifier. A package is never such a selector's meaning.
     #[tactic(auto, unfolding(crate::specs::Making::standing_of))]
     pub fn unqualified(self) -> OperandPlace<'a>
         ensures { standing_of result ≡ unqualified (standing_of self.entry) }
@@ -68,7 +69,7 @@ impl<'a> OperandPlace<'a> {
         }
     }
 
-    /// How many values a call leaves.
+    /// The number of values that a call leaves.
     #[tactic(auto, unfolding(crate::specs::Making::standing_of, crate::specs::Operands::left_by_call))]
     pub fn left_by_call(self) -> usize
         ensures { result ≡ left_by_call (standing_of self.entry) }
@@ -81,7 +82,7 @@ impl<'a> OperandPlace<'a> {
         }
     }
 
-    /// How many values stand there.
+    /// The number of values that the operand leaves.
     #[tactic(auto, unfolding(crate::specs::Making::standing_of))]
     pub fn values(self) -> usize
         ensures { result ≡ value_count (standing_of self.entry) }

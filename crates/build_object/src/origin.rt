@@ -1,12 +1,12 @@
-//! What the object of a package comes from.
+//! The values from which the object of a package is made.
 use crate::instructions::FunctionName;
 use crate::packages::CalledPackages;
 use types_declared::{Index, Package};
 use types_expr::found::MemberUse;
 use types_expr::world::Definition;
 
-/// A package with what is found once in it, its type definitions as other packages see them, its uses of members by files, what
-/// packages call what they declare, and what its functions are called.
+/// A package with its index, its type definitions as other packages see them, and its uses of members by files. `packages` has the names of
+/// other packages' declarations, and `names` those of its own functions.
 #[derive(Clone, Copy)]
 pub struct Origin<'a> {
     pub unit: Package<'a>,

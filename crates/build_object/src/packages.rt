@@ -1,4 +1,4 @@
-//! What the types, functions and fields of packages are called in objects.
+//! Looks up the names of types and functions in objects, and the positions of fields, by symbols.
 ghost use Rattle.std.specs.Prelude.{◌≡◌, map, option_map, slice_get};
 ghost use Rattle.std.specs.Option.{option_copied};
 ghost use Rattle.go_ast.specs.SourceFile.{source_of};
@@ -16,8 +16,7 @@ use go_ast::FileTree;
 use types_declared::{Function, TypeDef};
 use types_expr::symbol::Symbol;
 
-/// What the function of a rank is called, if there is one. How many functions `init` stand before it is counted for such a function
-/// alone.
+/// The name in objects of the function with this rank, if there is one. Functions `init` before it are counted only where it is one.
 fn function_at<'a>(
     path: &'a [u8],
     files: &'a [FileTree],
@@ -39,8 +38,8 @@ fn function_at<'a>(
     }
 }
 
-/// What the function of a rank is called, if there is one, by going over the files. How many functions `init` stand before it is
-/// counted for such a function alone.
+/// The name in objects of the function with this rank, if there is one, found by going over the files. Functions `init` before it are
+/// counted only where it is one.
 fn function_walked<'a>(
     path: &'a [u8],
     files: &'a [FileTree],
@@ -61,7 +60,7 @@ fn function_walked<'a>(
     }
 }
 
-/// The type definition of a rank, by tables of what the files declare, if there are some.
+/// The type definition with this rank, by tables if there are any.
 fn type_at<'a>(
     files: &'a [FileTree],
     tables: Option<&DeclaredTables<'a>>,
@@ -75,7 +74,7 @@ fn type_at<'a>(
     }
 }
 
-/// What the function of a rank is called, by such tables, if there are some.
+/// The name in objects of the function with this rank, by tables if there are any.
 fn function_named<'a>(
     names: &CalledNames<'a>,
     tables: Option<&DeclaredTables<'a>>,
@@ -89,7 +88,7 @@ fn function_named<'a>(
     }
 }
 
-/// Where the field of a rank stands in its struct, by such tables, if there are some.
+/// The position in its struct of the field with this rank, by tables if there are any.
 fn position_at(
     files: &[FileTree],
     tables: Option<&DeclaredTables<'_>>,
@@ -104,7 +103,7 @@ fn position_at(
 }
 
 impl<'a> CalledPackages<'a> {
-    /// What a type definition is called.
+    /// The name of a type definition in objects.
     pub(crate) fn type_name(&self, symbol: &Symbol) -> Option<GlobalName<'a>>
         ensures { option_map global_of result ≡ type_in self.now symbol.now }
     {
@@ -118,7 +117,7 @@ impl<'a> CalledPackages<'a> {
         }
     }
 
-    /// What a function or method is called.
+    /// The name of a function or method in objects.
     pub(crate) fn function(&self, symbol: &Symbol) -> Option<FunctionName<'a>>
         ensures { option_map function_of result ≡ function_in self.now symbol.now }
     {
@@ -129,7 +128,7 @@ impl<'a> CalledPackages<'a> {
         }
     }
 
-    /// Where a field stands in its struct.
+    /// The position of a field in its struct.
     pub(crate) fn position(&self, symbol: &Symbol) -> Option<usize>
         ensures { result ≡ position_in self.now symbol.now }
     {

@@ -1,4 +1,4 @@
-//! The text of the lines of code.
+//! Prints lines of code.
 ghost use Rattle.std.specs.Prelude.{◌≡◌, ◌<◌, ◌++◌, codes, decimal, OnOk, map, reverse};
 ghost use Rattle.std.specs.List.{flat_map};
 ghost use Rattle.types_expr.specs.View.{type_of};
@@ -43,7 +43,7 @@ pub fn push_between(
     push_words(text, word, after)
 }
 
-/// Adds a word and a number.
+/// Adds a word and a number in decimal.
 pub fn push_numbered(text: &mut Vec<u8>, word: &[u8], number: usize) -> Result<(), AllocError>
     ensures { OnOk result (text.new.items ≡ text.old.items ++ with_number word.now number) }
 {
@@ -59,7 +59,7 @@ pub fn push_word_integer(text: &mut Vec<u8>, word: &[u8], number: u64) -> Result
     push_words(text, word, digits.format(number).as_bytes())
 }
 
-/// Adds the name of a declaration of a package's block.
+/// Adds the name of a package-level declaration.
 fn push_global(text: &mut Vec<u8>, name: GlobalName<'_>) -> Result<(), AllocError>
     ensures { OnOk result (text.new.items ≡ text.old.items ++ global_text (global_of name.entry)) }
 {
@@ -160,7 +160,7 @@ pub fn push_types(
     push_types_behind(text, packages, separator, others)
 }
 
-/// Adds a blank and the list of the types of parameters or results.
+/// Adds a space, and the types of parameters or results in parentheses.
 pub fn push_type_list(
     text: &mut Vec<u8>,
     packages: &CalledPackages<'_>,
@@ -198,7 +198,7 @@ fn push_hex(text: &mut Vec<u8>, bytes: &[u8]) -> Result<(), AllocError>
     Ok(())
 }
 
-/// The text of an operator.
+/// The text of a binary operator, as in Go.
 #[tactic(auto, unfolding(crate::specs::Text::operator_text))]
 fn operator_text(op: BinaryOp) -> &'static [u8]
     ensures { result.now ≡ operator_text op }
@@ -220,7 +220,7 @@ fn operator_text(op: BinaryOp) -> &'static [u8]
     }
 }
 
-/// Adds a word and a name of a declaration of a package's block.
+/// Adds a word and the name of a package-level declaration.
 pub fn push_word_global(
     text: &mut Vec<u8>,
     word: &[u8],
@@ -274,7 +274,7 @@ fn push_builtin(text: &mut Vec<u8>, builtin: Builtin, arguments: usize) -> Resul
     push_numbered(text, b" ", arguments)
 }
 
-/// Adds a word and a string's bytes.
+/// Adds a word and the bytes of a string.
 pub fn push_word_bytes(text: &mut Vec<u8>, word: &[u8], bytes: &[u8]) -> Result<(), AllocError>
     ensures { OnOk result (text.new.items ≡ text.old.items ++ (word.now ++ bytes_text bytes.now)) }
 {
@@ -282,7 +282,7 @@ pub fn push_word_bytes(text: &mut Vec<u8>, word: &[u8], bytes: &[u8]) -> Result<
     push_hex(text, bytes)
 }
 
-/// Adds the words of a line.
+/// Adds the words of a line of code.
 #[tactic(auto, unfolding(crate::specs::LineView::line_of, crate::specs::Text::words_of))]
 fn push_line_words(
     text: &mut Vec<u8>,
@@ -335,7 +335,7 @@ fn push_line_words(
     }
 }
 
-/// Adds a line.
+/// Adds a line of code.
 fn push_line(
     text: &mut Vec<u8>,
     packages: &CalledPackages<'_>,
@@ -347,7 +347,7 @@ fn push_line(
     push_word(text, b"\n")
 }
 
-/// Adds lines of which the last one stands first.
+/// Adds lines of code, of which the last is the first in the list.
 pub fn push_lines(
     text: &mut Vec<u8>,
     packages: &CalledPackages<'_>,

@@ -1,4 +1,4 @@
-//! Names and members, as the code of a function uses them.
+//! Puts the lines of names and literals.
 ghost use Rattle.std.specs.Prelude.{◌≡◌, option_map, OnOk};
 ghost use Rattle.build_object.specs.LineView.{function_of, Puts};
 ghost use Rattle.build_object.specs.SourceView.{source_of};
@@ -15,7 +15,7 @@ use crate::source::Source;
 use std::alloc::AllocError;
 use types_expr::world::Bound;
 
-/// What the code of a function is made of beside its tree: that of its file, and the places of its parameters and locals.
+/// The source of a function's code: that of its file, and the slots of its parameters and locals.
 #[derive(Clone, Copy)]
 pub struct SlotScope<'a> {
     pub source: &'a Source<'a>,
@@ -23,7 +23,7 @@ pub struct SlotScope<'a> {
 }
 
 impl<'a> SlotScope<'a> {
-    /// What a function of the package, or of an imported one, is called.
+    /// The name in objects of the package-level function to which the name at a token is bound.
     #[tactic(auto, unfolding(crate::specs::LineView::function_of))]
     fn plain_function(self, token: usize) -> Option<FunctionName<'a>>
         ensures { option_map function_of result ≡ plain_function ((source_of self.entry.source.now).global token) }
@@ -34,7 +34,7 @@ impl<'a> SlotScope<'a> {
         }
     }
 
-    /// What the name at a token is to the code.
+    /// The mode of the name at a token.
     #[tactic(auto, unfolding(crate::specs::Making::standing_of, crate::specs::Operands::bound_name, crate::specs::Operands::named_meaning, types_expr::specs::WorldView::bound_of))]
     pub fn name_standing(self, token: usize) -> OperandPlace<'a>
         ensures { standing_of result ≡ (name_operand (source_of self.entry.source.now) self.entry.slots.now.places.items token).standing }
@@ -54,7 +54,7 @@ impl<'a> SlotScope<'a> {
         }
     }
 
-    /// Puts the line of a parameter or local.
+    /// Puts the line of a parameter or local, for its value or its address.
     #[tactic(auto, unfolding(crate::specs::LineView::line_of))]
     fn put_local(self, place: usize, want: Wanted, code: &mut Code<'a>) -> Result<(), AllocError>
         ensures { OnOk result (Puts (lines_for want (local_operand (slot_of self.entry.slots.now.places.items place))) code.old code.new) }
@@ -66,7 +66,7 @@ impl<'a> SlotScope<'a> {
         }
     }
 
-    /// Puts the line of a package-level variable.
+    /// Puts the line of a package-level variable, for its value or its address.
     #[tactic(auto, unfolding(crate::specs::LineView::line_of))]
     fn put_global(self, token: usize, want: Wanted, code: &mut Code<'a>) -> Result<(), AllocError>
         ensures { OnOk result (Puts (lines_for want (global_operand ((source_of self.entry.source.now).global token))) code.old code.new) }
@@ -78,7 +78,7 @@ impl<'a> SlotScope<'a> {
         }
     }
 
-    /// Puts the lines of the name at a token.
+    /// Puts the lines of the name at a token, for its value or its address.
     #[tactic(auto, unfolding(crate::specs::LineView::line_of, crate::specs::Operands::bound_name, crate::specs::Operands::named_meaning, types_expr::specs::WorldView::bound_of))]
     pub fn put_name(self, token: usize, want: Wanted, code: &mut Code<'a>) -> Result<(), AllocError>
         ensures { OnOk result (Puts (lines_for want (name_operand (source_of self.entry.source.now) self.entry.slots.now.places.items token)) code.old code.new) }

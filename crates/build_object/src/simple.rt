@@ -1,4 +1,4 @@
-//! The code of simple statements and of declarations of locals.
+//! Makes the code of simple statements and of declarations of locals.
 ghost use Rattle.std.specs.Prelude.{◌≡◌, ◌∷◌, ◌++◌, [], length, OnOk};
 ghost use Rattle.std.specs.List.{flat_map};
 ghost use Rattle.go_ast.specs.View.{expr_view, exprs_view, option_view, list_view, group_view, ident_view, type_view};
@@ -24,7 +24,7 @@ use go_ast::tree::{Expr, ExprItem, Group, Ident, IfInit, Item, LocalSpec, Simple
 use std::alloc::{AllocError, Global};
 use types_expr::world::Bound;
 
-/// The values of expressions in turn.
+/// Puts the lines of the values of expressions, in order.
 #[tactic(auto, using(crate::proofs::Values::values_are_arguments))]
 pub fn values<'a>(
     alloc: Global,
@@ -37,7 +37,7 @@ pub fn values<'a>(
     arguments(alloc, scope, list, code)
 }
 
-/// Puts the line of a local that is declared with a value; a `_` drops it.
+/// Puts the line that gives a declared local its value. A `_` drops the value.
 #[tactic(auto, unfolding(crate::specs::LineView::line_of))]
 fn put_set_name<'a>(
     scope: SlotScope<'a>,
@@ -52,7 +52,7 @@ fn put_set_name<'a>(
     }
 }
 
-/// Puts the lines of locals that are declared with values, the last one first.
+/// Puts the lines that give declared locals their values, the last local first.
 fn put_set_names<'a>(
     scope: SlotScope<'a>,
     names: &[Item<Ident>],
@@ -66,7 +66,7 @@ fn put_set_names<'a>(
     Ok(())
 }
 
-/// Puts the line of a left side of `:=`.
+/// Puts the line that gives a left side of `:=` its value. A `_` drops the value.
 #[tactic(auto, unfolding(crate::specs::LineView::line_of, crate::specs::Statements::set_left, go_ast::specs::View::expr_view, types_expr::specs::WorldView::bound_of))]
 fn put_set_left<'a>(
     scope: SlotScope<'a>,
@@ -85,7 +85,7 @@ fn put_set_left<'a>(
     }
 }
 
-/// Puts the lines of the left sides of `:=`, the last one first.
+/// Puts the lines that give the left sides of `:=` their values, the last one first.
 fn put_set_lefts<'a>(
     scope: SlotScope<'a>,
     left: &[ExprItem],
@@ -99,7 +99,7 @@ fn put_set_lefts<'a>(
     Ok(())
 }
 
-/// The address of a left side of `=`.
+/// Puts the lines of the address of a left side of `=`.
 #[tactic(auto, unfolding(crate::specs::LineView::line_of, crate::specs::Statements::target_lines, go_ast::specs::View::expr_view))]
 fn target<'a>(
     alloc: Global,
@@ -115,7 +115,7 @@ fn target<'a>(
     }
 }
 
-/// The addresses of the left sides of `=`.
+/// Puts the lines of the addresses of the left sides of `=`.
 fn targets<'a>(
     alloc: Global,
     scope: SlotScope<'a>,
@@ -130,7 +130,7 @@ fn targets<'a>(
     Ok(())
 }
 
-/// The operator of `++` or `--`.
+/// The binary operator of `++` or `--`.
 fn step_op(op: StepOp) -> BinaryOp
     ensures { result ≡ step_op op }
 {
@@ -140,7 +140,7 @@ fn step_op(op: StepOp) -> BinaryOp
     }
 }
 
-/// The operator of `+=` and its kin.
+/// The binary operator of `+=`, `-=`, `*=`, `/=` or `%=`.
 fn binary_of(op: UpdateOp) -> BinaryOp
     ensures { result ≡ binary_of op }
 {
@@ -153,7 +153,7 @@ fn binary_of(op: UpdateOp) -> BinaryOp
     }
 }
 
-/// Puts what ends an update: the operation, and its assignment.
+/// Puts the last lines of an update: the binary operator and the assignment.
 #[tactic(auto, unfolding(crate::specs::LineView::line_of))]
 fn put_operation(op: BinaryOp, code: &mut Code<'_>) -> Result<(), AllocError>
     ensures { OnOk result (Puts (line.Operate op ∷ line.Assign 1 ∷ []) code.old code.new) }
@@ -162,7 +162,7 @@ fn put_operation(op: BinaryOp, code: &mut Code<'_>) -> Result<(), AllocError>
     code.put(Instruction::Operate(op))
 }
 
-/// Puts what stands behind the address that is updated.
+/// Puts the lines behind the address in an update: the address is kept, and its value loaded.
 #[tactic(auto, unfolding(crate::specs::LineView::line_of))]
 fn put_load(code: &mut Code<'_>) -> Result<(), AllocError>
     ensures { OnOk result (Puts (line.Duplicate ∷ line.Load ∷ []) code.old code.new) }
@@ -171,7 +171,7 @@ fn put_load(code: &mut Code<'_>) -> Result<(), AllocError>
     code.put(Instruction::Duplicate)
 }
 
-/// `x++` or `x--`.
+/// Puts the lines of `x++` or `x--`.
 #[tactic(auto, unfolding(crate::specs::LineView::line_of))]
 fn step<'a>(
     alloc: Global,
@@ -188,7 +188,7 @@ fn step<'a>(
     operand(alloc, scope, operand_expr, Wanted::Address, code)
 }
 
-/// `x += y` and its kin.
+/// Puts the lines of `x op= y`.
 fn update<'a>(
     alloc: Global,
     scope: SlotScope<'a>,
@@ -206,7 +206,7 @@ fn update<'a>(
     operand(alloc, scope, left, Wanted::Address, code)
 }
 
-/// `x, y = a, b`.
+/// Puts the lines of `x, y = a, b`.
 #[tactic(auto, unfolding(crate::specs::LineView::line_of))]
 fn assign<'a>(
     alloc: Global,
@@ -223,7 +223,7 @@ fn assign<'a>(
     targets(alloc, scope, left, code)
 }
 
-/// `x, y := a, b`.
+/// Puts the lines of `x, y := a, b`.
 fn define<'a>(
     alloc: Global,
     scope: SlotScope<'a>,
@@ -238,7 +238,7 @@ fn define<'a>(
     values(alloc, scope, right, code)
 }
 
-/// A simple statement.
+/// Puts the lines of a simple statement.
 #[tactic(auto, unfolding(go_ast::specs::FileView::simple_view, crate::specs::Statements::simple_lines))]
 pub fn simple<'a>(
     alloc: Global,
@@ -269,7 +269,7 @@ pub fn simple<'a>(
     }
 }
 
-/// A simple statement, where there is one.
+/// Puts the lines of an optional simple statement.
 pub fn optional<'a>(
     alloc: Global,
     scope: SlotScope<'a>,
@@ -284,7 +284,7 @@ pub fn optional<'a>(
     }
 }
 
-/// What stands before the condition of an `if`.
+/// Puts the lines of the simple statement before the condition of an `if`.
 #[tactic(auto, unfolding(go_ast::specs::FileView::init_view))]
 pub fn init<'a>(
     alloc: Global,
@@ -300,7 +300,7 @@ pub fn init<'a>(
     }
 }
 
-/// Puts a zero of a type, where it is known.
+/// Puts the line of the zero value of a type, if the type is not broken.
 #[tactic(auto, unfolding(crate::specs::LineView::line_of))]
 fn put_zero<'a>(
     alloc: Global,
@@ -316,7 +316,7 @@ fn put_zero<'a>(
     }
 }
 
-/// A zero of a type for each name.
+/// Puts the line of the zero value of a type, once for each name.
 fn put_zeros<'a>(
     alloc: Global,
     scope: SlotScope<'a>,
@@ -332,7 +332,7 @@ fn put_zeros<'a>(
     Ok(())
 }
 
-/// The values that locals are declared with.
+/// Puts the lines of the values with which locals begin.
 #[tactic(auto, unfolding(go_ast::specs::FileView::local_view, crate::specs::Statements::first_values, crate::specs::Statements::zeros))]
 fn first_values<'a>(
     alloc: Global,
@@ -351,7 +351,7 @@ fn first_values<'a>(
     }
 }
 
-/// A declaration of locals.
+/// Puts the lines of a `var` line of locals.
 #[tactic(auto, unfolding(go_ast::specs::FileView::local_view, crate::specs::Statements::local_lines))]
 fn local<'a>(
     alloc: Global,
@@ -365,7 +365,7 @@ fn local<'a>(
     first_values(alloc, scope, local, code)
 }
 
-/// Several declarations of locals.
+/// Puts the lines of several `var` lines of locals.
 fn each_local<'a>(
     alloc: Global,
     scope: SlotScope<'a>,
@@ -380,7 +380,7 @@ fn each_local<'a>(
     Ok(())
 }
 
-/// The declarations of a `var`.
+/// Puts the lines of the declarations of a `var`.
 #[tactic(auto, unfolding(go_ast::specs::View::group_view))]
 pub fn locals<'a>(
     alloc: Global,

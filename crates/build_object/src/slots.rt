@@ -1,4 +1,4 @@
-//! The slots of a function: its receiver, its parameters and the locals that its body declares.
+//! Finds the slots of a function: its receiver, its parameters and the locals that its body declares.
 ghost use Rattle.std.specs.Prelude.{◌≡◌, ◌++◌, ◌∷◌, [], IfOk, OnOk, option_to_list};
 ghost use Rattle.std.specs.List.{flat_map};
 ghost use Rattle.go_ast.specs.View.{expr_view, exprs_view, list_view, ident_view, group_view, option_view};
@@ -16,7 +16,7 @@ use go_ast::tree::{
 use std::alloc::{AllocError, Global};
 use types_expr::world::{Bound, World};
 
-/// The place of an identifier.
+/// The token of an identifier.
 #[tactic(auto, unfolding(types_stmt::specs::Sides::ident_place))]
 fn ident_place(ident: &Ident) -> usize
     ensures { result ≡ ident_place (ident_view ident.now) }
@@ -26,7 +26,7 @@ fn ident_place(ident: &Ident) -> usize
     }
 }
 
-/// Adds the receiver, where there is one.
+/// Adds the receiver, if there is one.
 #[tactic(auto, unfolding(go_ast::specs::FileView::receiver_view))]
 fn add_receiver(places: &mut Vec<usize>, receiver: &Option<Receiver>) -> Result<(), AllocError>
     ensures { OnOk result (places.new.items ≡ places.old.items ++ receiver_places (option_view receiver_view receiver.now)) }
@@ -40,7 +40,7 @@ fn add_receiver(places: &mut Vec<usize>, receiver: &Option<Receiver>) -> Result<
     }
 }
 
-/// Adds parameters of one type, blank ones too.
+/// Adds the parameters of one parameter declaration, blank ones too.
 fn add_names(places: &mut Vec<usize>, names: &[Item<Ident>]) -> Result<(), AllocError>
     ensures { OnOk result (places.new.items ≡ places.old.items ++ flat_map (λ n. ident_place n.value ∷ []) (list_view ident_view names.now)) }
 {
@@ -61,7 +61,7 @@ fn add_params(places: &mut Vec<usize>, params: &[Item<Param>]) -> Result<(), All
     Ok(())
 }
 
-/// Adds the local of a name; a `_` is none.
+/// Adds the local of a name. A `_` declares none.
 #[tactic(auto, unfolding(types_stmt::specs::Sides::named))]
 fn add_ident(places: &mut Vec<usize>, ident: &Ident) -> Result<(), AllocError>
     ensures { OnOk result (places.new.items ≡ places.old.items ++ option_to_list (named (ident_view ident.now))) }
@@ -75,7 +75,7 @@ fn add_ident(places: &mut Vec<usize>, ident: &Ident) -> Result<(), AllocError>
     }
 }
 
-/// Adds the locals of one declaration.
+/// Adds the locals of a `var` line.
 #[tactic(auto, unfolding(go_ast::specs::FileView::local_view))]
 fn add_local(places: &mut Vec<usize>, local: &LocalSpec) -> Result<(), AllocError>
     ensures { OnOk result (places.new.items ≡ places.old.items ++ local_places (local_view local.now)) }
@@ -102,7 +102,7 @@ fn add_locals(places: &mut Vec<usize>, group: &Group<LocalSpec>) -> Result<(), A
     }
 }
 
-/// Whether a left name of `:=` declares: where it is bound to itself.
+/// Whether a left name of `:=` declares a local: it is bound to itself.
 #[tactic(auto, unfolding(types_expr::specs::WorldView::bound_of))]
 fn declares(world: &World<'_>, place: usize) -> bool
     ensures { result ≡ declares (world_of world.now) place }
@@ -129,7 +129,7 @@ fn add_defined(places: &mut Vec<usize>, world: &World<'_>, left: &Expr) -> Resul
     }
 }
 
-/// Adds the locals that the left sides of a `:=` declare.
+/// Adds the locals that the left sides of `:=` declare.
 fn add_all_defined(
     places: &mut Vec<usize>,
     world: &World<'_>,
@@ -161,6 +161,7 @@ fn add_simple(
     }
 }
 
+/// Adds the locals of an optional simple statement.
 fn add_optional(
     places: &mut Vec<usize>,
     world: &World<'_>,
@@ -174,7 +175,7 @@ fn add_optional(
     }
 }
 
-/// Adds the locals before the condition of an `if`.
+/// Adds the locals that are declared before the condition of an `if`.
 #[tactic(auto, unfolding(go_ast::specs::FileView::init_view))]
 fn add_init(
     places: &mut Vec<usize>,
@@ -189,7 +190,7 @@ fn add_init(
     }
 }
 
-/// Adds the locals between `for` and its block.
+/// Adds the locals that the header of a `for` declares.
 #[tactic(auto, unfolding(go_ast::specs::FileView::for_view, crate::specs::Slots::header_places))]
 fn add_header(
     places: &mut Vec<usize>,
@@ -258,7 +259,7 @@ fn add_if(places: &mut Vec<usize>, world: &World<'_>, branch: &IfStmt) -> Result
     add_else(places, world, &branch.otherwise)
 }
 
-/// Adds the locals of what stands behind the block of an `if`.
+/// Adds the locals of the code behind an `else`.
 #[cycle(places)]
 fn add_else(places: &mut Vec<usize>, world: &World<'_>, otherwise: &Else) -> Result<(), AllocError>
     ensures { OnOk result (places.new.items ≡ places.old.items ++ else_places (world_of world.now) (else_view otherwise.now)) }
@@ -270,7 +271,7 @@ fn add_else(places: &mut Vec<usize>, world: &World<'_>, otherwise: &Else) -> Res
     }
 }
 
-/// The slots of a function.
+/// The slots of a function, in the order of the file.
 #[tactic(auto, unfolding(go_ast::specs::FileView::func_view))]
 pub fn slots(alloc: Global, world: &World<'_>, func: &FuncDecl) -> Result<NumberedUses, AllocError>
     ensures { IfOk result (λ slots. slots.places.items ≡ slots_of (world_of world.now) (func_view func.now)) }

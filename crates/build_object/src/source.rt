@@ -1,4 +1,4 @@
-//! What the code of a file is made of beside its tree.
+//! The source of the code of a file: all that the code depends on beside the file's tree.
 ghost use Rattle.std.specs.Prelude.{◌≡◌, option_map};
 ghost use Rattle.types_expr.specs.View.{type_of};
 ghost use Rattle.build_object.specs.LineView.{global_of};
@@ -13,16 +13,15 @@ use types_expr::found::MemberUse;
 use types_expr::types::GoType;
 use types_expr::world::World;
 
-/// What the name at a token is to code: the declaration of a package's block that it is bound to, and whether it is the predeclared
-/// `true`.
+/// The mark of the name at a token: the package-level declaration to which it is bound, and whether this is the predeclared `true`.
 #[derive(Clone, Copy)]
 pub struct Mark<'a> {
     pub global: Option<GlobalName<'a>>,
     pub truth: bool,
 }
 
-/// What names are bound to, by their tokens; the uses of members, with the tokens at which they stand; by tokens what names are to
-/// code, and the values of string literals. And what is called how in packages.
+/// The source of the code of a file. `world` has the meanings of names, and `uses` the uses of members, at the tokens `used`. `marks` and
+/// `texts` have the marks of names and the values of string literals, by tokens. `packages` has the names of declarations.
 #[derive(Drop)]
 pub struct Source<'a> {
     pub world: World<'a>,
@@ -34,7 +33,7 @@ pub struct Source<'a> {
 }
 
 impl<'a> Source<'a> {
-    /// The type before the name at a token.
+    /// The type before the selector at a token, or of the composite literal around the key at a token.
     pub fn before(&self, token: usize) -> Option<&GoType>
         ensures { option_map (λ t. type_of t.now) result ≡ (source_of self.now).before token }
     {
@@ -47,7 +46,7 @@ impl<'a> Source<'a> {
         }
     }
 
-    /// The declaration of a package's block that the name at a token is bound to.
+    /// The package-level declaration to which the name at a token is bound.
     pub fn global(&self, token: usize) -> Option<GlobalName<'a>>
         ensures { option_map global_of result ≡ (source_of self.now).global token }
     {
@@ -57,7 +56,7 @@ impl<'a> Source<'a> {
         }
     }
 
-    /// Whether the truth value at a token is the true one.
+    /// Whether the name at a token is the predeclared `true`.
     pub fn truth(&self, token: usize) -> bool
         ensures { result ≡ (source_of self.now).truth token }
     {

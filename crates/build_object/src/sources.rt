@@ -1,4 +1,4 @@
-//! What the code of a file is made of, from the scopes of its package and what checking found.
+//! Makes the source of the code of a file, from the scopes of its package and from what checking found.
 ghost use Rattle.std.specs.Prelude.{◌≡◌, ◌<◌, ◌↔◌, ℕ, List, Some, codes, length, map, option_map, slice_get, IfOk, IsTrue, MatchOption};
 ghost use Rattle.go_ast.specs.SourceFile.{source_of as plain_file};
 ghost use Rattle.types_declared.specs.PackageView.{package_of, IsIndexOf};
@@ -21,7 +21,7 @@ use types_expr::found::MemberUse;
 use types_expr::world::World;
 use types_info::is_behind_dot;
 
-/// What the string literal at a token stands for; none where no string literal stands there.
+/// The value of the string literal at a token, and `None` where there is no string literal.
 fn literal(alloc: Global, file: &FileTree, token: usize) -> Result<Option<Vec<u8>>, AllocError>
     ensures { IfOk result (λ value. IsTextAt (plain_file file.now) token (option_map (λ v. v.items) value)) }
 {
@@ -55,7 +55,7 @@ fn used(alloc: Global, uses: &[MemberUse]) -> Result<NumberedUses, AllocError>
     NumberedUses::of(alloc, places)
 }
 
-/// The path of the import that the name at a token is bound to.
+/// The path of the import to which the name at a token is bound.
 fn import_at<'i>(
     unit: Package<'_>,
     index: &'i Index<'_>,
@@ -72,7 +72,7 @@ fn import_at<'i>(
     }
 }
 
-/// The path of the import behind whose name, and a dot, the name at a token stands.
+/// The path of the import before the selector at a token, if this stands in a qualified identifier.
 fn qualifier<'i>(
     unit: Package<'_>,
     index: &'i Index<'_>,
@@ -103,7 +103,7 @@ fn is_true(unit: Package<'_>, d: usize) -> bool
         && unit.table.name(d) == b"true".as_slice()
 }
 
-/// The declaration of a package's block that the name at a token is bound to, where it is bound to this declaration.
+/// The package-level declaration of the package itself to which the name at a token is bound, where it is bound to `d`.
 fn own_global<'a>(unit: Package<'a>, file: usize, token: usize, d: usize) -> Option<GlobalName<'a>>
     requires in_range { d < length unit.table.now.sites }
     requires bound { BindsToken (package_of unit) file token d }
@@ -121,8 +121,8 @@ fn own_global<'a>(unit: Package<'a>, file: usize, token: usize, d: usize) -> Opt
     }
 }
 
-/// The declaration of an imported package's block that the name at a token is bound to, where it is bound to no declaration of
-/// its own package.
+/// The package-level declaration of an imported package to which the name at a token is bound. The name has no declaration in its own
+/// package.
 fn imported_global<'a>(
     unit: Package<'a>,
     index: &'a Index<'_>,
@@ -142,7 +142,7 @@ fn imported_global<'a>(
     }
 }
 
-/// What the name at a token is to code.
+/// The mark of the name at a token.
 fn mark_at<'a>(unit: Package<'a>, index: &'a Index<'_>, file: usize, token: usize) -> Mark<'a>
     requires { IsIndexOf (package_of unit) index.now }
     ensures { IsMarkAt (package_of unit.entry) file token (Some result) }
@@ -159,7 +159,7 @@ fn mark_at<'a>(unit: Package<'a>, index: &'a Index<'_>, file: usize, token: usiz
     }
 }
 
-/// What the names of a file are to code, by their tokens.
+/// The marks of the names of a file, by their tokens.
 fn marks<'a>(
     alloc: Global,
     unit: Package<'a>,
@@ -186,7 +186,7 @@ fn uses_at(members: &[Vec<MemberUse>], file: usize) -> &[MemberUse]
     }
 }
 
-/// What the code of a file is made of.
+/// Makes the source of the code of a file.
 pub fn source<'a>(
     alloc: Global,
     origin: Origin<'a>,

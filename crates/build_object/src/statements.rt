@@ -1,4 +1,4 @@
-//! The code of statements, made from its last line to its first.
+//! Makes the code of statements, from its last line to its first.
 ghost use Rattle.std.specs.Prelude.{◌≤◌, ◌-◌, ◌++◌, ◌∷◌, [], IfOk, OnOk, length};
 ghost use Rattle.go_ast.specs.View.{expr_view, exprs_view};
 ghost use Rattle.go_ast.specs.FileView.{for_view, stmt_view, block_view, if_view, else_view};
@@ -18,14 +18,14 @@ use crate::simple::{init, locals, optional, simple, values};
 use go_ast::tree::{BlockItem, BlockStmt, Else, Expr, ExprItem, ForHeader, IfStmt, Stmt};
 use std::alloc::{AllocError, Global};
 
-/// How many lines lie behind where `continue` and `break` lead.
+/// The targets of `continue` (`next`) and `break` (`out`), each by the number of lines from it to the end of the code.
 #[derive(Clone, Copy)]
 pub struct JumpMarks {
     pub next: usize,
     pub out: usize,
 }
 
-/// A condition that leads, where it does not hold, to the last `end` lines.
+/// Puts the lines of a condition, which jumps to the last `end` lines where it is false.
 #[tactic(auto, unfolding(crate::specs::LineView::line_of))]
 fn test<'a>(
     alloc: Global,
@@ -42,7 +42,7 @@ fn test<'a>(
     operand(alloc, scope, tested, Wanted::Value, code)
 }
 
-/// What is done after each turn of a loop.
+/// Puts the lines of the post statement of a `for`.
 #[tactic(auto, unfolding(go_ast::specs::FileView::for_view))]
 fn post<'a>(
     alloc: Global,
@@ -58,7 +58,7 @@ fn post<'a>(
     }
 }
 
-/// The condition of a loop, where it has one, behind which there were `end` lines.
+/// Puts the lines of a loop's condition, if it has one. Where it is false, it jumps to the last `end` lines.
 #[tactic(auto, unfolding(go_ast::specs::FileView::for_view))]
 fn header_condition<'a>(
     alloc: Global,
@@ -84,7 +84,7 @@ fn header_condition<'a>(
     }
 }
 
-/// What is done before a loop.
+/// Puts the lines of the init statement of a `for`.
 #[tactic(auto, unfolding(go_ast::specs::FileView::for_view))]
 fn header_init<'a>(
     alloc: Global,
@@ -100,7 +100,7 @@ fn header_init<'a>(
     }
 }
 
-/// Puts the jump over what stands behind `else`, which began at that many lines, if there is an `else`.
+/// Puts the jump over the lines behind `else`, if there is an `else`. The code had `end` lines before these were put.
 #[tactic(auto, unfolding(crate::specs::LineView::line_of))]
 fn put_jump_over(has_else: bool, end: usize, code: &mut Code<'_>) -> Result<(), AllocError>
     requires { end ≤ length (lines_in code.old) }
@@ -113,7 +113,7 @@ fn put_jump_over(has_else: bool, end: usize, code: &mut Code<'_>) -> Result<(), 
     Ok(())
 }
 
-/// A jump to where that many lines lie behind.
+/// Puts a jump to the last `mark` lines.
 #[tactic(auto, unfolding(crate::specs::LineView::line_of))]
 fn put_exit(mark: usize, code: &mut Code<'_>) -> Result<(), AllocError>
     requires { mark ≤ length (lines_in code.old) }
@@ -123,7 +123,7 @@ fn put_exit(mark: usize, code: &mut Code<'_>) -> Result<(), AllocError>
     code.put(Instruction::Jump(passed))
 }
 
-/// A `return`.
+/// Puts the lines of a `return`.
 #[tactic(auto, unfolding(crate::specs::LineView::line_of))]
 fn returned<'a>(
     alloc: Global,
@@ -138,7 +138,7 @@ fn returned<'a>(
     values(alloc, scope, list, code)
 }
 
-/// A statement of a function with so many results.
+/// Puts the lines of a statement of a function with so many results.
 #[cycle(statement)]
 fn statement<'a>(
     alloc: Global,
@@ -167,7 +167,7 @@ fn statement<'a>(
     }
 }
 
-/// What a loop repeats.
+/// Puts the lines of a loop: its condition, its body, its post statement, and the jump back to the condition.
 #[cycle(statement)]
 fn turns<'a>(
     alloc: Global,
@@ -191,7 +191,7 @@ fn turns<'a>(
     Ok(())
 }
 
-/// A block of a function with so many results.
+/// Puts the lines of a block of a function with so many results.
 #[cycle(statement)]
 pub fn block<'a>(
     alloc: Global,
@@ -207,7 +207,7 @@ pub fn block<'a>(
     each(alloc, scope, &inner.statements, results, marks, code)
 }
 
-/// Statements in turn, of a function with so many results.
+/// Puts the lines of a list of statements, of a function with so many results.
 #[cycle(statement)]
 fn each<'a>(
     alloc: Global,
@@ -226,7 +226,7 @@ fn each<'a>(
     Ok(())
 }
 
-/// An `if` of a function with so many results.
+/// Puts the lines of an `if` of a function with so many results.
 #[cycle(statement)]
 fn branches<'a>(
     alloc: Global,
@@ -248,7 +248,7 @@ fn branches<'a>(
     init(alloc, scope, &branch.init, code)
 }
 
-/// What stands behind the block of an `if`, and whether anything does.
+/// Puts the lines behind an `else`. Returns whether there is an `else`.
 #[cycle(statement)]
 fn otherwise<'a>(
     alloc: Global,

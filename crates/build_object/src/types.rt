@@ -1,4 +1,4 @@
-//! Types as code names them.
+//! The types in code.
 ghost use Rattle.std.specs.Prelude.{◌≡◌, [], IfOk, option_map};
 ghost use Rattle.go_ast.specs.View.{type_view};
 ghost use Rattle.types_expr.specs.Types.{is_struct};
@@ -13,7 +13,7 @@ use types_expr::found::FoundInFile;
 use types_expr::types::GoType;
 use types_expr::world::{Shape, World};
 
-/// Nothing found yet.
+/// An empty list of faults and uses of members.
 pub fn nothing(alloc: Global) -> FoundInFile
     ensures faults { result.faults.items ≡ [] }
     ensures uses { result.uses.items ≡ [] }
@@ -24,7 +24,7 @@ pub fn nothing(alloc: Global) -> FoundInFile
     }
 }
 
-/// The type that is written; none where it is broken.
+/// The type that is written, if it is not broken.
 pub fn written_type(
     alloc: Global,
     world: &World<'_>,
@@ -35,7 +35,7 @@ pub fn written_type(
     nothing(alloc).judge_type(alloc, world, written)
 }
 
-/// Whether the values of a type are structs.
+/// Whether the underlying type of a type is a struct.
 #[tactic(auto, unfolding(types_expr::specs::WorldView::shape_of))]
 pub fn is_struct(world: &World<'_>, own: &GoType) -> bool
     ensures { result ≡ is_struct (underlying (world_of world.now) (type_of own.now)) }

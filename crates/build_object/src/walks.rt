@@ -1,4 +1,4 @@
-//! What a package declares at a rank, found by going over its files: of most packages in a closure nothing is asked.
+//! Finds the declaration with a rank by going over the files of a package. Of most packages in a closure none is asked for.
 ghost use Rattle.std.specs.Prelude.{◌≡◌, ◌<◌, length, map, option_map, slice_get, take};
 ghost use Rattle.go_ast.specs.View.{group_view, list_view};
 ghost use Rattle.go_ast.specs.FileView.{decl_view, field_view, type_spec_view};
@@ -15,7 +15,7 @@ use go_ast::FileTree;
 use go_ast::tree::{Decl, FieldDecl, Group, Item, TypeBody, TypeSpec};
 use types_declared::{Function, TypeDef};
 
-/// The type definition of a rank among those behind one keyword, or the rank behind them.
+/// The type definition with this rank in a `type`, or the rank that is left behind it.
 #[tactic(auto, unfolding(go_ast::specs::View::group_view))]
 fn type_in_group<'a>(
     file: usize,
@@ -47,7 +47,7 @@ fn type_in_group<'a>(
     }
 }
 
-/// The type definition of a rank among those of a declaration, or the rank behind them.
+/// The type definition with this rank in a declaration, or the rank that is left behind it.
 #[tactic(auto, unfolding(go_ast::specs::FileView::decl_view))]
 fn type_in_decl<'a>(file: usize, decl: &'a Decl, rank: usize) -> Result<TypeDef<'a>, usize>
     ensures { Walks type_of (decl_types file (decl_view decl.now)) rank result }
@@ -59,7 +59,7 @@ fn type_in_decl<'a>(file: usize, decl: &'a Decl, rank: usize) -> Result<TypeDef<
     }
 }
 
-/// The type definition of a rank among those of a file, or the rank behind them.
+/// The type definition with this rank in a file, or the rank that is left behind it.
 fn type_in_file<'a>(file: usize, tree: &'a FileTree, rank: usize) -> Result<TypeDef<'a>, usize>
     ensures { Walks type_of (types_in (file, source_of tree.now)) rank result }
 {
@@ -74,7 +74,7 @@ fn type_in_file<'a>(file: usize, tree: &'a FileTree, rank: usize) -> Result<Type
     Err(rest)
 }
 
-/// The type definition of a rank, if there is one.
+/// The type definition with this rank, if there is one.
 pub(crate) fn type_at(files: &[FileTree], rank: usize) -> Option<TypeDef<'_>>
     ensures { option_map type_of result ≡ slice_get (declared_types (map source_of files.now)) rank }
 {
@@ -88,7 +88,7 @@ pub(crate) fn type_at(files: &[FileTree], rank: usize) -> Option<TypeDef<'_>>
     None
 }
 
-/// The function of a rank among those of a declaration, or the rank behind them.
+/// The function with this rank in a declaration, or the rank that is left behind it.
 #[tactic(auto, unfolding(go_ast::specs::FileView::decl_view))]
 fn function_in_decl<'a>(file: usize, decl: &'a Decl, rank: usize) -> Result<Function<'a>, usize>
     ensures { Walks placed_function (decl_functions file (decl_view decl.now)) rank result }
@@ -106,7 +106,7 @@ fn function_in_decl<'a>(file: usize, decl: &'a Decl, rank: usize) -> Result<Func
     }
 }
 
-/// The function of a rank among those of a file, or the rank behind them.
+/// The function with this rank in a file, or the rank that is left behind it.
 fn function_in_file<'a>(file: usize, tree: &'a FileTree, rank: usize) -> Result<Function<'a>, usize>
     ensures { Walks placed_function (functions_in (file, source_of tree.now)) rank result }
 {
@@ -121,7 +121,7 @@ fn function_in_file<'a>(file: usize, tree: &'a FileTree, rank: usize) -> Result<
     Err(rest)
 }
 
-/// The function of a rank, if there is one.
+/// The function with this rank, if there is one.
 pub(crate) fn function_at(files: &[FileTree], rank: usize) -> Option<Function<'_>>
     ensures { option_map placed_function result ≡ slice_get (declared_functions (map source_of files.now)) rank }
 {
@@ -135,7 +135,8 @@ pub(crate) fn function_at(files: &[FileTree], rank: usize) -> Option<Function<'_
     None
 }
 
-/// How many functions `init` are among those below a rank. No call is of such a function, so that each is looked for anew.
+/// The number of functions `init` with a rank less than this one. No code calls a function `init`, so this is slow: each function is looked
+/// up anew.
 pub(crate) fn initializers_below(files: &[FileTree], rank: usize) -> usize
     requires { rank < length (declared_functions (map source_of files.now)) }
     ensures { result ≡ initializers_among (map source_of files.now) 0 (take rank (declared_functions (map source_of files.now))) }
@@ -150,7 +151,7 @@ pub(crate) fn initializers_below(files: &[FileTree], rank: usize) -> usize
     number
 }
 
-/// Where the field of a rank stands in the struct of fields, or the rank behind them.
+/// The position of the field with this rank in a struct, or the rank that is left behind it.
 fn position_in_fields(fields: &[Item<FieldDecl>], rank: usize) -> Result<usize, usize>
     ensures { Walks (λ n. n) (positions_from 0 (names_of_fields (list_view field_view fields.now))) rank result }
 {
@@ -165,7 +166,7 @@ fn position_in_fields(fields: &[Item<FieldDecl>], rank: usize) -> Result<usize, 
     Err(rest)
 }
 
-/// Where the field of a rank stands in its struct, among those of a type definition, or the rank behind them.
+/// The position in its struct of the field with this rank in a type definition, or the rank that is left behind it.
 #[tactic(auto, unfolding(go_ast::specs::FileView::body_view, go_ast::specs::FileView::type_spec_view))]
 fn position_in_spec(spec: &TypeSpec, rank: usize) -> Result<usize, usize>
     ensures { Walks (λ n. n) (spec_positions (type_spec_view spec.now)) rank result }
@@ -176,7 +177,7 @@ fn position_in_spec(spec: &TypeSpec, rank: usize) -> Result<usize, usize>
     }
 }
 
-/// Where the field of a rank stands in its struct, among those behind one keyword, or the rank behind them.
+/// The position in its struct of the field with this rank in a `type`, or the rank that is left behind it.
 #[tactic(auto, unfolding(go_ast::specs::View::group_view))]
 fn position_in_group(group: &Group<TypeSpec>, rank: usize) -> Result<usize, usize>
     ensures { Walks (λ n. n) (flat_map spec_positions (group_items (group_view type_spec_view group.now))) rank result }
@@ -187,7 +188,7 @@ fn position_in_group(group: &Group<TypeSpec>, rank: usize) -> Result<usize, usiz
     }
 }
 
-/// Where the field of a rank stands in its struct, among those of some type definitions, or the rank behind them.
+/// The position in its struct of the field with this rank in several type definitions, or the rank that is left behind them.
 fn position_in_items(items: &[Item<TypeSpec>], rank: usize) -> Result<usize, usize>
     ensures { Walks (λ n. n) (flat_map (λ i. spec_positions (type_spec_view i.value)) items.now) rank result }
 {
@@ -201,7 +202,7 @@ fn position_in_items(items: &[Item<TypeSpec>], rank: usize) -> Result<usize, usi
     Err(rest)
 }
 
-/// Where the field of a rank stands in its struct, among those of a declaration, or the rank behind them.
+/// The position in its struct of the field with this rank in a declaration, or the rank that is left behind it.
 #[tactic(auto, unfolding(go_ast::specs::FileView::decl_view))]
 fn position_in_decl(decl: &Decl, rank: usize) -> Result<usize, usize>
     ensures { Walks (λ n. n) (decl_positions (decl_view decl.now)) rank result }
@@ -213,7 +214,7 @@ fn position_in_decl(decl: &Decl, rank: usize) -> Result<usize, usize>
     }
 }
 
-/// Where the field of a rank stands in its struct, among those of a file, or the rank behind them.
+/// The position in its struct of the field with this rank in a file, or the rank that is left behind it.
 fn position_in_file(tree: &FileTree, rank: usize) -> Result<usize, usize>
     ensures { Walks (λ n. n) (file_positions (source_of tree.now)) rank result }
 {
@@ -228,7 +229,7 @@ fn position_in_file(tree: &FileTree, rank: usize) -> Result<usize, usize>
     Err(rest)
 }
 
-/// Where the field of a rank stands in its struct, if there is one.
+/// The position in its struct of the field with this rank, if there is one.
 pub(crate) fn position_at(files: &[FileTree], rank: usize) -> Option<usize>
     ensures { result ≡ slice_get (field_positions (map source_of files.now)) rank }
 {

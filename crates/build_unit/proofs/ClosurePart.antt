@@ -1,5 +1,5 @@
--- Where the packages of a part are those in the closure of one, the part is that package's inputs, and each of its packages has the
--- closure there that it has in the whole.
+-- Where the packages of a part are those in the closure of one package, the part is the inputs of this package. Each of its packages has
+-- the closure there that it has in the whole.
 use Rattle.std.proofs.Common.{◌≡◌, ℕ, ◌<◌, true, List, length, get_or, Some, slice_get, sym, subst, ◌∙◌}
 use Rattle.std.specs.FinMap.{entries}
 use Rattle.std.specs.List.{Contains}
@@ -92,7 +92,7 @@ module _ (w : Workspace) (numbers : List ℕ) where
     pub numbers_within : (n : ℕ) → Contains numbers n → n < length (package_paths w)
     numbers_within n among = let s = (holds n).0 among in slice_get_within (package_paths w) n s.0 s.1
 
--- ---- the same of what stands in inputs
+-- ---- the closures of packages in inputs
 module _ (w : Workspace) (number : ℕ) (numbers : List ℕ) (is : IsClosureAt w number numbers) where
   pub closures_at : HasClosuresOf w (part_of w numbers)
   closures_at = part_closures w numbers is.path is.holds

@@ -1,4 +1,5 @@
--- Verdicts on packages of a workspace, of which some are packages of inputs too, with the same closures; and what is made there.
+-- Verdicts on packages of a workspace, some of which are packages of inputs too, with equal closures. The units and verdicts that a build
+-- makes in inputs.
 use Rattle.std.proofs.Common.{◌≡◌, List, ℕ, [], ◌∷◌, ◌++◌, inl, inr, subst}
 use Rattle.std.specs.Prelude.{Contains}
 use Rattle.std.proofs.lemmas.List.Elements.{Contains-push_cases}

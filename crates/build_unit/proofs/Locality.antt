@@ -1,4 +1,4 @@
--- Where the closure of a package has the same texts in two workspaces, the package has the same unit in both.
+-- A package has one unit in two workspaces where its closure has the same texts in both.
 use Rattle.std.proofs.Common.{ℕ, List, [], subst}
 use Rattle.std.specs.Prelude.{Contains}
 use Rattle.base_files.specs.Workspace.{Workspace}

@@ -68,7 +68,7 @@ module _ (w : Workspace) (numbers : List ℕ) where
   pub kept : (path : List ℕ) → is_go path ≡ true → IsNumbered w numbers (folder path) → get (part_of w numbers) path ≡ get w path
   kept path go is = got path ∙ ap (λ b. cond b (get w path) None) (numbered_back path go is)
 
-  -- what is there passes
+  -- A file of the part passes the test.
   there : (path text : List ℕ) → get (part_of w numbers) path ≡ Some text → test path ≡ true
   there path text has = elim (cases_Bool (test path)) [
     | inl is ↦ is

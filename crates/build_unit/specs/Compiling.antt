@@ -1,4 +1,4 @@
--- What is found on the way to a unit.
+-- The steps from a package to its unit: what checking found, and the text of the object.
 use Rattle.std.specs.Prelude.{ℕ, ◌≡◌, List, [], Option, None, Some, slice_get}
 use Rattle.std.specs.Global.{Vec}
 use Rattle.std.specs.List.Sorted.{IsStrictlyIncreasing}
@@ -26,69 +26,72 @@ use Rattle.build_unit.specs.declared.package_at.PackageAt.{PackageAt}
 use Rattle.build_unit.specs.declared.unit.Unit.{Unit as PackageUnit}
 use Rattle.build_unit.specs.Units.{AreFilesBelow, IsUnitIn, IsUnitOf, KnowsOnly, unit_value, Faults}
 
--- p has the number, the closure is its closure, by numbers that rise, and what is known is right
+-- `at` is the package p of its graph: it has the number of p, the numbers of the packages in the closure of p, in order, and right
+-- verdicts.
 pub record IsPackageAt (at : PackageAt) (p : List ℕ) : Type 0 where
   pub has_path : slice_get (package_paths at.graph.now) at.number ≡ Some p
   pub closure : HoldsPackages at.graph.now (IsInClosure at.graph.now p) at.closure.now
   pub rising : IsStrictlyIncreasing at.closure.now
   pub known : KnowsVerdicts at.graph.now at.known.now
 
--- what the declarations of the packages in the closure of p are called
+-- `packages` has the names of the declarations of each package in the closure of p.
 pub record HaveNamesBelow (w : Workspace) (p : List ℕ) (packages : CalledPackages) : Type 0 where
   pub files_of : List ℕ → List SourceFile
   pub are_files : AreFilesBelow w p files_of
   pub have_names : HaveNames packages files_of
 
--- What is found where p has no fault, by what is known of the packages that it builds on: the verdict on p, by what is known of its
--- interface, and the uses of members in the files of p.
+-- The package p has no fault. `known` are the verdicts on the packages that it builds on. `own` is its export data as far as known.
+-- `members` are the uses of members in its files.
 pub record IsFaultless (w : Workspace) (known : Verdicts) (own : Option Interface) (p : List ℕ) (members : List (Vec MemberUse)) : Type 0 where
   pub below : AreVerdictsBelow w p known
   pub verdict : IsVerdict w p (verdict_known p own)
   pub listed : AreListed (IsFaultBy w known p) []
   pub uses : AreUsesOf w known p members
 
--- likewise, where these interfaces tell just what p sees of others
+-- The package p has no fault, by some verdicts on the packages that it builds on. `seen` has exactly the export data that p sees of other
+-- packages. `own` is the export data of p as far as known. `members` are the uses of members in its files.
 pub record IsFaultlessSeeing (w : Workspace) (seen : Interfaces) (own : Option Interface) (p : List ℕ) (members : List (Vec MemberUse)) : Type 0 where
   pub known : Verdicts
   pub faultless : IsFaultless w known own p members
   pub are_seen : AreSeen w known p (name_in seen) (interface_in seen)
 
--- interfaces that have of the path what is known of it, and nothing of any other path
+-- `one` has the export data `known` under `path`, and knows nothing of any other path.
 pub record HasJust (path : List ℕ) (known : Option Interface) (one : Interfaces) : Type 0 where
   pub same : interface_in one path ≡ interface_known path known
   pub alone : KnowsOnly path one
 
--- the unit holds just these faults
+-- The unit stands for exactly these faults.
 abbrev pub HoldsFaults : List FileFault → PackageUnit → Type 0
 HoldsFaults list unit = (p : List ℕ) → unit_value p unit ≡ Faults list
 
--- the unit of p, and what was found of packages
+-- `made` has the unit of the package p of w, and right verdicts on packages of w.
 pub record IsMade (w : Workspace) (p : List ℕ) (made : Made) : Type 0 where
   pub unit : IsUnitOf w p made.unit
   pub verdicts : AreVerdictsOf w made.found.items
 
--- likewise, if p is a package
+-- `made` has the unit of p, if p is a package of w, and right verdicts on packages of w.
 pub record IsMadeIn (w : Workspace) (p : List ℕ) (made : Made) : Type 0 where
   pub unit : IsUnitIn w p made.unit
   pub verdicts : AreVerdictsOf w made.found.items
 
--- Where a package is checked and its object printed in one
+-- A package that is checked and printed in one go.
 
--- the type definitions of an interface that was found
+-- The type definitions of export data, and none where there is no export data.
 abbrev pub found_definitions : Option Interface → List Definition
 found_definitions None = []
 found_definitions (Some i) = i.definitions.items
 
--- the text of the object of p, which is checked as c
+-- `text` is the text of the object of the package p, which is checked as the package value c.
 pub record IsPrintedAs (w : Workspace) (p : List ℕ) (c : Package) (text : List ℕ) : Type 0 where
   pub files_of : List ℕ → List SourceFile
   pub are_files : AreFilesBelow w p files_of
   pub is_object : IsObjectText c files_of text
 
+-- If `found` has a text, it is the text of the object of the package p, which is checked as the package value c.
 abbrev pub MayPrint : Workspace → List ℕ → Package → Option (List ℕ) → Type 0
 MayPrint w p c found = (text : List ℕ) → found ≡ Some text → IsPrintedAs w p c text
 
--- the text of the object of p
+-- `text` is the text of the object of the package p of w.
 pub record IsTextOf (w : Workspace) (p : List ℕ) (text : List ℕ) : Type 0 where
   pub known : Verdicts
   pub right : AreVerdictsBelow w p known
@@ -96,6 +99,6 @@ pub record IsTextOf (w : Workspace) (p : List ℕ) (text : List ℕ) : Type 0 wh
   pub is_package : IsPackageIn w known p checked
   pub is_printed : IsPrintedAs w p checked text
 
--- if it was printed
+-- If `found` has a text, it is the text of the object of the package p of w.
 abbrev pub MayBeText : Workspace → List ℕ → Option (List ℕ) → Type 0
 MayBeText w p found = (text : List ℕ) → found ≡ Some text → IsTextOf w p text

@@ -9,35 +9,35 @@ use Rattle.workspace_graph.specs.Graphs.{HoldsPackages}
 use Rattle.workspace_graph.specs.Packages.{IsInClosure, AreClosureTexts}
 use Rattle.workspace_check.specs.Closures.{HasSameClosure}
 
--- p is a package of the workspace, and its inputs are exactly the texts of its closure, as a workspace of their own
+-- p is a package of w, and `inputs` has exactly the texts of its closure, as a workspace of its own.
 pub record AreInputs (w : Workspace) (p : List ℕ) (inputs : Workspace) : Type 0 where
   pub is_package : Contains (package_paths w) p
   pub texts : AreClosureTexts w p (files.entries inputs)
 
--- whether the path is that of a Go file directly in the folder, if there is one
+-- Whether the path is that of a Go file directly in the folder. It is false where there is no folder.
 abbrev pub is_of_found : Option (List ℕ) → List ℕ → Bool
 is_of_found None path = false
 is_of_found (Some p) path = is_of_package p path
 
--- whether it is that of a Go file of one of the packages with some numbers
+-- Whether the path is that of a Go file of one of the packages of w with these numbers.
 abbrev pub is_of_numbered : Workspace → List ℕ → List ℕ → Bool
 is_of_numbered w numbers path = list_any (λ n. is_of_found (slice_get (package_paths w) n) path) numbers
 
--- the Go files of the packages with some numbers, as a workspace of their own
+-- The Go files of the packages of w with these numbers, as a workspace of their own.
 unfoldable pub part_of : Workspace → List ℕ → Workspace
 part_of w numbers = files.retain_keys w (is_of_numbered w numbers)
 
--- exactly the packages in the closure of that with a number, by their numbers, in order
+-- `numbers` are those of exactly the packages in the closure of the package `number`, in order.
 pub record IsClosureAt (w : Workspace) (number : ℕ) (numbers : List ℕ) : Type 0 where
   pub path : List ℕ
   pub has_path : slice_get (package_paths w) number ≡ Some path
   pub holds : HoldsPackages w (IsInClosure w path) numbers
   pub rising : IsStrictlyIncreasing numbers
 
--- all files are Go files
+-- Each file of the workspace is a Go file.
 abbrev pub AreGoFiles : Workspace → Type 0
 AreGoFiles w = (e : List ℕ × List ℕ) → Contains (files.entries w) e → is_go e.0 ≡ true
 
--- each package of w has the closure that it has in v
+-- Each package of w has the closure, with the texts, that it has in v.
 abbrev pub HasClosuresOf : Workspace → Workspace → Type 0
 HasClosuresOf v w = (q : List ℕ) → Contains (package_paths w) q → HasSameClosure v w q

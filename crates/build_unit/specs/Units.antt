@@ -1,4 +1,4 @@
--- The unit of a package in a workspace: its faults if it has some, else what other packages see of it and its object.
+-- The unit of a package: its faults if it has any, else its export data and its object.
 use Rattle.std.specs.Prelude.{ℕ, ◌≡◌, List, [], ◌∷◌, None, map, Contains}
 use Rattle.base_files.specs.Workspace.{Workspace}
 use Rattle.base_files.specs.Packages.{package_paths, package_files}
@@ -19,23 +19,24 @@ use Rattle.build_object.specs.Sources.{IsObjectText}
 use Rattle.build_unit.specs.declared.unit.Unit.{Unit as PackageUnit}
 use Rattle.build_unit.specs.declared.unit.Compiled.TheVariants as compiled
 
--- those files of a package that have trees
+-- `files` are the files of the package q of w that have trees.
 pub record AreFilesOf (w : Workspace) (q : List ℕ) (files : List SourceFile) : Type 0 where
   pub parts : List FileParts
   pub faulty : List FaultyParts
   pub parsed : AreParsed (package_files w q) parts faulty
   pub are_files : files ≡ map source_of parts
 
--- what the code of p may name of the package of a path: its files, if it is in the closure of p, and nothing of any other
+-- The files of the package q in which the code of p looks up names. They are the files with trees of q if q is in the closure of p, and
+-- none otherwise.
 pub data IsReadBy (w : Workspace) (p q : List ℕ) : List SourceFile → Type 0 where
   within : {files : List SourceFile} → IsInClosure w p q → AreFilesOf w q files → IsReadBy w p q files
   beyond : (IsInClosure w p q → ⊥) → IsReadBy w p q []
 
--- the files of the packages in the closure of p, by their paths
+-- `files_of` gives the files of each package in the closure of p, by its path, and no file of any other path.
 abbrev pub AreFilesBelow : Workspace → List ℕ → (List ℕ → List SourceFile) → Type 0
 AreFilesBelow w p files_of = (q : List ℕ) → IsReadBy w p q (files_of q)
 
--- what a package without faults compiles to
+-- The package p of w has no fault, and compiles to the export data `i` and the object with this text.
 pub record IsCompiled (w : Workspace) (p : List ℕ) (i : Interface) (object : List ℕ) : Type 0 where
   pub known : Verdicts
   pub right : AreVerdictsBelow w p known
@@ -47,41 +48,41 @@ pub record IsCompiled (w : Workspace) (p : List ℕ) (i : Interface) (object : L
   pub are_files : AreFilesBelow w p files_of
   pub is_object : IsObjectText checked files_of object
 
--- a unit by what it stands for
+-- The value of a unit: the faults of its package, or its export data and its object.
 pub data UnitValue : Type 0 where
   Faults : List FileFault → UnitValue
   Done : Interface → (object : List ℕ) → UnitValue
 
--- what the unit of p in w stands for
+-- The value is that of the unit of p in w: all faults of p, at least one, or the export data and the object of p.
 abbrev pub IsUnitValue : Workspace → List ℕ → UnitValue → Type 0
 IsUnitValue w p (Faults list) = ListsPackageFaults w p list × (list ≡ [] → ⊥)
 IsUnitValue w p (Done i object) = IsCompiled w p i object
 
--- what the program has stands for, as a unit of p
+-- The value of a unit of the program, as a unit of p.
 abbrev pub unit_value : List ℕ → PackageUnit → UnitValue
 unit_value p (compiled.Faults first others) = Faults (first ∷ others.items)
 unit_value p (compiled.Done interface object) = Done (interface_in interface p) object
 
--- of a path nothing is known: it has no name, exports nothing and has no type definition
+-- `i` knows nothing of the path q: no name, no export and no type definition.
 pub record IsUnknown (i : Interfaces) (q : List ℕ) : Type 0 where
   pub name : name_in i q ≡ None
   pub interface : interface_in i q ≡ no_interface q
 
--- of no package but p is anything known, and of no path what an import of it is
+-- `i` has export data of no package but p, and the state of no import.
 pub record KnowsOnly (p : List ℕ) (i : Interfaces) : Type 0 where
   pub elsewhere : (q : List ℕ) → (q ≡ p → ⊥) → IsUnknown i q
   pub states : (q : List ℕ) → state_in i.states q ≡ Missing
 
--- a unit tells what others see of p, if it does, and of no other package
+-- If the unit has export data, it has that of no package but p.
 abbrev pub TellsOnly : List ℕ → PackageUnit → Type 0
 TellsOnly p (compiled.Faults first others) = Unit {0}
 TellsOnly p (compiled.Done interface object) = KnowsOnly p interface
 
--- the unit of p in w: it stands for that of p, and tells of no other package
+-- `unit` is the unit of p in w: it has the value of this unit, and export data of no other package.
 pub record IsUnitOf (w : Workspace) (p : List ℕ) (unit : PackageUnit) : Type 0 where
   pub value : IsUnitValue w p (unit_value p unit)
   pub alone : TellsOnly p unit
 
--- if p is a package of these inputs, this is its unit in them; of a path that is no package nothing is said
+-- If p is a package of these inputs, `unit` is its unit in them. If it is none, `unit` may be any.
 abbrev pub IsUnitIn : Workspace → List ℕ → PackageUnit → Type 0
 IsUnitIn inputs p unit = Contains (package_paths inputs) p → IsUnitOf inputs p unit

@@ -1,4 +1,4 @@
-//! What comes of a Job: the unit of its package, and what was found of packages beside.
+//! Builds a Job: the unit of its package, and the verdicts that were found on the way.
 ghost use Rattle.std.specs.Prelude.{◌≡◌, IfOk};
 ghost use Rattle.workspace_check.specs.Found.{AreVerdictsOf};
 ghost use Rattle.build_unit.specs.Builds.{IsBuiltOf};
@@ -13,8 +13,8 @@ use std::marker::Model;
 use types_expr::symbol::SharedPath;
 use workspace_check::KnownVerdict;
 
-/// The unit of a package, with the inputs that it was built from, and the number of the state that they are of; and what was found of
-/// packages of the inputs when it was built.
+/// The answer to a Job: the unit of its package, the inputs that it was built from, and the number of the state that these are of. It has
+/// the verdicts on packages of the inputs that the build found.
 #[derive(Drop)]
 pub struct Built {
     number: u64,
@@ -48,12 +48,14 @@ impl Built {
         self.number
     }
 
+    /// The path of the package that was built.
     pub fn package(&self) -> &SharedPath
         ensures { result.now ≡ self.now.package }
     {
         &self.package
     }
 
+    /// The inputs from which the unit was built.
     pub fn inputs(&self) -> &PackageInputs
         ensures { result.now ≡ self.now.inputs }
     {
@@ -67,14 +69,14 @@ impl Built {
         &self.unit
     }
 
-    /// The verdicts on packages of the inputs that were found where it was built: those that the Job did not bring.
+    /// The verdicts on packages of the inputs that the build found: those that the Job did not bring.
     pub fn found(&self) -> &[KnownVerdict]
         ensures { AreVerdictsOf self.now.inputs result.now }
     {
         &self.found
     }
 
-    /// Whatever was built is the unit of the package in the inputs.
+    /// Shows that the unit is that of the package in the inputs.
     pub fn is_right(&self)
         ensures { IsUnitIn self.now.inputs self.now.package self.now.unit }
     {
@@ -82,8 +84,8 @@ impl Built {
     }
 }
 
-/// Builds what a Job is of. Of the packages of its inputs only the one that is built and those are checked of which it brings
-/// nothing. Of a path that is no package of the Job's inputs something is answered too, of which nothing is said.
+/// Builds the unit of a Job's package. It checks only packages on which the Job brings no verdict. The answer for a path that is no package
+/// of the inputs may be any unit.
 pub fn build(alloc: Global, job: &Job) -> Result<Built, AllocError>
     ensures { IfOk result (IsBuiltOf job.now) }
 {

@@ -1,4 +1,4 @@
-//! A package of which nothing is known yet: it is checked, and where it has no fault its object is printed by what was found for that.
+//! Prints the object of a package on which no verdict is known: it is checked, and printed by what checking found.
 ghost use Rattle.std.specs.Prelude.{◌≡◌, ◌<◌, [], List, None, ℕ, length, map, IfOk, OnOk};
 ghost use Rattle.base_files.specs.Packages.{package_paths};
 ghost use Rattle.go_ast.specs.SourceFile.{SourceFile};
@@ -33,14 +33,14 @@ use types_info::Bounds;
 use workspace_check::{Progress, seen_imports};
 use workspace_graph::ParsedPackage as Folder;
 
-/// What checking found in a package, and the text of its object where it has no fault.
+/// What checking found in a package, and the text of its object if it has no fault.
 #[derive(Drop)]
 pub(crate) struct CheckedText {
     checked: Checked,
     text: Option<FileText>,
 }
 
-/// The type definitions of an interface, if there is one.
+/// The type definitions of export data, and none where there is no export data.
 fn found_definitions(interface: &Option<Interface>) -> &[Definition]
     ensures { result.now ≡ found_definitions interface.now }
 {
@@ -50,7 +50,7 @@ fn found_definitions(interface: &Option<Interface>) -> &[Definition]
     }
 }
 
-/// The text of the object of a package without faults, by what checking found.
+/// Prints the object of a package without faults, by what checking found.
 fn printed<'a>(
     alloc: Global,
     unit: Package<'a>,
@@ -74,7 +74,7 @@ fn printed<'a>(
     FileText::new(alloc, text)
 }
 
-/// What checking found in a package, with the text of its object if it has no fault.
+/// Adds the text of the object to what checking found, if the package has no fault.
 fn with_text(
     alloc: Global,
     at: PackageAt<'_>,
@@ -106,7 +106,7 @@ fn with_text(
     })
 }
 
-/// What checking finds in a package whose clauses and imports have no faults, with the text of its object if it has none at all.
+/// Checks a package whose clauses and imports have no faults, and prints its object if it has none at all.
 fn unit_text(alloc: Global, at: PackageAt<'_>, unit: Package<'_>) -> Result<CheckedText, AllocError>
     requires number { at.number < length (package_paths at.graph.now) }
     requires at { OfPackage at.graph.now at.number (IsPackageAt at) }
@@ -118,7 +118,7 @@ fn unit_text(alloc: Global, at: PackageAt<'_>, unit: Package<'_>) -> Result<Chec
     with_text(alloc, at, unit, &index, found)
 }
 
-/// What checking finds in the package of a path, which has no object.
+/// Checks a package without printing it: its clauses or imports have a fault.
 fn no_text(
     alloc: Global,
     path: &SharedPath,
@@ -135,7 +135,7 @@ fn no_text(
     })
 }
 
-/// The path of a package, its files, and what it sees of others.
+/// The path of a package, its files, and what it sees of other packages.
 #[derive(Clone, Copy)]
 struct Seeing<'a> {
     path: &'a SharedPath,
@@ -143,8 +143,8 @@ struct Seeing<'a> {
     interfaces: &'a Interfaces,
 }
 
-/// What checking finds in a package each of whose files has a tree, and whose clauses and imports have no faults, by its table, with
-/// the text of its object if it has no fault.
+/// Checks a package by its scope table, and prints its object if it has no fault. Each of its files has a tree, and its clauses and imports
+/// have no faults.
 fn table_text<'a>(
     alloc: Global,
     at: PackageAt<'_>,
@@ -166,8 +166,8 @@ fn table_text<'a>(
     unit_text(alloc, at, unit)
 }
 
-/// What checking finds in a package each of whose files has a tree, by its table if its clauses and imports have no faults, with the
-/// text of its object if it has no fault.
+/// Checks a package, and prints its object if it has no fault. It has a scope table if its clauses and imports have no faults. Each of its
+/// files has a tree.
 fn laid_text<'a>(
     alloc: Global,
     at: PackageAt<'_>,
@@ -187,8 +187,7 @@ fn laid_text<'a>(
     }
 }
 
-/// What checking finds in a package each of whose files has a tree, by what it sees of others, with the text of its object if it has
-/// no fault.
+/// Checks a package by what it sees of other packages, and prints its object if it has no fault. Each of its files has a tree.
 fn seen_text<'a>(
     alloc: Global,
     at: PackageAt<'_>,
@@ -211,7 +210,7 @@ fn seen_text<'a>(
     laid_text(alloc, at, of, found)
 }
 
-/// What checking finds in a package each of whose files has a tree, with the text of its object if it has no fault.
+/// Checks a package by the export data of all packages, and prints its object if it has no fault. Each of its files has a tree.
 fn read_text(
     alloc: Global,
     at: PackageAt<'_>,
@@ -230,8 +229,8 @@ fn read_text(
     seen_text(alloc, at, path, files, &interfaces)
 }
 
-/// What checking finds in a package each of whose files has a tree, with the text of its object if it has no fault, where interfaces
-/// tell just what it sees of others, and it is noted what each path is that it imports.
+/// Checks a package, and prints its object if it has no fault. `of.interfaces` has exactly what the package sees of others, and `noted` the
+/// states of its imports. Each of its files has a tree.
 fn noted_text<'a>(
     alloc: Global,
     at: PackageAt<'_>,
@@ -254,8 +253,8 @@ fn noted_text<'a>(
     }
 }
 
-/// What checking finds in a package each of whose files has a tree, with the text of its object if it has no fault, where what is known
-/// is just what it sees of others: it is checked by that. Where its clauses or imports have a fault it is checked by its own.
+/// Checks a package by what was gathered for it, and prints its object if it has no fault. Each of its files has a tree. Where its clauses
+/// or imports have a fault, it is checked by its own imports.
 fn told_text(
     alloc: Global,
     at: PackageAt<'_>,
@@ -280,8 +279,8 @@ fn told_text(
     noted_text(alloc, at, of, &noted)
 }
 
-/// Checks a package each of whose files has a tree, and of which nothing is known yet, and tells the text of its object if it has
-/// no fault.
+/// Checks a package on which no verdict is known, and takes in what checking found. Returns the text of its object if it has no fault. Each
+/// of its files has a tree.
 fn learn_text(
     alloc: Global,
     at: PackageAt<'_>,
@@ -305,8 +304,8 @@ fn learn_text(
     Ok(text)
 }
 
-/// The text of the object of a package, if it has no fault. It is checked, if it is not known what is found in it and each of its files
-/// has a tree.
+/// The text of the object of a package, if it has no fault. Where no verdict on it is known and each of its files has a tree, it is
+/// checked. `None` for a faultless package is no loss: its object is printed later.
 pub(crate) fn text_first(
     alloc: Global,
     at: PackageAt<'_>,

@@ -1,4 +1,4 @@
-//! The unit of a package.
+//! Makes the unit of a package.
 ghost use Rattle.std.specs.Prelude.{◌≡◌, ℕ, [], Some, slice_get, IfOk};
 ghost use Rattle.base_files.specs.Packages.{package_paths};
 ghost use Rattle.base_files.specs.Workspace.{Workspace};
@@ -21,7 +21,7 @@ use types_expr::symbol::SharedPath;
 use workspace_check::{FileFault, Finding, FoundPackage, Known, KnownVerdict, Progress, seen};
 use workspace_graph::Graph;
 
-/// What is known of the interface of one package alone: of all others nothing is told.
+/// The export data of one package, in a table of its own that knows no other path.
 fn interface_of(
     alloc: Global,
     path: &SharedPath,
@@ -35,7 +35,7 @@ fn interface_of(
     Ok(one)
 }
 
-/// The unit of a package that has this object, with what others see of it.
+/// Makes the unit of a package with this object and its export data in `all`.
 fn done_unit(
     alloc: Global,
     path: &SharedPath,
@@ -49,7 +49,7 @@ fn done_unit(
     Unit::new(alloc, Compiled::Done { interface, object })
 }
 
-/// The unit of a package without faults, of which no object was printed.
+/// Makes the unit of a package without faults whose object is not yet printed.
 fn faultless_unit(
     alloc: Global,
     at: PackageAt<'_>,
@@ -68,7 +68,7 @@ fn faultless_unit(
     done_unit(alloc, path, all, object)
 }
 
-/// The unit of a package with these faults.
+/// Makes the unit of a package with these faults, at least one.
 fn faulty_unit(alloc: Global, faults: Vec<FileFault>) -> Result<Unit, AllocError>
     requires { faults.items ≡ [] → ⊥ }
     ensures { IfOk result (HoldsFaults faults.items) }
@@ -78,7 +78,7 @@ fn faulty_unit(alloc: Global, faults: Vec<FileFault>) -> Result<Unit, AllocError
     Unit::new(alloc, Compiled::Faults { first, others })
 }
 
-/// A copy of faults.
+/// Copies a list of faults.
 fn copied(alloc: Global, faults: &[FileFault]) -> Result<Vec<FileFault>, AllocError>
     ensures { IfOk result (λ copies. copies.items ≡ faults.now) }
 {
@@ -89,14 +89,14 @@ fn copied(alloc: Global, faults: &[FileFault]) -> Result<Vec<FileFault>, AllocEr
     Ok(copies)
 }
 
-/// A unit, and what was found of packages where it was made.
+/// A unit, and the verdicts that were found when it was made.
 #[derive(Drop)]
 pub(crate) struct Made {
     pub(crate) unit: Unit,
     pub(crate) found: Vec<KnownVerdict>,
 }
 
-/// The unit of a package with copies of these faults.
+/// Makes the unit of a package with copies of these faults, at least one.
 fn copied_unit(alloc: Global, faults: &[FileFault]) -> Result<Unit, AllocError>
     requires { faults.now ≡ [] → ⊥ }
     ensures { IfOk result (HoldsFaults faults.now) }
@@ -105,7 +105,8 @@ fn copied_unit(alloc: Global, faults: &[FileFault]) -> Result<Unit, AllocError>
     faulty_unit(alloc, faults)
 }
 
-/// The unit of a package, by what was found in it and in those that it builds on, and by the text of its object if that was printed.
+/// Makes the unit of a package by what was found in it and in the packages that it builds on. `text` is the text of its object, if it is
+/// printed already.
 fn unit_by(
     alloc: Global,
     at: PackageAt<'_>,
@@ -128,8 +129,7 @@ fn unit_by(
     }
 }
 
-/// The unit of a package. What is known of packages is not found again, and what is found where the package is checked serves to print
-/// its object.
+/// Makes the unit of a package. Known verdicts are not found again, and what checking found serves to print the object.
 pub(crate) fn unit_of(
     alloc: Global,
     at: PackageAt<'_>,
@@ -149,7 +149,7 @@ pub(crate) fn unit_of(
     Ok(Made { unit, found })
 }
 
-/// What stands for the unit of a path that is no package.
+/// Makes an empty unit for a path that is no package.
 fn no_unit(alloc: Global) -> Result<Made, AllocError>
     ensures { IfOk result (λ made. made.found.items ≡ []) }
 {
@@ -160,7 +160,7 @@ fn no_unit(alloc: Global) -> Result<Made, AllocError>
     Ok(Made { unit, found })
 }
 
-/// The unit of the package of a number, with its closure that is searched for.
+/// Makes the unit of the package `number`, whose closure it searches for.
 fn unit_at(
     alloc: Global,
     graph: &Graph,
@@ -182,7 +182,7 @@ fn unit_at(
     unit_of(alloc, at, path)
 }
 
-/// The unit of a package, if it is one of a graph, where some is known of packages.
+/// Makes the unit of the package at `path`, if the graph has it, by the known verdicts.
 pub(crate) fn unit_in(
     alloc: Global,
     graph: &Graph,

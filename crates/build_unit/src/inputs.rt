@@ -1,4 +1,4 @@
-//! What the unit of a package is built from.
+//! The inputs from which the unit of a package is built.
 ghost use Rattle.std.specs.Prelude.{◌≡◌, ◌<◌, IfOk, IsTrue, Some, length, slice_get, slice_index_or};
 ghost use Rattle.std.specs.List.{Contains};
 ghost use Rattle.base_files.specs.Packages.{package_paths};
@@ -17,8 +17,8 @@ use types_expr::symbol::SharedPath;
 use workspace_check::{KnownVerdict, SharedKnown};
 use workspace_graph::{Graph, PackageList, ParsedPackage, is_among};
 
-/// What the owners of a package's inputs share: the graph of the workspace that they are of; the number of the package there, and the
-/// numbers of those in its closure; and what is known of packages of that workspace.
+/// The shared parts of a package's inputs: the graph of its workspace, the number of the package, the numbers of its closure, and the known
+/// verdicts on packages of this workspace.
 #[derive(Drop)]
 struct InputParts {
     whole: Graph,
@@ -27,13 +27,13 @@ struct InputParts {
     known: SharedKnown,
 }
 
-/// The Go files of a package's closure, as a workspace of their own. They are those of the workspace from which they were taken: no text
-/// is copied, and nothing is parsed. A clone shares them.
+/// The Go files of a package's closure, as a workspace of their own. They are read in the workspace that they come from: no text is copied,
+/// and nothing is parsed. A clone shares them.
 pub struct PackageInputs {
     parts: Arc<InputParts, Global>,
 }
 
-/// Written out, so that crates above call it and don't prove again how each part is dropped.
+/// Written out, so that crates above call it and need not prove again how each part is dropped.
 impl Drop for PackageInputs {
     fn drop(self) {
         let PackageInputs { parts } = self;
@@ -59,7 +59,7 @@ impl Model for PackageInputs {
     ghost invariant = { λ a. IsClosureAt (arc_value a.parts).whole (arc_value a.parts).number (arc_value a.parts).closure × KnowsVerdicts (arc_value a.parts).whole (arc_value a.parts).known };
 }
 
-/// The number at a place.
+/// The number at this place of a list.
 fn number_at(numbers: &[usize], place: usize) -> usize
     requires { place < length numbers.now }
     ensures { result ≡ slice_index_or numbers.now place 0 }
@@ -67,7 +67,7 @@ fn number_at(numbers: &[usize], place: usize) -> usize
     numbers[place]
 }
 
-/// Whether the package of a number has a path.
+/// Whether the package `number` has this path.
 fn has_path(graph: &Graph, number: usize, path: &[u8]) -> bool
     requires { number < length (package_paths graph.now) }
     ensures { IsTrue result → slice_get (package_paths graph.now) number ≡ Some path.now }
@@ -75,7 +75,8 @@ fn has_path(graph: &Graph, number: usize, path: &[u8]) -> bool
     graph.package(number).path.as_slice() == path
 }
 
-/// The unit of the package of a path, if it is one of the workspace: that of the number, whose closure is known, or another.
+/// Makes the unit of the package at `path`, if the workspace has it. The closure is searched for only where this is not the package of the
+/// inputs.
 fn made_by(alloc: Global, parts: &InputParts, path: &SharedPath) -> Result<Made, AllocError>
     requires at { IsClosureAt parts.now.whole parts.now.number parts.now.closure }
     requires known { KnowsVerdicts parts.now.whole parts.now.known }
@@ -97,7 +98,7 @@ fn made_by(alloc: Global, parts: &InputParts, path: &SharedPath) -> Result<Made,
 }
 
 impl PackageInputs {
-    /// The inputs of the package of a number, with what is known of packages. Its closure alone is looked at.
+    /// The inputs of the package `number`, with the known verdicts. Only its closure is read.
     pub fn of(
         alloc: Global,
         files: &Graph,
@@ -121,7 +122,7 @@ impl PackageInputs {
         Ok(PackageInputs { parts: shared })
     }
 
-    /// How many packages there are.
+    /// The number of packages in the inputs.
     pub fn len(&self) -> usize
         ensures { result ≡ length (package_paths self.now) }
     {
@@ -129,7 +130,7 @@ impl PackageInputs {
         parts.closure.as_slice().len()
     }
 
-    /// A package with its parsed files, by its place among these.
+    /// The package at `place` among those of the inputs, with its parsed files.
     pub fn package(&self, place: usize) -> &ParsedPackage
         requires { place < length (package_paths self.now) }
         ensures { IsPackage self.now place result.now }
@@ -139,7 +140,7 @@ impl PackageInputs {
         parts.whole.package(number)
     }
 
-    /// Whether a path is that of one of the packages.
+    /// Whether the path is that of a package of the inputs.
     fn has(&self, path: &[u8]) -> bool
         ensures { IsTrue result → Contains (package_paths self.now) path.now }
     {
@@ -150,7 +151,7 @@ impl PackageInputs {
         }
     }
 
-    /// Those of some verdicts that are on packages of these.
+    /// Copies the verdicts on packages of the inputs, out of a list of verdicts.
     fn own_verdicts(
         &self,
         alloc: Global,
@@ -167,8 +168,8 @@ impl PackageInputs {
         Ok(own)
     }
 
-    /// The unit of the package of a path, if it is one of these. It is made in the workspace that they are of, where each of them has the
-    /// same closure.
+    /// Makes the unit of the package at `path`, if it is one of the inputs. It is made in the whole workspace, where each package of the
+    /// inputs has the closure that it has in them.
     pub(crate) fn made(&self, alloc: Global, path: &SharedPath) -> Result<Made, AllocError>
         ensures { IfOk result (IsMadeIn self.now path.now) }
     {
@@ -178,7 +179,7 @@ impl PackageInputs {
         Ok(Made { unit, found: own })
     }
 
-    /// They hold nothing but Go files.
+    /// Shows that each file of the inputs is a Go file.
     pub fn hold_go_files(&self)
         ensures { AreGoFiles self.now }
     {

@@ -5,8 +5,8 @@ use crate::inputs::PackageInputs;
 use std::marker::Model;
 use types_expr::symbol::SharedPath;
 
-/// What a Job is of: the package and the texts of its closure, the number of the state that they are of, and the visit
-/// of that state in which the Job was taken.
+/// The contents of a Job: the package and the texts of its closure. `number` is that of the state that they are of. `visit` is that of this
+/// state in which the Job was taken.
 #[derive(Drop)]
 pub struct JobRecord {
     pub ticket: u64,
@@ -16,7 +16,7 @@ pub struct JobRecord {
     pub inputs: PackageInputs,
 }
 
-/// A package to be built. It is made by `Out::hand_out` alone, and cannot be dropped: it ends in `Out::take_back` or in `retire`.
+/// A package to be built. Only `Out::hand_out` makes one. It cannot be dropped: it ends in `Out::take_back` or in `retire`.
 #[must_use]
 pub struct Job {
     record: JobRecord,
@@ -35,12 +35,14 @@ impl Model for Job {
 }
 
 impl Job {
+    /// Makes a Job of its record.
     pub(crate) fn new(of: JobRecord) -> Job
         ensures { result ≡ of }
     {
         Job { record: of }
     }
 
+    /// The ticket of the Job, by which it is handed out.
     pub fn ticket(&self) -> u64
         ensures { result ≡ self.now.ticket }
     {
@@ -54,26 +56,28 @@ impl Job {
         self.record.number
     }
 
+    /// The visit of the state in which the Job was taken.
     pub fn visit(&self) -> u64
         ensures { result ≡ self.now.visit }
     {
         self.record.visit
     }
 
+    /// The path of the package to be built.
     pub fn package(&self) -> &SharedPath
         ensures { result.now ≡ self.now.package }
     {
         &self.record.package
     }
 
-    /// What the package is built from: the files of its closure.
+    /// The files from which the package is built: those of its closure.
     pub fn inputs(&self) -> &PackageInputs
         ensures { result.now ≡ self.now.inputs }
     {
         &self.record.inputs
     }
 
-    /// Ends the Job. What it was of remains.
+    /// Ends the Job, and returns its record.
     pub fn retire(self) -> JobRecord
         ensures { result ≡ self }
     {

@@ -1,4 +1,4 @@
-//! A package in which it is known what is found: its object is printed by that, where it has no fault.
+//! Prints the object of a package on which a verdict is known, if the package has no fault.
 ghost use Rattle.std.specs.Prelude.{◌≡◌, ℕ, option_copied, slice_get, IfOk};
 ghost use Rattle.types_expr.specs.WorldView.{definitions_listed, ranked};
 ghost use Rattle.types_declared.specs.InterfacesView.{interface_known};
@@ -18,7 +18,7 @@ use types_expr::symbol::SharedPath;
 use types_expr::world::Definition;
 use workspace_check::{KnownVerdict, Progress};
 
-/// The type definitions of a package, by their ranks.
+/// The type definitions of export data, by their ranks, and none where there is no export data.
 fn definitions_of(own: Option<&Interface>) -> &[Definition]
     ensures { (rank : ℕ) → slice_get result.now rank ≡ ranked (definitions_listed (option_copied own.entry)) rank }
 {
@@ -28,8 +28,8 @@ fn definitions_of(own: Option<&Interface>) -> &[Definition]
     }
 }
 
-/// The text of the object of a package without faults, by interfaces that tell just what it sees of others, and by what is known of
-/// its own interface.
+/// Prints the object of a package without faults. `seen` has exactly what it sees of other packages, and `own` is its own export data as
+/// far as known.
 pub(crate) fn object_of(
     alloc: Global,
     at: PackageAt<'_>,
@@ -56,7 +56,7 @@ pub(crate) fn object_of(
     FileText::new(alloc, text)
 }
 
-/// The text of the object of a package, if it has no fault by what is known of it. What it sees of others was gathered.
+/// Prints the object of a package, if it has no fault by the known verdict. `progress` has gathered what it sees of other packages.
 pub(crate) fn known_text(
     alloc: Global,
     at: PackageAt<'_>,

@@ -1,5 +1,5 @@
-//! The unit of a package, which is what building it makes: its faults, or where it has none what other packages see of it, and its object.
-//! And the Jobs, each of which asks for the unit of one package.
+//! Builds packages. The unit of a package is its faults, or its export data and its object where it has none. A Job asks for the unit of
+//! one package.
 #![tactic(auto)]
 
 mod built;

@@ -1,4 +1,4 @@
-//! What the declarations of the packages in a closure are called.
+//! Gathers the names of the declarations of the packages in a closure.
 ghost use Rattle.std.specs.Prelude.{◌≡◌, ◌<◌, length, IfOk, OnOk};
 ghost use Rattle.base_files.specs.Packages.{package_paths};
 ghost use Rattle.workspace_graph.specs.Graphs.{OfPackage};
@@ -14,7 +14,7 @@ use types_expr::symbol::SharedPath;
 use workspace_check::Known;
 use workspace_graph::{Graph, ParsedPackage};
 
-/// Notes a package, unless it is marked.
+/// Adds a package, unless it is marked, and marks it.
 fn note(found: &mut Vec<usize>, marks: &mut Vec<bool>, number: usize) -> Result<(), AllocError> {
     if number < marks.len() && !marks[number] {
         marks[number] = true;
@@ -23,7 +23,7 @@ fn note(found: &mut Vec<usize>, marks: &mut Vec<bool>, number: usize) -> Result<
     Ok(())
 }
 
-/// Notes what a package imports directly.
+/// Adds the packages that a package imports directly.
 fn note_imports(
     graph: &Graph,
     number: usize,
@@ -38,8 +38,7 @@ fn note_imports(
     Ok(())
 }
 
-/// The packages of which much may be asked by one: that one, what it imports directly, and what these import directly. Only speed
-/// rests on them.
+/// The packages in which a package looks up most names: itself, its direct imports, and their direct imports. Only speed depends on them.
 fn near(alloc: Global, graph: &Graph, number: usize) -> Result<Vec<usize>, AllocError>
     requires { number < length (package_paths graph.now) }
 {
@@ -53,7 +52,7 @@ fn near(alloc: Global, graph: &Graph, number: usize) -> Result<Vec<usize>, Alloc
     Ok(found)
 }
 
-/// The path of a package, shared with what is known of it, if anything is.
+/// The path of a package, shared with the known verdict on it, if there is one.
 fn path_of(
     alloc: Global,
     graph: &Graph,
@@ -73,7 +72,7 @@ fn path_of(
     }
 }
 
-/// What the declarations of a package are called: nothing looks at its files before a name is asked for.
+/// The names of a package's declarations. Its files are read only when a name is asked for.
 fn names_of(files: &ParsedPackage) -> CalledNames<'_>
     ensures path { result.path.now ≡ files.now.path.items }
     ensures files { result.files.now ≡ files.now.trees.items }
@@ -84,8 +83,7 @@ fn names_of(files: &ParsedPackage) -> CalledNames<'_>
     }
 }
 
-/// What the declarations of a package are called, and of all that it imports, directly or indirectly, without tables. Their paths rise
-/// as their numbers do.
+/// The names of the declarations of each package in a closure, without tables. The paths rise as the numbers do.
 fn all_names<'a>(alloc: Global, at: PackageAt<'a>) -> Result<PathTable<CalledNames<'a>>, AllocError>
     requires number { at.number < length (package_paths at.graph.now) }
     requires at { OfPackage at.graph.now at.number (IsPackageAt at) }
@@ -100,7 +98,7 @@ fn all_names<'a>(alloc: Global, at: PackageAt<'a>) -> Result<PathTable<CalledNam
     Ok(names)
 }
 
-/// Adds tables of what the package of a path declares, if it is one of those with names.
+/// Adds the tables of the declarations of the package at `path`, if it is in `names`.
 fn add_tables<'a>(
     alloc: Global,
     names: &PathTable<CalledNames<'a>>,
@@ -120,7 +118,7 @@ fn add_tables<'a>(
     }
 }
 
-/// Tables of what some packages declare.
+/// Makes the tables of the declarations of the packages with these numbers.
 fn tables_of<'a>(
     alloc: Global,
     at: PackageAt<'a>,
@@ -138,7 +136,7 @@ fn tables_of<'a>(
     Ok(tables)
 }
 
-/// Tables of what the packages declare of which much may be asked.
+/// Makes the tables of the declarations of a package, of its direct imports, and of their direct imports.
 fn near_tables<'a>(
     alloc: Global,
     at: PackageAt<'a>,
@@ -151,7 +149,7 @@ fn near_tables<'a>(
     tables_of(alloc, at, names, &numbers)
 }
 
-/// What the declarations of a package are called, and of all that it imports, directly or indirectly.
+/// The names of the declarations of each package in a closure, with tables for those in which most names are looked up.
 pub(crate) fn names_below<'a>(
     alloc: Global,
     at: PackageAt<'a>,

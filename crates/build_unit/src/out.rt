@@ -1,4 +1,4 @@
-//! The Jobs that are out: handed out, and not back yet.
+//! The Jobs that are out: handed out, and not yet taken back.
 ghost use Rattle.std.specs.Prelude.{◌≡◌, ◌↔◌, ◌<◌, [], IsTrue, MatchOption, Some, length, slice_get};
 ghost use Rattle.build_unit.specs.Jobs.{HandsOut, IsOut, IsTaken, TakesBack, label_of};
 
@@ -8,7 +8,7 @@ use std::alloc::{AllocError, Global};
 use std::marker::Model;
 use types_expr::symbol::SharedPath;
 
-/// What a Job is known by.
+/// The label by which a Job is recognized.
 #[derive(Drop)]
 pub struct JobLabel {
     pub ticket: u64,
@@ -18,7 +18,7 @@ pub struct JobLabel {
 }
 
 impl JobLabel {
-    /// Whether it is the label of a Job.
+    /// Whether this is the label of the Job.
     fn is_of(&self, job: &Job) -> bool
         ensures { IsTrue result ↔ (self.now ≡ label_of job.now) }
     {
@@ -28,7 +28,7 @@ impl JobLabel {
             && self.package.path() == job.package().path()
     }
 
-    /// Whether it is that of a Job of a package that was taken in a visit.
+    /// Whether this is the label of a Job of the package at `path` that was taken in this visit.
     fn is_of_visit(&self, visit: u64, path: &[u8]) -> bool
         ensures { IsTrue result ↔ ((self.now.visit ≡ visit) × (self.now.package ≡ path.now)) }
     {
@@ -52,7 +52,7 @@ impl Model for Out {
 }
 
 impl Out {
-    /// No Job is out yet.
+    /// Begins with no Job out.
     pub fn new(alloc: Global) -> Out
         ensures { result ≡ record { ticket = 0; jobs = [] } }
     {
@@ -62,14 +62,14 @@ impl Out {
         }
     }
 
-    /// How many Jobs are out.
+    /// The number of Jobs that are out.
     pub fn len(&self) -> usize
         ensures { result ≡ length self.now.jobs }
     {
         self.labels.len()
     }
 
-    /// The place of a Job among those that are out.
+    /// The place of the Job among those that are out, if it is out.
     fn place_of(&self, job: &Job) -> Option<usize>
         ensures { MatchOption result (IsOut self.now job.now → ⊥) (λ place. slice_get self.now.jobs place ≡ Some (label_of job.now)) }
     {
@@ -81,14 +81,14 @@ impl Out {
         None
     }
 
-    /// Whether a Job is out.
+    /// Whether the Job is out.
     pub fn is_out(&self, job: &Job) -> bool
         ensures { IsTrue result ↔ IsOut self.now job.now }
     {
         self.place_of(job).is_some()
     }
 
-    /// Whether a Job of a package is out that was taken in a visit.
+    /// Whether a Job of the package at `path` is out that was taken in this visit.
     pub fn is_taken(&self, visit: u64, path: &[u8]) -> bool
         ensures { IsTrue result ↔ IsTaken self.now visit path.now }
     {
@@ -100,8 +100,8 @@ impl Out {
         false
     }
 
-    /// Hands out a Job with the next ticket. It is for the caller to see that the path is that of a package of the inputs: of any other
-    /// nothing is said of what is built.
+    /// Hands out a Job with the next ticket. The caller makes sure that `path` is that of a package of the inputs. For another path any
+    /// unit may be built.
     pub fn hand_out(
         &mut self,
         number: u64,
@@ -131,7 +131,7 @@ impl Out {
         Ok(Job::new(record))
     }
 
-    /// Takes a Job back that is out. It takes no memory.
+    /// Takes back a Job that is out, and returns its record. A Job that is not out is returned. It takes no memory.
     pub fn take_back(&mut self, job: Job) -> Result<JobRecord, Job>
         ensures { TakesBack self.old job result self.new }
     {

@@ -2,7 +2,7 @@
 use workspace_check::Known;
 use workspace_graph::Graph;
 
-/// A package of a graph, by its number; the packages in its closure, by theirs; and what is known of packages of the graph.
+/// A package of a graph, by its number, with the numbers of its closure and the known verdicts on packages of the graph.
 #[derive(Clone, Copy)]
 pub(crate) struct PackageAt<'a> {
     pub(crate) graph: &'a Graph,

@@ -1,4 +1,4 @@
-//! What packages compile to.
+//! Units: what packages compile to.
 ghost use Rattle.std.specs.Prelude.{◌≡◌, MatchResult, Ok, Err, IfOk};
 ghost use Rattle.build_unit.specs.Builds.{result_of};
 
@@ -10,8 +10,8 @@ use std::sync::Arc;
 use types_declared::Interfaces;
 use workspace_check::FileFault;
 
-/// The faults of a package in their order, of which there is one at least. Where it has none: what other packages see of it,
-/// which is all that the interfaces tell, and its object.
+/// What a package compiles to: its faults in order, at least one, or its export data and its object. `interface` has the export data of
+/// this package alone.
 #[derive(Drop)]
 pub enum Compiled {
     Faults {
@@ -24,12 +24,12 @@ pub enum Compiled {
     },
 }
 
-/// What a package compiles to. A clone shares it.
+/// A compiled package. A clone shares it.
 pub struct Unit {
     compiled: Arc<Compiled, Global>,
 }
 
-/// Written out, so that crates above call it and don't prove again how each part is dropped.
+/// Written out, so that crates above call it and need not prove again how each part is dropped.
 impl Drop for Unit {
     fn drop(self) {
         let Unit { compiled } = self;
@@ -50,6 +50,7 @@ impl Model for Unit {
 }
 
 impl Unit {
+    /// Shares a compiled package as a unit.
     pub(crate) fn new(alloc: Global, compiled: Compiled) -> Result<Unit, AllocError>
         ensures { IfOk result (λ unit. unit ≡ compiled) }
     {
@@ -57,7 +58,7 @@ impl Unit {
         Ok(Unit { compiled })
     }
 
-    /// What the package compiled to.
+    /// The faults of the package, or its export data and its object.
     pub fn compiled(&self) -> &Compiled
         ensures { result.now ≡ self.now }
     {

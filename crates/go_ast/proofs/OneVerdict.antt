@@ -8,7 +8,7 @@ use Rattle.go_ast.specs.Grammar.{Symbol}
 use Rattle.go_ast.specs.Language.{Derives, FirstFault, DeepFault, levels}
 use Rattle.go_ast.specs.Verdict.{Verdict, Whole, Faulty, IsWhole, IsVerdict}
 
--- two ways to cut one list: at the same place, or one further on
+-- two splits of one list: at one index, or the second further on
 data Cut (a b c d : List Token) : Type 0 where
   alike : a ≡ c → b ≡ d → Cut a b c d
   second_longer : (t : Token) (mid : List Token) → c ≡ a ++ (t ∷ mid) → b ≡ t ∷ (mid ++ d) → Cut a b c d
@@ -25,11 +25,11 @@ cut [] b (y ∷ c) d e = second_longer y c refl e
 cut (x ∷ a) b [] d e = first_longer x a refl (sym e)
 cut (x ∷ a) b (y ∷ c) d e = longer_cut x y a b c d (cc) (cut a b c d (cc))
 
--- a derivation of an equal list, with the same levels
+-- a derivation of an equal list, with equal levels
 moved : {ss : List Symbol} (d : ℕ) (ts us : List Token) → ts ≡ us → (x : Derives ss ts) → (y : Derives ss us) × (levels d y ≡ levels d x)
 moved {ss = ss} d ts us e x = let P : List Token → Type 0 = λ us. (y : Derives ss us) × (levels d y ≡ levels d x) in subst P e (x, refl)
 
--- before, and more behind it, as what stands before an earlier place, the token there, and more
+-- a longer prefix b and the tokens after it, as a shorter prefix a, the token after that, and the rest
 regrouped : (a b : List Token) (t u : Token) (mid more : List Token) → b ≡ a ++ (t ∷ mid) → u ≡ t → b ++ more ≡ a ++ (u ∷ (mid ++ more))
 regrouped a b t u mid more e f = ap (λ x. x ++ more) e ∙ (append_assoc a (t ∷ mid) more ∙ ap (λ x. a ++ (x ∷ (mid ++ more))) (sym f))
 
@@ -48,7 +48,7 @@ syntax_once {ss = ss} f g = elim (cut f.before f.rest g.before g.rest (sym f.spl
       (subst (λ x. Derives ss x) (regrouped g.before f.before t t mid f.viable.0 p refl) f.viable.1))
 ]
 
--- an open level over the limit, and none
+-- a level over the limit is open, and none is: a contradiction
 too_deep : (l : ℕ) (xs ys : List ℕ) (k : ℕ) → ys ≡ xs → l < get_or ys k 0 → get_or xs k 0 ≤ l → ⊥
 too_deep l xs ys k e h i = let j : l < get_or xs k 0 = subst (λ z. l < get_or z k 0) e h in omega (arith, i, j)
 
@@ -63,7 +63,7 @@ syntax_or_nesting {ss = ss} {l = l} {d = d} f g = elim (cut f.before f.rest g.be
       (f.shallow f.viable.0 f.viable.1 (length g.before) (further g.before f.before t mid p))
 ]
 
--- of two nesting faults the earlier leaves none to the later
+-- the first of two nesting faults excludes the second
 earlier : {ss : List Symbol} {l d : ℕ} {ts : List Token} {m n : ℕ} (f : DeepFault ss l d ts m) (g : DeepFault ss l d ts n) (t : Token) (mid rest : List Token) →
     g.before ≡ f.before ++ (t ∷ mid) → f.t ∷ f.others ≡ t ∷ rest → ⊥
 earlier {l = l} {d = d} f g t mid rest p q =

@@ -1,4 +1,4 @@
--- The first fault of a text.
+-- The first fault of a text: of its pieces, or else of its tokens.
 use Rattle.std.specs.Prelude.{◌≡◌, ℕ, ◌⊎◌, List}
 use Rattle.go_scanner.specs.Cuts.{IsCut, IsFirstFault}
 use Rattle.go_scanner.specs.CutText.{CutText}
@@ -10,13 +10,12 @@ use Rattle.go_ast.specs.declared.syntax.TokenFaultKind.TheVariants.{Syntax, Nest
 use Rattle.go_ast.specs.Kinds.{kinds_of, place_of}
 use Rattle.go_ast.specs.Verdict.{IsWhole, IsVerdict, Faulty}
 
--- a kind of fault of a token list, as a kind of fault of a file
+-- the kind of fault of a file for a kind of fault of its token list
 abbrev pub kind_for : TokenFault → FaultKind
 kind_for Syntax = kind.Syntax
 kind_for Nesting = kind.Nesting
 
--- The first fault of a file's tokens, which stands where the token at fault begins, or at the file's end where all of
--- its tokens could be continued.
+-- f is the first fault of a file's tokens: at the start of the token at fault, or at the file's end where all its tokens begin some file
 pub record IsParseFault (c : CutText) (f : TextFault) : Type 0 where
   pub kind : TokenFault
   pub left : ℕ
@@ -24,20 +23,20 @@ pub record IsParseFault (c : CutText) (f : TextFault) : Type 0 where
   pub kind_is : f.kind ≡ kind_for kind
   pub offset_is : f.offset ≡ place_of c left
 
--- the text is cut, and its tokens are a file of the grammar, within the limit of nesting
+-- the text has a cut, and its tokens are a file of the grammar within the limit of nesting
 pub record IsSound (text : List ℕ) : Type 0 where
   pub cut : CutText
   pub of_text : cut.text ≡ text
   pub is_cut : IsCut cut.text cut.pieces
   pub whole : IsWhole (kinds_of cut)
 
--- the first fault of a text that is cut
+-- the text has a cut, and `fault` is the first fault of its tokens
 pub record IsFaultOfTokens (text : List ℕ) (fault : TextFault) : Type 0 where
   pub cut : CutText
   pub of_text : cut.text ≡ text
   pub is_cut : IsCut cut.text cut.pieces
   pub fault_is : IsParseFault cut fault
 
--- the first fault of a text: a fault of its pieces comes before one of its tokens
+-- `fault` is the first fault of a text: of its pieces, or of its tokens where it has a cut
 abbrev pub IsFaultOf : List ℕ → TextFault → Type 0
 IsFaultOf text fault = IsFirstFault text fault ⊎ IsFaultOfTokens text fault

@@ -1,4 +1,4 @@
--- The trees of statements, declarations and files that values of the program stand for.
+-- The specification trees of the program's statements, declarations and files.
 use Rattle.std.specs.Prelude.{ℕ, List, map}
 use Rattle.go_ast.specs.Tree as tree
 use Rattle.go_ast.specs.Tree.{LocalTree, SimpleTree, InitTree, ForTree, StatementTree, BlockTree, StatementTrees, IfTree, ElseTree, ExprTree, BasicTree}
@@ -37,6 +37,7 @@ use Rattle.go_ast.specs.declared.tree.Decl.{Decl}
 use Rattle.go_ast.specs.declared.tree.Decl.TheVariants as decl
 use Rattle.go_ast.specs.declared.tree.File.{File}
 
+-- a token index as the view of itself
 abbrev pub same_place : ℕ → ℕ
 same_place n = n
 

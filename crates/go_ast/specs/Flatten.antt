@@ -1,4 +1,4 @@
--- The tokens that a tree writes out.
+-- The tokens of a syntax tree, in order.
 use Rattle.std.specs.Prelude.{ℕ, List, [], ◌∷◌, ◌++◌, Option, Some, None}
 use Rattle.go_ast.specs.declared.syntax.Kind.{Kind}
 use Rattle.go_ast.specs.declared.syntax.Kind.TheVariants as kind
@@ -20,6 +20,7 @@ use Rattle.go_ast.specs.Tree.{statement, IfTree, if_tree, ElseTree, no_else, els
 use Rattle.go_ast.specs.Tree.{Struct, TypeSpecTree, ReceiverTree, ParamTree, ResultTree, no_result, one_result, results, FuncTree, ImportsTree, DeclTree}
 use Rattle.go_ast.specs.Tree.{VarDecl, TypeDecl, FuncDecl, FileTree}
 
+-- the token of this kind and index
 abbrev pub sign : Kind → ℕ → Token
 sign k p = record { kind = k; place = p }
 
@@ -55,25 +56,26 @@ update_kind update.Multiply = kind.MulAssign
 update_kind update.Divide = kind.DivAssign
 update_kind update.Remainder = kind.RemAssign
 
--- a token that may be absent
+-- an optional token of a kind
 abbrev pub sign_if : Kind → Option ℕ → List Token
 sign_if k None = []
 sign_if k (Some p) = sign k p ∷ []
 
--- the tokens of what may be absent
+-- the tokens of an optional tree
 abbrev pub tokens_if : {X : Type 0} → (X → List Token) → Option X → List Token
 tokens_if f None = []
 tokens_if f (Some x) = f x
 
--- the tokens of several trees, one after the other
+-- the tokens of several trees, in order
 unfoldable pub all_tokens : {X : Type 0} → (X → List Token) → List X → List Token
 all_tokens f [] = []
 all_tokens f (x ∷ xs) = f x ++ all_tokens f xs
 
--- an item's tokens and its separator, which is of that kind
+-- the tokens of an item, and its separator of kind k
 abbrev pub item_tokens : {X : Type 0} → Kind → (X → List Token) → Item X → List Token
 item_tokens k f i = f i.value ++ sign_if k i.separator
 
+-- the tokens of a list whose separators are of kind k
 abbrev pub list_tokens : {X : Type 0} → Kind → (X → List Token) → List (Item X) → List Token
 list_tokens k f xs = all_tokens (item_tokens k f) xs
 
@@ -146,7 +148,7 @@ simple_tokens (Update e op p f) = expr_tokens e ++ (sign (update_kind op) p ∷ 
 simple_tokens (Assign es p fs) = exprs_tokens es ++ (sign kind.Assign p ∷ exprs_tokens fs)
 simple_tokens (Define es p fs) = exprs_tokens es ++ (sign kind.Define p ∷ exprs_tokens fs)
 
--- `=` and the values behind it
+-- the tokens of `=` and the values that follow it
 abbrev pub value_tokens : {X : Type 0} → (X → List Token) → ℕ × List (Item X) → List Token
 value_tokens f v = sign kind.Assign v.0 ∷ list_tokens kind.Comma f v.1
 
@@ -229,6 +231,7 @@ decl_tokens (VarDecl k g s) = sign kind.Var k ∷ (group_tokens global_tokens g 
 decl_tokens (TypeDecl k g s) = sign kind.TypeWord k ∷ (group_tokens type_spec_tokens g ++ (sign kind.Semicolon s ∷ []))
 decl_tokens (FuncDecl k f s) = sign kind.Func k ∷ (func_tokens f ++ (sign kind.Semicolon s ∷ []))
 
+-- the tokens of a file
 unfoldable pub flatten : FileTree → List Token
 flatten f = sign kind.Package f.keyword ∷ sign kind.Name f.name ∷ sign kind.Semicolon f.semicolon ∷
     (all_tokens imports_tokens f.imports ++ all_tokens decl_tokens f.decls)

@@ -1,4 +1,4 @@
--- The grammar, as rules for the parts of a text.
+-- The grammar of the Go subset: the rules for each part of a file.
 use Rattle.std.specs.Prelude.{◌||◌, ℕ, Bool, true, false, List, [], ◌∷◌, Option, Some, None, cond, nat_eq}
 use Rattle.go_ast.specs.declared.syntax.Kind.{Kind}
 use Rattle.go_ast.specs.declared.syntax.Kind.TheVariants.{Name, Blank, Number, Text, LeftParen, RightParen, LeftBracket, RightBracket, LeftBrace}
@@ -11,7 +11,7 @@ use Rattle.go_ast.specs.declared.syntax.BinaryOp.TheVariants as binary
 use Rattle.go_ast.specs.declared.syntax.PrefixOp.{PrefixOp}
 use Rattle.go_ast.specs.declared.syntax.PrefixOp.TheVariants as prefix
 
--- a kind of token, as a number
+-- a number for each kind of token
 abbrev pub number_of : Kind → ℕ
 number_of Name = 0
 number_of Blank = 1
@@ -65,7 +65,7 @@ number_of TypeWord = 48
 number_of Struct = 49
 number_of Other = 50
 
--- the binary operator that a token is
+-- the binary operator that a token of this kind is, if any
 abbrev pub binary_of : Kind → Option BinaryOp
 binary_of Star = Some binary.Multiply
 binary_of Slash = Some binary.Divide
@@ -82,7 +82,7 @@ binary_of AndAnd = Some binary.And
 binary_of OrOr = Some binary.Or
 binary_of _ = None
 
--- the prefix operator that a token is
+-- the prefix operator that a token of this kind is, if any
 abbrev pub prefix_of : Kind → Option PrefixOp
 prefix_of Plus = Some prefix.Plus
 prefix_of Minus = Some prefix.Minus
@@ -94,27 +94,30 @@ abbrev pub is_some : {A : Type 0} → Option A → Bool
 is_some None = false
 is_some (Some x) = true
 
--- What a group in parentheses may be of.
+-- the specs that a group in parentheses may contain: of imports, package-level variables, types or local variables
 pub data Item : Type 0 where
   ImportItem : Item
   GlobalItem : Item
   TypeItem : Item
   LocalItem : Item
 
--- Where a simple statement stands: by itself, at the head of an `if` or a `for`, or last in the head of a `for`,
--- where it declares nothing.
+-- The position of a simple statement: `Plain` by itself, `Head` in the header of an `if` or a `for`, `Post` as the last clause of a `for`.
+-- The last clause is no `:=`.
 pub data Setting : Type 0 where
   Plain : Setting
   Head : Setting
   Post : Setting
 
+-- the statement is in the header of an `if` or a `for`
 abbrev pub in_head : Setting → Bool
 in_head Plain = false
 in_head Head = true
 in_head Post = true
 
--- The parts of a text. The flag of an expression says that it stands between `if` or `for` and its block, outside
--- any brackets, where no literal begins with a name.
+-- The parts of a file, each with its own rules. The flag of an expression part is true in the header of an `if` or a `for`, outside
+-- brackets. There, no composite literal begins with a name:
+--
+--   if x == T{} {
 pub data Part : Type 0 where
   File : Part
   Imports : Part
@@ -177,13 +180,14 @@ pub data Part : Type 0 where
   Element : Part
   AfterKey : Part
 
--- What a rule is made of: a token of a class, such a token that opens a level, the end of that level, a part.
+-- the symbols of a rule: a token of a class, a token of a class that opens a level of nesting, the end of that level, a part
 pub data Symbol : Type 0 where
   One : (Kind → Bool) → Symbol
   Opening : (Kind → Bool) → Symbol
   Close : Symbol
   A : Part → Symbol
 
+-- j is the kind k
 abbrev pub is : Kind → Kind → Bool
 is k j = nat_eq (number_of k) (number_of j)
 
@@ -193,12 +197,14 @@ is_binary k = is_some (binary_of k)
 abbrev pub is_prefix : Kind → Bool
 is_prefix k = is_some (prefix_of k)
 
+-- a token of this kind is an operand by itself, and no name
 abbrev pub is_leaf : Kind → Bool
 is_leaf Blank = true
 is_leaf Number = true
 is_leaf Text = true
 is_leaf _ = false
 
+-- the kind k is in the list
 abbrev pub one_of : List Kind → Kind → Bool
 one_of [] k = false
 one_of (j ∷ js) k = is j k || one_of js k
@@ -215,48 +221,58 @@ is_step = one_of (Increment ∷ Decrement ∷ [])
 abbrev pub is_update : Kind → Bool
 is_update = one_of (AddAssign ∷ SubAssign ∷ MulAssign ∷ DivAssign ∷ RemAssign ∷ [])
 
--- what a list of expressions may be assigned by
+-- a token of this kind may assign to a list of expressions, at this position of a statement
 abbrev pub sets : Setting → Kind → Bool
 sets Plain = one_of (Assign ∷ Define ∷ [])
 sets Head = one_of (Assign ∷ Define ∷ [])
 sets Post = is Assign
 
+-- a type may begin with a token of this kind
 abbrev pub begins_type : Kind → Bool
 begins_type = one_of (Name ∷ Star ∷ LeftBracket ∷ [])
 
+-- an operand that is no name may begin with a token of this kind
 abbrev pub begins_operand : Kind → Bool
 begins_operand k = is_prefix k || (is_leaf k || one_of (Ampersand ∷ LeftParen ∷ LeftBracket ∷ []) k)
 
+-- an expression may begin with a token of this kind
 abbrev pub begins_expression : Kind → Bool
 begins_expression k = is Name k || begins_operand k
 
+-- the kind k passes the test c, and h is false
 abbrev pub unless : Bool → (Kind → Bool) → Kind → Bool
 unless h c k = cond (c k) (cond h false true) false
 
--- A rule of a part. One that begins with a test is selected where the next token passes it, and none before it is.
+-- A rule of a part. The first rule whose test the next token passes is selected; `Otherwise` has no test.
 pub data Rule : Type 0 where
   Begins : (Kind → Bool) → List Symbol → Rule
   Otherwise : List Symbol → Rule
 
+-- the rule of a selector, followed by a part
 abbrev pub selector : Part → Rule
 selector then = Begins (is Dot) (One (is Dot) ∷ One (is Name) ∷ A then ∷ [])
 
+-- the rule of an index, followed by a part
 abbrev pub index : Part → Rule
 index then = Begins (is LeftBracket) (Opening (is LeftBracket) ∷ A (Expression false) ∷ One (is RightBracket) ∷ Close ∷ A then ∷ [])
 
+-- the rule of a call, followed by a part
 abbrev pub call : Part → Rule
 call then = Begins (is LeftParen) (Opening (is LeftParen) ∷ A Arguments ∷ Close ∷ A then ∷ [])
 
--- a literal whose type's name has been read, where one may stand
+-- the other rules, preceded outside a header by that of a composite literal whose type's name has been read
 abbrev pub or_literal : Bool → List Rule → List Rule
 or_literal h others = cond h others (Begins (is LeftBrace) (A Elements ∷ A (Links h) ∷ []) ∷ others)
 
+-- the symbols of a slice type, followed by others
 abbrev pub slice_type : List Symbol → List Symbol
 slice_type then = Opening (is LeftBracket) ∷ One (is RightBracket) ∷ A TypeUse ∷ Close ∷ then
 
+-- the empty rule
 abbrev pub nothing : Rule
 nothing = Otherwise []
 
+-- the rules of each part
 abbrev pub rules : Part → List Rule
 rules File = Otherwise (One (is Package) ∷ One (is Name) ∷ One (is Semicolon) ∷ A Imports ∷ []) ∷ []
 rules Imports =

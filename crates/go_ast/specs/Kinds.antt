@@ -1,4 +1,4 @@
--- The tokens of a file, by their kinds.
+-- The tokens of a file as kinds of the grammar.
 use Rattle.std.specs.Prelude.{ℕ, ◌+◌, ◌-◌, ◌==◌, List, [], ◌∷◌, length, drop, cond}
 use Rattle.std.specs.Cmp.Lexicographic.{pointwise}
 use Rattle.go_scanner.specs.declared.keywords.Keyword.{Keyword}
@@ -14,6 +14,7 @@ use Rattle.go_ast.specs.declared.syntax.Kind.{Kind}
 use Rattle.go_ast.specs.declared.syntax.Kind.TheVariants as kind
 use Rattle.go_ast.specs.declared.syntax.Token.{Token}
 
+-- the kind of a keyword
 abbrev pub kind_of_keyword : Keyword → Kind
 kind_of_keyword word.Break = kind.Break
 kind_of_keyword word.Continue = kind.Continue
@@ -29,6 +30,7 @@ kind_of_keyword word.Type = kind.TypeWord
 kind_of_keyword word.Var = kind.Var
 kind_of_keyword _ = kind.Other
 
+-- the kind of an operator
 abbrev pub kind_of_operator : Operator → Kind
 kind_of_operator sign.LeftParen = kind.LeftParen
 kind_of_operator sign.RightParen = kind.RightParen
@@ -66,11 +68,11 @@ kind_of_operator sign.Increment = kind.Increment
 kind_of_operator sign.Decrement = kind.Decrement
 kind_of_operator _ = kind.Other
 
--- an identifier is a name unless it is `_`
+-- the kind of an identifier: `Blank` for `_`, else `Name`
 abbrev pub kind_of_name : List ℕ → Kind
 kind_of_name bytes = cond (pointwise ◌==◌ bytes (95 ∷ [])) kind.Blank kind.Name
 
--- by what a token is and how it is spelled
+-- the kind of a token, by its class and its bytes
 abbrev pub kind_of : Class → List ℕ → Kind
 kind_of class.Name bytes = kind_of_name bytes
 kind_of (class.Keyword k) bytes = kind_of_keyword k
@@ -80,19 +82,20 @@ kind_of class.RawString bytes = kind.Text
 kind_of (class.Operator o) bytes = kind_of_operator o
 kind_of _ bytes = kind.Other
 
--- numbered from n
+-- the tokens of a text with their kinds, with indices from n
 unfoldable pub kinds_from : ℕ → List ℕ → List Piece → List Token
 kinds_from n text [] = []
 kinds_from n text (p ∷ ps) = record { kind = kind_of p.class (bytes_of text p); place = n } ∷ kinds_from (n + 1) text ps
 
+-- the tokens of a cut text with their kinds, with indices from 0
 abbrev pub kinds_of : CutText → List Token
 kinds_of c = kinds_from 0 c.text (tokens_in c)
 
--- where some tokens begin: at the first, or at the end of the file where there is none
+-- the offset at which the first token of a list begins, or the end of the text where the list is empty
 abbrev pub begins_at : List ℕ → List Piece → ℕ
 begins_at text [] = length text
 begins_at text (p ∷ ps) = p.span.start
 
--- where the last tokens of a file begin, by how many they are
+-- the offset at which the last `left` tokens of a file begin, or its end where there are none
 abbrev pub place_of : CutText → ℕ → ℕ
 place_of c left = begins_at c.text (drop (length (tokens_in c) - left) (tokens_in c))

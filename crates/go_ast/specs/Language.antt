@@ -1,15 +1,16 @@
--- The texts of the grammar: what the rules derive, whichever are chosen.
+-- The language of the grammar: which token lists its rules derive, whichever rules are chosen.
 use Rattle.std.specs.Prelude.{ℕ, suc, ◌≡◌, ◌≤◌, ◌<◌, ◌-◌, slice_index_or, Bool, true, List, [], ◌∷◌, ◌++◌, length}
 use Rattle.go_ast.specs.declared.syntax.Kind.{Kind}
 use Rattle.go_ast.specs.declared.syntax.Token.{Token}
 use Rattle.go_ast.specs.Grammar.{Symbol, One, Opening, Close, A, Part, Rule, Begins, Otherwise, rules}
 
--- a rule's symbols, among these rules
+-- the symbols are those of a rule in the list
 pub data Among : List Rule → List Symbol → Type 0 where
   tested : {c : Kind → Bool} {then : List Symbol} {rs : List Rule} → Among (Begins c then ∷ rs) then
   untested : {then : List Symbol} {rs : List Rule} → Among (Otherwise then ∷ rs) then
   below : {r : Rule} {then : List Symbol} {rs : List Rule} → Among rs then → Among (r ∷ rs) then
 
+-- the symbols derive the token list
 pub data Derives : List Symbol → List Token → Type 0 where
   ends : Derives [] []
   token : {c : Kind → Bool} {t : Token} {ss : List Symbol} {ts : List Token} → c t.kind ≡ true → Derives ss ts → Derives (One c ∷ ss) (t ∷ ts)
@@ -17,7 +18,7 @@ pub data Derives : List Symbol → List Token → Type 0 where
   closing : {ss : List Symbol} {ts : List Token} → Derives ss ts → Derives (Close ∷ ss) ts
   by_rule : {p : Part} {then ss : List Symbol} {ts : List Token} → Among (rules p) then → Derives (then ++ ss) ts → Derives (A p ∷ ss) ts
 
--- The level that each token opens, and 0 for one that opens none, where d levels are open before the first.
+-- the level of nesting that each token opens, with d levels open before the first; 0 for a token that opens none
 abbrev pub levels : {ss : List Symbol} {ts : List Token} → ℕ → Derives ss ts → List ℕ
 levels d ends = []
 levels d (token e x) = 0 ∷ levels d x
@@ -25,9 +26,8 @@ levels d (opening e x) = suc d ∷ levels (suc d) x
 levels d (closing x) = levels (d - 1) x
 levels d (by_rule a x) = levels d x
 
--- before is what stands before the fault, and rest what is left from it on: some text begins with before, none with
--- before and the token at the fault, and the whole is no text. In no text that begins with before does one of these tokens open a level
--- over the limit.
+-- The first syntax fault of a token list is at `rest`. Some text begins with the tokens before it, none with these and the first token of
+-- `rest`, and the whole list is no text. None of the tokens before it opens a level over the limit.
 pub record FirstFault (symbols : List Symbol) (limit d : ℕ) (ts : List Token) (left : ℕ) : Type 0 where
   pub before : List Token
   pub rest : List Token
@@ -38,7 +38,8 @@ pub record FirstFault (symbols : List Symbol) (limit d : ℕ) (ts : List Token) 
   pub not_whole : Derives symbols ts → ⊥
   pub shallow : (more : List Token) → (x : Derives symbols (before ++ more)) → (k : ℕ) → k < length before → slice_index_or (levels d x) k 0 ≤ limit
 
--- Some text begins with the tokens up to t, and in each such text t is the first that opens a level over the limit.
+-- The first nesting fault is at t. Some text begins with the tokens up to t, and in each such text t is the first to open a level over the
+-- limit.
 pub record DeepFault (symbols : List Symbol) (limit d : ℕ) (ts : List Token) (left : ℕ) : Type 0 where
   pub before : List Token
   pub t : Token

@@ -1,26 +1,26 @@
--- Syntax trees: what a file says, with the place of each of its tokens. A place is a token's index among the file's tokens.
+-- Syntax trees, with the index of each token among the file's tokens.
 use Rattle.std.specs.Prelude.{ℕ, List, Option}
 use Rattle.go_ast.specs.declared.syntax.BinaryOp.{BinaryOp}
 use Rattle.go_ast.specs.declared.syntax.PrefixOp.{PrefixOp}
 use Rattle.go_ast.specs.declared.syntax.StepOp.{StepOp}
 use Rattle.go_ast.specs.declared.syntax.UpdateOp.{UpdateOp}
 
--- an item of a list, and the separator behind it where there is one
+-- an item of a list with its separator, if it has one
 pub record Item (X : Type 0) : Type 0 where
   pub value : X
   pub separator : Option ℕ
 
--- one, or in parentheses any number of them
+-- one item, or any number of items in parentheses
 pub data Group (X : Type 0) : Type 0 where
   single : X → Group X
   several : ℕ → List (Item X) → ℕ → Group X
 
--- an identifier: a name, or `_`
+-- a declared identifier: a name, or `_`
 pub data IdentTree : Type 0 where
   Named : ℕ → IdentTree
   Underscore : ℕ → IdentTree
 
--- a literal of one token
+-- a literal of one token: a number or a string
 pub data BasicTree : Type 0 where
   Integer : ℕ → BasicTree
   String : ℕ → BasicTree
@@ -32,8 +32,8 @@ pub data TypeTree : Type 0 where
   Pointer : ℕ → TypeTree → TypeTree
   Slice : ℕ → ℕ → TypeTree → TypeTree
 
--- A chain is an operand with its selectors, indexes and calls, and a binary an operand with the operators of one
--- precedence behind it, and their operands.
+-- Expressions. A chain is an operand with its selectors, indexes and calls. A binary expression is an operand with operators of one
+-- precedence and their right operands.
 mutual
   pub data ExprTree : Type 0 where
     Number : ℕ → ExprTree
@@ -61,11 +61,11 @@ mutual
     no_argument : ArgumentTrees
     argument : ExprTree → Option ℕ → ArgumentTrees → ArgumentTrees
 
-  -- the type, the brace, the elements, the brace
+  -- a composite literal: its type, the opening brace, the elements, the closing brace
   pub data LiteralTree : Type 0 where
     literal : TypeTree → ℕ → ElementTrees → ℕ → LiteralTree
 
-  -- the key with its colon, where there is one; the value; the comma behind it
+  -- elements: each has a key with its colon, if there is one, its value, and its comma, if there is one
   pub data ElementTrees : Type 0 where
     no_element : ElementTrees
     element : Option (ℕ × ℕ) → ExprTree → Option ℕ → ElementTrees → ElementTrees
@@ -78,18 +78,18 @@ pub data SimpleTree : Type 0 where
   Assign : List (Item ExprTree) → ℕ → List (Item ExprTree) → SimpleTree
   Define : List (Item ExprTree) → ℕ → List (Item ExprTree) → SimpleTree
 
--- `a, b T = x, y`: the names, the type, and `=` with the values
+-- local variables `a, b T = x, y`: the names, the type, and `=` with the values
 pub record LocalTree : Type 0 where
   pub names : List (Item IdentTree)
   pub type_use : Option TypeTree
   pub values : Option (ℕ × List (Item ExprTree))
 
--- what stands before the condition of an `if`, with its semicolon
+-- the clause before the condition of an `if`: a simple statement, if there is one, and its semicolon
 pub record InitTree : Type 0 where
   pub simple : Option SimpleTree
   pub semicolon : ℕ
 
--- what stands between `for` and its block
+-- the header of a `for`: none, a condition, or three clauses with their two semicolons
 pub data ForTree : Type 0 where
   forever : ForTree
   while : ExprTree → ForTree
@@ -107,7 +107,7 @@ mutual
     Continue : ℕ → StatementTree
     Return : ℕ → List (Item ExprTree) → StatementTree
 
-  -- the brace, the statements, the brace; `{}` has one empty statement
+  -- a block: the opening brace, the statements, the closing brace; `{}` has one empty statement
   pub data BlockTree : Type 0 where
     block : ℕ → StatementTrees → ℕ → BlockTree
 
@@ -123,12 +123,12 @@ mutual
     else_if : ℕ → IfTree → ElseTree
     else_block : ℕ → BlockTree → ElseTree
 
--- `name "path"`
+-- an import spec `name "path"`
 pub record ImportTree : Type 0 where
   pub name : Option ℕ
   pub path : ℕ
 
--- `a, b T = 1, 2`
+-- package-level variables `a, b T = 1, 2`
 pub record GlobalTree : Type 0 where
   pub names : List (Item ℕ)
   pub type_use : TypeTree
@@ -139,16 +139,17 @@ pub record FieldTree : Type 0 where
   pub names : List (Item ℕ)
   pub type_use : TypeTree
 
--- what a name is defined as: a type, or `struct`, the brace, the fields, the brace
+-- the right side of a type definition: a type, or `struct`, the opening brace, the fields, the closing brace
 pub data BodyTree : Type 0 where
   Other : TypeTree → BodyTree
   Struct : ℕ → ℕ → List (Item FieldTree) → ℕ → BodyTree
 
+-- a type definition
 pub record TypeSpecTree : Type 0 where
   pub name : ℕ
   pub body : BodyTree
 
--- `(x *T)`
+-- the receiver of a method: `(x *T)`
 pub record ReceiverTree : Type 0 where
   pub lparen : ℕ
   pub name : IdentTree
@@ -162,11 +163,13 @@ pub record ParamTree : Type 0 where
   pub names : List (Item IdentTree)
   pub type_use : TypeTree
 
+-- the results of a function: none, one type, or types in parentheses
 pub data ResultTree : Type 0 where
   no_result : ResultTree
   one_result : TypeTree → ResultTree
   results : ℕ → List (Item TypeTree) → ℕ → ResultTree
 
+-- a function or a method, without the keyword `func`
 pub record FuncTree : Type 0 where
   pub receiver : Option ReceiverTree
   pub name : ℕ
@@ -176,18 +179,19 @@ pub record FuncTree : Type 0 where
   pub result : ResultTree
   pub body : BlockTree
 
--- `import`, what it imports, and the semicolon
+-- an import declaration: `import`, its specs, and its semicolon
 pub record ImportsTree : Type 0 where
   pub keyword : ℕ
   pub imports : Group ImportTree
   pub semicolon : ℕ
 
--- a declaration of a file: its keyword, what it declares, and the semicolon
+-- a top-level declaration: its keyword, its specs or function, and its semicolon
 pub data DeclTree : Type 0 where
   VarDecl : ℕ → Group GlobalTree → ℕ → DeclTree
   TypeDecl : ℕ → Group TypeSpecTree → ℕ → DeclTree
   FuncDecl : ℕ → FuncTree → ℕ → DeclTree
 
+-- a file: its package clause, imports and declarations
 pub record FileTree : Type 0 where
   pub keyword : ℕ
   pub name : ℕ

@@ -1,4 +1,4 @@
--- What is said of a token list: that it is a file within the limit, or where its first fault is.
+-- The verdict on a token list: a file within the limit of nesting, or its first fault.
 use Rattle.std.specs.Prelude.{ℕ, ◌≤◌, List, [], ◌∷◌}
 use Rattle.std.specs.List.{All}
 use Rattle.go_ast.specs.declared.syntax.Token.{Token}
@@ -7,20 +7,21 @@ use Rattle.go_ast.specs.declared.syntax.TokenFaultKind.TheVariants.{Syntax, Nest
 use Rattle.go_ast.specs.Grammar.{A, File}
 use Rattle.go_ast.specs.Language.{Derives, FirstFault, DeepFault, levels}
 
--- so many levels may be open at once
+-- the number of levels of nesting that may be open at once
 abbrev pub limit : ℕ
 limit = 200
 
--- a fault of that kind, with the number of tokens from it on
+-- a whole file, or a fault of this kind with this number of tokens left, the one at fault among them
 pub data Verdict : Type 0 where
   Whole : Verdict
   Faulty : TokenFaultKind → ℕ → Verdict
 
--- a file in which no token opens a level over the limit
+-- the tokens are a file, and none of them opens a level over the limit
 pub record IsWhole (ts : List Token) : Type 0 where
   pub derived : Derives (A File ∷ []) ts
   pub shallow : (x : Derives (A File ∷ []) ts) → All (λ l. l ≤ limit) (levels 0 x)
 
+-- the verdict is right for the token list
 abbrev pub IsVerdict : List Token → Verdict → Type 0
 IsVerdict ts Whole = IsWhole ts
 IsVerdict ts (Faulty Syntax left) = FirstFault (A File ∷ []) limit 0 ts left

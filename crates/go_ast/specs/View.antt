@@ -1,4 +1,4 @@
--- The tree that a value of the program stands for, without where it lies in memory.
+-- The specification tree of each of the program's trees, which abstracts from memory.
 use Rattle.std.specs.Prelude.{ℕ, List, Option, Some, None, map}
 use Rattle.go_ast.specs.Tree as tree
 use Rattle.go_ast.specs.Tree.{TypeTree, ExprTree, OperandTrees, LinkTrees, ArgumentTrees, LiteralTree, ElementTrees, IdentTree}
@@ -61,7 +61,7 @@ unfoldable mutual
   pub literal_view : CompositeLit → LiteralTree
   literal_view (CompositeLit' t o shape row c) = tree.literal (type_view t) o (elements_view row) c
 
-  -- a link before others
+  -- a link in front of others
   pub link_view : Link → LinkTrees → LinkTrees
   link_view (link.Selector d n) others = tree.selector d n others
   link_view (link.Index o e c) others = tree.index o (expr_view e) c others

@@ -1,5 +1,4 @@
--- The syntax tree of a token list: it writes these tokens out, its operators are grouped by precedence, and each of its
--- parts is as the grammar has it.
+-- Well-formed syntax trees: operators are grouped by precedence, and each part is as the grammar has it.
 use Rattle.std.specs.Prelude.{ℕ, ◌≡◌, ◌≢◌, ◌<◌, ◌⊎◌, Bool, true, false, List, [], ◌∷◌, Option, Some, None, IsSome}
 use Rattle.std.specs.List.{All}
 use Rattle.go_ast.specs.declared.syntax.Token.{Token}
@@ -25,38 +24,40 @@ abbrev pub IsSeparated : {X : Type 0} → List (Item X) → Type 0
 IsSeparated [] = Unit {0}
 IsSeparated (x ∷ xs) = (x.separator ≡ None → xs ≡ []) × IsSeparated xs
 
--- each item but the last has its separator, and the last has none
+-- each item but the last has a separator, and the last has none
 abbrev pub IsJoined : {X : Type 0} → List (Item X) → Type 0
 IsJoined [] = Unit {0}
 IsJoined (x ∷ []) = x.separator ≡ None
 IsJoined (x ∷ (y ∷ ys)) = IsSome x.separator × IsJoined (y ∷ ys)
 
--- at least one item, joined by separators, each of that sort
+-- the list has at least one item, separators between its items, and each item satisfies P
 pub record IsList {X : Type 0} (P : X → Type 0) (xs : List (Item X)) : Type 0 where
   pub some : IsNonEmpty xs
   pub joined : IsJoined xs
   pub each : All (λ x. P x.value) xs
 
--- any number of items, of which only the last may lack its separator
+-- the list has any number of items, of which only the last may lack its separator, and each item satisfies P
 pub record IsOpenList {X : Type 0} (P : X → Type 0) (xs : List (Item X)) : Type 0 where
   pub separated : IsSeparated xs
   pub each : All (λ x. P x.value) xs
 
+-- each item of the group satisfies P, and only the last may lack its separator
 abbrev pub IsGroup : {X : Type 0} → (X → Type 0) → Group X → Type 0
 IsGroup P (single x) = P x
 IsGroup P (several o xs c) = IsOpenList P xs
 
--- where it is there, it is of that sort
+-- an optional value, where present, satisfies P
 abbrev pub Perhaps : {X : Type 0} → (X → Type 0) → Option X → Type 0
 Perhaps P None = Unit {0}
 Perhaps P (Some x) = P x
 
+-- every value
 abbrev pub Any : {X : Type 0} → X → Type 0
 Any x = Unit {0}
 
 -- expressions
 
--- how strongly an operator binds
+-- the precedence of a binary operator, from 1 to 5 (Go specification, "Operator precedence")
 abbrev pub strength : BinaryOp → ℕ
 strength binary.Multiply = 5
 strength binary.Divide = 5
@@ -72,13 +73,13 @@ strength binary.GreaterEqual = 3
 strength binary.And = 2
 strength binary.Or = 1
 
--- a binary as its operators, and any other tree stronger than all operators
+-- the precedence of a tree: of its operators for a binary expression, 6 for any other tree
 abbrev pub strength_of : ExprTree → ℕ
 strength_of (Binary e no_operand) = 0
 strength_of (Binary e (operand op p f os)) = strength op
 strength_of _ = 6
 
--- whether selectors, indexes and calls may stand behind it as they are, in one chain
+-- the tree may be the first operand of a chain: it is no prefix operation, address, chain or binary expression
 abbrev pub is_operand : ExprTree → Bool
 is_operand (Prefix op p e) = false
 is_operand (Address p l) = false
@@ -86,17 +87,18 @@ is_operand (Chain e ls) = false
 is_operand (Binary e os) = false
 is_operand _ = true
 
+-- the tree is a binary expression
 abbrev pub is_binary_tree : ExprTree → Bool
 is_binary_tree (Binary e os) = true
 is_binary_tree _ = false
 
--- the types that a literal may be of
+-- the type may be that of a composite literal: it is no pointer type
 abbrev pub IsLiteralType : TypeTree → Type 0
 IsLiteralType (Pointer s t) = ⊥
 IsLiteralType _ = Unit {0}
 
 unfoldable mutual
-  -- A chain is an operand and all links behind it, a binary an operand and all operators of one precedence behind it.
+  -- The expression is well formed: a chain contains all links of its operand, and a binary expression all operators of one precedence.
   pub IsExpr : ExprTree → Type 0
   IsExpr (Number n) = Unit {0}
   IsExpr (Text n) = Unit {0}
@@ -110,7 +112,7 @@ unfoldable mutual
   IsExpr (Binary e no_operand) = ⊥
   IsExpr (Binary e (operand op p f os)) = (strength op < strength_of e) × IsExpr e × AreOperands (strength op) (operand op p f os)
 
-  -- operators of that strength, each with an operand that binds more strongly
+  -- the operators have precedence k, and their operands bind more strongly
   pub AreOperands : ℕ → OperandTrees → Type 0
   AreOperands k no_operand = Unit {0}
   AreOperands k (operand op p e os) = (strength op ≡ k) × (k < strength_of e) × IsExpr e × AreOperands k os
@@ -121,7 +123,7 @@ unfoldable mutual
   AreLinks (index o e c ls) = IsExpr e × AreLinks ls
   AreLinks (call o xs c ls) = AreArguments xs × AreLinks ls
 
-  -- only the last may lack its comma
+  -- each argument is well formed, and only the last may lack its comma
   pub AreArguments : ArgumentTrees → Type 0
   AreArguments no_argument = Unit {0}
   AreArguments (argument e comma rest) = (comma ≡ None → rest ≡ no_argument) × IsExpr e × AreArguments rest
@@ -133,12 +135,13 @@ unfoldable mutual
   AreElements no_element = Unit {0}
   AreElements (element key e comma rest) = (comma ≡ None → rest ≡ no_element) × IsExpr e × AreElements rest
 
--- no literal that begins with a name, outside any brackets
+-- the composite literal begins with `[]`, not with a name
 abbrev pub IsUnnamed : LiteralTree → Type 0
 IsUnnamed (literal (Slice o c t) b es d) = Unit {0}
 IsUnnamed (literal _ b es d) = ⊥
 
 unfoldable mutual
+  -- no composite literal in the expression begins with a name, outside brackets
   pub HasNoNamedLiteral : ExprTree → Type 0
   HasNoNamedLiteral (Composite l) = IsUnnamed l
   HasNoNamedLiteral (Prefix op p e) = HasNoNamedLiteral e
@@ -151,7 +154,7 @@ unfoldable mutual
   HaveNoNamedLiteral no_operand = Unit {0}
   HaveNoNamedLiteral (operand op p e os) = HasNoNamedLiteral e × HaveNoNamedLiteral os
 
--- an expression, in the header of an `if` or a `for` (h) or elsewhere
+-- the expression is well formed; in the header of an `if` or a `for` (h) no literal in it begins with a name, outside brackets
 pub record IsExprIn (h : Bool) (e : ExprTree) : Type 0 where
   pub grouped : IsExpr e
   pub unnamed : h ≡ true → HasNoNamedLiteral e
@@ -165,7 +168,7 @@ IsSimple h (Update e op p f) = IsExprIn h e × IsExprIn h f
 IsSimple h (Assign es p fs) = IsList (IsExprIn h) es × IsList (IsExprIn h) fs
 IsSimple h (Define es p fs) = IsList (IsExprIn h) es × IsList (IsExprIn h) fs
 
--- what may stand last in the header of a `for`: it declares nothing
+-- the statement may be the last clause of a `for`: it is no `:=`
 abbrev pub IsPost : SimpleTree → Type 0
 IsPost (Define es p fs) = ⊥
 IsPost s = IsSimple true s
@@ -178,7 +181,7 @@ IsFor forever = Unit {0}
 IsFor (while e) = IsExprIn true e
 IsFor (clauses init s condition t post) = Perhaps (IsSimple true) init × Perhaps (IsExprIn true) condition × Perhaps IsPost post
 
--- a type, values, or both
+-- the declaration of local variables has a type, values, or both
 pub record IsLocal (l : LocalTree) : Type 0 where
   pub names : IsList Any l.names
   pub told : l.type_use ≡ None → l.values ≢ None
@@ -199,7 +202,7 @@ unfoldable mutual
   pub IsBlock : BlockTree → Type 0
   IsBlock (block o ss c) = (ss ≢ no_statement) × AreStatements ss
 
-  -- each but the last has its semicolon, and the last has none
+  -- each statement but the last has a semicolon, and the last has none
   pub AreStatements : StatementTrees → Type 0
   AreStatements no_statement = Unit {0}
   AreStatements (statement s None rest) = IsStatement s × (rest ≡ no_statement)
@@ -254,6 +257,7 @@ pub record IsFile (f : FileTree) : Type 0 where
   pub imports : All IsImports f.imports
   pub decls : All IsDecl f.decls
 
+-- f is the syntax tree of the tokens: these are its tokens in order, and it is well formed
 pub record IsTreeOf (f : FileTree) (tokens : List Token) : Type 0 where
   pub written : flatten f ≡ tokens
   pub well_formed : IsFile f

@@ -1,4 +1,4 @@
-//! A file with its path, its cut and its tree, shared by everyone who holds it.
+//! A parsed file: its path, its text with tokens, and its syntax tree, shared by all owners.
 ghost use Rattle.std.specs.Prelude.{◌≡◌, ◌<◌, length, IfOk};
 ghost use Rattle.go_ast.specs.FileView.{file_view};
 ghost use Rattle.go_ast.specs.SourceFile.{IsSourceFile, source_of, spelling_of, offset_of};
@@ -10,7 +10,7 @@ use std::alloc::{AllocError, Global};
 use std::marker::Model;
 use std::sync::Arc;
 
-/// What the owners of a file's tree share.
+/// The parts of a parsed file, which its clones share.
 #[derive(Drop)]
 struct FileTreeParts {
     path: Path,
@@ -18,13 +18,13 @@ struct FileTreeParts {
     file: Arc<File, Global>,
 }
 
-/// A Go file without fault: its path, its cut and its syntax tree, which no longer change. A clone shares them, and
-/// files whose tokens are alike can share their tree.
+/// A Go file without syntax faults: its path, its text with tokens, and its syntax tree. It is immutable and clones share it; files whose
+/// tokens are of equal kinds can share a tree.
 pub struct FileTree {
     parts: Arc<FileTreeParts, Global>,
 }
 
-/// Written out, so that crates above call it and don't prove again how each part is dropped.
+/// Written out so that crates above call it, instead of proving again how each part is dropped.
 impl Drop for FileTree {
     fn drop(self) {
         let FileTree { parts } = self;
@@ -48,7 +48,7 @@ impl Model for FileTree {
 }
 
 impl FileTree {
-    /// Of these parts, where the tree is that of the cut's tokens, which keep the limit of nesting.
+    /// Joins a path, a text with tokens, and the syntax tree of these tokens.
     pub fn new(
         alloc: Global,
         path: Path,
@@ -63,7 +63,7 @@ impl FileTree {
         Ok(FileTree { parts })
     }
 
-    /// The file of a path and a cut whose tokens have the tree of this one, too. Both then share the tree.
+    /// A file of this path and these tokens that shares the syntax tree of `self`. The tree must be that of its tokens too.
     pub fn with_cut(
         &self,
         alloc: Global,
@@ -85,14 +85,14 @@ impl FileTree {
         &self.parts.path
     }
 
-    /// The file's text with its pieces and tokens.
+    /// The file's text with its tokens.
     pub fn pieces(&self) -> &Pieces
         ensures { result.now ≡ self.now.cut }
     {
         &self.parts.pieces
     }
 
-    /// The syntax tree. Its places are numbers of tokens, from 0.
+    /// The syntax tree. Its numbers are token indices, from 0.
     pub fn file(&self) -> &File
         ensures tree { result.now ≡ self.now.file }
         ensures is_file { IsSourceFile (source_of self.now) }
@@ -100,7 +100,7 @@ impl FileTree {
         &self.parts.file
     }
 
-    /// The bytes of a token, by its number from 0. An inserted semicolon has none, nor has a number beyond the last.
+    /// The bytes of the token of this index, from 0. An inserted semicolon has none, and so has an index beyond the last token.
     pub fn spelling(&self, token: usize) -> &[u8]
         ensures { result.now ≡ spelling_of (source_of self.now) token }
     {
@@ -112,7 +112,7 @@ impl FileTree {
         }
     }
 
-    /// Where a token begins, by its number from 0: a byte offset. Beyond the last token it is the length of the file.
+    /// The byte offset at which the token of this index begins. Beyond the last token it is the length of the file.
     pub fn offset(&self, token: usize) -> usize
         ensures { result ≡ offset_of (source_of self.now) token }
     {

@@ -1,10 +1,10 @@
-//! A law of the grammar: that one thing at most is said of a token list.
+//! A law of the grammar: a token list has at most one verdict.
 
 ghost use Rattle.std.specs.Prelude.{◌≡◌, List};
 ghost use Rattle.go_ast.specs.declared.syntax.Token.{Token};
 ghost use Rattle.go_ast.specs.Verdict.{Verdict, IsVerdict};
 
-/// A token list is a file within the limit, or has its first fault at one place: no two of these hold of it.
+/// A token list has at most one verdict: it is a file within the limit of nesting, or it has its first fault at one token.
 pub fn one_verdict()
     ensures { (ts : List Token) → (verdict other : Verdict) → IsVerdict ts verdict → IsVerdict ts other → verdict ≡ other }
 {}

@@ -1,4 +1,4 @@
-//! The syntax of the Go subset: tokens by their kinds, the grammar, syntax trees, and files with their trees.
+//! The syntax of the Go subset: kinds of tokens, the grammar, syntax trees, and parsed files.
 #![tactic(auto)]
 
 mod file_tree;

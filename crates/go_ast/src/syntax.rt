@@ -1,7 +1,7 @@
-//! Tokens by their kinds, and the operators.
+//! The kinds of tokens that the grammar distinguishes, and the operators.
 
-/// What a token is for the grammar. `Blank` is the identifier `_`; `Text` is a string; `Other` is any keyword or
-/// operator that the grammar does not use.
+/// The kind of a token in the grammar. `Blank` is the identifier `_`, `Text` a string literal, and `Other` each keyword and operator that
+/// the grammar does not use.
 #[derive(Clone, Copy, PartialEq, Eq, Debug)]
 pub enum Kind {
     Name,
@@ -57,6 +57,7 @@ pub enum Kind {
     Other,
 }
 
+/// A binary operator.
 #[derive(Clone, Copy, PartialEq, Eq, Debug)]
 pub enum BinaryOp {
     Multiply,
@@ -74,6 +75,7 @@ pub enum BinaryOp {
     Or,
 }
 
+/// A prefix operator; `Deref` is `*`.
 #[derive(Clone, Copy, PartialEq, Eq, Debug)]
 pub enum PrefixOp {
     Plus,
@@ -89,7 +91,7 @@ pub enum StepOp {
     Decrement,
 }
 
-/// The operator of `x += y` and its kin.
+/// The operator of `x += y`, `x -= y`, `x *= y`, `x /= y` or `x %= y`.
 #[derive(Clone, Copy, PartialEq, Eq, Debug)]
 pub enum UpdateOp {
     Add,
@@ -99,14 +101,14 @@ pub enum UpdateOp {
     Remainder,
 }
 
-/// One token: its kind, and which of the file's tokens it is, counted from 0.
+/// A token: its kind, and its index among the file's tokens, from 0.
 #[derive(Clone, Copy, PartialEq, Eq, Debug)]
 pub struct Token {
     pub kind: Kind,
     pub place: usize,
 }
 
-/// What may be wrong with a list of tokens.
+/// The kind of fault of a token list: it is no file, or it nests too deeply.
 #[derive(Clone, Copy, PartialEq, Eq, Debug)]
 pub enum TokenFaultKind {
     Syntax,

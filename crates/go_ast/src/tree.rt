@@ -1,14 +1,14 @@
-//! Syntax trees. Each number in a tree is a place: the index of a token among the file's tokens.
+//! Syntax trees. Each number in a tree is a token index, from 0.
 use crate::syntax::{BinaryOp, PrefixOp, StepOp, UpdateOp};
 
-/// An item of a list, and the separator behind it where there is one.
+/// An item of a list with its separator, if it has one.
 #[derive(Drop)]
 pub struct Item<T> {
     pub value: T,
     pub separator: Option<usize>,
 }
 
-/// Either one item, or any number of them in parentheses.
+/// One item, or any number of items in parentheses.
 #[derive(Drop)]
 pub enum Group<T> {
     Single(T),
@@ -19,14 +19,14 @@ pub enum Group<T> {
     },
 }
 
-/// An identifier: a name, or `_`.
+/// A declared identifier: a name, or `_`.
 #[derive(Drop)]
 pub enum Ident {
     Named(usize),
     Blank(usize),
 }
 
-/// A type. `Local` is a name alone, `Imported` a name of an imported package.
+/// A type. `Local` is `T`, `Imported` is `p.T`, `Pointer` is `*T` and `Slice` is `[]T`.
 #[derive(Drop)]
 pub enum TypeExpr {
     Local(usize),
@@ -46,8 +46,8 @@ pub enum TypeExpr {
     },
 }
 
-/// An expression. A chain has at least one link, and its first operand is no chain; a binary chain has at least two
-/// operands, and operators of one precedence.
+/// An expression. A chain has at least one link, and its first operand is no chain. A binary expression has at least two operands, and all
+/// of its operators have one precedence.
 #[derive(Drop)]
 #[cycle(expression)]
 pub enum Expr {
@@ -80,7 +80,7 @@ pub enum Expr {
     },
 }
 
-/// A binary operator and what stands to its right.
+/// A binary operator with its right operand.
 #[derive(Drop)]
 #[cycle(expression)]
 pub struct Operand {
@@ -89,7 +89,7 @@ pub struct Operand {
     pub value: Expr,
 }
 
-/// A selector, index or call behind an operand.
+/// A selector `.f`, an index `[i]` or a call `(a, b)` that follows an operand.
 #[derive(Drop)]
 #[cycle(expression)]
 pub enum Link {
@@ -109,7 +109,7 @@ pub enum Link {
     },
 }
 
-/// An expression of a list, with the comma behind it.
+/// An expression of a list with its comma, if it has one.
 #[derive(Drop)]
 #[cycle(expression)]
 pub struct ExprItem {
@@ -117,7 +117,7 @@ pub struct ExprItem {
     pub comma: Option<usize>,
 }
 
-/// A composite literal: its type, and the elements in braces.
+/// A composite literal: its type, and its elements in braces.
 #[derive(Drop)]
 #[cycle(expression)]
 pub struct CompositeLit {
@@ -127,14 +127,14 @@ pub struct CompositeLit {
     pub close: usize,
 }
 
-/// The field's name before an element, and its colon.
+/// A composite literal key: the name of a field, and the colon.
 #[derive(Drop)]
 pub struct Key {
     pub name: usize,
     pub colon: usize,
 }
 
-/// An element of a composite literal, with the comma behind it.
+/// An element of a composite literal with its comma, if it has one.
 #[derive(Drop)]
 #[cycle(expression)]
 pub struct Element {
@@ -143,14 +143,14 @@ pub struct Element {
     pub comma: Option<usize>,
 }
 
-/// A `=` and the values behind it.
+/// A `=` with the values that follow it.
 #[derive(Drop)]
 pub struct Values {
     pub assign: usize,
     pub values: Vec<ExprItem>,
 }
 
-/// A declaration of local variables: a type, values, or both.
+/// A declaration of local variables: names with a type, values, or both.
 #[derive(Drop)]
 pub struct LocalSpec {
     pub names: Vec<Item<Ident>>,
@@ -185,14 +185,14 @@ pub enum SimpleStmt {
     },
 }
 
-/// What stands before the condition of an `if`.
+/// The clause before the condition of an `if`: a simple statement, if there is one, and its semicolon.
 #[derive(Drop)]
 pub struct IfInit {
     pub statement: Option<SimpleStmt>,
     pub semicolon: usize,
 }
 
-/// What stands between `for` and its block.
+/// The header of a `for`: none, a condition, or three clauses.
 #[derive(Drop)]
 pub enum ForHeader {
     Forever,
@@ -206,6 +206,7 @@ pub enum ForHeader {
     },
 }
 
+/// A statement.
 #[derive(Drop)]
 #[cycle(statement)]
 pub enum Stmt {
@@ -230,7 +231,7 @@ pub enum Stmt {
     },
 }
 
-/// A brace block. `{}` has one empty statement.
+/// A block in braces. `{}` has one empty statement.
 #[derive(Drop)]
 #[cycle(statement)]
 pub struct BlockStmt {
@@ -239,7 +240,7 @@ pub struct BlockStmt {
     pub close: usize,
 }
 
-/// A statement of a block, with the semicolon behind it.
+/// A statement of a block with its semicolon, if it has one.
 #[derive(Drop)]
 #[cycle(statement)]
 pub struct BlockItem {
@@ -247,6 +248,7 @@ pub struct BlockItem {
     pub semicolon: Option<usize>,
 }
 
+/// An `if` statement.
 #[derive(Drop)]
 #[cycle(statement)]
 pub struct IfStmt {
@@ -257,7 +259,7 @@ pub struct IfStmt {
     pub otherwise: Else,
 }
 
-/// What stands behind the block of an `if`.
+/// The `else` branch of an `if`: none, an `if` statement, or a block.
 #[derive(Drop)]
 #[cycle(statement)]
 pub enum Else {
@@ -266,27 +268,28 @@ pub enum Else {
     Block { at: usize, block: BlockStmt },
 }
 
+/// An import spec: `name "path"`, where the name may be absent.
 #[derive(Drop)]
 pub struct ImportSpec {
     pub name: Option<usize>,
     pub path: usize,
 }
 
-/// A literal of one token.
+/// A literal of one token: a number or a string.
 #[derive(Drop)]
 pub enum BasicLit {
     Number(usize),
     Text(usize),
 }
 
-/// A `=` and the literals behind it.
+/// A `=` with the literals that follow it.
 #[derive(Drop)]
 pub struct VarValues {
     pub assign: usize,
     pub values: Vec<Item<BasicLit>>,
 }
 
-/// Package-level variables of one type.
+/// A declaration of package-level variables of one type: `a, b T = 1, 2`.
 #[derive(Drop)]
 pub struct VarSpec {
     pub names: Vec<Item<usize>>,
@@ -294,14 +297,14 @@ pub struct VarSpec {
     pub values: Option<VarValues>,
 }
 
-/// Fields of one type.
+/// Fields of one type: `a, b T`.
 #[derive(Drop)]
 pub struct FieldDecl {
     pub names: Vec<Item<usize>>,
     pub field_type: TypeExpr,
 }
 
-/// What a name is defined as: a type, or a struct.
+/// The right side of a type definition: a type, or a struct.
 #[derive(Drop)]
 pub enum TypeBody {
     Type(TypeExpr),
@@ -313,12 +316,14 @@ pub enum TypeBody {
     },
 }
 
+/// A type definition: its name and right side.
 #[derive(Drop)]
 pub struct TypeSpec {
     pub name: usize,
     pub body: TypeBody,
 }
 
+/// The receiver of a method: `(x *T)`.
 #[derive(Drop)]
 pub struct Receiver {
     pub open: usize,
@@ -329,13 +334,14 @@ pub struct Receiver {
     pub close: usize,
 }
 
-/// Parameters of one type.
+/// Parameters of one type: `a, b T`.
 #[derive(Drop)]
 pub struct Param {
     pub names: Vec<Item<Ident>>,
     pub param_type: TypeExpr,
 }
 
+/// The results of a function: none, one type, or types in parentheses.
 #[derive(Drop)]
 pub enum Results {
     None,
@@ -347,6 +353,7 @@ pub enum Results {
     },
 }
 
+/// A function or a method, without the keyword `func`.
 #[derive(Drop)]
 pub struct FuncDecl {
     pub receiver: Option<Receiver>,
@@ -358,7 +365,7 @@ pub struct FuncDecl {
     pub body: BlockStmt,
 }
 
-/// `import`, what is imported, and the semicolon behind it.
+/// An import declaration: `import`, its specs, and its semicolon.
 #[derive(Drop)]
 pub struct ImportDecl {
     pub at: usize,
@@ -366,7 +373,7 @@ pub struct ImportDecl {
     pub semicolon: usize,
 }
 
-/// A declaration of a file, with its keyword and the semicolon behind it.
+/// A top-level declaration with its keyword and semicolon.
 #[derive(Drop)]
 pub enum Decl {
     Var {
@@ -386,7 +393,7 @@ pub enum Decl {
     },
 }
 
-/// A whole file, with the package clause first.
+/// A file: its package clause, imports and declarations.
 #[derive(Drop)]
 pub struct File {
     pub package: usize,

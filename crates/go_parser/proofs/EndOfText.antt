@@ -1,4 +1,4 @@
--- What the machine stops in for syntax is no whole text: at the end of a text, too, a derivation goes by the selected rule.
+-- A text at which the machine stops for syntax is no whole text: a derivation goes by the selected rule also at the end of the text.
 use Rattle.std.proofs.Common.{ℕ, ◌≡◌, Bool, true, false, List, [], ◌∷◌, ◌++◌, refl, sym, ◌∙◌, subst}
 use Rattle.std.specs.Prelude.{◌&&◌}
 use Rattle.std.proofs.lemmas.Bool.{and_from}
@@ -86,7 +86,7 @@ goes : (p : Part) (ss then : List Symbol) (ts : List Token) → Selects (rules p
 goes p ss then [] s g x = goes_at_end s x
 goes p ss then (t ∷ ts) s g x = goes_by g s x
 
--- where the machine stops for syntax, the text is none of the grammar
+-- where the machine stops for syntax, the grammar does not derive the text
 stops_short : {d : ℕ} {ss : List Symbol} {ts : List Token} {n : ℕ} → Run d ss ts (Stopped Syntax n) → Good ss → Derives ss ts → ⊥
 stops_short (take e r) g x = stops_short r g (after_token x)
 stops_short (opens e b r) g x = stops_short r g (after_opening x)

@@ -1,4 +1,4 @@
--- How well-formed declarations, statements and files are made from their parts.
+-- Well-formed declarations and files consist of well-formed parts.
 use Rattle.std.proofs.Common.{ℕ, ◌≡◌, false, List, [], ◌∷◌, Option, Some, None, refl, Result, Ok, Err, suc, arith}
 use Rattle.std.specs.Result.{IfOk}
 use Rattle.std.specs.List.{All}

@@ -1,4 +1,4 @@
--- How well-formed statements are made from their parts.
+-- Well-formed statements consist of well-formed parts.
 use Rattle.std.proofs.Common.{ℕ, ◌≡◌, ◌≢◌, Bool, true, false, List, [], ◌∷◌, Option, Some, None, is_some, sym, subst, refl, arith}
 use Rattle.std.specs.List.{All}
 use Rattle.go_ast.specs.declared.syntax.StepOp.{StepOp}

@@ -1,4 +1,4 @@
--- How well-formed expressions are made from their parts.
+-- Well-formed expressions consist of well-formed parts.
 use Rattle.std.proofs.Common.{ℕ, ◌≡◌, ◌≢◌, ◌<◌, ap, sym, ◌∙◌, subst, Bool, true, false, List, [], ◌∷◌, ◌++◌, refl, Option, Some, None}
 use Rattle.std.proofs.Common.{is_some, cond, ◌==◌}
 use Rattle.go_ast.specs.declared.syntax.Kind.{Kind}
@@ -33,12 +33,12 @@ use Rattle.go_parser.specs.Grouping.{is_slice, is_literal_type, literal_type_of,
 use Rattle.go_parser.specs.Grouping.{AreItems, Each}
 use Rattle.go_ast.specs.declared.tree.Operand.{Operand}
 
--- only the last may lack its separator, and where more may follow none lacks it
+-- only the last item may lack its separator, and none does where more items may follow
 pub record IsSeparatedSoFar {X : Type 0} (f : X → Option ℕ) (more : Bool) (xs : List X) : Type 0 where
   pub separated : IsSeparatedBy f xs
   pub complete : more ≡ true → Each (λ x. f x ≢ None) xs
 
--- an operator of that strength, and an operand that binds more strongly
+-- an operator of this precedence, and an operand that binds more strongly
 pub record IsJoined (h : Bool) (k : ℕ) (o : Operand) : Type 0 where
   pub same : strength o.op ≡ k
   pub stronger : k < strength_of (expr_view o.value)

@@ -1,4 +1,4 @@
--- How the kinds of a file's tokens are found one by one.
+-- The tokens of a file with their kinds, one by one.
 use Rattle.std.proofs.Common.{ℕ, ◌≡◌, ◌<◌, ◌≤◌, ◌+◌, ap, sym, ◌∙◌, refl, List, [], ◌∷◌, ◌++◌, length, drop, get_or, drop-cons, add-one, length-drop}
 use Rattle.std.proofs.Common.{append_assoc, append-nil, arith}
 use Rattle.std.proofs.lemmas.List.{nil_from_length}
@@ -19,7 +19,7 @@ pub kinds_end : (n : ℕ) (text : List ℕ) → kinds_from n text [] ≡ []
 unfolding kinds_from
 kinds_end n text = refl
 
--- one more of them
+-- one more token
 pub kinds_more : (n : ℕ) (text : List ℕ) (ps : List Piece) (d : Piece) (found : List Token) (all : List Token) (t : Token) → n < length ps →
     t ≡ record { kind = kind_of (get_or ps n d).class (bytes_of text (get_or ps n d)); place = n } →
     found ++ kinds_from n text (drop n ps) ≡ all → (found ++ (t ∷ [])) ++ kinds_from (n + 1) text (drop (n + 1) ps) ≡ all
@@ -27,7 +27,7 @@ kinds_more n text ps d found all t h e w =
     append_assoc found (t ∷ []) (kinds_from (n + 1) text (drop (n + 1) ps)) ∙
     (ap (λ x. found ++ (x ∷ kinds_from (n + 1) text (drop (n + 1) ps))) e ∙ (ap (λ x. found ++ x) (sym (kinds_step n text ps d h)) ∙ w))
 
--- behind the last
+-- after the last token
 pub kinds_past : (n : ℕ) (text : List ℕ) (ps : List Piece) (found all : List Token) → length ps ≤ n → found ++ kinds_from n text (drop n ps) ≡ all → found ≡ all
 kinds_past n text ps found all h w = sym (append-nil found) ∙
     (ap (λ x. found ++ x) (sym (ap (kinds_from n text) (nil_from_length (drop n ps) (let l = length-drop n ps in omega (arith, l, h))) ∙ kinds_end n text)) ∙ w)

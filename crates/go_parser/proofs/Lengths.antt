@@ -1,4 +1,4 @@
--- Each type and each expression has at least one token, so that what is left behind it is shorter.
+-- Each type and each expression has at least one token, so fewer tokens are left after it.
 use Rattle.std.proofs.Common.{ℕ, ◌≡◌, ◌≤◌, ◌<◌, ◌+◌, ap, List, [], ◌∷◌, ◌++◌, length, length-append, arith, Option, Some, None}
 use Rattle.go_ast.specs.declared.syntax.Kind.{Kind}
 use Rattle.go_ast.specs.declared.syntax.Kind.TheVariants as kind
@@ -57,7 +57,7 @@ pub element_some : (e : Element) → 1 ≤ length (element_spelled e)
 element_some e = some_right (key_tokens (key_view e.key)) (expr_spelled e.value ++ sign_if kind.Comma e.comma)
     (some_left (expr_spelled e.value) (sign_if kind.Comma e.comma) (expr_some e.value))
 
--- what is left behind some tokens
+-- the tokens that are left after others
 
 behind_no_longer : (a ts rest : List Token) → ts ≡ a ++ rest → length rest ≤ length ts
 behind_no_longer a ts rest e = let l = ap length e in omega (arith, l, length_of a rest)

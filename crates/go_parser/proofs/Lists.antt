@@ -9,7 +9,7 @@ use Rattle.go_ast.specs.Flatten.{sign, sign_if}
 use Rattle.go_parser.proofs.KindTests.{is_itself}
 use Rattle.go_parser.proofs.MachineSteps.{leads_rule, leads_then, leads_here, passes_one}
 
--- What is left of a list without brackets: another item and what may follow it, or nothing.
+-- The rest of a list without brackets: another item and the rest after it, or nothing.
 abbrev pub items_rest : List Symbol → Bool → List Symbol
 items_rest item true = item
 items_rest item false = []
@@ -21,7 +21,7 @@ separator_read k p d ts rest e = record { text = e; passes = passes_one (is k) (
 pub separator_at : (k : Kind) (p : ℕ) (ts rest : List Token) → ts ≡ sign k p ∷ rest → at (is k) ts ≡ true
 separator_at k p ts rest e = ap (at (is k)) e ∙ is_itself k
 
--- What comes behind an item of a list in brackets: a separator and more of the list, or the closer.
+-- After an item of a list in brackets: a separator and more of the list, or the closing bracket.
 pub list_separated : (list more : Part) (sep closer : Kind) (s : Option ℕ) (d : ℕ) (ts rest : List Token) →
     ((ts : List Token) → at (is sep) ts ≡ true → Selects (rules more) ts (One (is sep) ∷ A list ∷ [])) →
     ((ts : List Token) → at (is sep) ts ≡ false → Selects (rules more) ts (One (is closer) ∷ [])) →
@@ -38,7 +38,7 @@ pub list_ends : (list : Part) (closer : Kind) (from : List Symbol) (more : Bool)
 list_ends list closer from true a d ts rest selected h l = record { text = l.text; leads = λ after o r. l.leads after o (expand (selected rest (h refl)) r) }
 list_ends list closer from false a d ts rest selected h l = l
 
--- the symbols that are left, by what is known of the separator
+-- the symbols that are left, by whether a separator came
 pub leads_rest : (to : Bool → List Symbol) {from : List Symbol} {b c : Bool} {a : List Token} {d e : ℕ} {ts rest : List Token} →
     b ≡ c → Leads from (to b) a d ts e rest → Leads from (to c) a d ts e rest
 leads_rest to {from = from} {a = a} {d = d} {e = e} {ts = ts} {rest = rest} same l = subst (λ x. Leads from (to x) a d ts e rest) same l

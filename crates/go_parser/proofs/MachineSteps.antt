@@ -1,4 +1,4 @@
--- Steps of the machine, as a parser takes them.
+-- Steps of the machine, as the parser takes them.
 use Rattle.std.proofs.Common.{add-one, append_assoc, ℕ, ◌≡◌, Bool, true, false, List, [], ◌∷◌, ◌++◌, ◌+◌, ◌<◌, ◌≤◌, length, ap, sym, ◌∙◌, subst, refl}
 use Rattle.go_ast.specs.declared.syntax.Kind.{Kind}
 use Rattle.go_ast.specs.declared.syntax.Token.{Token}
@@ -156,7 +156,7 @@ pub fails_leads : {x y : List Symbol} {a : List Token} {d f : ℕ} {ts mid : Lis
     Fails x d ts e
 fails_leads l f = record { stops = λ k n same after. l.leads after _ (f.stops k n same after) }
 
--- a last call that reads what a rule's symbols are
+-- a last call that parses the symbols of a rule
 pub tail_rule : {Y : Type 0} (p : Part) (then : List Symbol) (spelled rest : Y → List Token) (d : ℕ) (ts : List Token) (r : Result Y ParseError) →
     Selects (rules p) ts then → Parses then spelled rest d ts r → Parses (A p ∷ []) spelled rest d ts r
 tail_rule p then spelled rest d ts (Ok y) s h = read_rule s h
@@ -192,7 +192,7 @@ fails_after {xs = xs} {ys = ys} {d = d} {ts = ts} p f =
           subst (λ s. Run d s ts (Stopped k l)) (sym (append_assoc xs ys after)) (p.passes.runs (ys ++ after) _ (f.stops k l same after));
     }
 
--- goes on from what has been read
+-- continuing after tokens that have been parsed
 pub read_on : {xs ys : List Symbol} {a b : List Token} {d : ℕ} {ts mid rest : List Token} →
     Read xs a d ts d mid → Continued ys a b d mid rest → Read (xs ++ ys) b d ts d rest
 read_on {xs = xs} {ys = ys} {d = d} {ts = ts} p c = record {
@@ -203,7 +203,7 @@ read_on {xs = xs} {ys = ys} {d = d} {ts = ts} p c = record {
 pub read_through : {x y : List Symbol} {a : List Token} {d e : ℕ} {ts rest : List Token} → Leads x y [] d ts d ts → Read y a d ts e rest → Read x a d ts e rest
 read_through l r = record { text = r.text; passes = record { runs = λ after o t. l.leads after o (r.passes.runs after o t) } }
 
--- a last call that goes on from what has been read
+-- a last call that continues after tokens that have been parsed
 pub tail_on : {Y : Type 0} {xs : List Symbol} (ys : List Symbol) {a : List Token} (spelled rest : Y → List Token) {d : ℕ} {ts : List Token}
     (mid : List Token) (r : Result Y ParseError) →
     Read xs a d ts d mid → Continues ys a spelled rest d mid r → Parses (xs ++ ys) spelled rest d ts r

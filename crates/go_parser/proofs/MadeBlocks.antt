@@ -26,7 +26,7 @@ abbrev MakesBody : BlockTree → ElseTree → Type 0
 MakesBody b rest = (ss : List Symbol) (vs : Values ss) (ts : List Token) → Made ss vs ts →
     Made (A IfBody ∷ ss) ((b, rest), vs) (block_tokens b ++ (else_tokens rest ++ ts))
 
--- what stands before the condition of an `if`
+-- the clause before the condition of an `if`
 if_init : (simple : Option SimpleTree) (semicolon : ℕ) (e : ExprTree) (b : BlockTree) (rest : ElseTree) → Perhaps (IsSimple true) simple → IsExprIn true e →
     MakesBody b rest →
     {ss : List Symbol} {vs : Values ss} {ts : List Token} → Made ss vs ts →
@@ -91,7 +91,7 @@ for_head (clauses (Some init) s condition t post) b w f {ss = ss} {vs = vs} {ts 
 
 -- statements
 
--- what may stand behind a statement
+-- the tokens that may follow a statement
 abbrev Follows : Option ℕ → StatementTrees → Type 0
 Follows None rest = rest ≡ no_statement
 Follows (Some p) rest = (rest ≢ no_statement) × AreStatements rest

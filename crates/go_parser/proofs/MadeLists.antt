@@ -22,7 +22,7 @@ apart a b c d = append_assoc (a ++ b) c d ∙ append_assoc a b (c ++ d)
 abbrev pub with_separator : {X : Type 0} → X → Option ℕ → Item X
 with_separator x s = record { value = x; separator = s }
 
--- what may stand behind an item with or without a separator, in a list whose last item has none
+-- the items that may follow one with or without a separator, in a list whose last item has no separator
 abbrev pub Behind : {X : Type 0} → Option ℕ → List (Item X) → Type 0
 Behind s [] = s ≡ None
 Behind s (y ∷ ys) = IsSome s × IsJoined (y ∷ ys)
@@ -34,7 +34,7 @@ behind_item x (y ∷ ys) j = j
 some_no : (p : ℕ) → Some p ≡ None → ⊥
 some_no p e = cc
 
--- M: how what stands behind an item is made, as a function of that item
+-- M: the items after an item are derived, as a function of that item
 pub joined_more : {X : Type 0} (P : X → Type 0) (f : X → List Token) (M : (X → List (Item X)) → List Token → Type 0) (ts : List Token) →
     M (λ x. with_separator x None ∷ []) ts →
     ((p : ℕ) (y : X) → P y → (g : X → List (Item X)) (us : List Token) → M g us → M (λ x. with_separator x (Some p) ∷ g y) (sign kind.Comma p ∷ (f y ++ us))) →
@@ -50,7 +50,7 @@ joined_more P f M ts end more (Some p) (y ∷ ys) b a =
     (more p y.value (head_of (λ x. P x.value) y ys a) (λ x. with_separator x y.separator ∷ ys) _
     (joined_more P f M ts end more y.separator ys (behind_item y ys b.1) (tail_of (λ x. P x.value) y ys a)))
 
--- behind an item of an open list: its separator and the rest of the list, or the end
+-- after an item of a list in brackets: its separator and the rest of the list, or the end
 open_more : {X : Type 0} (f : X → List Token) (k : Kind) (c : ℕ) (M : Closed X → List Token → Type 0) (N : (X → Closed X) → List Token → Type 0)
     (ts : List Token) →
     ((p : ℕ) (xs : List (Item X)) (us : List Token) → M (xs, c) us → N (λ x. (with_separator x (Some p) ∷ xs, c)) (sign k p ∷ us)) →
@@ -62,7 +62,7 @@ open_more f k c M N ts more last (Some p) xs q m = more p xs _ m
 open_more f k c M N ts more last None xs q m =
     subst (λ ys. N (λ x. (with_separator x None ∷ ys, c)) (list_tokens k f ys ++ ts)) (sym (q refl)) last
 
--- M: how the rest of a list is made, up to its bracket; N: how what stands behind an item is
+-- M: the rest of a list is derived, up to its bracket; N: the rest after an item is derived
 pub open_list : {X : Type 0} (P : X → Type 0) (f : X → List Token) (k : Kind) (c : ℕ) (M : Closed X → List Token → Type 0)
     (N : (X → Closed X) → List Token → Type 0) (ts : List Token) →
     M ([], c) ts →

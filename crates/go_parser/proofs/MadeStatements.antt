@@ -57,7 +57,7 @@ update_back : (op : UpdateOp) → update_op (update_kind op) ≡ op
 update_back update.Add = refl
 update_back _ = refl
 
--- a simple statement that writes these tokens: its first expression, and what stands behind that
+-- a simple statement with these tokens: its first expression, and the tokens after that
 pub record Spoken (s : Setting) (ss : List Symbol) (vs : Values ss) (t : SimpleTree) (ts : List Token) : Type 0 where
   pub e : ExprTree
   pub proper : IsExprIn (in_head s) e
@@ -67,7 +67,7 @@ pub record Spoken (s : Setting) (ss : List Symbol) (vs : Values ss) (t : SimpleT
   pub made : Made (A (SimpleRest s) ∷ ss) (rest, vs) others
   pub says : rest e ≡ t
 
--- where it may stand
+-- the positions at which a statement is allowed
 abbrev pub IsSimpleAt : Setting → SimpleTree → Type 0
 IsSimpleAt Plain t = IsSimple false t
 IsSimpleAt Head t = IsSimple true t

@@ -1,4 +1,4 @@
--- The tokens of a file's tree are derived by the grammar, and have no other tree.
+-- The grammar derives the tokens of a file's tree, and they have no other tree.
 use Rattle.std.proofs.Common.{◌≡◌, List, [], ◌∷◌, refl, ap, sym, ◌∙◌, append-nil}
 use Rattle.go_ast.specs.declared.syntax.Token.{Token}
 use Rattle.go_ast.specs.Grammar.{A, File}

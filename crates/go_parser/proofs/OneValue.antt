@@ -1,4 +1,4 @@
--- A text has one derivation, as far as the values that it builds go.
+-- All derivations of a text build one value.
 use Rattle.std.proofs.Common.{◌≡◌, true, false, List, [], ◌∷◌, ◌++◌, refl, ap, subst}
 use Rattle.std.specs.Prelude.{◌&&◌}
 use Rattle.go_ast.specs.declared.syntax.Kind.{Kind}

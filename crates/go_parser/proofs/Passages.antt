@@ -1,4 +1,4 @@
--- From the run of some parts to the run of others, by what the parser has looked ahead for.
+-- From a run of some parts to a run of others, by the tokens that the parser has looked ahead at.
 use Rattle.std.proofs.Common.{ℕ, ◌≡◌, ap, sym, ◌∙◌, subst, Bool, true, false, List, [], ◌∷◌, refl, cond, ◌&&◌, ◌||◌}
 use Rattle.go_ast.specs.declared.syntax.Kind.{Kind}
 use Rattle.go_ast.specs.declared.syntax.Kind.TheVariants as kind
@@ -51,7 +51,7 @@ not_at : (j k : Kind) (ts : List Token) → is k j ≡ false → at (is j) ts �
 not_at j k [] d e = refl
 not_at j k (t ∷ ts) d e = subst (λ i. is k i ≡ false) (sym (is_only j t.kind e)) d
 
--- a test on the tokens behind the first
+-- a test of the tokens after the first
 behind_is : (t : Token) (ts rest : List Token) (c : Kind → Bool) (b : Bool) → ts ≡ t ∷ rest → at c (behind ts) ≡ b → at c rest ≡ b
 behind_is t ts rest c b e h = sym (ap (λ x. at c (behind x)) e) ∙ h
 
@@ -117,7 +117,7 @@ unary_name h d ts e g = record {
   leads = λ after o r. expand (first e) (under_one (λ t rest f m r. links_behind h (λ x. sym (ap names_literal f) ∙ cond_off h (names_literal ts) g x) r) r);
 }
 
--- literals behind `&`
+-- composite literals after `&`
 
 literal_name : {d : ℕ} {ss : List Symbol} {ts : List Token} {o : Outcome} →
     Run d (A AfterTypeName ∷ A Elements ∷ ss) ts o → Run d (A AfterLiteralName ∷ ss) ts o

@@ -9,19 +9,19 @@ use Rattle.go_ast.specs.WellFormed.{strength, strength_of, IsExpr, AreOperands}
 abbrev pub one_operand : BinaryOp → ℕ → ExprTree → OperandTrees
 one_operand op p u = operand op p u no_operand
 
--- e with operators os, and one more operator with its operand: behind all of it, or by joined, which has it among os
+-- e with operators os and one more operator with its operand: after all of os, or inside os, as `joined` has it
 abbrev pub join_binary : ExprTree → OperandTrees → OperandTrees → BinaryOp → ℕ → ExprTree → ExprTree
 join_binary e no_operand joined op p u = Binary (Binary e no_operand) (one_operand op p u)
 join_binary e (operand op₁ p₁ f rest) joined op p u =
     cond (ltb (strength op) (strength op₁)) (Binary (Binary e (operand op₁ p₁ f rest)) (one_operand op p u)) (Binary e joined)
 
--- an operand f and those behind it, and one more: in the last one, or behind it
+-- an operand f, those after it, and one more: inside the last operand, or after it
 abbrev pub join_operands : BinaryOp → ℕ → ExprTree → OperandTrees → ExprTree → OperandTrees → BinaryOp → ℕ → ExprTree → OperandTrees
 join_operands op₁ p₁ f no_operand deeper joined op p u =
     cond (ltb (strength op₁) (strength op)) (one_operand op₁ p₁ deeper) (operand op₁ p₁ f (one_operand op p u))
 join_operands op₁ p₁ f (operand op₂ p₂ g rest) deeper joined op p u = operand op₁ p₁ f joined
 
--- a tree and one more operator with its operand, which goes as deep to the right as the operator is strong
+-- a tree with one more operator and its operand, placed as deep to the right as the operator binds strongly
 abbrev mutual
   pub join : ExprTree → BinaryOp → ℕ → ExprTree → ExprTree
   join (Binary e os) op p u = join_binary e os (join_last os op p u) op p u
@@ -35,7 +35,7 @@ abbrev pub grouped : ExprTree → OperandTrees → ExprTree
 grouped t no_operand = t
 grouped t (operand op p u rest) = grouped (join t op p u) rest
 
--- a tree's first operand, and the operators behind it in order, before those of os
+-- a tree's first operand, and the operators after it in order, followed by those of os
 abbrev pub head_of : ExprTree → ExprTree
 head_of (Binary e os) = head_of e
 head_of t = t
@@ -57,12 +57,12 @@ behind-behind : (a b c : OperandTrees) → behind (behind a b) c ≡ behind a (b
 behind-behind no_operand b c = refl
 behind-behind (operand op p e rest) b c = ap (λ x. operand op p e x) (behind-behind rest b c)
 
--- all of one strength
+-- all operators have one precedence
 abbrev Alike : ℕ → OperandTrees → Type 0
 Alike k no_operand = Unit {0}
 Alike k (operand op p e rest) = (strength op ≡ k) × Alike k rest
 
--- all of one strength, and at least one
+-- all operators have one precedence, and there is at least one
 abbrev Alikes : ℕ → OperandTrees → Type 0
 Alikes k no_operand = ⊥
 Alikes k (operand op p e rest) = Alike k (operand op p e rest)
@@ -88,7 +88,7 @@ join_weaker (Prefix x y e) op p u h = refl
 join_weaker (Address y l) op p u h = refl
 join_weaker (Chain e ls) op p u h = refl
 
--- where an operator is no weaker than those of a binary, it goes among them
+-- an operator that binds no weaker than those of a binary expression is placed among them
 join_among : (k : ℕ) (e : ExprTree) (os : OperandTrees) (op : BinaryOp) (p : ℕ) (u : ExprTree) → Alikes k os → k ≤ strength op →
     join (Binary e os) op p u ≡ Binary e (join_last os op p u)
 join_among k e no_operand op p u a h = absurd a
@@ -96,7 +96,7 @@ join_among k e (operand op₁ p₁ f rest) op p u a h =
     ap (λ b. cond b (Binary (Binary e (operand op₁ p₁ f rest)) (one_operand op p u)) (Binary e (join_last (operand op₁ p₁ f rest) op p u)))
     (le-ltb (strength op) (strength op₁) (subst (λ n. n ≤ strength op) (sym a.0) h))
 
--- one of the same strength goes behind them
+-- an operator of equal precedence is placed after them
 join_equal : (k : ℕ) (os : OperandTrees) (op : BinaryOp) (p : ℕ) (u : ExprTree) → Alike k os → strength op ≡ k →
     join_last os op p u ≡ behind os (one_operand op p u)
 join_equal k no_operand op p u a h = refl
@@ -104,7 +104,7 @@ join_equal k (operand op₁ p₁ f no_operand) op p u a h =
     ap (λ b. cond b (one_operand op₁ p₁ (join f op p u)) (operand op₁ p₁ f (one_operand op p u))) (le-ltb (strength op₁) (strength op) (omega (arith, a.0, h)))
 join_equal k (operand op₁ p₁ f (operand op₂ p₂ g rest)) op p u a h = ap (λ x. operand op₁ p₁ f x) (join_equal k (operand op₂ p₂ g rest) op p u a.1 h)
 
--- a stronger one goes into the last operand
+-- an operator of higher precedence is placed in the last operand
 join_stronger : (k : ℕ) (os : OperandTrees) (op₁ : BinaryOp) (p₁ : ℕ) (f : ExprTree) (op : BinaryOp) (p : ℕ) (u : ExprTree) → strength op₁ ≡ k →
     k < strength op →
     join_last (behind os (one_operand op₁ p₁ f)) op p u ≡ behind os (one_operand op₁ p₁ (join f op p u))

@@ -1,5 +1,5 @@
--- The machine stops at the first fault: what it has taken begins some text of the grammar, and with the token at
--- which it stops no text begins.
+-- The machine stops at the first fault: some text of the grammar begins with the tokens taken, and none with these and the token at which
+-- it stops.
 use Rattle.std.proofs.Common.{◌≤◌, ◌<◌, arith, ℕ, ◌≡◌, ◌⊎◌, inl, inr, Bool, true, false, List, [], ◌∷◌, ◌++◌, length, refl, ap, sym, ◌∙◌, subst, get_or}
 use Rattle.std.proofs.Common.{zero, suc, append_assoc, drop}
 use Rattle.std.specs.Prelude.{◌&&◌, ◌||◌}
@@ -98,7 +98,7 @@ begins_so (opening e d) = e
 begins_so (closing d) = begins_so d
 begins_so {t = t} (by_rule {p = p} {then = then} {ss = ss} a d) = firsts_rule p then ss t.kind (rule_at p then t.kind a) (begins_so d)
 
--- what follows each part of a stack may follow it
+-- each part of a stack may be followed by the rest of the stack
 
 abbrev pub Good : List Symbol → Type 0
 Good [] = Unit {0}
@@ -510,7 +510,7 @@ first_or_later : (ls ms : List ℕ) (a n : ℕ) → ls ≡ a ∷ ms → a ≤ 20
 first_or_later ls ms a n e h f zero less = subst (λ z. get_or z zero 0 ≤ 200) (sym e) h
 first_or_later ls ms a n e h f (suc k) less = subst (λ z. get_or z (suc k) 0 ≤ 200) (sym e) (f k (omega (arith, less)))
 
--- the tokens before a fault go by the selected rule too
+-- a derivation of the tokens before a fault goes by the selected rules too
 before_levels : (p : Part) (ss then : List Symbol) (d : ℕ) (before rest more ts : List Token) → ts ≡ before ++ rest →
     Selects (rules p) ts then → Good (A p ∷ ss) →
     ((y : Derives (then ++ ss) (before ++ more)) → (k : ℕ) → k < length before → get_or (levels d y) k 0 ≤ 200) →
@@ -525,7 +525,7 @@ goes_on : (p : Part) (ss then : List Symbol) (before : List Token) (u : Token) (
 goes_on p ss then [] u others more ts e s g d = goes_by g (subst (λ x. Selects (rules p) x then) e s) d
 goes_on p ss then (b ∷ before) u others more ts e s g d = goes_by g (subst (λ x. Selects (rules p) x then) e s) d
 
--- a place such that some text begins with what stands before it, and none with the token there
+-- `rest` is where a run halts: some text begins with the tokens before it, and none with these and the first token of `rest`
 pub record Halts (symbols : List Symbol) (limit d : ℕ) (ts : List Token) (left : ℕ) : Type 0 where
   pub before : List Token
   pub rest : List Token

@@ -1,4 +1,4 @@
--- Lists of tokens that are told to be equal.
+-- Token lists that the program compares and finds equal.
 use Rattle.std.proofs.Common.{rules, ◌≡◌, Bool, true, false, List, [], ◌∷◌, ap, sym, refl, ◌∙◌}
 use Rattle.std.specs.Prelude.{◌&&◌}
 use Rattle.std.proofs.lemmas.Bool.{true≢false, eqb-true}

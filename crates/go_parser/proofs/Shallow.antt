@@ -1,4 +1,4 @@
--- In what the machine takes whole no token opens a level over the limit.
+-- In a token list that the machine accepts, no token opens a level over the limit.
 use Rattle.std.proofs.Common.{◌≤◌, arith, ℕ, ◌≡◌, List, [], ◌∷◌, ◌++◌, refl, sym, subst, suc}
 use Rattle.std.specs.List.{All}
 use Rattle.std.proofs.lemmas.List.Elements.{All-nil, All-cons}

@@ -1,4 +1,4 @@
--- What the trees of the program's types and expressions write out.
+-- The tokens of the program's types and expressions, by their parts.
 use Rattle.std.proofs.Common.{ℕ, ◌≡◌, ◌∷◌, ◌++◌, [], List, Option, Some, None, true, false, ap, sym, ◌∙◌, refl, append_assoc, append-nil}
 use Rattle.go_ast.specs.declared.syntax.Kind.{Kind}
 use Rattle.go_ast.specs.declared.syntax.Kind.TheVariants as kind

@@ -1,4 +1,4 @@
--- What the program's declarations write out, by their parts.
+-- The tokens of the program's declarations, by their parts.
 use Rattle.std.proofs.Common.{ℕ, ◌≡◌, ◌∷◌, ◌++◌, [], List, ap, sym, refl}
 use Rattle.go_ast.specs.declared.syntax.Kind.TheVariants as kind
 use Rattle.go_ast.specs.declared.syntax.Token.{Token}
@@ -72,7 +72,7 @@ unfolding result_tokens results_view
 several_results_spelled o ts c = ap (λ x. sign kind.LeftParen o ∷ (x ++ (sign kind.RightParen c ∷ [])))
     (sym (all_tokens_map (item_tokens kind.Comma type_tokens) (item_view type_view) ts.items))
 
--- a group of trees is spelled as the program's group of what stands for them
+-- the tokens of the program's group are those of the group of trees that it stands for
 pub group_spelled_as : {X Y : Type 0} (f : Y → List Token) (view : X → Y) (g : Group X) → group_spelled (λ x. f (view x)) g ≡ group_tokens f (group_view view g)
 unfolding group_tokens group_view
 group_spelled_as f view (group.Single x) = refl

@@ -1,4 +1,4 @@
--- What the program's simple statements and local variables write out, by their parts.
+-- The tokens of the program's simple statements and local variables, by their parts.
 use Rattle.std.proofs.Common.{ℕ, ◌≡◌, ◌∷◌, ◌++◌, [], List, ap, sym, ◌∙◌, refl}
 use Rattle.go_ast.specs.declared.syntax.Kind.TheVariants as kind
 use Rattle.go_ast.specs.declared.syntax.StepOp.{StepOp}

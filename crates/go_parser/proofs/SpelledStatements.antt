@@ -1,4 +1,4 @@
--- What the program's statements and files write out, by their parts.
+-- The tokens of the program's statements and files, by their parts.
 use Rattle.std.proofs.Common.{append_assoc, ℕ, ◌≡◌, ◌∷◌, ◌++◌, [], List, Option, ap, sym, ◌∙◌, refl, map}
 use Rattle.go_ast.specs.declared.syntax.Kind.TheVariants as kind
 use Rattle.go_ast.specs.declared.tree.Expr.{Expr}

@@ -1,4 +1,4 @@
--- Steps of the machine over several symbols, over lists, and from what has been read before.
+-- Steps of the machine over several symbols, over lists, and after tokens that have been parsed.
 use Rattle.std.proofs.Common.{append-nil, append_assoc, ℕ, ◌≡◌, Bool, true, false, List, [], ◌∷◌, ◌++◌, ◌+◌, ◌≤◌, length, ap, sym, ◌∙◌, subst, refl, Option}
 use Rattle.std.proofs.Common.{Some, None, Result, Ok, Err, map, is_some, arith, add-one, length-append}
 use Rattle.go_ast.specs.declared.syntax.Kind.{Kind}
@@ -30,7 +30,7 @@ pub leads_read : {xs : List Symbol} (ys : List Symbol) {a : List Token} {d e : �
     Read xs a d ts e rest → Leads (xs ++ ys) ys a d ts e rest
 leads_read ys p = record { text = p.text; leads = λ after o r. runs_on _ p.passes after o r }
 
--- from what has been read before
+-- after tokens that have been parsed
 
 pub continued : {ss : List Symbol} (begun : List Token) {a spelled : List Token} {d : ℕ} {ts rest : List Token} →
     Read ss a d ts d rest → begun ++ a ≡ spelled → Continued ss begun spelled d ts rest
@@ -39,7 +39,7 @@ continued begun {a = a} {rest = rest} r e = record {
   passes = r.passes;
 }
 
--- what a last call reads goes on from what was read here
+-- the tokens of a last call continue those parsed here
 pub then_continues : {Y : Type 0} (xs ss : List Symbol) (begun : List Token) (spelled rest : Y → List Token) (d : ℕ) (ts mid : List Token)
     (r : Result Y ParseError) →
     Read xs begun d ts d mid → Continues ss begun spelled rest d mid r → Parses (xs ++ ss) spelled rest d ts r
@@ -84,12 +84,12 @@ leads_push f {rest = rest} xs ys x p q e = record {
 pub at_sign : (k : Kind) (n : ℕ) {ts rest : List Token} → ts ≡ sign k n ∷ rest → at (is k) ts ≡ true
 at_sign k n e = ap (at (is k)) e ∙ is_itself k
 
--- whether more follows, in a measure
+-- whether another item follows, as a measure
 abbrev pub flag : Bool → ℕ
 flag true = 1
 flag false = 0
 
--- an item of a list without brackets, and the separator where another follows
+-- an item of a list without brackets, and its separator if another item follows
 leads_item_so : (k : Kind) (sep : Option ℕ) (item : List Symbol) (more : Part) {a : List Token} {d : ℕ} {ts mid rest : List Token} →
     ((us : List Token) → at (is k) us ≡ true → Selects (rules more) us (One (is k) ∷ (item ++ (A more ∷ [])))) →
     ((us : List Token) → at (is k) us ≡ false → Selects (rules more) us []) →
@@ -115,7 +115,7 @@ leads_item k sep item more b same {a = a} {d = d} {ts = ts} {rest = rest} goes e
     subst (λ b. Leads (item ++ (A more ∷ [])) (items_rest (item ++ (A more ∷ [])) b) (a ++ sign_if k sep) d ts d rest) (sym same)
     (leads_item_so k sep item more goes ends p s)
 
--- an item of a list in brackets, and the separator where there is one
+-- an item of a list in brackets, and its separator if it has one
 leads_enclosed_so : (k : Kind) (sep : Option ℕ) (item : List Symbol) (list more : Part) (closer : Kind) {a : List Token} {d : ℕ} {ts mid rest : List Token} →
     Selects (rules list) ts (item ++ (A more ∷ [])) →
     ((us : List Token) → at (is k) us ≡ true → Selects (rules more) us (One (is k) ∷ A list ∷ [])) →
@@ -148,7 +148,7 @@ pub leads_more : (left : Bool → List Symbol) (more : Bool) {from : List Symbol
     Leads from (left more) a d ts e rest → more ≡ true → Leads from (left true) a d ts e rest
 leads_more left more {from = from} {a = a} {d = d} {e = e} {ts = ts} {rest = rest} l h = subst (λ b. Leads from (left b) a d ts e rest) h l
 
--- where none does
+-- where no other item follows
 pub read_items : (left : Bool → List Symbol) (more : Bool) {from : List Symbol} {a : List Token} {d e : ℕ} {ts rest : List Token} →
     left false ≡ [] → Leads from (left more) a d ts e rest → more ≡ false → Read from a d ts e rest
 read_items left more {d = d} {e = e} {ts = ts} {rest = rest} none l h = record {
@@ -190,9 +190,9 @@ leads_optional p k (Some n) to {d = d} {ts = ts} goes ends s = record {
   leads = λ after o r. expand (goes ts (at_sign k n s)) (subst (λ us. Run d (One (is k) ∷ (to ++ after)) us o) (sym s) (take (is_itself k) r));
 }
 
--- from what has been read before, symbols that lead to others
+-- symbols that lead to others, after tokens that have been parsed
 
--- The machine goes from some symbols to others over what was added to the tokens that were there.
+-- The machine goes from some symbols to others over the tokens that were added.
 pub record LeadsFrom (begun : List Token) (from to : List Symbol) (spelled : List Token) (d : ℕ) (ts : List Token) (e : ℕ) (rest : List Token) : Type 0 where
   pub added : List Token
   pub is : spelled ≡ begun ++ added
@@ -217,7 +217,7 @@ pub from_more : (left : Bool → List Symbol) (more : Bool) {begun : List Token}
 from_more left more {begun = begun} {from = from} {a = a} {d = d} {e = e} {ts = ts} {rest = rest} l h =
     subst (λ b. LeadsFrom begun from (left b) a d ts e rest) h l
 
--- what continues, with a rule, where nothing more may follow
+-- a continuation by a rule, after which no symbol is left
 pub continued_items : (left : Bool → List Symbol) (more : Bool) {begun : List Token} {from : List Symbol} {a : List Token} {d : ℕ} {ts rest : List Token} →
     left false ≡ [] → LeadsFrom begun from (left more) a d ts d rest → more ≡ false → Continued from begun a d ts rest
 continued_items left more {begun = begun} {a = a} {rest = rest} none l h = record {
@@ -250,7 +250,7 @@ pub continues_nothing : {Y : Type 0} (ss : List Symbol) (begun : List Token) (sp
 continues_nothing ss begun spelled rest d ts (Ok y) e c = record { text = ap (λ x. x ++ ts) (sym e) ∙ c.text; passes = c.passes }
 continues_nothing ss begun spelled rest d ts (Err x) e c = c
 
--- what was read and what goes on from it
+-- parsed tokens and their continuation
 pub read_continued : {xs ys : List Symbol} {begun spelled : List Token} {d e : ℕ} {ts mid rest : List Token} →
     Read xs begun d ts e mid → Continued ys begun spelled e mid rest → Read (xs ++ ys) spelled d ts e rest
 read_continued p q = record { text = p.text ∙ q.text; passes = record { runs = λ after o r. runs_on _ p.passes after o (q.passes.runs after o r) } }
@@ -270,12 +270,12 @@ read_level {ss = ss} {d = d} {ts = ts} {rest = rest} same p = record {
   };
 }
 
--- a part is gone on from by its rule
+-- a part is continued by its rule
 pub leads_next : {x to : List Symbol} {p : Part} {a : List Token} {d e : ℕ} {ts rest : List Token} →
     Leads x (A p ∷ []) a d ts e rest → Selects (rules p) rest to → Leads x to a d ts e rest
 leads_next l s = record { text = l.text; leads = λ after o r. l.leads after o (expand s r) }
 
--- what is left behind an item and its separator is no longer
+-- no more tokens are left after an item and its separator than there were before the item
 pub item_shorter : {ss : List Symbol} {a : List Token} {d e : ℕ} {ts mid : List Token} (k : Kind) (sep : Option ℕ) (rest : List Token) →
     Read ss a d ts e mid → Separates k sep mid rest → length rest ≤ length ts
 item_shorter {a = a} {ts = ts} {mid = mid} k None rest p s =

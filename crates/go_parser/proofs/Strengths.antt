@@ -1,4 +1,4 @@
--- How strongly operators bind, and expressions by their operands.
+-- The precedence of operators, and of expressions by their operators.
 use Rattle.std.proofs.Common.{ℕ, ◌≡◌, ◌≤◌, ◌<◌, Bool, true, false, List, [], ◌∷◌, arith, refl, Option, Some, None, Result, Ok, Err, lit≤}
 use Rattle.std.specs.Result.{IfOk}
 use Rattle.go_ast.specs.declared.syntax.Token.{Token}

@@ -1,5 +1,5 @@
--- The sets of the grammar: what a part may begin with, whether it may be empty, and what may follow it. That they
--- are sets of this grammar, and that each rule is selected by the next token, is computed over the rules.
+-- The first sets and follow sets of the grammar, and the parts that may be empty. Computation over the rules shows that they are right, and
+-- that the next token selects each rule.
 use Rattle.std.proofs.Common.{◌≡◌, Bool, true, false, List, [], ◌∷◌, cond, refl}
 use Rattle.std.specs.Prelude.{◌&&◌, ◌||◌}
 use Rattle.go_ast.specs.declared.syntax.Kind.{Kind}
@@ -117,7 +117,7 @@ ends_statement = one_of (kind.Semicolon ∷ kind.RightBrace ∷ [])
 abbrev pub ends_item : Kind → Bool
 ends_item = one_of (kind.Semicolon ∷ kind.RightParen ∷ [])
 
--- a statement, or an item of a group in a block, ends by one of these
+-- a statement, or an item of a group in a block, is followed by one of these
 abbrev pub ends_either : Kind → Bool
 ends_either = one_of (kind.Semicolon ∷ kind.RightBrace ∷ kind.RightParen ∷ [])
 

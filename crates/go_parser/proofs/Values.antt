@@ -1,4 +1,4 @@
--- What the rules of the grammar build: the value of each part, and how each rule makes it of its tokens and parts.
+-- The values that the rules of the grammar build: of each part, from the tokens and parts of its rule.
 use Rattle.std.proofs.Common.{ℕ, true, false, List, [], ◌∷◌, Option, Some, None}
 use Rattle.go_ast.specs.declared.syntax.Kind.{Kind}
 use Rattle.go_ast.specs.declared.syntax.Kind.TheVariants as kind
@@ -29,7 +29,7 @@ use Rattle.go_ast.specs.Tree.{VarDecl, TypeDecl, FuncDecl, FileTree}
 use Rattle.go_parser.proofs.Tables.{symbols_of}
 use Rattle.go_parser.proofs.Precedence.{grouped}
 
--- what a token stands for, by its kind
+-- the value of a token, by its kind
 
 abbrev pub binary_op : Kind → BinaryOp
 binary_op kind.Star = binary.Multiply
@@ -92,7 +92,7 @@ set_at _ p es fs = Define es p fs
 abbrev pub set_by : Token → List (Item ExprTree) → List (Item ExprTree) → SimpleTree
 set_by t es fs = set_at t.kind t.place es fs
 
--- an item with a separator behind it, and the last item
+-- an item with its separator, and the last item
 
 abbrev pub parted : {X : Type 0} → X → Token → Item X
 parted x t = record { value = x; separator = Some t.place }
@@ -188,7 +188,7 @@ Takes (Opening c ∷ ss) V = Token → Takes ss V
 Takes (Close ∷ ss) V = Takes ss V
 Takes (A p ∷ ss) V = Value p → Takes ss V
 
--- one for each rule
+-- a function for each rule
 abbrev pub Makers : Type 0 → List Rule → Type 0
 Makers V [] = Unit {0}
 Makers V (r ∷ rs) = Takes (symbols_of r) V × Makers V rs

@@ -1,4 +1,4 @@
--- From the machine's run over all of a file's tokens to what is answered for the file.
+-- From the machine's run over all of a file's tokens to the parser's result for the file.
 use Rattle.std.proofs.Common.{ℕ, ◌≡◌, ap, sym, ◌∙◌, subst, false, List, [], ◌∷◌, ◌++◌, refl, length, append-nil}
 use Rattle.std.specs.Prelude.{◌==◌}
 use Rattle.go_scanner.specs.CutText.{CutText}

@@ -1,4 +1,4 @@
--- Tokens of a class: what a parser of one of them shows.
+-- Tokens of a class: contracts of the functions that parse one of them.
 use Rattle.std.proofs.Common.{ℕ, ◌≡◌, Bool, true, false, List, [], ◌∷◌, length, ap, sym, ◌∙◌, subst, refl, Some, None}
 use Rattle.go_ast.specs.declared.syntax.Kind.{Kind}
 use Rattle.go_ast.specs.declared.syntax.Kind.TheVariants as kind
@@ -30,7 +30,7 @@ some_none e = cc
 some_same : {X : Type 0} {x y : X} → Some x ≡ Some y → x ≡ y
 some_same e = cc
 
--- a token of a class, of which the kind is known
+-- a token of a class, with its kind known
 pub read_class : (c : Kind → Bool) (k : Kind) (t : Token) {d : ℕ} {ts rest : List Token} → ts ≡ t ∷ rest → c t.kind ≡ true → t.kind ≡ k →
     Read (One c ∷ []) (sign k t.place ∷ []) d ts d rest
 read_class c k t {d = d} {rest = rest} e within same = record {
@@ -44,7 +44,7 @@ pub token_refused : (c : Kind → Bool) (d : ℕ) (t : Token) {ts rest : List To
 token_refused c d t {ts = ts} {rest = rest} same without is =
     subst (λ e. Fails (One c ∷ []) d ts e) (sym is) (refuses_one c d ts (at_token c false t ts rest same without))
 
--- and so is the end
+-- the end of the tokens is refused
 pub end_refused : (c : Kind → Bool) (d : ℕ) {ts : List Token} {e : ParseError} → ts ≡ [] → e ≡ Fault Syntax (length ts) → Fails (One c ∷ []) d ts e
 end_refused c d {ts = ts} same is = subst (λ e. Fails (One c ∷ []) d ts e) (sym is) (refuses_one c d ts (at_end c ts same))
 
@@ -84,7 +84,7 @@ step_refused kind.Increment e = absurd (some_none e)
 step_refused kind.Decrement e = absurd (some_none e)
 step_refused _ e = refl
 
--- `+=` and its kin
+-- operators such as `+=`
 
 pub update_class : (k : Kind) (op : UpdateOp) → update_of k ≡ Some op → (is_update k ≡ true) × (k ≡ update_kind op)
 update_class kind.AddAssign op e = (refl, ap update_kind (some_same e))

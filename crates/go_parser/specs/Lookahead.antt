@@ -1,20 +1,20 @@
--- What the parser looks ahead for.
+-- Tests of the next tokens that decide how to parse.
 use Rattle.std.specs.Prelude.{List, [], ◌∷◌, Bool, ◌&&◌, ◌||◌}
 use Rattle.go_ast.specs.declared.syntax.Token.{Token}
 use Rattle.go_ast.specs.declared.syntax.Kind.TheVariants.{LeftBrace, Dot, Name, Colon}
 use Rattle.go_ast.specs.Grammar.{is}
 use Rattle.go_parser.specs.Machine.{at}
 
--- the tokens behind the first
+-- the tokens after the first
 abbrev pub behind : List Token → List Token
 behind [] = []
 behind (t ∷ ts) = ts
 
--- whether behind the first token, a type's name, a literal's braces follow: a brace, or a dot, a name and a brace
+-- after the first token, a name, comes `{`, or `.`, a name and `{`: a composite literal begins
 abbrev pub names_literal : List Token → Bool
 names_literal ts = at (is LeftBrace) (behind ts) ||
     (at (is Dot) (behind ts) && (at (is Name) (behind (behind ts)) && at (is LeftBrace) (behind (behind (behind ts)))))
 
--- whether a name and a colon come next
+-- a name and a colon come next
 abbrev pub begins_key : List Token → Bool
 begins_key ts = at (is Name) ts && at (is Colon) (behind ts)

@@ -1,5 +1,4 @@
--- The predictive machine of the grammar. Its stack is what has still to come, and it knows how many levels
--- are open.
+-- The predictive machine of the grammar. Its state is the symbols that must still come, the tokens left, and the number of open levels.
 use Rattle.std.specs.Prelude.{ℕ, suc, ◌≡◌, Bool, true, false, List, [], ◌∷◌, ◌++◌, ◌≤◌, ◌<◌, length}
 use Rattle.go_ast.specs.declared.syntax.Kind.{Kind}
 use Rattle.go_ast.specs.declared.syntax.Token.{Token}
@@ -8,12 +7,12 @@ use Rattle.go_ast.specs.declared.syntax.TokenFaultKind.TheVariants.{Syntax, Nest
 use Rattle.go_ast.specs.Grammar.{Symbol, One, Opening, Close, A, Part, Rule, Begins, Otherwise, rules}
 use Rattle.go_ast.specs.Verdict.{limit}
 
--- whether the first token is of a class; where there is none it is of no class
+-- the first token is of a class; false where there is no token
 abbrev pub at : (Kind → Bool) → List Token → Bool
 at c [] = false
 at c (t ∷ ts) = c t.kind
 
--- the rule that the next token selects
+-- the next token selects the rule with these symbols
 pub data Selects : List Rule → List Token → List Symbol → Type 0 where
   first : {c : Kind → Bool} {then : List Symbol} {rs : List Rule} {ts : List Token} →
       at c ts ≡ true → Selects (Begins c then ∷ rs) ts then
@@ -21,12 +20,12 @@ pub data Selects : List Rule → List Token → List Symbol → Type 0 where
       at c ts ≡ false → Selects rs ts then → Selects (Begins c other ∷ rs) ts then
   last : {then : List Symbol} {rs : List Rule} {ts : List Token} → Selects (Otherwise then ∷ rs) ts then
 
--- How a run ends: all tokens taken, or a fault with that many tokens left, the one at fault among them.
+-- the outcome of a run: all tokens taken, or a fault with this number of tokens left, the one at fault among them
 pub data Outcome : Type 0 where
   Accepted : Outcome
   Stopped : TokenFaultKind → ℕ → Outcome
 
--- by the levels that are open, what has still to come, and the tokens left
+-- a run of the machine, by the number of open levels, the symbols that must still come, and the tokens left
 pub data Run : ℕ → List Symbol → List Token → Outcome → Type 0 where
   accept : {d : ℕ} → Run d [] [] Accepted
   take : {d : ℕ} {c : Kind → Bool} {t : Token} {ss : List Symbol} {ts : List Token} {o : Outcome} →

@@ -1,4 +1,4 @@
--- What the parser answers for a whole file.
+-- The results of parsing a whole file.
 use Rattle.std.specs.Prelude.{◌≡◌, ℕ, List, [], ◌∷◌, Result, Ok, Err}
 use Rattle.go_scanner.specs.CutText.{CutText}
 use Rattle.go_ast.specs.declared.syntax.Token.{Token}
@@ -12,22 +12,22 @@ use Rattle.go_parser.specs.Machine.{Run, Accepted, Stopped}
 use Rattle.go_ast.specs.Kinds.{place_of}
 use Rattle.go_ast.specs.Faults.{kind_for, IsParseFault, IsFaultOf}
 
--- want of memory says nothing
+-- a refusal by a fault names the first fault of the tokens; want of memory claims nothing
 abbrev pub IsRefusedFor : CutText → ParseRefusal → Type 0
 IsRefusedFor c (refusal.Fault f) = IsParseFault c f
 IsRefusedFor c refusal.Memory = Unit {0}
 
--- what the machine does with all the tokens
+-- the result is what the machine makes of all the tokens: a tree that has these tokens, or the fault at which it stops
 abbrev pub Answers : {F : Type 0} → (F → List Token) → List Token → Result F ParseError → Type 0
 Answers spelled tokens (Ok f) = (spelled f ≡ tokens) × Run 0 (A File ∷ []) tokens Accepted
 Answers spelled tokens (Err e) = (k : TokenFault) (left : ℕ) → e ≡ error.Fault k left → Run 0 (A File ∷ []) tokens (Stopped k left)
 
--- the refusal for an error of the token list
+-- the refusal of a file for an error of its token list
 abbrev pub refusal_of : CutText → ParseError → ParseRefusal
 refusal_of c error.Memory = refusal.Memory
 refusal_of c (error.Fault k left) = refusal.Fault (record { offset = place_of c left; kind = kind_for k })
 
--- a text is refused for its first fault; want of memory says nothing
+-- a refusal by a fault names the first fault of the text; want of memory claims nothing
 abbrev pub IsTextRefusedFor : List ℕ → ParseRefusal → Type 0
 IsTextRefusedFor text (refusal.Fault fault) = IsFaultOf text fault
 IsTextRefusedFor text refusal.Memory = Unit {0}

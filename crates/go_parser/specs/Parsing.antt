@@ -1,4 +1,4 @@
--- What a parser of one part of a text gives.
+-- Contracts of the functions that parse one part of a file, by runs of the machine.
 use Rattle.std.specs.Prelude.{ℕ, ◌≡◌, Bool, List, [], ◌∷◌, ◌++◌, Option, Some, None, Result, Ok, Err, ◌≤◌, ◌+◌, true, false, is_some}
 use Rattle.go_ast.specs.declared.syntax.Token.{Token}
 use Rattle.go_ast.specs.declared.syntax.TokenFaultKind.{TokenFaultKind}
@@ -10,67 +10,72 @@ use Rattle.go_ast.specs.Verdict.{limit}
 use Rattle.go_ast.specs.Flatten.{sign}
 use Rattle.go_ast.specs.declared.syntax.Kind.{Kind}
 
--- The machine takes the symbols: from depth d and tokens ts it comes to e and rest.
+-- the machine takes the symbols: with d levels open and tokens ts it comes to e levels and tokens rest
 pub record Passes (symbols : List Symbol) (d : ℕ) (ts : List Token) (e : ℕ) (rest : List Token) : Type 0 where
   pub runs : (after : List Symbol) → (o : Outcome) → Run e after rest o → Run d (symbols ++ after) ts o
 
--- An error that is a fault is where the machine stops, within the symbols.
+-- if the error e is a fault, the machine stops there, within the symbols
 pub record Fails (symbols : List Symbol) (d : ℕ) (ts : List Token) (e : ParseError) : Type 0 where
   pub stops : (fault : TokenFaultKind) → (left : ℕ) → e ≡ errors.Fault fault left →
       (after : List Symbol) → Run d (symbols ++ after) ts (Stopped fault left)
 
+-- the tokens ts begin with `spelled`, which the machine takes by the symbols
 pub record Read (symbols : List Symbol) (spelled : List Token) (d : ℕ) (ts : List Token) (e : ℕ) (rest : List Token) : Type 0 where
   pub text : ts ≡ spelled ++ rest
   pub passes : Passes symbols d ts e rest
 
--- What an Ok gives holds, and an error that is a fault is where the machine stops.
+-- the value of an `Ok` satisfies `found`, and a fault is where the machine stops within the symbols
 abbrev pub Gives : {Y : Type 0} → (Y → Type 0) → List Symbol → ℕ → List Token → Result Y ParseError → Type 0
 Gives found symbols d ts (Ok y) = found y
 Gives found symbols d ts (Err e) = Fails symbols d ts e
 
--- What is read is spelled so and is what the machine takes; a fault is where the machine stops.
+-- the parsed value has the tokens that the machine takes by the symbols; a fault is where the machine stops
 abbrev pub Parses : {Y : Type 0} → List Symbol → (Y → List Token) → (Y → List Token) → ℕ → List Token → Result Y ParseError → Type 0
 Parses symbols spelled rest d ts = Gives (λ y. Read symbols (spelled y) d ts d (rest y)) symbols d ts
 
--- An opening token of a class, spelled so, which opens a level.
+-- a token of a class is taken that opens a level; e levels are open after it, at most the limit
 pub record OpenedAs (c : Kind → Bool) (spelled : List Token) (d : ℕ) (ts : List Token) (e : ℕ) (rest : List Token) : Type 0 where
   pub read : Read (Opening c ∷ []) spelled d ts e rest
   pub deeper : e ≡ d + 1
   pub within : e ≤ limit
 
+-- a token of a class is parsed that opens a level, or a fault is where the machine stops
 abbrev pub OpensAs : {Y : Type 0} → (Kind → Bool) → (Y → List Token) → (Y → ℕ) → (Y → List Token) → ℕ → List Token → Result Y ParseError → Type 0
 OpensAs c spelled depth rest d ts = Gives (λ y. OpenedAs c (spelled y) d ts (depth y) (rest y)) (Opening c ∷ []) d ts
 
+-- a token of this kind is parsed that opens a level, or a fault is where the machine stops
 abbrev pub Opens : {Y : Type 0} → Kind → (Y → ℕ) → (Y → ℕ) → (Y → List Token) → ℕ → List Token → Result Y ParseError → Type 0
 Opens kind place depth rest d ts = OpensAs (is kind) (λ y. sign kind (place y) ∷ []) depth rest d ts
 
--- The machine goes from some symbols to others, over tokens that are spelled so.
+-- the machine goes from some symbols to others over the tokens `spelled`
 pub record Leads (from to : List Symbol) (spelled : List Token) (d : ℕ) (ts : List Token) (e : ℕ) (rest : List Token) : Type 0 where
   pub text : ts ≡ spelled ++ rest
   pub leads : (after : List Symbol) → (o : Outcome) → Run e (to ++ after) rest o → Run d (from ++ after) ts o
 
+-- the parsed value has the tokens over which the machine goes from some symbols to others; a fault is where it stops
 abbrev pub LeadsTo : {Y : Type 0} → List Symbol → List Symbol → (Y → List Token) → (Y → List Token) → ℕ → List Token → Result Y ParseError → Type 0
 LeadsTo from to spelled rest d ts = Gives (λ y. Leads from to (spelled y) d ts d (rest y)) from d ts
 
--- What is read goes on from what was spelled before.
+-- the tokens `begun`, taken before, and those taken by the symbols are together `spelled`
 pub record Continued (symbols : List Symbol) (begun spelled : List Token) (d : ℕ) (ts : List Token) (rest : List Token) : Type 0 where
   pub text : begun ++ ts ≡ spelled ++ rest
   pub passes : Passes symbols d ts d rest
 
+-- the parsed value has the tokens `begun` and those taken by the symbols; a fault is where the machine stops
 abbrev pub Continues : {Y : Type 0} → List Symbol → List Token → (Y → List Token) → (Y → List Token) → ℕ → List Token → Result Y ParseError → Type 0
 Continues symbols begun spelled rest d ts = Gives (λ y. Continued symbols begun (spelled y) d ts (rest y)) symbols d ts
 
--- A separator of that kind, which may be absent.
+-- an optional separator of this kind is taken from the tokens ts, and rest are left
 abbrev pub Separates : Kind → Option ℕ → List Token → List Token → Type 0
 Separates kind None ts rest = (at (is kind) ts ≡ false) × (ts ≡ rest)
 Separates kind (Some place) ts rest = ts ≡ sign kind place ∷ rest
 
--- What is left of a list in brackets: more of the list, or the closing bracket alone.
+-- the symbols after an item of a list in brackets: more of the list after a separator, else the closing bracket
 abbrev pub list_rest : Part → Kind → Bool → List Symbol
 list_rest list closer true = A list ∷ []
 list_rest list closer false = One (is closer) ∷ []
 
--- Item by item: what is left depends on whether a separator followed.
+-- an item is parsed; the symbols after it depend on whether a separator followed
 abbrev pub LeadsBy : {Y : Type 0} → List Symbol → (Bool → List Symbol) → (Y → Option ℕ) → (Y → List Token) → (Y → List Token) → ℕ → List Token →
     Result Y ParseError → Type 0
 LeadsBy from to separator spelled rest d ts = Gives (λ y. Leads from (to (is_some (separator y))) (spelled y) d ts d (rest y)) from d ts

@@ -1,4 +1,4 @@
--- The tokens that a value of the program writes out: those of the tree that it stands for.
+-- The tokens of the program's trees: those of the specification trees that they stand for.
 use Rattle.std.specs.Prelude.{ℕ, List, ◌++◌}
 use Rattle.go_ast.specs.declared.syntax.Kind.TheVariants as kind
 use Rattle.go_ast.specs.declared.syntax.Token.{Token}
@@ -57,18 +57,18 @@ expr_item_spelled i = expr_spelled i.value ++ sign_if kind.Comma i.comma
 abbrev pub element_spelled : Element → List Token
 element_spelled e = flat.key_tokens (key_view e.key) ++ (expr_spelled e.value ++ sign_if kind.Comma e.comma)
 
--- expressions with commas between them
+-- the tokens of expressions, separated by commas
 abbrev pub exprs_spelled : List ExprItem → List Token
 exprs_spelled xs = flat.exprs_tokens (exprs_view xs)
 
--- names with commas between them
+-- the tokens of names, separated by commas
 abbrev pub names_spelled : List (Item ℕ) → List Token
 names_spelled xs = flat.list_tokens kind.Comma flat.name_tokens (list_view same_place xs)
 
 abbrev pub ident_spelled : Ident → List Token
 ident_spelled i = flat.ident_tokens (ident_view i)
 
--- identifiers with commas between them
+-- the tokens of identifiers, separated by commas
 abbrev pub idents_spelled : List (Item Ident) → List Token
 idents_spelled xs = flat.list_tokens kind.Comma flat.ident_tokens (list_view ident_view xs)
 

@@ -1,4 +1,4 @@
-//! Declarations of packages, variables and types.
+//! Parses imports, package-level variables and type definitions.
 ghost use Rattle.std.specs.Prelude.{◌∷◌, ◌++◌, [], IfOk};
 ghost use Rattle.go_ast.specs.Grammar as grammar;
 ghost use Rattle.go_ast.specs.Grammar.{A, One, is, MoreNames, GlobalValues, TypeUse, Fields};
@@ -26,7 +26,7 @@ impl Spec for ImportSpec {
 
     ghost is_formed = { λ x. Any x };
 
-    /// An import: a path, perhaps with a name before it.
+    /// Parses an import spec: `name "path"`, where the name may be absent.
     fn parse(alloc: Global, tokens: &[Token], depth: u32) -> Parsed<'_, ImportSpec> {
         let (name, rest) = separator(tokens, Kind::Name);
         let (path, rest) = expect(rest, Kind::Text, depth)?;
@@ -41,7 +41,7 @@ impl Spec for VarSpec {
 
     ghost is_formed = { λ x. IsGlobal (global_view x) };
 
-    /// Variables of a package: names, a type, perhaps values.
+    /// Parses package-level variables of one type: names, a type, and values, if there are any.
     fn parse(alloc: Global, tokens: &[Token], depth: u32) -> Parsed<'_, VarSpec> {
         let (names, rest) = names(alloc, tokens, depth)?;
         let (var_type, rest) = type_expr(alloc, rest, depth)?;
@@ -62,7 +62,7 @@ impl Spec for TypeSpec {
 
     ghost is_formed = { λ x. IsTypeSpec (type_spec_view x) };
 
-    /// A type definition: a name, and what it is defined as.
+    /// Parses a type definition: a name and its right side.
     fn parse(alloc: Global, tokens: &[Token], depth: u32) -> Parsed<'_, TypeSpec> {
         let (name, rest) = expect(tokens, Kind::Name, depth)?;
         let (body, rest) = type_body(alloc, rest, depth)?;
@@ -70,7 +70,7 @@ impl Spec for TypeSpec {
     }
 }
 
-/// The values of a package's variables, where there are any.
+/// Parses the values of package-level variables, if there are any.
 fn var_values(alloc: Global, tokens: &[Token], depth: u32) -> Parsed<'_, Option<VarValues>>
     ensures exact { Parses (A GlobalValues ∷ []) (λ x. tokens_if (value_tokens basic_tokens) (option_view var_values_view x.0)) (λ x. x.1.now) depth tokens.now result }
     ensures formed { IfOk result (λ x. Perhaps (λ v. IsList Any v.1) (option_view var_values_view x.0)) }
@@ -83,7 +83,7 @@ fn var_values(alloc: Global, tokens: &[Token], depth: u32) -> Parsed<'_, Option<
     Ok((Some(VarValues { assign, values }), rest))
 }
 
-/// What a name is defined as.
+/// Parses the right side of a type definition: a type or a struct.
 fn type_body(alloc: Global, tokens: &[Token], depth: u32) -> Parsed<'_, TypeBody>
     ensures exact { Parses (A grammar.TypeBody ∷ []) (λ x. body_spelled x.0) (λ x. x.1.now) depth tokens.now result }
     ensures formed { IfOk result (λ x. IsBody (body_view x.0)) }
@@ -104,7 +104,7 @@ fn type_body(alloc: Global, tokens: &[Token], depth: u32) -> Parsed<'_, TypeBody
     Ok((TypeBody::Type(type_expr), rest))
 }
 
-/// The fields of a struct, and the closing brace.
+/// Parses the fields of a struct and its closing brace.
 fn fields(alloc: Global, tokens: &[Token], depth: u32) -> Parsed<'_, (Vec<Item<FieldDecl>>, usize)>
     ensures exact { Parses (A Fields ∷ []) (λ x. items_spelled Kind.Semicolon field_spelled x.0.0.items ++ (sign Kind.RightBrace x.0.1 ∷ [])) (λ x. x.1.now) depth tokens.now result }
     ensures formed { IfOk result (λ x. IsOpenList IsField (list_view field_view x.0.0.items)) }
@@ -123,7 +123,7 @@ fn fields(alloc: Global, tokens: &[Token], depth: u32) -> Parsed<'_, (Vec<Item<F
     Ok(((fields, close), rest))
 }
 
-/// Fields of one type.
+/// Parses fields of one type.
 fn field(alloc: Global, tokens: &[Token], depth: u32) -> Parsed<'_, FieldDecl>
     ensures exact { Parses (One (is Kind.Name) ∷ A MoreNames ∷ A TypeUse ∷ []) (λ x. field_spelled x.0) (λ x. x.1.now) depth tokens.now result }
     ensures formed { IfOk result (λ x. IsField (field_view x.0)) }

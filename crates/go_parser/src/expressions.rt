@@ -1,4 +1,4 @@
-//! Expressions.
+//! Parses expressions.
 ghost use Rattle.std.specs.Prelude.{◌≡◌, ◌∷◌, ◌≤◌, ◌<◌, ◌+◌, ◌++◌, [], length, true, false, IfOk, is_some};
 ghost use Rattle.go_ast.specs.Grammar.{A, Expression, Unary, Binaries, Links, Arguments, Address, Elements, ElementList, slice_type, is};
 ghost use Rattle.go_ast.specs.Grammar as grammar;
@@ -20,7 +20,7 @@ use go_ast::syntax::{Kind, Token};
 use go_ast::tree::{CompositeLit, Element, Expr, ExprItem, Key, Link, Operand, TypeExpr};
 use std::alloc::Global;
 
-/// An expression. In the header of an `if` or a `for`, outside any brackets, no literal begins with a name.
+/// Parses an expression. In the header of an `if` or a `for`, outside brackets, no composite literal begins with a name.
 #[cycle(expression)]
 pub(crate) fn expression(
     alloc: Global,
@@ -34,7 +34,7 @@ pub(crate) fn expression(
     binary(alloc, tokens, depth, header, 1)
 }
 
-/// An operand, and what operators of that strength or a greater one join to it. Behind a strength of 5 comes none.
+/// Parses an operand with the binary operators of precedence `strength` or higher that follow it. A `strength` of 6 takes none.
 #[cycle(expression)]
 fn binary(
     alloc: Global,
@@ -76,7 +76,7 @@ fn binary(
     ))
 }
 
-/// An operand with its prefix operators, selectors, indexes and calls.
+/// Parses an operand with its prefix operators, selectors, indexes and calls.
 #[cycle(expression)]
 fn unary(alloc: Global, tokens: &[Token], depth: u32, header: bool) -> Parsed<'_, Expr>
     ensures exact { Parses (A (Unary header) ∷ []) (λ x. expr_spelled x.0) (λ x. x.1.now) depth tokens.now result }
@@ -88,7 +88,7 @@ fn unary(alloc: Global, tokens: &[Token], depth: u32, header: bool) -> Parsed<'_
     operand(alloc, tokens, depth, header)
 }
 
-/// An operand that begins with a name: a composite literal or the name itself, and the links behind it.
+/// Parses an operand that begins with a name: a composite literal or the name itself, and the links that follow.
 #[cycle(expression)]
 fn named(alloc: Global, tokens: &[Token], depth: u32, header: bool) -> Parsed<'_, Expr>
     requires { at (is Kind.Name) tokens.now ≡ true }
@@ -104,7 +104,7 @@ fn named(alloc: Global, tokens: &[Token], depth: u32, header: bool) -> Parsed<'_
     chain(alloc, Expr::Name(name), rest, depth, header)
 }
 
-/// An operand that begins with no name.
+/// Parses an operand that does not begin with a name.
 #[cycle(expression)]
 fn operand(alloc: Global, tokens: &[Token], depth: u32, header: bool) -> Parsed<'_, Expr>
     ensures exact { Parses (A (grammar.Operand header) ∷ []) (λ x. expr_spelled x.0) (λ x. x.1.now) depth tokens.now result }
@@ -143,7 +143,7 @@ fn operand(alloc: Global, tokens: &[Token], depth: u32, header: bool) -> Parsed<
     chain(alloc, Expr::Composite(literal), rest, depth, header)
 }
 
-/// The composite literal behind a `&`.
+/// Parses the composite literal after a `&`.
 #[cycle(expression)]
 fn addressed(alloc: Global, tokens: &[Token], depth: u32, header: bool) -> Parsed<'_, CompositeLit>
     ensures exact { Parses (A (Address header) ∷ []) (λ x. literal_spelled x.0) (λ x. x.1.now) depth tokens.now result }
@@ -157,7 +157,7 @@ fn addressed(alloc: Global, tokens: &[Token], depth: u32, header: bool) -> Parse
     literal(alloc, literal_type, rest, depth)
 }
 
-/// The braces of a composite literal, whose type has been read.
+/// Parses the braces of a composite literal whose type has been parsed.
 #[cycle(expression)]
 fn literal(
     alloc: Global,
@@ -190,7 +190,7 @@ fn literal(
     Ok((literal, rest))
 }
 
-/// An element of a composite literal.
+/// Parses an element of a composite literal with its comma.
 #[cycle(expression)]
 fn element(alloc: Global, tokens: &[Token], depth: u32) -> Parsed<'_, Element>
     requires { at (is Kind.RightBrace) tokens.now ≡ false }
@@ -211,7 +211,7 @@ fn element(alloc: Global, tokens: &[Token], depth: u32) -> Parsed<'_, Element>
     Ok((Element { key, value, comma }, rest))
 }
 
-/// What a chain is, of which the first operand has been read: the operand alone, or with the links behind it.
+/// Parses the links that follow `first`. Without a link, the result is `first` itself.
 #[cycle(expression)]
 fn chain(alloc: Global, first: Expr, tokens: &[Token], depth: u32, header: bool) -> Parsed<'_, Expr>
     requires { IsOperand header (expr_view first) }
@@ -232,7 +232,7 @@ fn chain(alloc: Global, first: Expr, tokens: &[Token], depth: u32, header: bool)
     Ok((Expr::Chain { first, links }, rest))
 }
 
-/// One selector, index or call.
+/// Parses one selector, index or call.
 #[cycle(expression)]
 fn link(alloc: Global, tokens: &[Token], depth: u32, header: bool) -> Parsed<'_, Link>
     requires { at (is Kind.Dot) tokens.now ≡ false → at (is Kind.LeftBracket) tokens.now ≡ false → at (is Kind.LeftParen) tokens.now ≡ true }
@@ -261,7 +261,7 @@ fn link(alloc: Global, tokens: &[Token], depth: u32, header: bool) -> Parsed<'_,
     Ok((call, rest))
 }
 
-/// The arguments of a call, and the parenthesis behind them.
+/// Parses the arguments of a call and the closing parenthesis.
 #[cycle(expression)]
 fn arguments(alloc: Global, tokens: &[Token], depth: u32) -> Parsed<'_, (Vec<ExprItem>, usize)>
     ensures exact { Parses (A Arguments ∷ []) (λ x. all_tokens expr_item_spelled x.0.0.items ++ (sign Kind.RightParen x.0.1 ∷ [])) (λ x. x.1.now) depth tokens.now result }

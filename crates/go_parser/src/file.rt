@@ -1,4 +1,4 @@
-//! Whole files.
+//! Parses whole files: the package clause, imports and declarations.
 ghost use Rattle.std.specs.Prelude.{◌≡◌, ◌∷◌, [], ◌<◌, length, IfOk, true, false};
 ghost use Rattle.go_ast.specs.Grammar as grammar;
 ghost use Rattle.go_ast.specs.Grammar.{A, is, Imports, Tops, FuncHead};
@@ -18,7 +18,7 @@ use go_ast::syntax::{Kind, Token};
 use go_ast::tree::{Decl, File, FuncDecl, ImportDecl, ImportSpec, TypeSpec, VarSpec};
 use std::alloc::Global;
 
-/// A whole file.
+/// Parses a whole file.
 pub(crate) fn file(alloc: Global, tokens: &[Token], depth: u32) -> Parsed<'_, File>
     ensures exact { Parses (A grammar.File ∷ []) (λ x. file_spelled x.0) (λ x. x.1.now) depth tokens.now result }
     ensures formed { IfOk result (λ x. IsFile (file_view x.0)) }
@@ -38,7 +38,7 @@ pub(crate) fn file(alloc: Global, tokens: &[Token], depth: u32) -> Parsed<'_, Fi
     Ok((file, rest))
 }
 
-/// The imports of a file.
+/// Parses the import declarations of a file.
 fn imports(alloc: Global, tokens: &[Token], depth: u32) -> Parsed<'_, Vec<ImportDecl>>
     ensures exact { LeadsTo (A Imports ∷ []) (A Tops ∷ []) (λ x. all_tokens imports_spelled x.0.items) (λ x. x.1.now) depth tokens.now result }
     ensures formed { IfOk result (λ x. All (λ i. IsImports (imports_view i)) x.0.items) }
@@ -53,7 +53,7 @@ fn imports(alloc: Global, tokens: &[Token], depth: u32) -> Parsed<'_, Vec<Import
     Ok((imports, rest))
 }
 
-/// An import declaration, and the semicolon behind it.
+/// Parses an import declaration and its semicolon.
 fn import_decl(alloc: Global, tokens: &[Token], depth: u32) -> Parsed<'_, ImportDecl>
     requires { at (is Kind.Import) tokens.now ≡ true }
     ensures exact { LeadsTo (A Imports ∷ []) (A Imports ∷ []) (λ x. imports_spelled x.0) (λ x. x.1.now) depth tokens.now result }
@@ -71,7 +71,7 @@ fn import_decl(alloc: Global, tokens: &[Token], depth: u32) -> Parsed<'_, Import
     Ok((import, rest))
 }
 
-/// The declarations of a file behind its imports.
+/// Parses the declarations of a file that follow its imports.
 fn decls(alloc: Global, tokens: &[Token], depth: u32) -> Parsed<'_, Vec<Decl>>
     ensures exact { Parses (A Tops ∷ []) (λ x. all_tokens decl_spelled x.0.items) (λ x. x.1.now) depth tokens.now result }
     ensures formed { IfOk result (λ x. All (λ d. IsDecl (decl_view d)) x.0.items) }
@@ -86,7 +86,7 @@ fn decls(alloc: Global, tokens: &[Token], depth: u32) -> Parsed<'_, Vec<Decl>>
     Ok((decls, rest))
 }
 
-/// Whether a declaration comes next.
+/// Whether a top-level declaration comes next.
 fn begins_decl(tokens: &[Token]) -> bool
     ensures begins { result ≡ true → at (is Kind.Var) tokens.now ≡ false → at (is Kind.TypeWord) tokens.now ≡ false → at (is Kind.Func) tokens.now ≡ true }
     ensures var { result ≡ false → at (is Kind.Var) tokens.now ≡ false }
@@ -96,7 +96,7 @@ fn begins_decl(tokens: &[Token]) -> bool
     at(tokens, Kind::Var) || at(tokens, Kind::TypeWord) || at(tokens, Kind::Func)
 }
 
-/// A declaration, and the semicolon behind it.
+/// Parses a top-level declaration and its semicolon.
 fn decl(alloc: Global, tokens: &[Token], depth: u32) -> Parsed<'_, Decl>
     requires { at (is Kind.Var) tokens.now ≡ false → at (is Kind.TypeWord) tokens.now ≡ false → at (is Kind.Func) tokens.now ≡ true }
     ensures exact { LeadsTo (A Tops ∷ []) (A Tops ∷ []) (λ x. decl_spelled x.0) (λ x. x.1.now) depth tokens.now result }
@@ -112,7 +112,7 @@ fn decl(alloc: Global, tokens: &[Token], depth: u32) -> Parsed<'_, Decl>
     func_decl(alloc, tokens, depth)
 }
 
-/// A declaration of variables, and the semicolon behind it.
+/// Parses a declaration of package-level variables and its semicolon.
 fn var_decl(alloc: Global, tokens: &[Token], depth: u32) -> Parsed<'_, Decl>
     requires { at (is Kind.Var) tokens.now ≡ true }
     ensures exact { LeadsTo (A Tops ∷ []) (A Tops ∷ []) (λ x. decl_spelled x.0) (λ x. x.1.now) depth tokens.now result }
@@ -130,7 +130,7 @@ fn var_decl(alloc: Global, tokens: &[Token], depth: u32) -> Parsed<'_, Decl>
     Ok((decl, rest))
 }
 
-/// A declaration of types, and the semicolon behind it.
+/// Parses a declaration of types and its semicolon.
 fn type_decl(alloc: Global, tokens: &[Token], depth: u32) -> Parsed<'_, Decl>
     requires var { at (is Kind.Var) tokens.now ≡ false }
     requires type_word { at (is Kind.TypeWord) tokens.now ≡ true }
@@ -149,7 +149,7 @@ fn type_decl(alloc: Global, tokens: &[Token], depth: u32) -> Parsed<'_, Decl>
     Ok((decl, rest))
 }
 
-/// A declaration of a function, and the semicolon behind it.
+/// Parses a declaration of a function or method and its semicolon.
 fn func_decl(alloc: Global, tokens: &[Token], depth: u32) -> Parsed<'_, Decl>
     requires var { at (is Kind.Var) tokens.now ≡ false }
     requires type_word { at (is Kind.TypeWord) tokens.now ≡ false }
@@ -169,7 +169,7 @@ fn func_decl(alloc: Global, tokens: &[Token], depth: u32) -> Parsed<'_, Decl>
     Ok((decl, rest))
 }
 
-/// A function, behind the word `func`.
+/// Parses a function or method after the keyword `func`.
 fn func(alloc: Global, tokens: &[Token], depth: u32) -> Parsed<'_, FuncDecl>
     ensures exact { Parses (A FuncHead ∷ []) (λ x. func_spelled x.0) (λ x. x.1.now) depth tokens.now result }
     ensures formed { IfOk result (λ x. IsFunc (func_view x.0)) }

@@ -1,4 +1,4 @@
-//! A file's tree, read from its text.
+//! Parses a file from its text: scans it, then parses its tokens.
 ghost use Rattle.std.specs.Prelude.{◌≡◌, IfOk, IfErr, IsTrue};
 ghost use Rattle.go_parser.specs.Parsed.{IsTextRefusedFor};
 ghost use Rattle.go_ast.specs.Faults.{IsSound};
@@ -12,7 +12,7 @@ use go_ast::FileTree;
 use go_scanner::{Pieces, ScanRefusal, scan};
 use std::alloc::{AllocError, Global};
 
-/// Cuts a text.
+/// Cuts a text into pieces and tokens.
 fn cut(alloc: Global, text: &FileText) -> Result<Pieces, ParseRefusal>
     ensures text { IfOk result (λ pieces. pieces.text ≡ text.now) }
     ensures refused { IfErr result (IsTextRefusedFor text.now) }
@@ -24,7 +24,7 @@ fn cut(alloc: Global, text: &FileText) -> Result<Pieces, ParseRefusal>
     }
 }
 
-/// Reads the tokens of a text that is cut.
+/// Parses the tokens of a cut text.
 fn read(alloc: Global, path: &Path, pieces: Pieces) -> Result<FileTree, ParseRefusal>
     ensures path { IfOk result (λ file. file.path ≡ path.now) }
     ensures text { IfOk result (λ file. file.cut.text ≡ pieces.text) }
@@ -38,7 +38,7 @@ fn read(alloc: Global, path: &Path, pieces: Pieces) -> Result<FileTree, ParseRef
     Ok(file)
 }
 
-/// Reads a Go file. A fault of its pieces comes before one of its tokens.
+/// Parses a Go file. Refuses a text by its first fault: one of its pieces, or else one of its tokens.
 pub fn parse_file(alloc: Global, path: &Path, text: &FileText) -> Result<FileTree, ParseRefusal>
     ensures path { IfOk result (λ file. file.path ≡ path.now) }
     ensures text { IfOk result (λ file. file.cut.text ≡ text.now) }
@@ -49,7 +49,7 @@ pub fn parse_file(alloc: Global, path: &Path, text: &FileText) -> Result<FileTre
     read(alloc, path, pieces)
 }
 
-/// Whether the tokens of two cuts are of the same kinds.
+/// Whether two texts have tokens of the same kinds, in order.
 fn have_same_kinds(alloc: Global, before: &Pieces, after: &Pieces) -> Result<bool, AllocError>
     ensures { IfOk result (λ same. IsTrue same → kinds_of before.now ≡ kinds_of after.now) }
 {
@@ -61,7 +61,7 @@ fn have_same_kinds(alloc: Global, before: &Pieces, after: &Pieces) -> Result<boo
     Ok(before == after)
 }
 
-/// A file that shares the tree of one whose tokens are of the same kinds.
+/// A parsed file that shares the syntax tree of `like`, whose tokens are of the same kinds.
 fn shared(
     alloc: Global,
     path: &Path,
@@ -79,8 +79,8 @@ fn shared(
     like.with_cut(alloc, path, pieces)
 }
 
-/// Reads a Go file as `parse_file` does. Where its tokens are of the same kinds as those of a file that is at hand, such as this one before
-/// names or literals in it changed, it is not parsed: the two share the tree.
+/// Parses a Go file as `parse_file` does, but shares the syntax tree of `like` where the tokens are of the same kinds. This is so where
+/// only names or literals differ from `like`, as after a rename.
 pub fn parse_file_like(
     alloc: Global,
     path: &Path,

@@ -1,4 +1,4 @@
-//! The head of a function: its receiver, parameters and results.
+//! Parses the signature of a function: its receiver, parameters and results.
 ghost use Rattle.std.specs.Prelude.{◌∷◌, ◌++◌, [], IfOk};
 ghost use Rattle.go_ast.specs.Grammar as grammar;
 ghost use Rattle.go_ast.specs.Grammar.{A, One, Opening, Close, is, is_ident, FuncHead, Signature, ReceiverStar, ReceiverEnd, MoreIdents, TypeUse, Params, Result, Types};
@@ -19,7 +19,7 @@ use go_ast::syntax::{Kind, Token};
 use go_ast::tree::{Item, Param, Receiver, Results, TypeExpr};
 use std::alloc::Global;
 
-/// The receiver of a method, where there is one. A function's name comes behind it.
+/// Parses the receiver of a method, if there is one. A function's name follows.
 pub(crate) fn receiver_if(tokens: &[Token], depth: u32) -> Parsed<'_, Option<Receiver>>
     ensures { LeadsTo (A FuncHead ∷ []) (One (is Kind.Name) ∷ A Signature ∷ []) (λ x. tokens_if receiver_tokens (option_view receiver_view x.0)) (λ x. x.1.now) depth tokens.now result }
 {
@@ -30,7 +30,7 @@ pub(crate) fn receiver_if(tokens: &[Token], depth: u32) -> Parsed<'_, Option<Rec
     Ok((Some(receiver), rest))
 }
 
-/// The receiver of a method.
+/// Parses the receiver of a method.
 fn receiver(tokens: &[Token], depth: u32) -> Parsed<'_, Receiver>
     ensures { Parses (Opening (is Kind.LeftParen) ∷ One is_ident ∷ A ReceiverStar ∷ One (is Kind.Name) ∷ A ReceiverEnd ∷ Close ∷ []) (λ x. receiver_spelled x.0) (λ x. x.1.now) depth tokens.now result }
 {
@@ -51,7 +51,7 @@ fn receiver(tokens: &[Token], depth: u32) -> Parsed<'_, Receiver>
     Ok((receiver, rest))
 }
 
-/// The parameters of a function, and the closing parenthesis.
+/// Parses the parameters of a function and the closing parenthesis.
 pub(crate) fn params(
     alloc: Global,
     tokens: &[Token],
@@ -74,7 +74,7 @@ pub(crate) fn params(
     Ok(((params, close), rest))
 }
 
-/// Parameters of one type.
+/// Parses parameters of one type.
 fn param(alloc: Global, tokens: &[Token], depth: u32) -> Parsed<'_, Param>
     ensures exact { Parses (One is_ident ∷ A MoreIdents ∷ A TypeUse ∷ []) (λ x. param_spelled x.0) (λ x. x.1.now) depth tokens.now result }
     ensures formed { IfOk result (λ x. IsParam (param_view x.0)) }
@@ -84,7 +84,7 @@ fn param(alloc: Global, tokens: &[Token], depth: u32) -> Parsed<'_, Param>
     Ok((Param { names, param_type }, rest))
 }
 
-/// The results of a function.
+/// Parses the results of a function: none, one type, or types in parentheses.
 pub(crate) fn results(alloc: Global, tokens: &[Token], depth: u32) -> Parsed<'_, Results>
     ensures exact { Parses (A Result ∷ []) (λ x. results_spelled x.0) (λ x. x.1.now) depth tokens.now result }
     ensures formed { IfOk result (λ x. IsResult (results_view x.0)) }
@@ -101,7 +101,7 @@ pub(crate) fn results(alloc: Global, tokens: &[Token], depth: u32) -> Parsed<'_,
     Ok((Results::Single(single), rest))
 }
 
-/// The types of results in parentheses, and the closing parenthesis.
+/// Parses the types of results in parentheses and the closing parenthesis.
 fn result_types(
     alloc: Global,
     tokens: &[Token],

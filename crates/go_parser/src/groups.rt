@@ -1,4 +1,4 @@
-//! Groups: one declaration, or any number of them in parentheses.
+//! Parses groups: one spec, or any number of specs in parentheses.
 ghost use Rattle.std.specs.Prelude.{◌∷◌, ◌++◌, [], List, IfOk};
 ghost use Rattle.go_ast.specs.Grammar as grammar;
 ghost use Rattle.go_ast.specs.Grammar.{A, GroupOf, Single, Items};
@@ -15,7 +15,7 @@ use go_ast::syntax::{Kind, Token};
 use go_ast::tree::{Group, Item};
 use std::alloc::Global;
 
-/// What a group may be of: imports, variables, types.
+/// A spec of which a group consists: an import spec, variables of one type, or a type definition.
 pub trait Spec: Drop {
     ghost item: { grammar.Item };
 
@@ -23,13 +23,13 @@ pub trait Spec: Drop {
 
     ghost is_formed: { Self → Type 0 };
 
-    /// One of them.
+    /// Parses one spec.
     fn parse(alloc: Global, tokens: &[Token], depth: u32) -> Parsed<'_, Self>
         ensures exact { Parses (A (Single item) ∷ []) (λ x. spelled x.0) (λ x. x.1.now) depth tokens.now result }
         ensures formed { IfOk result (λ x. is_formed x.0) };
 }
 
-/// A group.
+/// Parses a group: one spec, or any number of them in parentheses.
 pub(crate) fn group<S: Spec>(alloc: Global, tokens: &[Token], depth: u32) -> Parsed<'_, Group<S>>
     ensures exact { Parses (A (GroupOf S.item) ∷ []) (λ x. group_spelled S.spelled x.0) (λ x. x.1.now) depth tokens.now result }
     ensures formed { IfOk result (λ x. IsGroup S.is_formed (group_view (λ y. y) x.0)) }
@@ -43,7 +43,7 @@ pub(crate) fn group<S: Spec>(alloc: Global, tokens: &[Token], depth: u32) -> Par
     Ok((Group::Single(single), rest))
 }
 
-/// What stands in the parentheses of a group, and the closing one.
+/// Parses the specs in the parentheses of a group and the closing parenthesis.
 fn specs<S: Spec>(alloc: Global, tokens: &[Token], depth: u32) -> Parsed<'_, (Vec<Item<S>>, usize)>
     ensures exact { Parses (A (Items S.item) ∷ []) (λ x. items_spelled Kind.Semicolon S.spelled x.0.0.items ++ (sign Kind.RightParen x.0.1 ∷ [])) (λ x. x.1.now) depth tokens.now result }
     ensures formed { IfOk result (λ x. IsOpenList S.is_formed (list_view (λ y. y) x.0.0.items)) }

@@ -1,5 +1,5 @@
-//! What stands between `if` or `for` and its block.
-//! Where reading fails, trees that were read go by a call of `drop`: one that goes unsaid is proved field by field.
+//! Parses the headers of `if` and `for`, up to the block. Where parsing fails, trees that were parsed are dropped by a call of `drop`: an
+//! implicit drop is proved field by field.
 ghost use Rattle.std.specs.Prelude.{◌≡◌, ◌∷◌, ◌++◌, [], IfOk, false, true};
 ghost use Rattle.go_ast.specs.Grammar as grammar;
 ghost use Rattle.go_ast.specs.Grammar.{A, One, is, IfHead, IfBody, SimpleRest, ForHead, ForRest, ForCondition, ForPost};
@@ -20,7 +20,7 @@ use go_ast::tree::{Expr, ForHeader, IfInit, SimpleStmt};
 use std::alloc::Global;
 use std::mem::drop;
 
-/// The condition of an `if`, and what stands before it.
+/// Parses the header of an `if`: a clause with its semicolon, if there is one, and the condition.
 pub(crate) fn if_header(
     alloc: Global,
     tokens: &[Token],
@@ -46,7 +46,7 @@ pub(crate) fn if_header(
     }
 }
 
-/// The condition of an `if` behind a semicolon alone.
+/// Parses the header of an `if` that begins with a semicolon.
 fn bare_header(alloc: Global, tokens: &[Token], depth: u32) -> Parsed<'_, (Option<IfInit>, Expr)>
     requires { at (is Kind.Semicolon) tokens.now ≡ true }
     ensures exact { LeadsTo (A IfHead ∷ []) (A IfBody ∷ []) (λ x. tokens_if init_tokens (option_view init_view x.0.0) ++ expr_spelled x.0.1) (λ x. x.1.now) depth tokens.now result }
@@ -61,7 +61,7 @@ fn bare_header(alloc: Global, tokens: &[Token], depth: u32) -> Parsed<'_, (Optio
     Ok(((Some(init), condition), rest))
 }
 
-/// The statement before the condition of an `if`, of which the first expression has been read, and its semicolon.
+/// Parses the clause before the condition of an `if` and its semicolon, where its first expression has been parsed.
 fn init(alloc: Global, first: Expr, tokens: &[Token], depth: u32) -> Parsed<'_, IfInit>
     requires { IsExprIn true (expr_view first) }
     ensures exact { Continues (A (SimpleRest grammar.Head) ∷ One (is Kind.Semicolon) ∷ []) (expr_spelled first) (λ x. init_spelled x.0) (λ x. x.1.now) depth tokens.now result }
@@ -83,7 +83,7 @@ fn init(alloc: Global, first: Expr, tokens: &[Token], depth: u32) -> Parsed<'_, 
     }
 }
 
-/// What stands between `for` and its block.
+/// Parses the header of a `for`: none, a condition, or three clauses.
 pub(crate) fn for_header(alloc: Global, tokens: &[Token], depth: u32) -> Parsed<'_, ForHeader>
     ensures exact { LeadsTo (A ForHead ∷ []) (A grammar.Block ∷ []) (λ x. for_spelled x.0) (λ x. x.1.now) depth tokens.now result }
     ensures formed { IfOk result (λ x. IsFor (for_view x.0)) }
@@ -111,7 +111,7 @@ pub(crate) fn for_header(alloc: Global, tokens: &[Token], depth: u32) -> Parsed<
     }
 }
 
-/// What stands between `for` and its block, where it begins with a semicolon.
+/// Parses the header of a `for` that begins with a semicolon.
 fn bare_clauses(alloc: Global, tokens: &[Token], depth: u32) -> Parsed<'_, ForHeader>
     requires brace { at (is Kind.LeftBrace) tokens.now ≡ false }
     requires semicolon { at (is Kind.Semicolon) tokens.now ≡ true }
@@ -123,7 +123,7 @@ fn bare_clauses(alloc: Global, tokens: &[Token], depth: u32) -> Parsed<'_, ForHe
     Ok((bare, rest))
 }
 
-/// The clauses of a `for` behind the first: a condition between semicolons, and what comes last.
+/// The clauses of a `for` after the first: a condition between two semicolons, and the last clause.
 #[derive(Drop)]
 struct Clauses {
     first: usize,
@@ -133,7 +133,7 @@ struct Clauses {
 }
 
 impl Clauses {
-    /// The header with these clauses behind that first one.
+    /// The header with the first clause `init` and these clauses.
     fn header(self, init: Option<SimpleStmt>) -> ForHeader
         ensures { result ≡ ForHeader.Clauses init self.first self.condition self.second self.post }
     {
@@ -153,7 +153,7 @@ impl Clauses {
     }
 }
 
-/// The clauses of a `for` behind the first.
+/// Parses the clauses of a `for` after the first.
 fn for_clauses(alloc: Global, tokens: &[Token], depth: u32) -> Parsed<'_, Clauses>
     ensures exact { LeadsTo (A ForRest ∷ []) (A grammar.Block ∷ []) (λ x. sign Kind.Semicolon x.0.first ∷ (tokens_if expr_tokens (option_view expr_view x.0.condition) ++ (sign Kind.Semicolon x.0.second ∷ tokens_if simple_tokens (option_view simple_view x.0.post)))) (λ x. x.1.now) depth tokens.now result }
     ensures formed { IfOk result (λ x. Perhaps (IsExprIn true) (option_view expr_view x.0.condition) × Perhaps IsPost (option_view simple_view x.0.post)) }
@@ -177,7 +177,7 @@ fn for_clauses(alloc: Global, tokens: &[Token], depth: u32) -> Parsed<'_, Clause
     }
 }
 
-/// The semicolon before the condition of a `for`, and the condition, where there is one.
+/// Parses the semicolon before the condition of a `for`, and the condition, if there is one.
 fn condition_clause(
     alloc: Global,
     tokens: &[Token],
@@ -194,7 +194,7 @@ fn condition_clause(
     Ok(((semicolon, Some(condition)), rest))
 }
 
-/// The semicolon before the last clause of a `for`, and the clause, where there is one.
+/// Parses the semicolon before the last clause of a `for`, and the clause, if there is one.
 fn post_clause(
     alloc: Global,
     tokens: &[Token],

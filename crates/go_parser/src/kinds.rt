@@ -1,4 +1,4 @@
-//! The kinds of a file's tokens.
+//! Lists the tokens of a file by their kinds in the grammar.
 ghost use Rattle.std.specs.Prelude.{◌≡◌, ◌-◌, ◌<◌, length, IfOk};
 ghost use Rattle.go_scanner.specs.Cuts.{bytes_of};
 ghost use Rattle.go_scanner.specs.CutText.{tokens_in, token_at};
@@ -8,6 +8,7 @@ use go_ast::syntax::{Kind, Token};
 use go_scanner::{Class, Keyword, Operator, Pieces};
 use std::alloc::{AllocError, Global};
 
+/// The kind of a keyword.
 fn kind_of_keyword(keyword: Keyword) -> Kind
     ensures { result ≡ kind_of_keyword keyword }
 {
@@ -28,6 +29,7 @@ fn kind_of_keyword(keyword: Keyword) -> Kind
     }
 }
 
+/// The kind of an operator.
 fn kind_of_operator(operator: Operator) -> Kind
     ensures { result ≡ kind_of_operator operator }
 {
@@ -70,7 +72,7 @@ fn kind_of_operator(operator: Operator) -> Kind
     }
 }
 
-/// The kind of an identifier, by its bytes.
+/// The kind of an identifier: `Blank` for `_`, else `Name`.
 fn kind_of_name(bytes: &[u8]) -> Kind
     ensures { result ≡ kind_of_name bytes.now }
 {
@@ -81,7 +83,7 @@ fn kind_of_name(bytes: &[u8]) -> Kind
     }
 }
 
-/// The kind of a token, by what it is and how it is spelled.
+/// The kind of a token, by its class and its bytes.
 fn kind_of(class: Class, bytes: &[u8]) -> Kind
     ensures { result ≡ kind_of class bytes.now }
 {
@@ -95,7 +97,7 @@ fn kind_of(class: Class, bytes: &[u8]) -> Kind
     }
 }
 
-/// The kind of a file's token, by its number from 0.
+/// The kind of the file's token of this index, from 0.
 fn kind_at(pieces: &Pieces, place: usize) -> Kind
     requires { place < length (tokens_in pieces.now) }
     ensures { result ≡ kind_of (token_at pieces.now place).class (bytes_of pieces.now.text (token_at pieces.now place)) }
@@ -104,7 +106,7 @@ fn kind_at(pieces: &Pieces, place: usize) -> Kind
     kind_of(class, pieces.text(place))
 }
 
-/// The file's tokens by their kinds.
+/// The file's tokens with their kinds.
 pub(crate) fn kinds_of(alloc: Global, pieces: &Pieces) -> Result<Vec<Token>, AllocError>
     ensures { IfOk result (λ tokens. tokens.items ≡ kinds_of pieces.now) }
 {
@@ -117,7 +119,7 @@ pub(crate) fn kinds_of(alloc: Global, pieces: &Pieces) -> Result<Vec<Token>, All
     Ok(tokens)
 }
 
-/// Where the last tokens of a file begin, by how many they are: at the file's end where they are none.
+/// The offset at which the last `left` tokens of a file begin, or its end where `left` is 0.
 pub(crate) fn place_of(pieces: &Pieces, left: usize) -> usize
     ensures { result ≡ place_of pieces.now left }
 {

@@ -1,4 +1,4 @@
-//! Laws of the grammar: where its predictive machine stops, and that a token list has at most one syntax tree.
+//! Laws of the grammar: the predictive machine accepts exactly the files, and a token list has at most one syntax tree.
 
 ghost use Rattle.std.specs.Prelude.{ℕ, ◌≡◌, ◌≤◌, List, [], ◌∷◌};
 ghost use Rattle.std.specs.List.{All};
@@ -10,8 +10,8 @@ ghost use Rattle.go_ast.specs.Language.{Derives, FirstFault, DeepFault, levels};
 ghost use Rattle.go_ast.specs.Tree.{FileTree};
 ghost use Rattle.go_ast.specs.WellFormed.{IsTreeOf};
 
-/// What the machine takes whole is a file, in which no token opens a level over the limit; where it stops for syntax is the first token such that no file begins
-/// with the tokens up to and including it.
+/// A token list that the machine accepts is a file in which no token opens a level over the limit. A token list that it stops at has its
+/// first syntax or nesting fault there.
 pub fn machine_is_exact()
     ensures taken { (ts : List Token) → Run 0 (A File ∷ []) ts Accepted → Derives (A File ∷ []) ts }
     ensures shallow { (ts : List Token) → Run 0 (A File ∷ []) ts Accepted → (x : Derives (A File ∷ []) ts) → All (λ l. l ≤ 200) (levels 0 x) }
@@ -19,7 +19,7 @@ pub fn machine_is_exact()
     ensures nested { (ts : List Token) → (left : ℕ) → Run 0 (A File ∷ []) ts (Stopped Nesting left) → DeepFault (A File ∷ []) 200 0 ts left }
 {}
 
-/// A token list that has a syntax tree is a file by the grammar.
+/// A token list that has a syntax tree is a file of the grammar.
 pub fn tree_is_derived()
     ensures { (tree : FileTree) → (ts : List Token) → IsTreeOf tree ts → Derives (A File ∷ []) ts }
 {}

@@ -1,4 +1,4 @@
-//! The parser of the Go subset.
+//! Parses files of the Go subset into syntax trees, or finds their first fault.
 #![tactic(auto)]
 
 mod declarations;

@@ -1,4 +1,4 @@
-//! Declarations of local variables.
+//! Parses declarations of local variables.
 ghost use Rattle.std.specs.Prelude.{◌∷◌, ◌++◌, [], false, IfOk};
 ghost use Rattle.go_ast.specs.Grammar as grammar;
 ghost use Rattle.go_ast.specs.Grammar.{A, One, is, Expressions, LocalRest, LocalValues};
@@ -27,7 +27,7 @@ impl Spec for LocalSpec {
 
     ghost is_formed = { λ x. IsLocal (local_view x) };
 
-    /// Local variables: identifiers, and a type, values, or both.
+    /// Parses local variables: identifiers with a type, values, or both.
     fn parse(alloc: Global, tokens: &[Token], depth: u32) -> Parsed<'_, LocalSpec> {
         let (names, rest) = idents(alloc, tokens, depth)?;
         let ((local_type, values), rest) = type_or_values(alloc, rest, depth)?;
@@ -40,7 +40,7 @@ impl Spec for LocalSpec {
     }
 }
 
-/// The type and the values of local variables, or one of the two.
+/// Parses the type and the values of local variables, or one of the two.
 fn type_or_values(
     alloc: Global,
     tokens: &[Token],
@@ -58,7 +58,7 @@ fn type_or_values(
     Ok(((Some(local_type), values), rest))
 }
 
-/// The values of local variables of which the type is written, where there are any.
+/// Parses the values of local variables after their type, if there are any.
 fn values_if(alloc: Global, tokens: &[Token], depth: u32) -> Parsed<'_, Option<Values>>
     ensures exact { Parses (A LocalValues ∷ []) (λ x. tokens_if (value_tokens expr_tokens) (option_view values_view x.0)) (λ x. x.1.now) depth tokens.now result }
     ensures formed { IfOk result (λ x. Perhaps (λ v. IsList (IsExprIn false) v.1) (option_view values_view x.0)) }
@@ -70,7 +70,7 @@ fn values_if(alloc: Global, tokens: &[Token], depth: u32) -> Parsed<'_, Option<V
     Ok((Some(values), rest))
 }
 
-/// The values of local variables.
+/// Parses `=` and the values of local variables.
 fn values(alloc: Global, tokens: &[Token], depth: u32) -> Parsed<'_, Values>
     ensures exact { Parses (One (is Kind.Assign) ∷ A (Expressions false) ∷ []) (λ x. value_tokens expr_tokens (values_view x.0)) (λ x. x.1.now) depth tokens.now result }
     ensures formed { IfOk result (λ x. IsList (IsExprIn false) (exprs_view x.0.values.items)) }

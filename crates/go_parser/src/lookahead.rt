@@ -1,4 +1,4 @@
-//! What the parser looks ahead for, by at most four tokens.
+//! Tests of the next tokens, at most four, that decide how to parse.
 ghost use Rattle.std.specs.Prelude.{◌≡◌, true, false, cond};
 ghost use Rattle.go_ast.specs.Grammar.{is, begins_expression};
 ghost use Rattle.go_parser.specs.Machine.{at};
@@ -8,7 +8,7 @@ use crate::operators::{at_leaf, at_prefix};
 use crate::take::{at, next};
 use go_ast::syntax::{Kind, Token};
 
-/// The tokens behind the first.
+/// The tokens after the first.
 fn behind(tokens: &[Token]) -> &[Token]
     ensures { result.now ≡ behind tokens.now }
 {
@@ -18,7 +18,7 @@ fn behind(tokens: &[Token]) -> &[Token]
     }
 }
 
-/// Whether a composite literal begins with the name that comes next, perhaps of an imported package.
+/// Whether a composite literal such as `T{` or `p.T{` begins with the name that comes next.
 fn names_literal(tokens: &[Token]) -> bool
     ensures { result ≡ names_literal tokens.now }
 {
@@ -28,21 +28,21 @@ fn names_literal(tokens: &[Token]) -> bool
         || at(second, Kind::Dot) && at(third, Kind::Name) && at(behind(third), Kind::LeftBrace)
 }
 
-/// Whether a composite literal may begin here with the name that comes next. In a header none may.
+/// Whether a composite literal begins with the name that comes next. In a header none does.
 pub(crate) fn literal_is_named(tokens: &[Token], header: bool) -> bool
     ensures { result ≡ cond header false (names_literal tokens.now) }
 {
     !header && names_literal(tokens)
 }
 
-/// Whether the type of a composite literal may begin here with the name that comes next. In a header none may.
+/// Whether the type of a composite literal may begin with the name that comes next. In a header none may.
 pub(crate) fn type_is_named(tokens: &[Token], header: bool) -> bool
     ensures { result ≡ cond header false (at (is Kind.Name) tokens.now) }
 {
     !header && at(tokens, Kind::Name)
 }
 
-/// Whether the key of an element comes next.
+/// Whether the key of an element comes next: a name and a colon.
 pub(crate) fn begins_key(tokens: &[Token]) -> bool
     ensures { result ≡ begins_key tokens.now }
 {

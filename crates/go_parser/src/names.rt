@@ -1,4 +1,4 @@
-//! Lists without brackets: names, identifiers, literals.
+//! Parses lists without brackets: of names, identifiers or literals.
 ghost use Rattle.std.specs.Prelude.{◌∷◌, [], IfOk};
 ghost use Rattle.go_ast.specs.Grammar.{A, One, is, is_ident, is_literal, MoreNames, MoreIdents, MoreLiterals};
 ghost use Rattle.go_parser.specs.Parsing.{Parses};
@@ -15,7 +15,7 @@ use go_ast::syntax::{Kind, Token};
 use go_ast::tree::{BasicLit, Ident, Item};
 use std::alloc::Global;
 
-/// Names with commas between them.
+/// Parses one or more names, separated by commas.
 pub(crate) fn names(alloc: Global, tokens: &[Token], depth: u32) -> Parsed<'_, Vec<Item<usize>>>
     ensures exact { Parses (One (is Kind.Name) ∷ A MoreNames ∷ []) (λ x. names_spelled x.0.items) (λ x. x.1.now) depth tokens.now result }
     ensures formed { IfOk result (λ x. IsList Any (list_view same_place x.0.items)) }
@@ -33,7 +33,7 @@ pub(crate) fn names(alloc: Global, tokens: &[Token], depth: u32) -> Parsed<'_, V
     Ok((names, rest))
 }
 
-/// Identifiers with commas between them.
+/// Parses one or more identifiers, names or `_`, separated by commas.
 pub(crate) fn idents(alloc: Global, tokens: &[Token], depth: u32) -> Parsed<'_, Vec<Item<Ident>>>
     ensures exact { Parses (One is_ident ∷ A MoreIdents ∷ []) (λ x. idents_spelled x.0.items) (λ x. x.1.now) depth tokens.now result }
     ensures formed { IfOk result (λ x. IsList Any (list_view ident_view x.0.items)) }
@@ -51,7 +51,7 @@ pub(crate) fn idents(alloc: Global, tokens: &[Token], depth: u32) -> Parsed<'_, 
     Ok((idents, rest))
 }
 
-/// Literals of one token, with commas between them.
+/// Parses one or more literals of one token, separated by commas.
 pub(crate) fn literals(
     alloc: Global,
     tokens: &[Token],

@@ -1,4 +1,4 @@
-//! Operators and operands of one token.
+//! Parses operators, and operands of one token.
 ghost use Rattle.std.specs.Prelude.{◌≡◌, ◌∷◌, [], Option, Bool, IfOk};
 ghost use Rattle.go_ast.specs.Grammar.{One, is_binary, is_prefix, is_leaf};
 ghost use Rattle.go_parser.specs.Machine.{at};
@@ -16,7 +16,7 @@ use crate::take::{LIMIT, Parsed, binary_op, misplaced, next, prefix_op};
 use go_ast::syntax::{BinaryOp, Kind, PrefixOp, Token, TokenFaultKind};
 use go_ast::tree::Expr;
 
-/// How strongly an operator binds, from 1 to 5.
+/// The precedence of a binary operator, from 1 to 5.
 pub(crate) fn strength_of(op: BinaryOp) -> u32
     ensures { result ≡ strength op }
 {
@@ -34,7 +34,7 @@ pub(crate) fn strength_of(op: BinaryOp) -> u32
     }
 }
 
-/// How strongly the binary operator binds that comes next; 0 where none does.
+/// The precedence of the binary operator that comes next, or 0.
 pub(crate) fn strength_at(tokens: &[Token]) -> u32
     ensures { result ≡ strength_at tokens.now }
 {
@@ -47,7 +47,7 @@ pub(crate) fn strength_at(tokens: &[Token]) -> u32
     }
 }
 
-/// A binary operator and its place.
+/// Parses a binary operator: the operator and its token index.
 pub(crate) fn binary_operator(tokens: &[Token], depth: u32) -> Parsed<'_, (BinaryOp, usize)>
     ensures { Parses (One is_binary ∷ []) (λ x. sign (binary_kind x.0.0) x.0.1 ∷ []) (λ x. x.1.now) depth tokens.now result }
 {
@@ -70,7 +70,7 @@ pub(crate) fn at_prefix(tokens: &[Token]) -> bool
     }
 }
 
-/// A prefix operator, which opens a level: the operator, its place, and the levels that are then open.
+/// Parses a prefix operator, which opens a level of nesting: the operator, its token index, and the number of levels open after it.
 pub(crate) fn open_prefix(tokens: &[Token], depth: u32) -> Parsed<'_, (PrefixOp, usize, u32)>
     ensures { OpensAs is_prefix (λ x. sign (prefix_kind x.0.0) x.0.1 ∷ []) (λ x. x.0.2) (λ x. x.1.now) depth tokens.now result }
 {
@@ -86,7 +86,7 @@ pub(crate) fn open_prefix(tokens: &[Token], depth: u32) -> Parsed<'_, (PrefixOp,
     Ok(((op, first.place, depth + 1), rest))
 }
 
-/// The operand that a token of this kind is by itself, where it is one.
+/// The operand that a token of this kind is by itself, if any, names excepted.
 fn leaf_of(kind: Kind, place: usize) -> Option<Expr>
     ensures { result ≡ leaf_of kind place }
 {
@@ -98,14 +98,14 @@ fn leaf_of(kind: Kind, place: usize) -> Option<Expr>
     }
 }
 
-/// Whether a token of this kind is an operand by itself.
+/// Whether a token of this kind is an operand by itself, names excepted.
 fn is_leaf(kind: Kind) -> bool
     ensures { result ≡ is_leaf kind }
 {
     matches!(kind, Kind::Number | Kind::Text | Kind::Blank)
 }
 
-/// Whether an operand of one token comes next, other than a name.
+/// Whether an operand of one token comes next, names excepted.
 pub(crate) fn at_leaf(tokens: &[Token]) -> bool
     ensures { result ≡ at is_leaf tokens.now }
 {
@@ -115,7 +115,7 @@ pub(crate) fn at_leaf(tokens: &[Token]) -> bool
     }
 }
 
-/// A literal of one token, or `_`.
+/// Parses a literal of one token, or `_`.
 pub(crate) fn leaf(tokens: &[Token], depth: u32) -> Parsed<'_, Expr>
     ensures exact { Parses (One is_leaf ∷ []) (λ x. expr_spelled x.0) (λ x. x.1.now) depth tokens.now result }
     ensures grouped { IfOk result (λ x. (h : Bool) → IsOperand h (expr_view x.0)) }

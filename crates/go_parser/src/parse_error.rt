@@ -1,11 +1,11 @@
-//! Why tokens are not parsed.
+//! The errors of parsing a token list.
 ghost use Rattle.std.specs.Prelude.{◌≡◌};
 ghost use Rattle.go_parser.specs.declared.parse_error.ParseError.TheVariants.{Memory};
 
 use go_ast::syntax::TokenFaultKind;
 use std::alloc::{AllocError, AllocFailed};
 
-/// Why some tokens are not parsed: want of memory, or a fault with that many tokens left, the one at fault among them.
+/// Why a token list is not parsed: too little memory, or a fault with this number of tokens left, the one at fault among them.
 #[derive(Clone, Copy, PartialEq, Eq, Debug)]
 pub enum ParseError {
     Memory,

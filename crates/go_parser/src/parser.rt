@@ -1,4 +1,4 @@
-//! The syntax tree of a file.
+//! Parses the tokens of a file into its syntax tree.
 ghost use Rattle.std.specs.Prelude.{◌≡◌, IfOk, IfErr};
 ghost use Rattle.go_ast.specs.Kinds.{kinds_of};
 ghost use Rattle.go_parser.specs.Parsed.{IsRefusedFor, Answers, refusal_of};
@@ -17,7 +17,7 @@ use go_ast::tree::File;
 use go_scanner::{Pieces, TextFault};
 use std::alloc::{AllocError, Global};
 
-/// A file's syntax tree, and the tokens that it writes out.
+/// A file's syntax tree with its tokens.
 #[derive(Drop)]
 pub struct Tree {
     pub file: File,
@@ -25,7 +25,7 @@ pub struct Tree {
     ghost spelled: { tokens.items ≡ file_spelled file },
 }
 
-/// The tree of all the tokens.
+/// The syntax tree of all the tokens, or the first fault.
 fn whole(alloc: Global, tokens: &[Token]) -> Result<File, ParseError>
     ensures exact { Answers file_spelled tokens.now result }
     ensures formed { IfOk result (λ file. IsFile (file_view file)) }
@@ -38,7 +38,7 @@ fn whole(alloc: Global, tokens: &[Token]) -> Result<File, ParseError>
     }
 }
 
-/// The refusal for a fault that leaves so many tokens.
+/// The refusal for an error: a fault is at the offset of its token, or at the end of the file.
 fn refusal(pieces: &Pieces, error: ParseError) -> ParseRefusal
     ensures { result ≡ refusal_of pieces.now error }
 {
@@ -55,7 +55,7 @@ fn refusal(pieces: &Pieces, error: ParseError) -> ParseRefusal
     }
 }
 
-/// The syntax tree of a file. A file's fault is its first one of `syntax` or `nesting`.
+/// The syntax tree of a file, or its first fault of kind `syntax` or `nesting`.
 pub fn parse(alloc: Global, pieces: &Pieces) -> Result<Tree, ParseRefusal>
     ensures tree { IfOk result (λ tree. IsTreeOf (file_view tree.file) (kinds_of pieces.now)) }
     ensures text { IfOk result (λ tree. IsWhole (kinds_of pieces.now)) }
@@ -68,7 +68,7 @@ pub fn parse(alloc: Global, pieces: &Pieces) -> Result<Tree, ParseRefusal>
     }
 }
 
-/// The tokens that a tree writes out.
+/// The tokens of a syntax tree, in order.
 pub fn flatten(alloc: Global, tree: &Tree) -> Result<Vec<Token>, AllocError>
     ensures { IfOk result (λ tokens. tokens.items ≡ file_spelled tree.now.file) }
 {

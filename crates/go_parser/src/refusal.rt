@@ -1,11 +1,11 @@
-//! Why a file is not parsed.
+//! The refusals of parsing a file.
 ghost use Rattle.std.specs.Prelude.{◌≡◌};
 ghost use Rattle.go_parser.specs.declared.refusal.ParseRefusal.TheVariants.{Memory};
 
 use go_scanner::TextFault;
 use std::alloc::{AllocError, AllocFailed};
 
-/// Why a file was not parsed: its first `syntax` or `nesting` fault, or want of memory.
+/// Why a file was not parsed: its first fault, or too little memory.
 #[derive(Debug, Drop)]
 pub enum ParseRefusal {
     Fault(TextFault),

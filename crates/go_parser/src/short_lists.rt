@@ -1,9 +1,9 @@
-//! Lists of a tree. Most have one item.
+//! Appends to the lists of a syntax tree, most of which have one item.
 ghost use Rattle.std.specs.Prelude.{◌≡◌, ◌+◌, ◌∷◌, ◌++◌, [], OnOk, vec_len};
 
 use std::alloc::AllocError;
 
-/// Puts an item at the end of a list. The first item takes room for itself alone.
+/// Appends an item to a list. The first item reserves room for itself alone.
 pub(crate) fn push<T: Drop>(list: &mut Vec<T>, item: T) -> Result<(), AllocError>
     ensures items { OnOk result (list.new.items ≡ list.old.items ++ item ∷ []) }
     ensures len { OnOk result (vec_len list.new ≡ vec_len list.old + 1) }

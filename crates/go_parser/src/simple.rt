@@ -1,5 +1,5 @@
-//! Simple statements, and lists of expressions.
-//! Where reading fails, trees that were read go by a call of `drop`: one that goes unsaid is proved field by field.
+//! Parses simple statements and lists of expressions. Where parsing fails, trees that were parsed are dropped by a call of `drop`: an
+//! implicit drop is proved field by field.
 ghost use Rattle.std.specs.Prelude.{◌≡◌, ◌∷◌, ◌++◌, [], IfOk, true};
 ghost use Rattle.go_ast.specs.Grammar.{A, One, in_head, is, is_step, is_update, sets, Expression, Expressions, SimpleRest};
 ghost use Rattle.go_parser.specs.Parsing.{Parses, Continues};
@@ -20,7 +20,7 @@ use go_ast::tree::{Expr, ExprItem, SimpleStmt};
 use std::alloc::{AllocError, Global};
 use std::mem::drop;
 
-/// An expression, as it may be where a statement stands.
+/// Parses an expression in a statement at this position.
 pub(crate) fn expr(
     alloc: Global,
     tokens: &[Token],
@@ -33,7 +33,7 @@ pub(crate) fn expr(
     expression(alloc, tokens, depth, in_header(setting))
 }
 
-/// Expressions with commas between them, put behind those that a list has.
+/// Parses one or more expressions, separated by commas, and appends them to `begun`.
 fn more_exprs(
     alloc: Global,
     begun: Vec<ExprItem>,
@@ -58,7 +58,7 @@ fn more_exprs(
     Ok((exprs, rest))
 }
 
-/// Expressions with commas between them.
+/// Parses one or more expressions, separated by commas.
 pub(crate) fn exprs(
     alloc: Global,
     tokens: &[Token],
@@ -71,7 +71,7 @@ pub(crate) fn exprs(
     more_exprs(alloc, Vec::new(alloc), tokens, depth, setting)
 }
 
-/// A list of that one expression.
+/// The list of one expression, with its comma.
 fn first_expr(alloc: Global, value: Expr, comma: Option<usize>) -> Result<Vec<ExprItem>, AllocError>
     ensures spelled { IfOk result (λ v. exprs_spelled v.items ≡ expr_spelled value ++ sign_if Kind.Comma comma) }
     ensures alone { IfOk result (λ v. v.items ≡ record { value = value; comma = comma } ∷ []) }
@@ -81,7 +81,7 @@ fn first_expr(alloc: Global, value: Expr, comma: Option<usize>) -> Result<Vec<Ex
     Ok(exprs)
 }
 
-/// A simple statement.
+/// Parses a simple statement.
 pub(crate) fn simple(
     alloc: Global,
     tokens: &[Token],
@@ -95,7 +95,7 @@ pub(crate) fn simple(
     simple_rest(alloc, first, rest, depth, setting)
 }
 
-/// A simple statement, of which the first expression has been read.
+/// Parses a simple statement whose first expression has been parsed.
 pub(crate) fn simple_rest(
     alloc: Global,
     first: Expr,
@@ -122,7 +122,7 @@ pub(crate) fn simple_rest(
     Ok((SimpleStmt::Expr(first), tokens))
 }
 
-/// A `++` or `--` behind that operand.
+/// Parses the `++` or `--` that follows `operand`.
 fn stepped(operand: Expr, tokens: &[Token], depth: u32, setting: Setting) -> Parsed<'_, SimpleStmt>
     requires { IsExprIn (in_head (setting_of setting)) (expr_view operand) }
     ensures exact { Continues (One is_step ∷ []) (expr_spelled operand) (λ x. simple_spelled x.0) (λ x. x.1.now) depth tokens.now result }
@@ -137,7 +137,7 @@ fn stepped(operand: Expr, tokens: &[Token], depth: u32, setting: Setting) -> Par
     }
 }
 
-/// An operator such as `+=` and its right side, behind that left side.
+/// Parses an operator such as `+=` and the right side, which follow `left`.
 fn updated(
     alloc: Global,
     left: Expr,
@@ -167,7 +167,7 @@ fn updated(
     }
 }
 
-/// An operator such as `+=`, its place, and its right side.
+/// Parses an operator such as `+=` and the right side: the operator, its token index, and the expression.
 fn change(
     alloc: Global,
     tokens: &[Token],
@@ -182,7 +182,7 @@ fn change(
     Ok(((op, at, right), rest))
 }
 
-/// An assignment or definition behind that one expression.
+/// Parses the `=` or `:=` and the right side that follow the one expression `first`.
 fn one_set(
     alloc: Global,
     first: Expr,
@@ -198,7 +198,7 @@ fn one_set(
     assignment(alloc, single, tokens, depth, setting)
 }
 
-/// A comma, further expressions, and an assignment or definition, behind that expression.
+/// Parses a comma, more expressions, the `=` or `:=` and the right side, which follow `first`.
 fn several_set(
     alloc: Global,
     first: Expr,
@@ -216,7 +216,7 @@ fn several_set(
     assignment(alloc, left, rest, depth, setting)
 }
 
-/// An assignment or definition, of which the left side has been read.
+/// Parses the `=` or `:=` and the right side that follow the list `left`.
 fn assignment(
     alloc: Global,
     left: Vec<ExprItem>,

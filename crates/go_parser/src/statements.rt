@@ -1,5 +1,5 @@
-//! Statements and blocks.
-//! Where reading fails, trees that were read go by a call of `drop`: one that goes unsaid is proved field by field.
+//! Parses statements and blocks. Where parsing fails, trees that were parsed are dropped by a call of `drop`: an implicit drop is proved
+//! field by field.
 ghost use Rattle.std.specs.Prelude.{◌≡◌, ◌∷◌, ◌++◌, [], false, IfOk};
 ghost use Rattle.go_ast.specs.Grammar as grammar;
 ghost use Rattle.go_ast.specs.Grammar.{A, One, is, IfHead, IfBody, ForHead, ElsePart, Statement, ReturnValues};
@@ -24,7 +24,7 @@ use go_ast::tree::{BlockItem, BlockStmt, Else, ExprItem, IfStmt, LocalSpec, Stmt
 use std::alloc::Global;
 use std::mem::drop;
 
-/// A brace block.
+/// Parses a block in braces.
 #[cycle(statement)]
 pub(crate) fn block(alloc: Global, tokens: &[Token], depth: u32) -> Parsed<'_, BlockStmt>
     ensures exact { Parses (A grammar.Block ∷ []) (λ x. block_spelled x.0) (λ x. x.1.now) depth tokens.now result }
@@ -56,7 +56,7 @@ pub(crate) fn block(alloc: Global, tokens: &[Token], depth: u32) -> Parsed<'_, B
     Ok((block, rest))
 }
 
-/// A statement.
+/// Parses a statement, which may be empty.
 #[cycle(statement)]
 fn statement(alloc: Global, tokens: &[Token], depth: u32) -> Parsed<'_, Stmt>
     ensures exact { Parses (A Statement ∷ []) (λ x. stmt_spelled x.0) (λ x. x.1.now) depth tokens.now result }
@@ -82,7 +82,7 @@ fn statement(alloc: Global, tokens: &[Token], depth: u32) -> Parsed<'_, Stmt>
     plain_statement(alloc, tokens, depth)
 }
 
-/// A `for` statement.
+/// Parses a `for` statement.
 #[cycle(statement)]
 fn for_stmt(alloc: Global, tokens: &[Token], depth: u32) -> Parsed<'_, Stmt>
     ensures exact { Parses (One (is Kind.For) ∷ A ForHead ∷ []) (λ x. stmt_spelled x.0) (λ x. x.1.now) depth tokens.now result }
@@ -99,7 +99,7 @@ fn for_stmt(alloc: Global, tokens: &[Token], depth: u32) -> Parsed<'_, Stmt>
     }
 }
 
-/// An `if` statement, of which the `if` has been read.
+/// Parses an `if` statement whose `if` has been parsed.
 #[cycle(statement)]
 fn if_stmt(alloc: Global, at: usize, tokens: &[Token], depth: u32) -> Parsed<'_, IfStmt>
     ensures exact { Continues (A IfHead ∷ []) (sign Kind.If at ∷ []) (λ x. if_spelled x.0) (λ x. x.1.now) depth tokens.now result }
@@ -126,7 +126,7 @@ fn if_stmt(alloc: Global, at: usize, tokens: &[Token], depth: u32) -> Parsed<'_,
     }
 }
 
-/// The block of an `if`, and what stands behind it.
+/// Parses the block of an `if` and its `else` branch, if there is one.
 #[cycle(statement)]
 fn branches(alloc: Global, tokens: &[Token], depth: u32) -> Parsed<'_, (BlockStmt, Else)>
     ensures exact { Parses (A IfBody ∷ []) (λ x. block_spelled x.0.0 ++ else_spelled x.0.1) (λ x. x.1.now) depth tokens.now result }
@@ -142,7 +142,7 @@ fn branches(alloc: Global, tokens: &[Token], depth: u32) -> Parsed<'_, (BlockStm
     }
 }
 
-/// What stands behind the block of an `if`.
+/// Parses the `else` branch of an `if`, if there is one.
 #[cycle(statement)]
 fn else_part(alloc: Global, tokens: &[Token], depth: u32) -> Parsed<'_, Else>
     ensures exact { Parses (A ElsePart ∷ []) (λ x. else_spelled x.0) (λ x. x.1.now) depth tokens.now result }
@@ -162,7 +162,7 @@ fn else_part(alloc: Global, tokens: &[Token], depth: u32) -> Parsed<'_, Else>
     Ok((Else::Block { at: word, block }, rest))
 }
 
-/// A statement that holds no others.
+/// Parses a statement that contains no other statement, or an empty one.
 fn plain_statement(alloc: Global, tokens: &[Token], depth: u32) -> Parsed<'_, Stmt>
     requires var { at (is Kind.Var) tokens.now ≡ false }
     requires block { at (is Kind.LeftBrace) tokens.now ≡ false }
@@ -191,7 +191,7 @@ fn plain_statement(alloc: Global, tokens: &[Token], depth: u32) -> Parsed<'_, St
     Ok((Stmt::Empty, tokens))
 }
 
-/// The values behind a `return`, where there are any.
+/// Parses the values of a `return`, if there are any.
 fn return_values(alloc: Global, tokens: &[Token], depth: u32) -> Parsed<'_, Vec<ExprItem>>
     ensures exact { Parses (A ReturnValues ∷ []) (λ x. exprs_spelled x.0.items) (λ x. x.1.now) depth tokens.now result }
     ensures formed { IfOk result (λ x. AreReturned (exprs_view x.0.items)) }

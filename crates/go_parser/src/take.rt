@@ -1,4 +1,4 @@
-//! Steps over one token.
+//! Parses one token, and tests which token comes next.
 
 ghost use Rattle.std.specs.Prelude.{◌≡◌, ◌∷◌, ◌<◌, ◌+◌, [], length, MatchOption, true, false};
 ghost use Rattle.go_ast.specs.Grammar.{number_of, One, is, binary_of, prefix_of};
@@ -9,12 +9,13 @@ ghost use Rattle.go_ast.specs.Flatten.{sign};
 use crate::parse_error::ParseError;
 use go_ast::syntax::{BinaryOp, Kind, PrefixOp, Token, TokenFaultKind};
 
-/// How many levels may be open at once.
+/// The limit of nesting: how many levels may be open at once.
 pub const LIMIT: u32 = 200;
 
+/// The parsed value with the tokens after it, or an error.
 pub type Parsed<'a, T> = Result<(T, &'a [Token]), ParseError>;
 
-/// The first token and those after it.
+/// The first token and the tokens after it.
 pub(crate) fn next(tokens: &[Token]) -> Option<(Token, &[Token])>
     ensures { MatchOption result (tokens.now ≡ []) (λ x. tokens.now ≡ x.0 ∷ x.1.now) }
 {
@@ -22,7 +23,7 @@ pub(crate) fn next(tokens: &[Token]) -> Option<(Token, &[Token])>
     Some((*first, rest))
 }
 
-/// The syntax fault at the first of the tokens.
+/// The syntax fault at the first of the tokens, or at the end where there are none.
 pub(crate) fn misplaced(tokens: &[Token]) -> ParseError
     ensures { result ≡ ParseError.Fault TokenFaultKind.Syntax (length tokens.now) }
 {
@@ -36,14 +37,14 @@ fn number(kind: Kind) -> u8
     kind as u8
 }
 
-/// Whether a token of this kind is one of that kind.
+/// Whether `kind` is `wanted`.
 pub(crate) fn is_kind(kind: Kind, wanted: Kind) -> bool
     ensures { result ≡ is wanted kind }
 {
     number(wanted) == number(kind)
 }
 
-/// One token of that kind, of which the place is kept.
+/// Parses one token of this kind: its token index.
 pub(crate) fn expect(tokens: &[Token], kind: Kind, depth: u32) -> Parsed<'_, usize>
     ensures { Parses (One (is kind) ∷ []) (λ x. sign kind x.0 ∷ []) (λ x. x.1.now) depth tokens.now result }
 {
@@ -53,7 +54,7 @@ pub(crate) fn expect(tokens: &[Token], kind: Kind, depth: u32) -> Parsed<'_, usi
     }
 }
 
-/// Whether the first token is of that kind.
+/// Whether a token of this kind comes next.
 pub(crate) fn at(tokens: &[Token], kind: Kind) -> bool
     ensures { result ≡ at (is kind) tokens.now }
 {
@@ -63,7 +64,7 @@ pub(crate) fn at(tokens: &[Token], kind: Kind) -> bool
     }
 }
 
-/// One token of that kind, which opens a level: its place, and the levels that are then open.
+/// Parses one token of this kind, which opens a level of nesting: its token index, and the number of levels open after it.
 pub(crate) fn open(tokens: &[Token], kind: Kind, depth: u32) -> Parsed<'_, (usize, u32)>
     ensures { Opens kind (λ x. x.0.0) (λ x. x.0.1) (λ x. x.1.now) depth tokens.now result }
 {
@@ -79,7 +80,7 @@ pub(crate) fn open(tokens: &[Token], kind: Kind, depth: u32) -> Parsed<'_, (usiz
     Ok(((first.place, depth + 1), rest))
 }
 
-/// The binary operator that a token of this kind is.
+/// The binary operator that a token of this kind is, if any.
 pub(crate) fn binary_op(kind: Kind) -> Option<BinaryOp>
     ensures { result ≡ binary_of kind }
 {
@@ -101,7 +102,7 @@ pub(crate) fn binary_op(kind: Kind) -> Option<BinaryOp>
     })
 }
 
-/// The prefix operator that a token of this kind is.
+/// The prefix operator that a token of this kind is, if any.
 pub(crate) fn prefix_op(kind: Kind) -> Option<PrefixOp>
     ensures { result ≡ prefix_of kind }
 {
@@ -114,7 +115,7 @@ pub(crate) fn prefix_op(kind: Kind) -> Option<PrefixOp>
     })
 }
 
-/// A separator of that kind, where one comes next, and the tokens behind it.
+/// Parses a separator of this kind, if one comes next: its token index, and the tokens after it.
 pub(crate) fn separator(tokens: &[Token], kind: Kind) -> (Option<usize>, &[Token])
     ensures { Separates kind result.0 tokens.now result.1.now }
 {
@@ -124,7 +125,7 @@ pub(crate) fn separator(tokens: &[Token], kind: Kind) -> (Option<usize>, &[Token
     }
 }
 
-/// Whether a list in brackets has another item: not where its last item had no separator, nor at its closing bracket.
+/// Whether a list in brackets has another item: its last item had a separator (`more`), and its closing bracket does not come next.
 pub(crate) fn goes_on(more: bool, tokens: &[Token], closer: Kind) -> bool
     ensures ends { result ≡ false → more ≡ true → at (is closer) tokens.now ≡ true }
     ensures separated { result ≡ true → more ≡ true }

@@ -1,4 +1,4 @@
-//! Types.
+//! Parses types.
 ghost use Rattle.std.specs.Prelude.{◌≡◌, ◌∷◌, [], true, IfOk};
 ghost use Rattle.go_ast.specs.Grammar.{A, TypeUse, AfterTypeName, One, is, slice_type};
 ghost use Rattle.go_parser.specs.Parsing.{Parses};
@@ -11,7 +11,7 @@ use go_ast::syntax::{Kind, Token};
 use go_ast::tree::TypeExpr;
 use std::alloc::Global;
 
-/// The name of a type, perhaps of an imported package.
+/// Parses the name of a type: `T` or `p.T`.
 pub(crate) fn type_name(tokens: &[Token], depth: u32) -> Parsed<'_, TypeExpr>
     ensures exact { Parses (One (is Kind.Name) ∷ A AfterTypeName ∷ []) (λ x. type_spelled x.0) (λ x. x.1.now) depth tokens.now result }
     ensures named { IfOk result (λ x. is_literal_type (type_view x.0) ≡ true) }
@@ -26,7 +26,7 @@ pub(crate) fn type_name(tokens: &[Token], depth: u32) -> Parsed<'_, TypeExpr>
     Ok((TypeExpr::Imported { package, dot, name }, rest))
 }
 
-/// A type.
+/// Parses a type.
 #[cycle(types)]
 pub(crate) fn type_expr(alloc: Global, tokens: &[Token], depth: u32) -> Parsed<'_, TypeExpr>
     ensures { Parses (A TypeUse ∷ []) (λ x. type_spelled x.0) (λ x. x.1.now) depth tokens.now result }
@@ -43,7 +43,7 @@ pub(crate) fn type_expr(alloc: Global, tokens: &[Token], depth: u32) -> Parsed<'
     type_name(tokens, depth)
 }
 
-/// A slice type.
+/// Parses a slice type `[]T`.
 #[cycle(types)]
 pub(crate) fn slice_type(alloc: Global, tokens: &[Token], depth: u32) -> Parsed<'_, TypeExpr>
     ensures exact { Parses (slice_type []) (λ x. type_spelled x.0) (λ x. x.1.now) depth tokens.now result }

@@ -1,4 +1,4 @@
-//! Tokens of which the grammar takes several kinds: identifiers, literals, the operators of statements.
+//! Parses tokens of several kinds: identifiers, literals, and the operators of statements.
 ghost use Rattle.std.specs.Prelude.{◌≡◌, ◌∷◌, ◌++◌, [], IfOk};
 ghost use Rattle.go_ast.specs.Grammar.{One, is_ident, is_literal, is_step, is_update, sets, in_head, begins_type};
 ghost use Rattle.go_parser.specs.Machine.{at};
@@ -11,7 +11,7 @@ use crate::take::{Parsed, misplaced, next};
 use go_ast::syntax::{Kind, StepOp, Token, UpdateOp};
 use go_ast::tree::{BasicLit, Ident};
 
-/// Where a simple statement stands: by itself, first in the head of an `if` or a `for`, or last in the head of a `for`.
+/// The position of a simple statement: by itself, first in the header of an `if` or a `for`, or last in the header of a `for`.
 #[derive(Clone, Copy, PartialEq, Eq, Debug)]
 pub enum Setting {
     Plain,
@@ -19,14 +19,14 @@ pub enum Setting {
     Post,
 }
 
-/// What stands between the sides of an assignment: `=` or `:=`.
+/// The operator between the sides of an assignment: `=` or `:=`.
 #[derive(Clone, Copy, PartialEq, Eq, Debug)]
 pub enum SetOp {
     Assign,
     Define,
 }
 
-/// Whether a statement stands in the header of an `if` or a `for`.
+/// Whether the statement is in the header of an `if` or a `for`.
 pub(crate) fn in_header(setting: Setting) -> bool
     ensures { result ≡ in_head (setting_of setting) }
 {
@@ -36,7 +36,7 @@ pub(crate) fn in_header(setting: Setting) -> bool
     }
 }
 
-/// The identifier that a token of this kind at that place is.
+/// The identifier of this kind and token index, if the kind is one of identifiers.
 fn ident_of(kind: Kind, place: usize) -> Option<Ident>
     ensures { result ≡ ident_of kind place }
 {
@@ -47,7 +47,7 @@ fn ident_of(kind: Kind, place: usize) -> Option<Ident>
     }
 }
 
-/// An identifier.
+/// Parses an identifier: a name or `_`.
 pub(crate) fn ident(tokens: &[Token], depth: u32) -> Parsed<'_, Ident>
     ensures { Parses (One is_ident ∷ []) (λ x. ident_spelled x.0) (λ x. x.1.now) depth tokens.now result }
 {
@@ -60,7 +60,7 @@ pub(crate) fn ident(tokens: &[Token], depth: u32) -> Parsed<'_, Ident>
     Ok((ident, rest))
 }
 
-/// The literal that a token of this kind at that place is.
+/// The literal of this kind and token index, if the kind is one of literals.
 fn basic_of(kind: Kind, place: usize) -> Option<BasicLit>
     ensures { result ≡ basic_of kind place }
 {
@@ -71,7 +71,7 @@ fn basic_of(kind: Kind, place: usize) -> Option<BasicLit>
     }
 }
 
-/// A literal of one token.
+/// Parses a literal of one token.
 pub(crate) fn basic_lit(tokens: &[Token], depth: u32) -> Parsed<'_, BasicLit>
     ensures { Parses (One is_literal ∷ []) (λ x. basic_spelled x.0) (λ x. x.1.now) depth tokens.now result }
 {
@@ -84,7 +84,7 @@ pub(crate) fn basic_lit(tokens: &[Token], depth: u32) -> Parsed<'_, BasicLit>
     Ok((literal, rest))
 }
 
-/// The operator of `x++` and `x--` that a token of this kind is.
+/// The `++` or `--` that a token of this kind is, if any.
 fn step_op(kind: Kind) -> Option<StepOp>
     ensures { result ≡ step_of kind }
 {
@@ -95,7 +95,7 @@ fn step_op(kind: Kind) -> Option<StepOp>
     }
 }
 
-/// A `++` or `--`, where one comes next, its place, and the tokens behind it.
+/// Parses a `++` or `--`: the operator and its token index.
 pub(crate) fn step(tokens: &[Token], depth: u32) -> Parsed<'_, (StepOp, usize)>
     ensures { Parses (One is_step ∷ []) (λ x. sign (step_kind x.0.0) x.0.1 ∷ []) (λ x. x.1.now) depth tokens.now result }
 {
@@ -118,7 +118,7 @@ pub(crate) fn at_step(tokens: &[Token]) -> bool
     }
 }
 
-/// The operator of `x += y` and its kin that a token of this kind is.
+/// The operator such as `+=` that a token of this kind is, if any.
 fn update_op(kind: Kind) -> Option<UpdateOp>
     ensures { result ≡ update_of kind }
 {
@@ -132,7 +132,7 @@ fn update_op(kind: Kind) -> Option<UpdateOp>
     }
 }
 
-/// A `+=` or its kin, and its place.
+/// Parses an operator such as `+=`: the operator and its token index.
 pub(crate) fn update(tokens: &[Token], depth: u32) -> Parsed<'_, (UpdateOp, usize)>
     ensures { Parses (One is_update ∷ []) (λ x. sign (update_kind x.0.0) x.0.1 ∷ []) (λ x. x.1.now) depth tokens.now result }
 {
@@ -145,7 +145,7 @@ pub(crate) fn update(tokens: &[Token], depth: u32) -> Parsed<'_, (UpdateOp, usiz
     Ok(((op, first.place), rest))
 }
 
-/// Whether `+=` or its kin comes next.
+/// Whether an operator such as `+=` comes next.
 pub(crate) fn at_update(tokens: &[Token]) -> bool
     ensures { result ≡ at is_update tokens.now }
 {
@@ -155,7 +155,7 @@ pub(crate) fn at_update(tokens: &[Token]) -> bool
     }
 }
 
-/// The `=` or `:=` that a token of this kind is. Last in the head of a `for` only `=` may stand.
+/// The `=` or `:=` that a token of this kind is, if any. In the last clause of a `for` only `=` is allowed.
 fn set_op(kind: Kind, setting: Setting) -> Option<SetOp>
     ensures { result ≡ set_of setting kind }
 {
@@ -172,7 +172,7 @@ fn set_op(kind: Kind, setting: Setting) -> Option<SetOp>
     }
 }
 
-/// A `=` or `:=`, and its place.
+/// Parses a `=` or `:=`: the operator and its token index.
 pub(crate) fn set(tokens: &[Token], depth: u32, setting: Setting) -> Parsed<'_, (SetOp, usize)>
     ensures allowed { IfOk result (λ x. IsAllowed setting x.0.0) }
     ensures exact { Parses (One (sets (setting_of setting)) ∷ []) (λ x. sign (set_kind x.0.0) x.0.1 ∷ []) (λ x. x.1.now) depth tokens.now result }
@@ -186,7 +186,7 @@ pub(crate) fn set(tokens: &[Token], depth: u32, setting: Setting) -> Parsed<'_, 
     Ok(((op, first.place), rest))
 }
 
-/// Whether `=` or `:=` comes next.
+/// Whether `=` or `:=` comes next, as allowed at this position.
 pub(crate) fn at_set(tokens: &[Token], setting: Setting) -> bool
     ensures { result ≡ at (sets (setting_of setting)) tokens.now }
 {

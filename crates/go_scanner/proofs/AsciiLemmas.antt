@@ -23,7 +23,7 @@ ascii_decoded c more small =
 pub ascii_read : (c : ℕ) (more : List ℕ) → c < 128 → (decoded (c ∷ more)).char ≡ Some c
 ascii_read c more small = ap (λ d. d.char) (ascii_decoded c more small)
 
--- a run goes on with a letter or digit of ASCII
+-- a run continues with an ASCII letter or digit
 pub ascii_grows : (bytes : List ℕ) (n : ℕ) → NameRunSoFar bytes n → n < length bytes → is_ascii_word (get_or bytes n 0) ≡ true → NameRunSoFar bytes (n + 1)
 ascii_grows bytes n before fits is =
     let b = get_or bytes n 0 in

@@ -1,4 +1,4 @@
--- What stands at the front of a text depends on the piece and on little of what is behind it.
+-- The piece at the start of a text depends on its own bytes and at most a few bytes after it.
 use Rattle.std.proofs.Common.{◌≡◌, ◌⊎◌, ℕ, zero, suc, ◌+◌, ◌^◌, ◌<◌, ◌≤◌, List, [], ◌∷◌, ◌++◌, Bool, true, false, ◌&&◌, ◌||◌, eqb, Option, Some, None, refl}
 use Rattle.std.proofs.Common.{sym, ap, ◌∙◌, subst, drop, take, length, get_or, arith, inl, inr, ⊎_elim, length-append, length-take, length-take-le}
 use Rattle.std.proofs.Common.{get_or-take, get_or-drop, append_assoc, take-append-drop, ltb-true, lt-ltb, eq-eqb}
@@ -38,7 +38,7 @@ use Rattle.go_scanner.proofs.FrontLemmas.{operator_family, fraction_breaks, begi
 use Rattle.go_scanner.proofs.OneCutLemmas.{one_piece}
 use Rattle.go_scanner.proofs.ExistsLemmas.{run_from, run_is_word, line_comment_there, comment_there}
 
--- a piece and what is behind it
+-- a piece and the bytes after it
 front_is : (p rest : List ℕ) → take (length p) (p ++ rest) ≡ p
 front_is p rest = take_at p rest (length p) refl
 

@@ -10,7 +10,7 @@ CutsTo-push : (text : List ℕ) (from to : ℕ) (ps : List Piece) (p : Piece) �
 CutsTo-push text from to [] p cut start end stands = rw cut (start, end, stands, refl)
 CutsTo-push text from to (q ∷ ps) p cut start end stands = (cut.0, cut.1, cut.2, CutsTo-push text q.span.end to ps p cut.3 start end stands)
 
--- the cut goes on with a piece
+-- a cut continues with a piece
 pub CutsUpTo-push : (text : List ℕ) (ps : List Piece) (to : ℕ) (class : Class) (size : ℕ) (rest : List ℕ) → CutsUpTo text ps to → rest ≡ drop to text →
     Stands rest class size → CutsUpTo text (ps ++ (record { class = class; span = record { start = to; end = to + size } }) ∷ []) (to + size)
 CutsUpTo-push text ps to class size rest cut rest_is stands =

@@ -45,7 +45,7 @@ use Rattle.go_scanner.proofs.CutLemmas.{CutsUpTo-push}
 abbrev pub Decided : Type 0 → Type 0
 Decided P = P ⊎ (P → ⊥)
 
--- the first place at which something decided holds
+-- the first number at which a decidable relation is true
 none_here : (P : ℕ → Type 0) (i to : ℕ) → (P i → ⊥) → Nowhere P (i + 1) to → Nowhere P i to
 none_here P i to never none k low high p =
     ⊎_elim
@@ -95,7 +95,7 @@ two_at bytes x y k =
     (λ a. inr (λ at. false≢true (sym a ∙ eq-eqb (slice_index bytes (k + 0)) x (at.reads 0 (omega arith))))))
     (λ fits. inr (λ at. false≢true (sym fits ∙ lt-ltb (k + 1) (length bytes) (omega (arith, at.fits)))))
 
--- what stands at the front, or which rule is broken there
+-- the piece at the start of a text, as a value with its class and length
 record IsPieceAt (text : List ℕ) : Type 0 where
   pub class : Class
   pub size : ℕ
@@ -361,7 +361,7 @@ decide_well bytes =
 nothing_well : IsWellEncoded []
 nothing_well = (IsUtf8-nil, λ k less same. omega (arith, less))
 
--- no longer front than the first n bytes is well encoded
+-- no prefix longer than the first n bytes is well encoded
 NoneBeyond : List ℕ → ℕ → Type 0
 NoneBeyond text n = (m : ℕ) → n < m → m ≤ length text → IsWellEncoded (take m text) → ⊥
 
@@ -388,7 +388,7 @@ ill_from text (suc n) short none =
     (λ (no : IsWellEncoded (take (suc n) text) → ⊥). ill_from text n (omega (arith, short)) (none_from text n none no))
     (decide_well (take (suc n) text))
 
--- the longest front that is well encoded is sought from the whole text down
+-- the longest well-encoded prefix, searched from the whole text down
 ill_text : (text : List ℕ) → (IsWellEncoded text → ⊥) → HasFault text
 unfolding NoneBeyond
 ill_text [] never = absurd (never nothing_well)

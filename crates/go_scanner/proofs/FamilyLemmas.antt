@@ -1,4 +1,4 @@
--- The first byte of a piece tells which classes it can be of.
+-- The first byte of a piece determines which classes the piece may have.
 use Rattle.std.proofs.Common.{◌≡◌, ℕ, zero, suc, ◌<◌, ◌≤◌, List, [], ◌∷◌, Bool, true, false, cond, ◌&&◌, eqb, ltb, refl, sym, ap, ◌∙◌, subst, take, length}
 use Rattle.std.proofs.Common.{get_or, arith, ⊎_elim, get_or-take, encode_utf8, encode_utf8_all, ltb-true, length-append}
 use Rattle.std.specs.Prelude.{slice_index}
@@ -48,7 +48,7 @@ pub ascii_letter : (c : ℕ) → c < 128 → is_letter c ≡ starts_word c
 ascii_letter c small = same (is_letter c) (starts_word c)
     (at_below (λ c. cond (is_letter c) (starts_word c) (cond (starts_word c) false true)) 128 c letters_of_ascii small)
 
--- below 128 these may all stand in a name
+-- below 128, ASCII letters, digits and `_` may continue a name
 ascii_words : all_below (λ b. cond (is_ascii_word b) (continues_name b) true) 128 ≡ true
 unfolding all_below is_letter is_decimal_number ucd_category
 ascii_words = refl
@@ -146,7 +146,7 @@ some_taken : (m : ℕ) (text : List ℕ) → 0 < length (take m text) → 0 < m
 some_taken zero text h = h
 some_taken (suc m) text h = omega arith
 
--- the same of a front of a text
+-- the first byte of a word that is a prefix of a text
 pub front_family : (c : Class) (text : List ℕ) (m : ℕ) → IsPiece c (take m text) → family_of (slice_index text 0) ≡ family c
 front_family c text m p =
     let has = has_family c (take m text) p in

@@ -1,4 +1,4 @@
--- The piece at the front of a text, by its first byte.
+-- The piece at the start of a text, by its first byte.
 use Rattle.std.proofs.Common.{◌≡◌, ◌≢◌, ◌⊎◌, ℕ, zero, suc, ◌+◌, ◌^◌, ◌<◌, ◌≤◌, List, [], ◌∷◌, ◌++◌, Bool, true, false, cond, ◌&&◌, Option, Some, None, eqb}
 use Rattle.std.proofs.Common.{ltb, refl, sym, ap, ◌∙◌, subst, drop, take, length, get_or, arith, inl, inr, ⊎_elim, get_or-take, encode_utf8_all}
 use Rattle.std.proofs.Common.{length-take-le, length-append, length-take, length-drop, get_or-drop, add-one, append_assoc, eq-eqb, leb-true, ltb-true}
@@ -43,7 +43,7 @@ use Rattle.go_scanner.proofs.CommentLemmas.{occurs_untake}
 pub apart : (b x f g : ℕ) → family_of b ≡ f → family_of x ≡ g → f ≢ g → b ≢ x
 apart b x f g of_b of_x differ same = differ (sym of_b ∙ ap family_of same ∙ of_x)
 
--- Which rules can be broken where the first byte is of a family: a rule is one of its own.
+-- The rules that can be broken at a first byte of a family: each family has its own.
 pub no_bad_integer : (text : List ℕ) → family_of (slice_index text 0) ≢ 5 → IsBadInteger text → ⊥
 no_bad_integer text other bad = other (front_family class.Integer text bad.size bad.integer)
 
@@ -59,7 +59,7 @@ no_open_raw_string text other bad = other (ap (λ t. slice_index t 0) bad.spelle
 pub no_open_comment : (text : List ℕ) → slice_index text 0 ≢ 47 → IsOpenComment text → ⊥
 no_open_comment text other bad = other (bad.opens.reads 0 (omega arith))
 
--- where a piece is at the front and no rule of its own is broken, no rule is
+-- where a text begins with a piece and no rule of its family is broken, no rule is
 pub no_break : (text : List ℕ) (c : Class) (n : ℕ) → n ≤ length text → IsPiece c (take n text)
     → (IsBadInteger text → ⊥) → (IsFraction text → ⊥) → (IsOpenComment text → ⊥) → ((place : ℕ) → IsBadString text place → ⊥) → (IsOpenRawString text → ⊥)
     → (k : FaultKind) (place : ℕ) → Breaks k place text → ⊥
@@ -133,7 +133,7 @@ newline_stands text some is =
     stands_plain text class.Newline 1 2 of_first (omega arith) (λ e. omega (arith, e)) (omega arith) (omega arith) (take_one text some ∙ ap (λ b. b ∷ []) is)
     (λ other m more fits p. only_newline other m text (sym of_first ∙ front_family other text m p) more fits p)
 
--- Words. The first character of a word at the front is the text's, and a letter.
+-- Words. The first character of a word at the start of a text is the text's first, and a letter.
 pub record Letter (text : List ℕ) : Type 0 where
   pub char : ℕ
   pub read : (decoded text).char ≡ Some char
@@ -262,7 +262,7 @@ name_stands text bs n some starts begins run bs_is none =
           false≢true (rw yes at test),
     )
 
--- no word is there
+-- the text begins with no word
 pub no_word : (text : List ℕ) → 0 < length text → starts_word (slice_index text 0) ≡ true → begins_with_letter text ≡ false → Breaks kind.Character 0 text
 no_word text some starts none =
     let of_first = word_family (slice_index text 0) starts in (
@@ -423,7 +423,7 @@ find_none p (y ∷ ys) zero x none fits is = by_test (p y) (λ yes. let wrong : 
 find_none p (y ∷ ys) (suc i) x none fits is = by_test (p y) (λ yes. let wrong : Some y ≡ None = rw yes at none in absurd cc)
     (λ not. find_none p ys i x (rw not at none) (omega arith) is)
 
--- where the keys don't rise, the first that passes has the greatest key of those that pass
+-- where the keys don't rise, the first element that passes a test has the greatest key of those that pass
 find_greatest : {X : Type 0} (key : X → ℕ) (p : X → Bool) (xs : List X) (r : X) (i : ℕ) (x : X) → descends key xs ≡ true → find p xs ≡ Some r →
     i < length xs → get_or xs i x ≡ x → p x ≡ true → key x ≤ key r
 find_greatest key p [] r i x down found fits is passes = absurd (omega arith)

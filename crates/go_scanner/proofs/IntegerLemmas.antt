@@ -1,4 +1,4 @@
--- The longest integer literal at the front of some bytes.
+-- The longest integer literal at the start of some bytes.
 use Rattle.std.proofs.Common.{◌≡◌, ℕ, zero, suc, ◌+◌, ◌<◌, ◌≤◌, List, [], ◌∷◌, Bool, true, false, ◌&&◌, ◌||◌, eqb, ltb, refl, sym, ap, ◌∙◌, subst, drop}
 use Rattle.std.proofs.Common.{take, length, arith, ⊎_elim, drop-drop, eqb-true, ltb-true, lt-ltb, lit≤}
 use Rattle.std.specs.Char.{is_digit}
@@ -28,7 +28,7 @@ digits_end base (b ∷ c ∷ rest) none =
     by_test (is_digit b base) (λ yes. absurd (omega (arith, rw yes at none)))
     (λ no. by_test (eqb b 95 && is_digit c base) (λ under. absurd (omega (arith, rw (no, under) at none))) (λ other. rw (no, other) refl))
 
--- the same behind the first n bytes
+-- the digits after the first n bytes
 pub digits_step_at : (base : ℕ) (bs part : List ℕ) (n size : ℕ) → part ≡ drop n bs → size ≡ digit_len base part → 0 < size →
     n + digits_len base (drop n bs) ≡ digits_len base bs → n + size + digits_len base (drop (n + size) bs) ≡ digits_len base bs
 digits_step_at base bs part n size part_is size_is some before =
@@ -53,7 +53,7 @@ digits_under : (base b c : ℕ) (xs : List ℕ) → eqb b 95 ≡ true → is_dig
 digits_under base b c xs under one more = or_right (is_digit b base && digits base (c ∷ xs)) (eqb b 95 && (is_digit c base && digits base xs))
     (rw (under, one, more) refl)
 
--- what is counted is such digits
+-- the counted prefix consists of digits
 pub digits_take : (base : ℕ) (bs : List ℕ) → digits base (take (digits_len base bs) bs) ≡ true
 unfolding digits_len
 digits_take base [] = refl
@@ -66,7 +66,7 @@ digits_take base (b ∷ c ∷ rest) =
     rw (no, under) (digits_under base b c (take (digits_len base rest) rest) both.0 both.1 (digits_take base rest)))
     (λ other. rw (no, other) refl))
 
--- no longer front is such digits
+-- no longer prefix consists of digits
 pub digits_most : (base : ℕ) (bs : List ℕ) (m : ℕ) → is_digit 95 base ≡ false → m ≤ length bs → digits base (take m bs) ≡ true → m ≤ digits_len base bs
 unfolding digits_len
 digits_most base [] m low fits all = fits
@@ -156,7 +156,7 @@ some_more : (base n : ℕ) (xs : List ℕ) → some_digits base (take n xs) ≡ 
 some_more base zero xs h = absurd (false≢true h)
 some_more base (suc n) xs h = omega arith
 
--- what may stand behind a leading 0, and no more
+-- the counted bytes may follow a leading 0, and no more bytes may
 after_zero_take : (bs : List ℕ) → after_zero (take (after_zero_len bs) bs) ≡ true
 unfolding after_zero_len
 after_zero_take [] = refl

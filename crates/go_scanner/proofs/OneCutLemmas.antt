@@ -102,7 +102,7 @@ from_operator o (class.Operator x) bs h p q = ap class.Operator (operator_same o
 from_operator o _ bs h p q = ⊎_elim (λ three. absurd (omega (arith, h, three))) (λ eight. absurd (omega (arith, h, eight)))
     (operator_family o (family (class.Operator o)) refl)
 
--- the bytes of a piece tell its class
+-- the bytes of a piece determine its class
 pub same_class : (c d : Class) (bs : List ℕ) → IsPiece c bs → IsPiece d bs → c ≡ d
 same_class c d bs p q = by_class c (sym (has_family c bs p).is ∙ (has_family d bs q).is) p
   where
@@ -119,7 +119,7 @@ same_class c d bs p q = by_class c (sym (has_family c bs p).is ∙ (has_family d
     by_class class.RawString h p = only_7 d h
     by_class (class.Operator o) h p = from_operator o d bs h p q
 
--- one piece stands at the front of a text
+-- a text begins with at most one piece
 pub one_piece : (text : List ℕ) (c d : Class) (n m : ℕ) → Stands text c n → Stands text d m → (n ≡ m) × (c ≡ d)
 one_piece text c d n m a b =
     let same : n ≡ m = ⊎_elim (λ e. e) (⊎_elim (λ less. absurd (a.longest d m less b.fits b.piece)) (λ more. absurd (b.longest c n more a.fits a.piece)))

@@ -19,7 +19,7 @@ use Rattle.go_scanner.proofs.StringLemmas.{same_parts}
 use Rattle.go_scanner.proofs.FrontLemmas.{no_bad_integer, no_fraction}
 use Rattle.go_scanner.proofs.OneCutLemmas.{one_piece}
 
--- a string goes wrong at one place
+-- the fault of a string is at one offset
 bad_string_place : (text : List ℕ) (m n : ℕ) → IsBadString text m → IsBadString text n → m ≡ n
 bad_string_place text m n a b =
     let both : concat a.parts ++ a.rest ≡ concat b.parts ++ b.rest = ap (drop 1) (sym a.spelled ∙ b.spelled) in
@@ -29,7 +29,7 @@ bad_string_place text m n a b =
     ∙ ap (λ l. cond (eqb (slice_index b.rest 0) 92) (1 + length (concat l)) 0) same.0
     ∙ sym b.place_is
 
--- what a text begins with where a rule of one kind is broken tells the kind
+-- the first bytes of a text in which a rule is broken determine the rule's kind
 no_number : (text : List ℕ) (x : ℕ) → slice_index text 0 ≡ x → family_of x ≢ 5 → x ≢ 46 → IsBadInteger text ⊎ IsFraction text → ⊥
 no_number text x first digit point bad =
     ⊎_elim (no_bad_integer text (λ e. digit (sym (ap family_of first) ∙ e))) (no_fraction text (λ e. point (sym first ∙ e))) bad
@@ -122,7 +122,7 @@ one_place text from to other (p ∷ ps) (q ∷ qs) j k m n a b left right =
 same_fault : (f g : TextFault) → f.kind ≡ g.kind → f.offset ≡ g.offset → f ≡ g
 same_fault f g kind offset i = record { offset = offset i; kind = kind i }
 
--- a text is ill encoded at one place, and then no rule of its pieces is broken first
+-- a text is ill encoded at one offset, and no rule of its pieces is broken first
 one_ill_place : (text : List ℕ) (m n : ℕ) → IsIllEncodedAt text m → IsIllEncodedAt text n → m ≡ n
 one_ill_place text m n a b =
     ⊎_elim (λ (same : m ≡ n). same)

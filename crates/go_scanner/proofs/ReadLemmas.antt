@@ -1,4 +1,4 @@
--- A token that is read by its number.
+-- Tokens read by their index.
 use Rattle.std.proofs.Common.{◌≡◌, ℕ, List, ◌<◌, length, get_or, ap, ◌∙◌}
 use Rattle.std.proofs.lemmas.List.{get_or_default}
 use Rattle.go_scanner.specs.declared.piece.Piece.{Piece}
@@ -6,7 +6,7 @@ use Rattle.go_scanner.specs.CutText.{CutText, IsCutText, tokens_in, token_at}
 use Rattle.go_scanner.specs.Tokens.{semicolon}
 use Rattle.go_scanner.proofs.SpanLemmas.{IsToken, token_is}
 
--- the token that was read is the one of that number
+-- the token that was read is the one of this index
 pub record IsRead (v : CutText) (i : ℕ) (t : Piece) : Type 0 where
   pub at : t ≡ token_at v i
   pub is : IsToken v.text t

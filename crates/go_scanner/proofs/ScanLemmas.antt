@@ -1,4 +1,4 @@
--- What is known while a text is scanned, and how it goes on by a piece.
+-- The invariant of the scanner's loop, and its step by one piece.
 use Rattle.std.proofs.Common.{◌≡◌, ℕ, ◌+◌, ◌≤◌, Bool, true, false, nat_eq, List, [], ◌∷◌, ◌++◌, length, drop, Option, Some, None, refl, ap, sym, ◌∙◌}
 use Rattle.std.proofs.Common.{append_assoc, append-nil}
 use Rattle.std.specs.List.{starts_with}
@@ -11,7 +11,7 @@ use Rattle.go_scanner.specs.Tokens.{tokens_of, tokens_due, semicolon, GoesOn}
 use Rattle.go_scanner.proofs.CutLemmas.{CutsUpTo-push}
 use Rattle.go_scanner.proofs.TokenLemmas.{end_due, end_plain}
 
--- pieces cut the text up to a place, and the tokens found and the semicolon that is due are those of the pieces, whatever follows
+-- the pieces cut the text up to an offset; the tokens found, with the semicolon that is due, are theirs, whatever follows
 pub record Scanned (text : List ℕ) (pieces found : List Piece) (due : Option ℕ) (at : ℕ) : Type 0 where
   pub fits : at ≤ length text
   pub cut : CutsUpTo text pieces at
@@ -32,7 +32,7 @@ scanned_mark text pieces at pieces_are at_is fits = record {
   so_far = λ rest. mark_has_no_token _ text rest refl ∙ ap (λ (ps : List Piece). tokens_of text (ps ++ rest)) (sym pieces_are);
 }
 
--- a piece goes behind those before
+-- one more piece at the end
 pub scanned_more : (text : List ℕ) (pieces found more : List Piece) (due next : Option ℕ) (at size : ℕ) (class : Class) (rest : List ℕ)
     → Scanned text pieces found due at → rest ≡ drop at text → Stands rest class size → at + size ≤ length text
     → GoesOn text found due (record { class = class; span = record { start = at; end = at + size } }) more next

@@ -1,4 +1,4 @@
--- How the pieces and the tokens of a cut lie in the text.
+-- The spans of the pieces and tokens of a cut.
 use Rattle.std.proofs.Common.{◌≡◌, ℕ, zero, suc, ◌-◌, ◌<◌, ◌≤◌, List, [], ◌∷◌, ◌++◌, true, false, ◌&&◌, refl, sym, ap, ◌∙◌, subst, drop, take, length}
 use Rattle.std.proofs.Common.{get_or, arith, inl, inr, ⊎_elim}
 use Rattle.std.specs.Prelude.{nat_eq}
@@ -36,14 +36,14 @@ covers_on : (from to : ℕ) (ps : List Piece) → CoversFrom from ps to → from
 covers_on from to [] covers = omega (arith, covers)
 covers_on from to (p ∷ ps) covers = omega (arith, covers.1, covers_on p.span.end to ps covers.2)
 
--- each piece lies within
+-- each piece lies in the text
 pub covers_at : (from to : ℕ) (ps : List Piece) (i : ℕ) (d : Piece) → CoversFrom from ps to → i < length ps →
     ((get_or ps i d).span.start ≤ (get_or ps i d).span.end) × ((get_or ps i d).span.end ≤ to)
 covers_at from to [] i d covers fits = absurd (omega (arith, fits))
 covers_at from to (p ∷ ps) zero d covers fits = (omega (arith, covers.0, covers.1), covers_on p.span.end to ps covers.2)
 covers_at from to (p ∷ ps) (suc i) d covers fits = covers_at p.span.end to ps i d covers.2 (omega (arith, fits))
 
--- tokens from a place on are such from an earlier place on
+-- tokens that follow from an offset also follow from an earlier one
 follow_before : (low from to : ℕ) (ts : List Piece) → low ≤ from → FollowFrom from ts to → FollowFrom low ts to
 follow_before low from to [] less follow = omega (arith, less, follow)
 follow_before low from to (t ∷ ts) less follow = (omega (arith, less, follow.0), follow.1, follow.2)
@@ -92,7 +92,7 @@ from_here text from to (p ∷ ps) covers =
     (λ ends. rw (token, ends) (start, (omega (arith, covers.1), rest)))
     (λ goes. rw (token, goes) (start, rest)))
 
--- where the line ends first, they begin later
+-- where the line ends first, the tokens begin later
 behind_line_end : (text : List ℕ) (from to : ℕ) (ps : List Piece) → CoversFrom from ps to → line_ends text ps ≡ true →
     AllByRecursion (λ x. nat_cmp from x ≡ Less) (starts (tokens_of text ps))
 unfolding tokens_of line_ends
@@ -125,7 +125,7 @@ tokens_in_order text ps cut =
     let covers = cut_covers text ps cut in
     record { follow = follow_tokens text 0 (length text) ps covers; rise = starts_rise text 0 (length text) ps covers }
 
--- what the bytes of the pieces are
+-- the bytes of each piece are of its class
 pieces_of : (text : List ℕ) (from to : ℕ) (ps : List Piece) → CutsTo text from ps to → AllByRecursion (λ p. IsPieceText p.class (bytes_of text p)) ps
 pieces_of text from to [] cut = tt
 pieces_of text from to (p ∷ ps) cut = (
@@ -144,7 +144,7 @@ pub cut_pieces : (text : List ℕ) (ps : List Piece) → IsCut text ps → AllBy
 cut_pieces text ps cut = subst (AllByRecursion (λ p. IsPieceText p.class (bytes_of text p))) (sym cut.cut.1)
     (mark_pieces text cut.cut.0 (pieces_of text (mark_len text) (length text) cut.cut.0 cut.cut.2))
 
--- what the bytes of the tokens are
+-- the bytes of each token are of its class
 token_of_piece : (class : Class) (bytes : List ℕ) → is_trivia class ≡ false → IsPieceText class bytes → IsTokenText class bytes
 token_of_piece class bytes token piece = ⊎_elim (λ p. inl p) (λ mark. absurd (false≢true (sym token ∙ ap is_trivia mark.0))) piece
 

@@ -1,4 +1,4 @@
--- The longest string literal at the front of some bytes.
+-- The longest string literal at the start of some bytes.
 use Rattle.std.proofs.Common.{◌≡◌, ◌≢◌, ◌⊎◌, ℕ, suc, ◌+◌, ◌<◌, ◌≤◌, List, [], ◌∷◌, ◌++◌, Bool, true, false, cond, ◌&&◌, ◌||◌, eqb, ltb, refl, sym, ap, ◌∙◌}
 use Rattle.std.proofs.Common.{drop, take, length, get_or, arith, inl, inr, ⊎_elim, drop-drop, length-drop, length-append, length-take, length-take-le}
 use Rattle.std.proofs.Common.{append_assoc, append-nil, take-append-drop, get_or-drop, ltb-true, lt-ltb}
@@ -31,7 +31,7 @@ escape_by b xs h = in_place (is_plain_escape b && eqb (length xs) 0) (are_digits
     (eqb b 120 && are_digits 2 16 xs) (eqb b 117 && (are_digits 4 16 xs && is_character (number_in 16 xs)))
     (eqb b 85 && (are_digits 8 16 xs && is_character (number_in 16 xs))) h
 
--- an escape is of what it counts
+-- the counted bytes are an escape
 escape_is : (bs : List ℕ) → 0 < escape_len bs → is_escape (take (escape_len bs) bs) ≡ true
 unfolding escape_len
 escape_is [] some = absurd (omega (arith, some))
@@ -82,7 +82,7 @@ letter : (b x : ℕ) (rest : List ℕ) → b ≡ x → is_plain_escape x ≡ fal
 unfolding escape_len
 letter b x rest same plain octal P h = rw (same, plain, no_octal x rest octal) h
 
--- what an escape counts, whatever follows
+-- the counted length of an escape, whatever follows it
 escape_only : (e r : List ℕ) → is_escape e ≡ true → escape_len (e ++ r) ≡ length e
 unfolding escape_len
 escape_only [] r is = absurd (false≢true is)
@@ -130,7 +130,7 @@ part_only (b ∷ c ∷ rest) r is =
     let test : ltb 0 (escape_len ((c ∷ rest) ++ r)) ≡ true = ap (ltb 0) size ∙ lt-ltb 0 (suc (length rest)) (omega arith) in
     rw (not_plain, both.0, test, size) refl
 
--- what is counted is there
+-- the counted bytes are in the text
 escape_len_le : (bs : List ℕ) → escape_len bs ≤ length bs
 unfolding escape_len
 escape_len_le [] = omega arith
@@ -226,7 +226,7 @@ pub quote_stops : (rest : List ℕ) → StopsString (34 ∷ rest)
 unfolding part_len
 quote_stops rest = stops_from (34 ∷ rest) refl
 
--- parts up to where no part stands can be told apart in one way
+-- a text is split into parts, up to where no part follows, in one way
 pub same_parts : (ps qs : List (List ℕ)) (s t : List ℕ) → are_string_parts ps ≡ true → are_string_parts qs ≡ true → StopsString s → StopsString t →
     concat ps ++ s ≡ concat qs ++ t → (ps ≡ qs) × (s ≡ t)
 same_parts [] [] s t each_p each_q stops_s stops_t same = (refl, same)

@@ -109,7 +109,7 @@ one_string_value bytes v w a b =
     (λ (left : HasRawValue bytes v). ⊎_elim (λ (right : HasPartsValue bytes w). absurd (not_both bytes right.0 left.0)) (one_raw_value bytes v w left) b)
     a
 
--- the last form of an escape, in the words of the code
+-- the last form of an escape, as the code writes it
 pub record IsLastForm (escape : List ℕ) (n : ℕ) : Type 0 where
   pub character : is_character n ≡ true
   pub value : encode_utf8 n ≡ escape_value escape
@@ -136,7 +136,7 @@ pub raw_literal : (bytes : List ℕ) → slice_index bytes 0 ≡ 96 → IsString
 raw_literal bytes first piece = ⊎_elim (λ (s : IsString bytes). let same : 34 ≡ 96 = sym (ap (λ t. slice_index t 0) s.spelled) ∙ first in
     absurd (omega (arith, same))) (λ raw. raw) piece
 
--- what holds of each value holds of the answer's
+-- if P implies Q, then an answer whose value satisfies P has one that satisfies Q
 pub if_ok : {T E : Type 0} (r : Result T E) (P Q : T → Type 0) → ((v : T) → P v → Q v) → IfOk r P → IfOk r Q
 if_ok (Ok v) P Q step h = step v h
 if_ok (Err e) P Q step h = tt

@@ -1,4 +1,4 @@
--- What is read off the tables of operators and keywords.
+-- Facts computed from the tables of operators and keywords.
 use Rattle.std.proofs.Common.{cond, eqb, sym, ap, ◌∙◌}
 use Rattle.go_scanner.specs.Operators.{operator_spelling}
 use Rattle.go_scanner.specs.Keywords.{keyword_spelling}
@@ -99,7 +99,7 @@ keyword_listed kw.Switch = record { place = 22; is = refl; fits = lit< tt }
 keyword_listed kw.«Type» = record { place = 23; is = refl; fits = lit< tt }
 keyword_listed kw.Var = record { place = 24; is = refl; fits = lit< tt }
 
--- what a test says of each element
+-- a test of all elements, for one element
 pub all_listed : {X : Type 0} (p : X → Bool) (xs : List X) (i : ℕ) (x : X) → list_all p xs ≡ true → i < length xs → get_or xs i x ≡ x → p x ≡ true
 all_listed p [] i x all fits is = absurd (omega arith)
 all_listed p (y ∷ ys) zero x all fits is = subst (λ z. p z ≡ true) is (and_parts (p y) (list_all p ys) all).0

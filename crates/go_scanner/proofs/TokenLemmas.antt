@@ -1,4 +1,4 @@
--- Tokens, from the left: a semicolon may be due behind the last token so far.
+-- Tokens, from left to right: a semicolon may be due after the last token so far.
 use Rattle.std.proofs.Common.{◌≡◌, ℕ, List, [], ◌∷◌, ◌++◌, true, false, Option, Some, None, refl, ap, ◌∙◌, append_assoc, append-nil}
 use Rattle.go_scanner.specs.declared.piece.Piece.{Piece}
 use Rattle.go_scanner.specs.Tokens.{is_trivia, ends_statement, ends_line, line_ends, semicolon, tokens_of, tokens_due, GoesOn}

@@ -6,7 +6,7 @@ use Rattle.std.specs.Char.{digit_value}
 use Rattle.go_scanner.specs.Integers.{number_in, next_value}
 use Rattle.go_scanner.proofs.IntegerLemmas.{by_test}
 
--- digits behind a number
+-- digits after a number
 abbrev pub number_from : ℕ → ℕ → List ℕ → ℕ
 number_from base n bytes = fold (next_value base) n bytes
 

@@ -1,4 +1,4 @@
--- The run of characters that may stand in a name.
+-- The run of characters that may continue a name.
 use Rattle.std.proofs.Common.{◌≡◌, ℕ, ◌+◌, ◌<◌, ◌≤◌, List, [], ◌∷◌, ◌++◌, Some, Option, Bool, true, false, refl, sym, ap, ◌∙◌, subst, drop, take, length}
 use Rattle.std.proofs.Common.{arith, length-take-le, length-append, drop-drop, append_assoc, append-nil}
 use Rattle.std.specs.Prelude.{IfSome}
@@ -64,7 +64,7 @@ run_stops bytes n before stops = record {
   stops = stops;
 }
 
--- where one text begins with two runs of characters, the shorter goes on with a character of the longer
+-- where one text begins with two runs of characters, the shorter one continues with a character of the longer one
 pub record GoesOn (rest : List ℕ) : Type 0 where
   pub next : ℕ
   pub more : List ℕ
@@ -96,7 +96,7 @@ goes_on (c ∷ cs) (d ∷ ds) r t same scalars all shorter =
       ap (λ x. length (encode_utf8 x)) both.0,
     ))
 
--- no longer front of the bytes is made of such characters
+-- no longer prefix of the bytes consists of such characters
 pub run_longest : (bytes : List ℕ) (n m : ℕ) (ds : List ℕ) → IsNameRun bytes n → n < m → m ≤ length bytes → all_scalars ds ≡ true →
     list_all continues_name ds ≡ true → take m bytes ≡ encode_utf8_all ds → ⊥
 run_longest bytes n m ds run longer fits scalars all spelled =

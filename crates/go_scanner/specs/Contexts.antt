@@ -1,4 +1,4 @@
--- What may stand behind a piece, so that it ends where it does.
+-- Which bytes may follow a piece without making it longer.
 use Rattle.std.specs.Prelude.{◌≡◌, ◌⊎◌, ℕ, ◌^◌, ◌<◌, ◌≤◌, true, false, nat_eq, List, [], ◌++◌, IfSome, length, slice_index}
 use Rattle.std.specs.List.{starts_with}
 use Rattle.bstr.specs.Find.{OccursAt}
@@ -12,11 +12,11 @@ use Rattle.go_scanner.specs.Operators.{operator_spelling}
 use Rattle.go_scanner.specs.Pieces.{IsFraction, spoils_number}
 use Rattle.go_scanner.specs.Trivia.{line_opening, comment_opening}
 
--- the first character, if there is one, continues no name
+-- `rest` does not begin with a character that would continue a name
 abbrev pub EndsName : List ℕ → Type 0
 EndsName rest = IfSome (decoded rest).char (λ c. continues_name c ≡ false)
 
--- an operator and what follows begin no longer operator, no comment and no fraction
+-- the operator `o` followed by `rest` begins with no longer operator, no comment and no fraction
 pub record EndsOperator (o : Rattle.go_scanner.specs.declared.operators.Operator.Operator) (rest : List ℕ) : Type 0 where
   pub longest : (other : Rattle.go_scanner.specs.declared.operators.Operator.Operator) →
       starts_with nat_eq (operator_spelling o ++ rest) (operator_spelling other) ≡ true → length (operator_spelling other) ≤ length (operator_spelling o)
@@ -24,7 +24,8 @@ pub record EndsOperator (o : Rattle.go_scanner.specs.declared.operators.Operator
   pub no_comment : OccursAt (operator_spelling o ++ rest) comment_opening 0 → ⊥
   pub whole : IsFraction (operator_spelling o ++ rest) → ⊥
 
--- what may stand behind a piece of a class: at most the next character counts, or behind an operator the next two bytes
+-- `rest` may follow the piece `bytes` of a class; this depends on the first character of `rest` at most, and after an operator on its first
+-- two bytes
 abbrev pub MayFollow : Class → List ℕ → List ℕ → Type 0
 MayFollow ByteOrderMark bytes rest = ⊥
 MayFollow Blank bytes rest = Unit {0}

@@ -1,9 +1,10 @@
--- Keywords.
+-- The keywords of Go and their spellings.
 use Rattle.std.specs.Prelude.{ℕ, Bool, List, [], ◌∷◌, filter, slice_index, ◌==◌, ◌&&◌, ◌||◌, nat_le}
 use Rattle.go_scanner.specs.declared.keywords.Keyword.{Keyword}
 use Rattle.go_scanner.specs.declared.keywords.Keyword.TheVariants.{Break, Case, Chan, Const, Continue, Default, Defer, Else, Fallthrough, For, Func, Go, Goto}
 use Rattle.go_scanner.specs.declared.keywords.Keyword.TheVariants.{If, Import, Interface, Map, Package, Range, Return, Select, Struct, Switch, «Type», Var}
 
+-- the bytes of a keyword
 abbrev pub keyword_spelling : Keyword → List ℕ
 keyword_spelling Break = 98 ∷ 114 ∷ 101 ∷ 97 ∷ 107 ∷ []  -- break
 keyword_spelling Case = 99 ∷ 97 ∷ 115 ∷ 101 ∷ []  -- case
@@ -31,15 +32,15 @@ keyword_spelling Switch = 115 ∷ 119 ∷ 105 ∷ 116 ∷ 99 ∷ 104 ∷ []  -- 
 keyword_spelling «Type» = 116 ∷ 121 ∷ 112 ∷ 101 ∷ []  -- type
 keyword_spelling Var = 118 ∷ 97 ∷ 114 ∷ []  -- var
 
--- each of them, the longer ones first
+-- all keywords, by alphabet
 abbrev pub all_keywords : List Keyword
 all_keywords = Break ∷ Case ∷ Chan ∷ Const ∷ Continue ∷ Default ∷ Defer ∷ Else ∷ Fallthrough ∷ For ∷ Func ∷ Go ∷ Goto ∷ If ∷ Import ∷ Interface ∷ Map ∷
     Package ∷ Range ∷ Return ∷ Select ∷ Struct ∷ Switch ∷ «Type» ∷ Var ∷ []
 
--- those that begin with a byte
+-- the keywords among `ks` that begin with the byte `first`
 abbrev pub keywords_with : ℕ → List Keyword → List Keyword
 keywords_with first ks = filter (λ k. slice_index (keyword_spelling k) 0 == first) ks
 
--- the first bytes of keywords: b to g, i, m, p, r to t, v
+-- some keyword begins with the byte b: b to g, i, m, p, r to t, v
 abbrev pub may_begin : ℕ → Bool
 may_begin b = (nat_le 98 b && nat_le b 103) || (b == 105 || (b == 109 || (b == 112 || ((nat_le 114 b && nat_le b 116) || b == 118))))

@@ -1,4 +1,4 @@
--- Operators and punctuation.
+-- The operators and punctuation of Go and their spellings.
 use Rattle.std.specs.Prelude.{ℕ, List, [], ◌∷◌, filter, slice_index, ◌==◌}
 use Rattle.go_scanner.specs.declared.operators.Operator.{Operator}
 use Rattle.go_scanner.specs.declared.operators.Operator.TheVariants.{ShiftLeftAssign, ShiftRightAssign, Ellipsis, AndNotAssign, AddAssign, AndAssign}
@@ -8,6 +8,7 @@ use Rattle.go_scanner.specs.declared.operators.Operator.TheVariants.{Define, Shi
 use Rattle.go_scanner.specs.declared.operators.Operator.TheVariants.{Subtract, Or, Less, LeftBracket, RightBracket, Multiply, Xor, Greater, LeftBrace}
 use Rattle.go_scanner.specs.declared.operators.Operator.TheVariants.{RightBrace, Divide, Assign, Comma, Semicolon, Remainder, Not, Period, Colon, Tilde}
 
+-- the bytes of an operator
 abbrev pub operator_spelling : Operator → List ℕ
 operator_spelling ShiftLeftAssign = 60 ∷ 60 ∷ 61 ∷ []  -- <<=
 operator_spelling ShiftRightAssign = 62 ∷ 62 ∷ 61 ∷ []  -- >>=
@@ -58,13 +59,13 @@ operator_spelling Period = 46 ∷ []  -- .
 operator_spelling Colon = 58 ∷ []  -- :
 operator_spelling Tilde = 126 ∷ []  -- ~
 
--- each of them, the longer ones first
+-- all operators, longer ones first
 abbrev pub all_operators : List Operator
 all_operators = ShiftLeftAssign ∷ ShiftRightAssign ∷ Ellipsis ∷ AndNotAssign ∷ AddAssign ∷ AndAssign ∷ LogicalAnd ∷ Equal ∷ NotEqual ∷ SubtractAssign ∷
     OrAssign ∷ LogicalOr ∷ LessEqual ∷ MultiplyAssign ∷ XorAssign ∷ Arrow ∷ GreaterEqual ∷ ShiftLeft ∷ DivideAssign ∷ Increment ∷ Define ∷ ShiftRight ∷
     RemainderAssign ∷ Decrement ∷ AndNot ∷ Add ∷ And ∷ LeftParen ∷ RightParen ∷ Subtract ∷ Or ∷ Less ∷ LeftBracket ∷ RightBracket ∷ Multiply ∷ Xor ∷ Greater
     ∷ LeftBrace ∷ RightBrace ∷ Divide ∷ Assign ∷ Comma ∷ Semicolon ∷ Remainder ∷ Not ∷ Period ∷ Colon ∷ Tilde ∷ []
 
--- those that begin with a byte
+-- the operators among `os` that begin with the byte `first`
 abbrev pub operators_with : ℕ → List Operator → List Operator
 operators_with first os = filter (λ o. slice_index (operator_spelling o) 0 == first) os

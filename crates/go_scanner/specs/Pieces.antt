@@ -1,4 +1,4 @@
--- What a text is cut into.
+-- The pieces of each class, and the rules that a text may break.
 use Rattle.std.specs.Prelude.{◌≡◌, ◌≢◌, ◌⊎◌, ℕ, ◌^◌, ◌<◌, ◌≤◌, Bool, true, false, ◌==◌, ◌||◌, List, [], ◌∷◌, Option, Some, None, length, take, drop}
 use Rattle.std.specs.Prelude.{slice_index}
 use Rattle.std.specs.Char.{is_digit}
@@ -16,7 +16,7 @@ use Rattle.go_scanner.specs.Integers.{is_integer, integer_value}
 use Rattle.go_scanner.specs.Strings.{IsString, IsRawString, IsBadString, IsOpenRawString}
 use Rattle.go_scanner.specs.Trivia.{is_blank, IsLineComment, IsGeneralComment, IsOpenComment}
 
--- the bytes are a piece of the class; a mark of the byte order stands at the beginning of a text alone (Cuts)
+-- the bytes are a piece of the class; a byte order mark is none, as it is one at the start of a text only (`Cuts`)
 abbrev pub IsPiece : Class → List ℕ → Type 0
 IsPiece ByteOrderMark bytes = ⊥
 IsPiece Blank bytes = (b : ℕ) × (is_blank b ≡ true) × (bytes ≡ b ∷ [])
@@ -30,12 +30,12 @@ IsPiece InterpretedString bytes = IsString bytes
 IsPiece RawString bytes = IsRawString bytes
 IsPiece (Operator o) bytes = bytes ≡ operator_spelling o
 
--- what may not follow a number: a letter, a decimal number or a point
+-- the character may not follow a number: a letter, a decimal digit or a point
 abbrev pub spoils_number : Option ℕ → Bool
 spoils_number None = false
 spoils_number (Some c) = c == 46 || continues_name c
 
--- an integer literal that is spoiled by what follows, or too great
+-- the text begins with an integer literal that the next character spoils, as in `12ab`, or that is 2^63 or more
 pub record IsBadInteger (text : List ℕ) : Type 0 where
   pub size : ℕ
   pub fits : size ≤ length text
@@ -43,11 +43,11 @@ pub record IsBadInteger (text : List ℕ) : Type 0 where
   pub longest : (m : ℕ) → size < m → m ≤ length text → is_integer (take m text) ≡ false
   pub bad : (spoils_number (decoded (drop size text)).char ≡ true) ⊎ (2 ^ 63 ≤ integer_value (take size text))
 
--- a point and a digit
+-- the text begins with a point and a digit
 abbrev pub IsFraction : List ℕ → Type 0
 IsFraction text = (slice_index text 0 ≡ 46) × (1 < length text) × (is_digit (slice_index text 1) 10 ≡ true)
 
--- a rule of one kind is broken at the front of a text, at some place from there on
+-- a rule of this kind is broken at the start of the text; the fault is at offset `place`
 abbrev pub Breaks : FaultKind → ℕ → List ℕ → Type 0
 Breaks Encoding place text = ⊥
 Breaks Number place text = (place ≡ 0) × (IsBadInteger text ⊎ IsFraction text)
@@ -57,8 +57,7 @@ Breaks Character place text = (place ≡ 0) × (0 < length text) × (slice_index
     × ((class : Class) (m : ℕ) → m ≤ length text → IsPiece class (take m text) → ⊥)
 Breaks _ place text = ⊥
 
--- the first n bytes of a text are a piece of the class, no longer front is a piece of any class, and no rule is
--- broken there
+-- the first n bytes of the text are a piece of the class, no longer prefix is a piece, and no rule is broken
 pub record Stands (text : List ℕ) (class : Class) (n : ℕ) : Type 0 where
   pub fits : n ≤ length text
   pub some : 0 < n
@@ -66,7 +65,7 @@ pub record Stands (text : List ℕ) (class : Class) (n : ℕ) : Type 0 where
   pub longest : (other : Class) (m : ℕ) → n < m → m ≤ length text → IsPiece other (take m text) → ⊥
   pub sound : (kind : FaultKind) (place : ℕ) → Breaks kind place text → ⊥
 
--- the first n bytes are of a kind, and no longer front is
+-- the first n bytes, of which there is one at least, satisfy P, and no longer prefix does
 pub record IsLongest (P : List ℕ → Type 0) (text : List ℕ) (n : ℕ) : Type 0 where
   pub fits : n ≤ length text
   pub some : 0 < n

@@ -1,23 +1,23 @@
--- String literals.
+-- String literals: their parts, escapes and forms, and how one can be wrong.
 use Rattle.std.specs.Prelude.{◌≡◌, ◌≢◌, ℕ, ◌≤◌, drop, Bool, true, false, ◌==◌, ◌&&◌, ◌||◌, nat_lt, nat_le, List, [], ◌∷◌, ◌++◌, length, slice_index}
 use Rattle.std.specs.Prelude.{EachIndex, if◌then◌else◌, ◌+◌}
 use Rattle.std.specs.List.{list_all, list_any, concat}
 use Rattle.std.specs.Char.{is_digit}
 use Rattle.go_scanner.specs.Integers.{number_in}
 
--- a character: no surrogate, and at most 10FFFF
+-- `c` is a character: no surrogate, and at most 10FFFF
 abbrev pub is_character : ℕ → Bool
 is_character c = nat_lt c 0xD800 || (nat_lt 0xDFFF c && nat_lt c 0x110000)
 
--- n digits of a base
+-- the bytes are exactly n digits of the base
 abbrev pub are_digits : ℕ → ℕ → List ℕ → Bool
 are_digits n base bytes = length bytes == n && list_all (λ b. is_digit b base) bytes
 
--- a b f n r t v \ "
+-- the byte is an escape by itself: one of a b f n r t v \ "
 abbrev pub is_plain_escape : ℕ → Bool
 is_plain_escape b = list_any (λ x. b == x) (97 ∷ 98 ∷ 102 ∷ 110 ∷ 114 ∷ 116 ∷ 118 ∷ 92 ∷ 34 ∷ [])
 
--- what may stand behind a backslash
+-- the bytes may follow a backslash
 abbrev pub is_escape : List ℕ → Bool
 is_escape [] = false
 is_escape (b ∷ rest) =
@@ -27,37 +27,38 @@ is_escape (b ∷ rest) =
     || ((b == 117 && (are_digits 4 16 rest && is_character (number_in 16 rest)))
     || (b == 85 && (are_digits 8 16 rest && is_character (number_in 16 rest))))))
 
--- a byte that stands for itself between quotes: no quote, no backslash, no newline
+-- the byte stands for itself between quotes: no quote, backslash or newline
 abbrev pub is_plain : ℕ → Bool
 is_plain b = if b == 34 || (b == 92 || b == 10) then false else true
 
--- one part of what stands between the quotes: such a byte, or a backslash and an escape
+-- the bytes are one part of an interpreted string: a plain byte, or a backslash and an escape
 abbrev pub is_string_part : List ℕ → Bool
 is_string_part [] = false
 is_string_part (b ∷ []) = is_plain b
 is_string_part (b ∷ c ∷ rest) = b == 92 && is_escape (c ∷ rest)
 
+-- each is one part of an interpreted string
 abbrev pub are_string_parts : List (List ℕ) → Bool
 are_string_parts parts = list_all is_string_part parts
 
--- such parts between quotes
+-- the bytes are an interpreted string: parts between quotes
 pub record IsString (bytes : List ℕ) : Type 0 where
   pub parts : List (List ℕ)
   pub each : are_string_parts parts ≡ true
   pub spelled : bytes ≡ 34 ∷ (concat parts ++ (34 ∷ []))
 
--- bytes other than a back quote, between back quotes
+-- the bytes are a raw string: any bytes but back quotes, between back quotes
 pub record IsRawString (bytes : List ℕ) : Type 0 where
   pub body : List ℕ
   pub plain : EachIndex body (λ k. slice_index body k ≢ 96)
   pub spelled : bytes ≡ 96 ∷ (body ++ (96 ∷ []))
 
--- no part stands at the front
+-- the bytes begin with no string part
 abbrev pub StopsString : List ℕ → Type 0
 StopsString rest = (part more : List ℕ) → is_string_part part ≡ true → rest ≢ part ++ more
 
--- an opening quote, parts, and then neither a part nor the closing quote: place is where the string goes wrong, the
--- backslash of a bad escape, or else the opening quote
+-- the text begins with an opening quote and parts, and neither a part nor the closing quote follows; the fault is at the backslash of a bad
+-- escape, or else at the opening quote
 pub record IsBadString (text : List ℕ) (place : ℕ) : Type 0 where
   pub parts : List (List ℕ)
   pub rest : List ℕ
@@ -67,13 +68,13 @@ pub record IsBadString (text : List ℕ) (place : ℕ) : Type 0 where
   pub unclosed : slice_index rest 0 ≢ 34
   pub place_is : place ≡ (if slice_index rest 0 == 92 then 1 + length (concat parts) else 0)
 
--- an opening back quote, and no other behind it
+-- the text begins with a back quote, and has no other
 pub record IsOpenRawString (text : List ℕ) : Type 0 where
   pub rest : List ℕ
   pub spelled : text ≡ 96 ∷ rest
   pub unclosed : EachIndex rest (λ k. slice_index rest k ≢ 96)
 
--- an opening quote and parts, n bytes in all, and no part behind them
+-- the first n bytes are an opening quote and parts, and no part follows
 pub record IsStringRun (text : List ℕ) (n : ℕ) : Type 0 where
   pub fits : n ≤ length text
   pub parts : List (List ℕ)

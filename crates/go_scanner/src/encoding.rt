@@ -1,10 +1,10 @@
-//! Whether a text is UTF-8 without a zero byte.
+//! Checks that a text is UTF-8 without a zero byte.
 ghost use Rattle.std.specs.Prelude.{MatchOption};
 ghost use Rattle.go_scanner.specs.Cuts.{IsValidLen, IsWellEncoded, IsIllEncodedAt};
 
 use memchr::memchr;
 
-/// The length of the longest front that is UTF-8.
+/// The length of the longest prefix that is UTF-8.
 fn valid_len(text: &[u8]) -> usize
     ensures { IsValidLen text.now result }
 {
@@ -14,7 +14,7 @@ fn valid_len(text: &[u8]) -> usize
     }
 }
 
-/// The place of the first byte that is ill encoded.
+/// The offset of the first byte that is zero or is not UTF-8, or `None` where the whole text is well encoded.
 pub fn encoding_fault(text: &[u8]) -> Option<usize>
     ensures { MatchOption result (IsWellEncoded text.now) (λ n. IsIllEncodedAt text.now n) }
 {

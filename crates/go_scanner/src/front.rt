@@ -1,4 +1,4 @@
-//! The piece at the front of some bytes.
+//! Scans one piece: the class and length of the piece at the start of some bytes, by their first byte.
 ghost use Rattle.std.specs.Prelude.{◌≡◌, ◌<◌, length, MatchBool, slice_index, true};
 ghost use Rattle.std.specs.Char.{is_digit};
 ghost use Rattle.bstr.specs.Find.{OccursAt};
@@ -19,12 +19,14 @@ use crate::words::name_run;
 use base_files::FaultKind;
 use bstr::decode_utf8;
 
+/// A fault of this kind at the first byte.
 fn fault(kind: FaultKind) -> Result<(Class, usize), TextFault>
     ensures { result ≡ Err (record { offset = 0; kind = kind }) }
 {
     Err(TextFault { offset: 0, kind })
 }
 
+/// Whether the first character is a letter.
 fn begins_with_letter(bytes: &[u8]) -> bool
     ensures { result ≡ begins_with_letter bytes.now }
 {
@@ -34,7 +36,7 @@ fn begins_with_letter(bytes: &[u8]) -> bool
     }
 }
 
-/// Whether a number is spoiled by what follows it.
+/// Whether the first character may not follow a number: `.`, a letter or a digit, as in `12ab`.
 fn spoils_number(bytes: &[u8]) -> bool
     ensures { result ≡ spoils_number (decoded bytes.now).char }
 {
@@ -44,6 +46,7 @@ fn spoils_number(bytes: &[u8]) -> bool
     }
 }
 
+/// Scans one space, tab or carriage return.
 fn blank(bytes: &[u8]) -> Result<(Class, usize), TextFault>
     requires some { 0 < length bytes.now }
     requires first { is_blank (slice_index bytes.now 0) ≡ true }
@@ -52,6 +55,7 @@ fn blank(bytes: &[u8]) -> Result<(Class, usize), TextFault>
     Ok((Class::Blank, 1))
 }
 
+/// Scans one newline.
 fn newline(bytes: &[u8]) -> Result<(Class, usize), TextFault>
     requires some { 0 < length bytes.now }
     requires first { slice_index bytes.now 0 ≡ 10 }
@@ -60,7 +64,7 @@ fn newline(bytes: &[u8]) -> Result<(Class, usize), TextFault>
     Ok((Class::Newline, 1))
 }
 
-/// A name or a keyword.
+/// Scans a name or a keyword.
 fn word(bytes: &[u8]) -> Result<(Class, usize), TextFault>
     requires some { 0 < length bytes.now }
     requires first { starts_word (slice_index bytes.now 0) ≡ true }
@@ -76,6 +80,7 @@ fn word(bytes: &[u8]) -> Result<(Class, usize), TextFault>
     }
 }
 
+/// Scans an integer literal. Refuses one of 2^63 or more, and one that a letter, a digit or `.` follows.
 fn number(bytes: &[u8]) -> Result<(Class, usize), TextFault>
     requires some { 0 < length bytes.now }
     requires first { is_digit (slice_index bytes.now 0) 10 ≡ true }
@@ -91,6 +96,7 @@ fn number(bytes: &[u8]) -> Result<(Class, usize), TextFault>
     }
 }
 
+/// Scans a comment from `//` to the end of its line.
 fn line_comment(bytes: &[u8]) -> Result<(Class, usize), TextFault>
     requires { OccursAt bytes.now line_opening 0 }
     ensures { IsFront bytes.now result }
@@ -98,6 +104,7 @@ fn line_comment(bytes: &[u8]) -> Result<(Class, usize), TextFault>
     Ok((Class::LineComment, line_comment_len(bytes)))
 }
 
+/// Scans a comment from `/*` to the first `*/`. Refuses one without an end.
 fn general_comment(bytes: &[u8]) -> Result<(Class, usize), TextFault>
     requires { OccursAt bytes.now comment_opening 0 }
     ensures { IsFront bytes.now result }
@@ -108,13 +115,14 @@ fn general_comment(bytes: &[u8]) -> Result<(Class, usize), TextFault>
     }
 }
 
-/// Whether a point and a digit are at the front.
+/// Whether the bytes begin with a point and a digit, as the literal `.5` does.
 fn is_fraction(bytes: &[u8]) -> bool
     ensures { MatchBool result (IsFraction bytes.now) (IsFraction bytes.now → ⊥) }
 {
     bytes.len() > 1 && bytes[0] == b'.' && char::from(bytes[1]).is_digit(10)
 }
 
+/// Scans the longest operator. Refuses a byte that begins no piece, and a fraction such as `.5`.
 fn operator(bytes: &[u8]) -> Result<(Class, usize), TextFault>
     requires { MayBeOperator bytes.now }
     ensures { IsFront bytes.now result }
@@ -128,7 +136,7 @@ fn operator(bytes: &[u8]) -> Result<(Class, usize), TextFault>
     }
 }
 
-/// The piece at the front of some bytes and how many bytes it has, or the rule that is broken there.
+/// Scans the piece at the start of some bytes: its class and length, or the rule that is broken there.
 pub fn front(bytes: &[u8]) -> Result<(Class, usize), TextFault>
     requires { 0 < length bytes.now }
     ensures { IsFront bytes.now result }

@@ -1,9 +1,10 @@
-//! Integer literals.
+//! Scans and evaluates integer literals (Go specification, "Integer literals").
 ghost use Rattle.std.specs.Prelude.{◌≡◌, ◌≤◌, ◌<◌, ◌^◌, ◌*◌, ◌+◌, length, MatchOption};
 ghost use Rattle.std.specs.Char.{is_digit, digit_value};
 ghost use Rattle.go_scanner.specs.Integers.{prefix_base, number_in, integer_value};
 ghost use Rattle.go_scanner.specs.Lengths.{digit_len, digits_len, after_zero_len, integer_len};
 
+/// Whether a byte is an ASCII digit of the base.
 pub fn is_digit(byte: u8, base: u32) -> bool
     requires low { 2 ≤ base }
     requires high { base ≤ 36 }
@@ -12,7 +13,7 @@ pub fn is_digit(byte: u8, base: u32) -> bool
     char::from(byte).is_digit(base)
 }
 
-/// How many bytes a digit at the front takes, with a `_` before it: 0 where none is there.
+/// The length of the digit at the start, with a `_` before it: 1, 2, or 0 where there is none.
 #[tactic(auto, unfolding(crate::specs::Lengths::digit_len))]
 fn digit_len(bytes: &[u8], base: u32) -> usize
     requires low { 2 ≤ base }
@@ -27,7 +28,7 @@ fn digit_len(bytes: &[u8], base: u32) -> usize
     }
 }
 
-/// How many bytes at the front are digits of the base, before each of which one `_` may stand.
+/// The length of the longest prefix of digits of the base, with at most one `_` before each.
 fn digits_len(bytes: &[u8], base: u32) -> usize
     requires low { 2 ≤ base }
     requires high { base ≤ 36 }
@@ -44,7 +45,7 @@ fn digits_len(bytes: &[u8], base: u32) -> usize
     }
 }
 
-/// The base that the letter behind a leading 0 gives.
+/// The base that the letter after a leading 0 gives: 16, 8 or 2, and 0 for any other byte.
 fn prefix_base(byte: u8) -> u32
     ensures { result ≡ prefix_base byte }
 {
@@ -56,6 +57,7 @@ fn prefix_base(byte: u8) -> u32
     }
 }
 
+/// How many bytes after a leading 0 belong to the literal: a base's letter with its digits, or octal digits.
 #[tactic(auto, unfolding(crate::specs::Lengths::after_zero_len))]
 fn after_zero_len(bytes: &[u8]) -> usize
     ensures value { result ≡ after_zero_len bytes.now }
@@ -72,7 +74,7 @@ fn after_zero_len(bytes: &[u8]) -> usize
     if digits == 0 { 0 } else { 1 + digits }
 }
 
-/// How many bytes the longest integer literal at the front has.
+/// The length of the longest integer literal at the start, or 0.
 #[tactic(auto, unfolding(crate::specs::Lengths::integer_len))]
 pub fn integer_len(bytes: &[u8]) -> usize
     ensures value { result ≡ integer_len bytes.now }
@@ -85,6 +87,7 @@ pub fn integer_len(bytes: &[u8]) -> usize
     }
 }
 
+/// The value of an ASCII digit or letter as a digit of base 36, and 36 for any other byte.
 fn digit_value(byte: u8) -> u32
     ensures value { result ≡ digit_value byte }
     ensures bound { result ≤ 36 }
@@ -92,7 +95,7 @@ fn digit_value(byte: u8) -> u32
     char::from(byte).to_digit(36).unwrap_or(36)
 }
 
-/// A number with a further digit, if it is below 2 ^ 63.
+/// Appends a digit to a number. `None` where the result is 2^63 or more.
 fn next_number(number: u64, base: u32, digit: u32) -> Option<u64>
     requires small { number < 2 ^ 63 }
     requires low { 2 ≤ base }
@@ -105,7 +108,7 @@ fn next_number(number: u64, base: u32, digit: u32) -> Option<u64>
     if sum < 1 << 63 { Some(sum) } else { None }
 }
 
-/// The number that digits of a base stand for, if it is below 2 ^ 63.
+/// The number that digits of a base spell, without `_`. `None` where it is 2^63 or more.
 pub fn number_in(base: u32, bytes: &[u8]) -> Option<u64>
     requires low { 2 ≤ base }
     requires high { base ≤ 16 }
@@ -124,7 +127,7 @@ pub fn number_in(base: u32, bytes: &[u8]) -> Option<u64>
     Some(number)
 }
 
-/// The value of an integer literal, if it is below 2 ^ 63.
+/// The value of an integer literal. `None` where it is 2^63 or more.
 pub fn integer_value(bytes: &[u8]) -> Option<u64>
     ensures { MatchOption result (2 ^ 63 ≤ integer_value bytes.now) (λ n. (n ≡ integer_value bytes.now) × (n < 2 ^ 63)) }
 {

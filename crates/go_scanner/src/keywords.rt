@@ -1,9 +1,9 @@
-//! Keywords.
+//! The keywords of Go, and which keyword some bytes spell (Go specification, "Keywords").
 ghost use Rattle.std.specs.Prelude.{◌≡◌, find, slice_index};
 ghost use Rattle.std.specs.Str.{bytes_eq};
 ghost use Rattle.go_scanner.specs.Keywords.{keyword_spelling, all_keywords, keywords_with, may_begin};
 
-/// A keyword.
+/// A keyword of Go.
 #[derive(Clone, Copy, Debug, PartialEq, Eq)]
 pub enum Keyword {
     Break,
@@ -34,7 +34,7 @@ pub enum Keyword {
 }
 
 impl Keyword {
-    /// Each of them.
+    /// All keywords, by alphabet.
     pub const ALL: [Keyword; 25] = [
         Keyword::Break,
         Keyword::Case,
@@ -63,7 +63,7 @@ impl Keyword {
         Keyword::Var,
     ];
 
-    /// How it is spelled.
+    /// The keyword's bytes.
     pub fn spelling(self) -> &'static [u8]
         ensures { result.now ≡ keyword_spelling self }
     {
@@ -97,14 +97,14 @@ impl Keyword {
     }
 }
 
-/// Whether a keyword may begin with a byte.
+/// Whether a keyword may begin with this byte.
 fn may_begin(first: u8) -> bool
     ensures { result ≡ may_begin first }
 {
     matches!(first, b'b'..=b'g' | b'i' | b'm' | b'p' | b'r'..=b't' | b'v')
 }
 
-/// The keywords that begin with a byte. All of them, where none does.
+/// The keywords that begin with this byte, or all keywords where none does.
 fn starting_with(first: u8) -> &'static [Keyword]
     ensures { keywords_with first result.now ≡ keywords_with first all_keywords }
 {
@@ -131,6 +131,7 @@ fn starting_with(first: u8) -> &'static [Keyword]
     }
 }
 
+/// The first byte, or 0 where there is none.
 fn first_byte(bytes: &[u8]) -> u8
     ensures { result ≡ slice_index bytes.now 0 }
 {
@@ -140,7 +141,7 @@ fn first_byte(bytes: &[u8]) -> u8
     }
 }
 
-/// The first of some keywords that the bytes spell.
+/// The keyword, among these, that the bytes spell.
 fn first_among(bytes: &[u8], keywords: &[Keyword]) -> Option<Keyword>
     ensures { result ≡ find (λ k. bytes_eq (keyword_spelling k) bytes.now) keywords.now }
 {
@@ -150,7 +151,7 @@ fn first_among(bytes: &[u8], keywords: &[Keyword]) -> Option<Keyword>
         .find(|keyword| keyword.spelling() == bytes)
 }
 
-/// The keyword that some bytes spell.
+/// The keyword that the bytes spell, or `None`.
 pub fn keyword_of(bytes: &[u8]) -> Option<Keyword>
     ensures { result ≡ find (λ k. bytes_eq (keyword_spelling k) bytes.now) all_keywords }
 {

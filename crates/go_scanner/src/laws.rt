@@ -1,4 +1,4 @@
-//! What is true of every cut. A caller takes a law by calling its function, which does nothing.
+//! Laws of the cut of a text. A caller cites a law by calling its function, which does nothing at run time.
 ghost use Rattle.std.specs.Prelude.{◌≡◌, ◌⊎◌, ◌++◌, ℕ, take, drop, List, flat_map, length};
 ghost use Rattle.go_scanner.specs.declared.piece.Class.{Class};
 ghost use Rattle.go_scanner.specs.declared.piece.Piece.{Piece};
@@ -36,7 +36,7 @@ pub fn cut_joins()
     ensures { (text : List ℕ) (ps : List Piece) → IsCut text ps → flat_map (bytes_of text) ps ≡ text }
 {}
 
-/// The pieces of a cut stand one behind another from the beginning of the text to its end, and none is empty.
+/// The pieces of a cut follow one another without a gap from the start of the text to its end, and none is empty.
 pub fn cut_covers()
     ensures { (text : List ℕ) (ps : List Piece) → IsCut text ps → CoversFrom 0 ps (length text) }
 {}
@@ -46,27 +46,27 @@ pub fn cut_pieces()
     ensures { (text : List ℕ) (ps : List Piece) → IsCut text ps → AllByRecursion (λ p. IsPieceText p.class (bytes_of text p)) ps }
 {}
 
-/// The tokens of a cut lie in the text in order: none overlaps another, and no two begin at one place.
+/// The tokens of a cut lie in the text in order: no two overlap, and no two begin at one offset.
 pub fn tokens_in_order()
     ensures { (text : List ℕ) (ps : List Piece) → IsCut text ps → AreInOrder text (tokens_of text ps) }
 {}
 
-/// The bytes of each token are a piece of its class, or none where it is an inserted semicolon.
+/// The bytes of each token are a piece of its class. An inserted semicolon has no bytes.
 pub fn cut_tokens()
     ensures { (text : List ℕ) (ps : List Piece) → IsCut text ps → AllByRecursion (λ t. IsTokenText t.class (bytes_of text t)) (tokens_of text ps) }
 {}
 
-/// A piece stands at the front of a text wherever what is behind it may follow it.
+/// A piece is the longest at the start of a text if the bytes after it may follow it.
 pub fn stands_before()
     ensures { (class : Class) (bytes rest : List ℕ) → IsPiece class bytes → MayFollow class bytes rest → Stands (bytes ++ rest) class (length bytes) }
 {}
 
-/// What is behind a piece that stands at the front of a text may follow it.
+/// The bytes after a piece at the start of a text may follow it.
 pub fn may_follow()
     ensures { (class : Class) (text : List ℕ) (n : ℕ) → Stands text class n → MayFollow class (take n text) (drop n text) }
 {}
 
-/// A string literal stands for one value.
+/// A string literal has at most one value.
 pub fn one_string_value()
     ensures { (bytes v w : List ℕ) → HasStringValue bytes v → HasStringValue bytes w → v ≡ w }
 {}

@@ -1,4 +1,4 @@
-//! Operators and punctuation.
+//! The operators and punctuation of Go, and which operator some bytes begin with.
 ghost use Rattle.std.specs.Prelude.{◌≡◌, nat_eq, find, slice_index};
 ghost use Rattle.std.specs.List.{starts_with};
 ghost use Rattle.go_scanner.specs.Operators.{operator_spelling, all_operators, operators_with};
@@ -57,7 +57,7 @@ pub enum Operator {
 }
 
 impl Operator {
-    /// Each of them, the longer ones first.
+    /// All operators, longer ones first.
     pub const ALL: [Operator; 48] = [
         Operator::ShiftLeftAssign,
         Operator::ShiftRightAssign,
@@ -109,7 +109,7 @@ impl Operator {
         Operator::Tilde,
     ];
 
-    /// How it is spelled.
+    /// The operator's bytes.
     pub fn spelling(self) -> &'static [u8]
         ensures { result.now ≡ operator_spelling self }
     {
@@ -166,7 +166,7 @@ impl Operator {
     }
 }
 
-/// The operators that begin with a byte, the longer ones first. All of them, where none does.
+/// The operators that begin with this byte, longer ones first, or all operators where none does.
 fn starting_with(first: u8) -> &'static [Operator]
     ensures { operators_with first result.now ≡ operators_with first all_operators }
 {
@@ -219,6 +219,7 @@ fn starting_with(first: u8) -> &'static [Operator]
     }
 }
 
+/// The first byte, or 0 where there is none.
 fn first_byte(bytes: &[u8]) -> u8
     ensures { result ≡ slice_index bytes.now 0 }
 {
@@ -228,7 +229,7 @@ fn first_byte(bytes: &[u8]) -> u8
     }
 }
 
-/// The first of some operators that the bytes begin with.
+/// The first operator, among these, with which the bytes begin.
 fn first_among(bytes: &[u8], operators: &[Operator]) -> Option<Operator>
     ensures { result ≡ find (λ o. starts_with nat_eq bytes.now (operator_spelling o)) operators.now }
 {
@@ -238,7 +239,7 @@ fn first_among(bytes: &[u8], operators: &[Operator]) -> Option<Operator>
         .find(|operator| bytes.starts_with(operator.spelling()))
 }
 
-/// The longest operator at the front of some bytes.
+/// The longest operator with which the bytes begin, or `None`.
 pub fn operator_at(bytes: &[u8]) -> Option<Operator>
     ensures { result ≡ find (λ o. starts_with nat_eq bytes.now (operator_spelling o)) all_operators }
 {

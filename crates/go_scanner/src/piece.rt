@@ -1,9 +1,9 @@
-//! What a text is cut into.
+//! The pieces into which a text is cut, and their classes.
 use crate::keywords::Keyword;
 use crate::operators::Operator;
 use base_files::Span;
 
-/// What a piece is.
+/// The class of a piece. `Name` is an identifier, also `_`; a `Blank` is one space, tab or carriage return.
 #[derive(Clone, Copy, Debug, PartialEq, Eq)]
 pub enum Class {
     ByteOrderMark,
@@ -19,7 +19,7 @@ pub enum Class {
     Operator(Operator),
 }
 
-/// A piece of a text, or a token.
+/// A piece or a token: its class, and its span in the text.
 #[derive(Clone, Copy, Debug, PartialEq, Eq)]
 pub struct Piece {
     pub class: Class,

@@ -1,4 +1,4 @@
-//! A file with its pieces and tokens.
+//! A file's text with its tokens.
 ghost use Rattle.std.specs.Prelude.{◌≡◌, ◌<◌, ◌≤◌, ◌-◌, length, take, drop, IfOk};
 ghost use Rattle.go_scanner.specs.Cuts.{IsCut, bytes_of};
 ghost use Rattle.go_scanner.specs.TokenValues.{HasTokenValue};
@@ -12,8 +12,7 @@ use base_files::{FileText, Span};
 use std::alloc::{AllocError, Global};
 use std::marker::Model;
 
-/// The cut of a file: its tokens, inserted semicolons among them. Its pieces, blanks and comments among them, follow from
-/// its bytes, so only proofs see them.
+/// A file's text with its tokens, inserted semicolons included. Its pieces follow from the text, so only proofs keep them.
 #[derive(Drop)]
 pub struct Pieces {
     file: FileText,
@@ -31,6 +30,7 @@ impl Model for Pieces {
     ghost invariant = { λ a. IsCutText a.file a.pieces.items a.tokens.items };
 }
 
+/// The bytes of a span.
 fn part(text: &[u8], span: Span) -> &[u8]
     requires order { span.start ≤ span.end }
     requires fits { span.end ≤ length text.now }
@@ -40,7 +40,7 @@ fn part(text: &[u8], span: Span) -> &[u8]
 }
 
 impl Pieces {
-    /// The pieces and tokens that are known to be those of a file.
+    /// Joins a file with its pieces and tokens.
     pub(crate) fn new(file: FileText, pieces: Trail<Piece>, tokens: Vec<Piece>) -> Pieces
         requires { IsCutText file pieces.items tokens.items }
         ensures { result ≡ record { text = file; pieces = pieces.items } }
@@ -52,7 +52,7 @@ impl Pieces {
         }
     }
 
-    /// The file that was cut.
+    /// The text that was cut.
     pub fn file(&self) -> &FileText
         ensures text { result.now ≡ self.now.text }
         ensures cut { IsCut self.now.text self.now.pieces }
@@ -60,7 +60,7 @@ impl Pieces {
         &self.file
     }
 
-    /// The tokens. An inserted semicolon is empty, and stands at the end of the token before it.
+    /// The tokens in order. An inserted semicolon is empty and lies at the end of the token before it.
     pub fn tokens(&self) -> &[Piece]
         ensures tokens { result.now ≡ tokens_in self.now }
         ensures order { AreInOrder self.now.text (tokens_in self.now) }
@@ -68,7 +68,7 @@ impl Pieces {
         &self.tokens
     }
 
-    /// The bytes of a token, by its number from 0.
+    /// The span of the token of this index, from 0.
     pub fn span(&self, token: usize) -> Span
         requires { token < length (tokens_in self.now) }
         ensures { result ≡ (token_at self.now token).span }
@@ -76,7 +76,7 @@ impl Pieces {
         self.tokens[token].span
     }
 
-    /// How a token is spelled, by its number from 0. An inserted semicolon is empty.
+    /// The bytes of the token of this index, from 0. An inserted semicolon has none.
     pub fn text(&self, token: usize) -> &[u8]
         requires { token < length (tokens_in self.now) }
         ensures bytes { result.now ≡ bytes_of self.now.text (token_at self.now token) }
@@ -86,7 +86,7 @@ impl Pieces {
         part(self.file.bytes(), span)
     }
 
-    /// What a token stands for if it is a string literal, by its number from 0.
+    /// The value of the token of this index, from 0, where it is a string literal, else `None`.
     pub fn string_value(&self, alloc: Global, token: usize) -> Result<Option<Vec<u8>>, AllocError>
         requires { token < length (tokens_in self.now) }
         ensures { IfOk result (HasTokenValue (token_at self.now token).class (bytes_of self.now.text (token_at self.now token))) }

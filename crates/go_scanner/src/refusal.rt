@@ -1,18 +1,18 @@
-//! Why a text is not cut.
+//! The faults of scanning.
 ghost use Rattle.std.specs.Prelude.{◌≡◌};
 ghost use Rattle.go_scanner.specs.declared.refusal.ScanRefusal.TheVariants.{Memory};
 
 use base_files::FaultKind;
 use std::alloc::{AllocError, AllocFailed};
 
-/// The rule that a text breaks, and the byte offset at which it does.
+/// The kind of rule that a text breaks, and the offset at which it does.
 #[derive(Clone, Copy, Debug, PartialEq, Eq)]
 pub struct TextFault {
     pub offset: usize,
     pub kind: FaultKind,
 }
 
-/// Why a text was not cut: its first fault, or want of memory.
+/// Why a text was not cut: its first fault, or too little memory.
 #[derive(Debug, Drop)]
 pub enum ScanRefusal {
     Fault(TextFault),

@@ -1,4 +1,4 @@
-//! The scanner.
+//! Scans a file: cuts its text into pieces, and lists the tokens.
 ghost use Rattle.std.specs.Prelude.{◌≡◌, ◌≤◌, IfOk, IfErr, length};
 ghost use Rattle.go_scanner.specs.Cuts.{IsCut, mark_len, mark_of};
 ghost use Rattle.go_scanner.specs.CutText.{IsCutText};
@@ -14,7 +14,7 @@ use crate::trail::Trail;
 use base_files::{FaultKind, FileText, Span};
 use std::alloc::Global;
 
-/// U+FEFF at the beginning of a text, if it is there, and how many bytes it takes.
+/// The byte order mark U+FEFF at the start of a text as a piece, where there is one, and its length: 3 or 0.
 fn mark(text: &[u8]) -> (Trail<Piece>, usize)
     ensures pieces { result.0.items ≡ mark_of text.now }
     ensures size { result.1 ≡ mark_len text.now }
@@ -31,7 +31,7 @@ fn mark(text: &[u8]) -> (Trail<Piece>, usize)
     (nothing.and(&mark), 3)
 }
 
-/// The pieces and tokens of the cut of a text, or the first fault in it.
+/// The pieces and tokens of a text, or its first fault.
 fn cut(alloc: Global, text: &[u8]) -> Result<(Trail<Piece>, Vec<Piece>), ScanRefusal>
     ensures cut { IfOk result (λ found. IsCutText text.now found.0.items found.1.items) }
     ensures refused { IfErr result (RefusedRightly text.now) }
@@ -68,7 +68,7 @@ fn cut(alloc: Global, text: &[u8]) -> Result<(Trail<Piece>, Vec<Piece>), ScanRef
     }
 }
 
-/// Cuts a Go file, or answers the first fault in it. The pieces share the file's bytes.
+/// Scans a Go file, or answers its first fault. The result shares the file's bytes.
 pub fn scan(alloc: Global, file: &FileText) -> Result<Pieces, ScanRefusal>
     ensures cut { IfOk result (λ pieces. (pieces.text ≡ file.now) × IsCut pieces.text pieces.pieces) }
     ensures refused { IfErr result (RefusedRightly file.now) }

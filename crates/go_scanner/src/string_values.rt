@@ -1,4 +1,4 @@
-//! The bytes that string literals stand for.
+//! Evaluates string literals (Go specification, "String literals").
 ghost use Rattle.std.specs.Prelude.{◌≡◌, ◌<◌, ◌≤◌, ◌^◌, ◌++◌, ◌∷◌, [], IfOk, true};
 ghost use Rattle.std.specs.Char.{encode_utf8};
 ghost use Rattle.go_scanner.specs.Integers.{number_in};
@@ -10,6 +10,7 @@ use crate::strings::{is_plain_escape, part_len};
 use bstr::ByteVec;
 use std::alloc::{AllocError, Global};
 
+/// The byte that the escape `\b` of one letter stands for.
 fn plain_escape_value(byte: u8) -> u8
     ensures { result ≡ plain_escape_value byte }
 {
@@ -25,7 +26,7 @@ fn plain_escape_value(byte: u8) -> u8
     }
 }
 
-/// The number that a few digits stand for.
+/// The number that a few digits spell.
 fn small_number(base: u32, digits: &[u8]) -> u32
     requires low { 2 ≤ base }
     requires high { base ≤ 16 }
@@ -38,7 +39,7 @@ fn small_number(base: u32, digits: &[u8]) -> u32
     }
 }
 
-/// Adds the UTF-8 of a character.
+/// Appends the UTF-8 of a character.
 fn push_character(value: &mut Vec<u8>, code: u32) -> Result<(), AllocError>
     requires { is_character code ≡ true }
     ensures { IfOk result (λ _. value.new.items ≡ value.old.items ++ encode_utf8 code) }
@@ -49,7 +50,7 @@ fn push_character(value: &mut Vec<u8>, code: u32) -> Result<(), AllocError>
     }
 }
 
-/// Adds one byte.
+/// Appends one byte.
 fn push_byte(value: &mut Vec<u8>, byte: u8) -> Result<(), AllocError>
     ensures { IfOk result (λ _. value.new.items ≡ value.old.items ++ (byte ∷ [])) }
 {
@@ -57,7 +58,7 @@ fn push_byte(value: &mut Vec<u8>, byte: u8) -> Result<(), AllocError>
     Ok(())
 }
 
-/// Adds what stands behind a backslash.
+/// Appends the value of an escape, given without its backslash.
 fn push_escape(value: &mut Vec<u8>, escape: &[u8]) -> Result<(), AllocError>
     requires { is_escape escape.now ≡ true }
     ensures { IfOk result (λ _. value.new.items ≡ value.old.items ++ escape_value escape.now) }
@@ -76,7 +77,7 @@ fn push_escape(value: &mut Vec<u8>, escape: &[u8]) -> Result<(), AllocError>
     }
 }
 
-/// Adds what a part of an interpreted string stands for.
+/// Appends the value of a part of an interpreted string: a plain byte, or an escape with its backslash.
 fn push_part(value: &mut Vec<u8>, part: &[u8]) -> Result<(), AllocError>
     requires { is_string_part part.now ≡ true }
     ensures { IfOk result (λ _. value.new.items ≡ value.old.items ++ part_value part.now) }
@@ -88,7 +89,7 @@ fn push_part(value: &mut Vec<u8>, part: &[u8]) -> Result<(), AllocError>
     }
 }
 
-/// The value of an interpreted string.
+/// The value of an interpreted string literal, given with its quotes.
 fn interpreted_value(alloc: Global, literal: &[u8]) -> Result<Vec<u8>, AllocError>
     requires { IsString literal.now }
     ensures { IfOk result (λ value. HasPartsValue literal.now value.items) }
@@ -105,7 +106,7 @@ fn interpreted_value(alloc: Global, literal: &[u8]) -> Result<Vec<u8>, AllocErro
     }
 }
 
-/// The value of what stands between the quotes of a raw string.
+/// The value of a raw string's body: its bytes without carriage returns.
 fn raw_value(alloc: Global, body: &[u8]) -> Result<Vec<u8>, AllocError>
     ensures { IfOk result (λ value. value.items ≡ raw_value body.now) }
 {
@@ -118,7 +119,7 @@ fn raw_value(alloc: Global, body: &[u8]) -> Result<Vec<u8>, AllocError>
     Ok(value)
 }
 
-/// The bytes that a string literal stands for. Escapes are read, and a raw string loses its carriage returns.
+/// The value of a string literal, given with its quotes. Escapes are evaluated; a raw string loses its carriage returns.
 pub fn string_value(alloc: Global, literal: &[u8]) -> Result<Vec<u8>, AllocError>
     requires { IsStringPiece literal.now }
     ensures { IfOk result (λ value. HasStringValue literal.now value.items) }

@@ -1,4 +1,4 @@
-//! String literals.
+//! Scans string literals, part by part.
 ghost use Rattle.std.specs.Prelude.{◌≡◌, ◌≤◌, ◌<◌, length, slice_index, IsTrue};
 ghost use Rattle.std.specs.List.{list_all};
 ghost use Rattle.std.specs.Char.{is_digit};
@@ -13,12 +13,14 @@ use crate::refusal::TextFault;
 use base_files::FaultKind;
 use memchr::memchr;
 
+/// Whether a byte stands for itself in an interpreted string: no quote, backslash or newline.
 fn is_plain(byte: u8) -> bool
     ensures { result ≡ is_plain byte }
 {
     !(byte == b'"' || (byte == b'\\' || byte == b'\n'))
 }
 
+/// Whether a byte after a backslash is an escape by itself: one of `a b f n r t v \ "`.
 pub fn is_plain_escape(byte: u8) -> bool
     ensures { result ≡ is_plain_escape byte }
 {
@@ -28,6 +30,7 @@ pub fn is_plain_escape(byte: u8) -> bool
     )
 }
 
+/// Whether all bytes are digits of the base.
 fn are_all_digits(bytes: &[u8], base: u32) -> bool
     requires low { 2 ≤ base }
     requires high { base ≤ 16 }
@@ -36,7 +39,7 @@ fn are_all_digits(bytes: &[u8], base: u32) -> bool
     bytes.iter().all(|byte| is_digit(*byte, base))
 }
 
-/// Whether `count` digits of a base are at the front.
+/// Whether the bytes begin with `count` digits of the base.
 fn digits_at(bytes: &[u8], count: usize, base: u32) -> bool
     requires low { 2 ≤ base }
     requires high { base ≤ 16 }
@@ -46,6 +49,7 @@ fn digits_at(bytes: &[u8], count: usize, base: u32) -> bool
     bytes.len() >= count && are_all_digits(&bytes[..count], base)
 }
 
+/// Whether the bytes begin with three octal digits of at most 255.
 fn octal_at(bytes: &[u8]) -> bool
     ensures value { result ≡ octal_at bytes.now }
     ensures fits { IsTrue result → 3 ≤ length bytes.now }
@@ -59,6 +63,7 @@ fn octal_at(bytes: &[u8]) -> bool
     }
 }
 
+/// Whether the bytes begin with `count` hexadecimal digits that spell a character: at most 10FFFF, and no surrogate.
 fn character_at(bytes: &[u8], count: usize) -> bool
     ensures value { result ≡ character_at count bytes.now }
     ensures fits { IsTrue result → count ≤ length bytes.now }
@@ -72,7 +77,7 @@ fn character_at(bytes: &[u8], count: usize) -> bool
     }
 }
 
-/// How many bytes an escape takes behind its backslash: 0 where none is there.
+/// The length of the escape at the start, given without its backslash, or 0.
 #[tactic(auto, unfolding(crate::specs::Lengths::escape_len))]
 fn escape_len(bytes: &[u8]) -> usize
     ensures value { result ≡ escape_len bytes.now }
@@ -95,7 +100,7 @@ fn escape_len(bytes: &[u8]) -> usize
     }
 }
 
-/// How many bytes a part of a string takes: 0 where none is at the front.
+/// The length of the string part at the start: a plain byte or an escape with its backslash, or 0.
 #[tactic(auto, unfolding(crate::specs::Lengths::part_len))]
 pub fn part_len(bytes: &[u8]) -> usize
     ensures value { result ≡ part_len bytes.now }
@@ -114,7 +119,7 @@ pub fn part_len(bytes: &[u8]) -> usize
     if size == 0 { 0 } else { 1 + size }
 }
 
-/// Where the parts behind an opening quote end.
+/// The offset at which the parts after an opening quote end.
 fn parts_end(bytes: &[u8]) -> usize
     requires some { 0 < length bytes.now }
     requires first { slice_index bytes.now 0 ≡ 34 }
@@ -130,7 +135,7 @@ fn parts_end(bytes: &[u8]) -> usize
     }
 }
 
-/// An interpreted string.
+/// Scans an interpreted string literal. The fault of a bad escape is at its backslash, that of an open string at its quote.
 pub fn string(bytes: &[u8]) -> Result<(Class, usize), TextFault>
     requires some { 0 < length bytes.now }
     requires first { slice_index bytes.now 0 ≡ 34 }
@@ -151,7 +156,7 @@ pub fn string(bytes: &[u8]) -> Result<(Class, usize), TextFault>
     }
 }
 
-/// A raw string.
+/// Scans a raw string literal. Refuses one without a closing quote.
 pub fn raw_string(bytes: &[u8]) -> Result<(Class, usize), TextFault>
     requires some { 0 < length bytes.now }
     requires first { slice_index bytes.now 0 ≡ 96 }

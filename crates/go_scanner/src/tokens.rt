@@ -1,4 +1,4 @@
-//! The tokens of a cut, piece by piece.
+//! Makes tokens of pieces: drops trivia and inserts semicolons (Go specification, "Semicolons").
 ghost use Rattle.std.specs.Prelude.{◌≡◌, ◌==◌, ◌≤◌, length, IfOk};
 ghost use Rattle.std.specs.List.{list_any};
 ghost use Rattle.go_scanner.specs.Tokens.{is_trivia, ends_statement, ends_line, GoesOn};
@@ -9,6 +9,7 @@ use crate::piece::{Class, Piece};
 use base_files::Span;
 use std::alloc::AllocError;
 
+/// Whether pieces of this class are no tokens: blanks, newlines, comments and the byte order mark.
 fn is_trivia(class: Class) -> bool
     ensures { result ≡ is_trivia class }
 {
@@ -22,7 +23,7 @@ fn is_trivia(class: Class) -> bool
     )
 }
 
-/// Whether a semicolon stands behind such a token where it is the last of its line.
+/// Whether a semicolon is inserted after a token of this class at the end of a line.
 fn ends_statement(class: Class) -> bool
     ensures { result ≡ ends_statement class }
 {
@@ -44,12 +45,14 @@ fn ends_statement(class: Class) -> bool
     }
 }
 
+/// Whether there is a newline among the bytes.
 fn has_newline(bytes: &[u8]) -> bool
     ensures { result ≡ list_any (λ b. b == 10) bytes.now }
 {
     bytes.iter().any(|byte| *byte == b'\n')
 }
 
+/// Whether a piece ends a line: a newline, or a general comment that contains one.
 fn ends_line(text: &[u8], piece: &Piece) -> bool
     requires order { piece.now.span.start ≤ piece.now.span.end }
     requires fits { piece.now.span.end ≤ length text.now }
@@ -62,6 +65,7 @@ fn ends_line(text: &[u8], piece: &Piece) -> bool
     }
 }
 
+/// An inserted semicolon: an empty token at this offset.
 pub fn semicolon(at: usize) -> Piece
     ensures { result ≡ record { class = Class.Operator Operator.Semicolon; span = record { start = at; end = at } } }
 {
@@ -71,8 +75,8 @@ pub fn semicolon(at: usize) -> Piece
     }
 }
 
-/// Goes over one piece: adds its token, and the semicolon that is due where the line ends. The answer is where a
-/// semicolon is due next, if the line ends.
+/// Adds the token of one piece, and before it the semicolon that is due if the piece ends a line. `due` and the result are the offset at
+/// which a semicolon is inserted if the line ends next.
 pub fn add_piece(
     found: &mut Vec<Piece>,
     due: Option<usize>,

@@ -1,12 +1,11 @@
-//! A list that only proofs read.
+//! A list that exists only in proofs.
 ghost use Rattle.std.specs.Prelude.{◌≡◌, List, [], ◌∷◌, ◌++◌};
 ghost use Rattle.std.specs.Borrow.{ftrue};
 ghost use Rattle.std.specs.Coded.{coded_list};
 
 use std::marker::{Model, PhantomData};
 
-/// What a loop went over, for the clauses and proofs that speak of it. It takes no memory, and its methods do nothing when
-/// the program runs.
+/// The items that a loop has passed, for contracts and proofs. It takes no memory, and its methods do nothing at run time.
 #[derive(Drop)]
 pub struct Trail<T> {
     of: PhantomData<T>,
@@ -18,13 +17,14 @@ impl<T> Model for Trail<T> {
 }
 
 impl<T> Trail<T> {
+    /// The empty list.
     pub fn new() -> Trail<T>
         ensures { result.items ≡ [] }
     {
         Trail { of: PhantomData }
     }
 
-    /// The same list with one more item at its end.
+    /// The list with one more item at its end.
     pub fn and(&self, _item: &T) -> Trail<T>
         ensures { result.items ≡ self.now.items ++ _item.now ∷ [] }
     {

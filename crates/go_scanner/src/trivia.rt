@@ -1,4 +1,4 @@
-//! Comments.
+//! Scans comments.
 ghost use Rattle.std.specs.Prelude.{MatchOption};
 ghost use Rattle.bstr.specs.Find.{OccursAt};
 ghost use Rattle.go_scanner.specs.Pieces.{IsLongest};
@@ -6,7 +6,7 @@ ghost use Rattle.go_scanner.specs.Trivia.{line_opening, comment_opening, IsLineC
 
 use memchr::{memchr, memmem};
 
-/// How many bytes the line comment at the front has.
+/// The length of the line comment at the start, without its newline.
 pub fn line_comment_len(bytes: &[u8]) -> usize
     requires { OccursAt bytes.now line_opening 0 }
     ensures { IsLongest IsLineComment bytes.now result }
@@ -17,7 +17,7 @@ pub fn line_comment_len(bytes: &[u8]) -> usize
     }
 }
 
-/// How many bytes the general comment at the front has, if it ends.
+/// The length of the general comment at the start, or `None` where it has no end.
 pub fn general_comment_len(bytes: &[u8]) -> Option<usize>
     requires { OccursAt bytes.now comment_opening 0 }
     ensures { MatchOption result (IsOpenComment bytes.now) (λ n. IsLongest IsGeneralComment bytes.now n) }

@@ -1,4 +1,4 @@
-//! Names and keywords.
+//! Scans names and keywords.
 ghost use Rattle.std.specs.Prelude.{◌≡◌};
 ghost use Rattle.go_scanner.specs.Characters.{is_ascii_word};
 ghost use Rattle.go_scanner.specs.Words.{IsNameRun, NameRunSoFar};
@@ -7,14 +7,14 @@ use crate::characters::continues_name;
 use crate::integers::is_digit;
 use bstr::decode_utf8;
 
-/// Whether a byte is a letter or digit of ASCII, or `_`.
+/// Whether a byte is an ASCII letter or digit, or `_`.
 fn is_ascii_word(byte: u8) -> bool
     ensures { result ≡ is_ascii_word byte }
 {
     is_digit(byte, 36) || byte == b'_'
 }
 
-/// How many bytes at the front are letters and digits of ASCII, and `_`.
+/// The length of the longest prefix of ASCII letters, digits and `_`.
 fn ascii_run(bytes: &[u8]) -> usize
     ensures { NameRunSoFar bytes.now result }
 {
@@ -25,7 +25,7 @@ fn ascii_run(bytes: &[u8]) -> usize
     n
 }
 
-/// How many bytes at the front are characters that may stand in a name.
+/// The length of the longest prefix of characters that may continue a name.
 pub fn name_run(bytes: &[u8]) -> usize
     ensures { IsNameRun bytes.now result }
 {

@@ -1,4 +1,4 @@
--- Identifiers that are added one after the other.
+-- Identifiers that are appended to a list, one part after another.
 use Rattle.std.proofs.Common.{ℕ, ◌≡◌, ◌+◌, ◌<◌, List, [], ◌∷◌, ◌++◌, length, take, get_or, ap, sym, ◌∙◌, append_assoc, append-nil, arith, suc}
 use Rattle.std.specs.Prelude.{map, Result, OnOk}
 use Rattle.std.specs.List.{flat_map}
@@ -54,7 +54,7 @@ pub each_next : {X : Type 0} {a b c : List Identifier} (f : X → List Site) (xs
     Adds a b (flat_map f (take i xs)) → Adds b c (f (get_or xs i d)) → Adds a c (flat_map f (take (i + 1) xs))
 each_next f xs i d lt h k = adds_as (adds_then h k) (flat_map-take f xs i d lt)
 
--- the same at an item that was read
+-- one more item of a loop that read it
 pub each_step : {X : Type 0} {a b c : List Identifier} (f : X → List Site) (xs : List X) (i : ℕ) (x : X) → i < length xs → x ≡ get_or xs i x →
     Adds a b (flat_map f (take i xs)) → Adds b c (f x) → Adds a c (flat_map f (take (i + 1) xs))
 each_step f xs i x lt is h k = each_next f xs i x lt h (adds_as k (ap f is))

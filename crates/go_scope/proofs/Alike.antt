@@ -1,4 +1,4 @@
--- Layouts that agree in all that bindings depend on have the same bindings.
+-- Layouts that agree in all on which bindings depend have equal bindings.
 use Rattle.std.proofs.Common.{ℕ, ◌≡◌, inl, inr, List, true}
 use Rattle.std.specs.Prelude.{◌↔◌}
 use Rattle.go_scope.specs.Scopes.{IsInside}

@@ -1,4 +1,4 @@
--- Identifiers that stand at tokens of a list, in its order.
+-- Identifiers at tokens of a list, in its order.
 use Rattle.std.proofs.Common.{ℕ, suc, ◌≡◌, ◌≤◌, inr, List, [], ◌∷◌, ◌++◌, Option, Some, None, ap, sym, ◌∙◌, arith}
 use Rattle.std.specs.List.{flat_map}
 use Rattle.std.specs.Option.{unwrap_or}
@@ -32,7 +32,7 @@ among_append rank _ ys _ us ends b = b
 among_append rank xs ys _ us (skips {ts = ts} a) b = skips (among_append rank xs ys ts us a b)
 among_append rank _ ys _ us (takes {xs = xs} {ts = ts} e a) b = takes e (among_append rank xs ys ts us a b)
 
--- more tokens behind, and before
+-- more tokens after and before
 pub among_pad : (rank : ℕ) (xs : List Site) (ts us : List Token) → AreAmong rank xs ts → AreAmong rank xs (ts ++ us)
 among_pad rank _ _ us ends = none_among rank us
 among_pad rank xs _ us (skips {ts = ts} a) = skips (among_pad rank xs ts us a)
@@ -41,7 +41,7 @@ among_pad rank _ _ us (takes {xs = xs} {ts = ts} e a) = takes e (among_pad rank 
 pub among_behind : (rank : ℕ) (xs : List Site) (us ts : List Token) → AreAmong rank xs ts → AreAmong rank xs (us ++ ts)
 among_behind rank xs us ts a = among_append rank [] xs us ts (none_among rank us) a
 
--- lists, groups and what may be absent
+-- lists, groups and optional trees
 
 pub all_among : {X : Type 0} (rank : ℕ) (f : X → List Site) (t : X → List Token) → ((x : X) → AreAmong rank (f x) (t x)) → (xs : List X) →
     AreAmong rank (flat_map f xs) (all_tokens t xs)
@@ -74,12 +74,12 @@ pub option_among : {X : Type 0} (rank : ℕ) (f : X → List Site) (t : X → Li
 option_among rank f t h None = ends
 option_among rank f t h (Some x) = h x
 
--- where tokens rise, places do
+-- where token indices rise, positions do
 
 abbrev pub UpTo : Site → Site → Type 0
 UpTo x y = IsUpTo x.place y.place
 
--- in a file, at that token or behind it
+-- in a file, at this token or after it
 abbrev pub StandsFrom : ℕ → ℕ → Site → Type 0
 StandsFrom rank n x = (x.place.file ≡ rank) × (n ≤ x.place.index)
 

@@ -1,4 +1,4 @@
--- The identifiers of a tree stand at tokens of the tree, in their order.
+-- The identifiers of a tree are at tokens of the tree, in their order.
 use Rattle.std.proofs.Common.{ℕ, List, [], ◌∷◌, ◌++◌, Option, Some, None, refl}
 use Rattle.std.specs.List.{flat_map}
 use Rattle.std.specs.Option.{unwrap_or}

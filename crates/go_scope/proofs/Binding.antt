@@ -1,4 +1,5 @@
--- A name is bound to the nearest declaration: in an inner block, else in the package's, else in the file's, else it is predeclared.
+-- A name is bound to the nearest declaration: in an inner block, else in the package block, else in the file block, else the predeclared
+-- one.
 use Rattle.std.proofs.Common.{ℕ, ◌≡◌, ◌<◌, ◌≤◌, ◌⊎◌, inl, inr, List, Option, Some, None, refl, sym, ◌∙◌, ap, subst, arith}
 use Rattle.std.specs.Prelude.{◌↔◌, IsSome, MatchOption}
 use Rattle.std.proofs.lemmas.Bool.{cases_order}
@@ -18,12 +19,12 @@ use Rattle.go_scope.proofs.Nesting.{Nested, NestsAt}
 use Rattle.go_scope.proofs.Nests.{nests}
 use Rattle.go_scope.proofs.Uniqueness.{same_or_not, use_not_may}
 
--- a use does not come first of its name in a block
+-- a use is not the first declaration of its name in a block
 pub use_follows : (l : Layout) (names : Names) (u : ℕ) → IsUse l names u → Leads l names u → ⊥
 use_follows l names u (inl i) k = use_not_may (l.role u) i k.declares.may
 use_follows l names u (inr i) k = i.1 k.declares
 
--- of two declarations whose scopes hold a place, the first precedes the second, unless the second one's block lies in the first one's
+-- of two declarations with a position in both scopes, the first precedes the second, unless the second one's block lies in the first one's
 precedes_by : (l : Layout) → Nested l → (b e u : ℕ) → MayDeclare l b → MayDeclare l e → InScope l b u → InScope l e u → (SameBlock l b e → e < b → ⊥) →
     (NestsAt l e b → ⊥) →
     (e ≡ b) ⊎ Precedes l b e
@@ -63,7 +64,7 @@ nearest_binds l w names name u (Some b) h =
           ]));
     })
 
--- Of the declarations in inner blocks whose scopes hold a place the last is the nearest, since the blocks of earlier ones lie round it.
+-- Of the declarations in inner blocks with a position in their scope, the last is the nearest, since the blocks of earlier ones enclose it.
 pub last_nearest : (l : Layout) (size : ℕ) → IsLaidOut l size → (names : Names) (name : List ℕ) (u d : ℕ) → ((e : ℕ) → MayDeclare l e → e < size) →
     LeadsInside l names name d → InScope l d u → ((e : ℕ) → e < u → LeadsInside l names name e → InScope l e u → e ≤ d) →
     IsNearest l (IsSeenInside l names name u) (Some d)
@@ -105,7 +106,7 @@ inner_or_not (File f) = inr (λ n. n)
 inner_or_not (Inner f a b) = inl tt
 
 module _ (l : Layout) (names : Names) (name : List ℕ) (u : ℕ) where
-  -- what an inner block declares is nearer than what no inner block declares
+  -- a declaration in an inner block is nearer than one in any other block
   pub inside_nearest : (d : ℕ) → IsNearest l (IsSeenInside l names name u) (Some d) → IsNearest l (IsCandidate l names name u) (Some d)
   inside_nearest d h = (
     (h.0.0.named, h.0.1, h.0.0.leads),
@@ -116,7 +117,7 @@ module _ (l : Layout) (names : Names) (name : List ℕ) (u : ℕ) where
     ],
   )
 
-  -- a block declares no such name
+  -- a block without a declaration of the name
   abbrev pub NoneIn : Block → Type 0
   NoneIn B = (e : ℕ) → Leads l names e → names e ≡ name → block_of (l.role e) ≡ B → ⊥
 
@@ -138,7 +139,7 @@ module _ (l : Layout) (names : Names) (name : List ℕ) (u : ℕ) where
         let Q : Block → Type 0 = λ b. Nests B b in
         inr (inr (subst P (sym is_d) (subst Q (sym is_e) n)))
 
-    -- in the file of the place
+    -- in the file of the position
     own_file : (e g : ℕ) → IsCandidate l names name u e → IsIn l e (File g) → g ≡ (l.place u).file
     own_file e g c is = let P : Block → Type 0 = λ B. Holds (scope_in B (start_of (l.role e))) (l.place u) in sym (subst P is c.1)
 
@@ -185,7 +186,7 @@ module _ (l : Layout) (names : Names) (name : List ℕ) (u : ℕ) where
               λ e c. once d e Universe h.1 h.2 h.3 c (in_universe e c (block_of (l.role e)) refl),
             )
 
--- whether the package's block declares a name
+-- whether the package block declares a name
 pub in_package : (l : Layout) (names : Names) (name : List ℕ) (n : ℕ) → ((e : ℕ) → MayDeclare l e → e < n) → (o : Option ℕ) →
     IsFirstIn l names name Package n o → IsSome o ↔ IsInPackage l names name
 in_package l names name n finite None h = (

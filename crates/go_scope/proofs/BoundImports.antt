@@ -1,4 +1,4 @@
--- A use is bound to the counting import of its name, where no inner declaration holds it.
+-- A use is bound to the import of its name that counts, unless it is in the scope of an inner declaration of that name.
 use Rattle.std.proofs.Common.{ℕ, ◌≡◌, inl, inr, refl, sym, ◌∙◌, subst, ap}
 use Rattle.std.proofs.lemmas.Bool.{cases_order}
 use Rattle.go_scope.specs.declared.model.Block.{Block}
@@ -6,7 +6,7 @@ use Rattle.go_scope.specs.declared.model.Block.TheVariants.{Universe, Package, F
 use Rattle.go_scope.specs.Scopes.{scope_in, Holds, IsInside}
 use Rattle.go_scope.specs.Bindings.{Layout, Names, Counts, IsUse, IsBoundTo, use_bound, InScope, block_of, start_of, scope_of}
 
--- a declaration whose scope lies in that of an import, if it is no inner one, stands in the import's block
+-- a declaration, not in an inner block, whose scope lies in that of an import is in the import's block
 in_file_block : (B : Block) (s f : ℕ) → ((g a b : ℕ) → B ≡ Inner g a b → ⊥) → IsInside (scope_in B s) (scope_in (File f) 0) → B ≡ File f
 in_file_block Universe s f other inside = absurd inside
 in_file_block Package s f other inside = absurd inside

@@ -1,4 +1,4 @@
--- The identifiers of the files that the program goes over, and the layout that they have.
+-- The identifiers that the program collects from files, and their layout.
 use Rattle.std.proofs.Common.{ℕ, ◌≡◌, ◌+◌, ◌<◌, ◌≤◌, List, [], ◌∷◌, ◌++◌, length, take, get_or, map, ap, sym, ◌∙◌, refl, subst, append_assoc, append-nil}
 use Rattle.std.proofs.Common.{arith, zero, suc}
 use Rattle.std.specs.Prelude.{slice_get}
@@ -126,7 +126,7 @@ same_name (x ∷ xs) (suc i) = same_name xs i
 names-sites : (xs : List Identifier) → names_of xs ≡ sites_names (map site_of xs)
 names-sites xs = fun_ext (same_name xs)
 
--- what is true of a list of identifiers is true of its sites
+-- a fact of the program's list of identifiers is one of its sites
 pub in_sites : (P : Layout → Names → ℕ → Type 0) (xs : List Identifier) → P (layout_of xs) (names_of xs) (length xs) →
     P (sites_layout (map site_of xs)) (sites_names (map site_of xs)) (length (map site_of xs))
 in_sites P xs h =

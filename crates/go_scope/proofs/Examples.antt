@@ -29,7 +29,7 @@ source = record { rank = 0; spell = λ i. codes "init" }
 abbrev only : {X : Type 0} → X → List (Item X)
 only x = record { value = x; separator = None } ∷ []
 
--- `{ x := x; x }`, from token 0 on: the new x begins behind the statement
+-- `{ x := x; x }`, from token 0 on: the scope of the new x begins after the statement
 pub define_example : marks (block_sites source (block 0
     (statement (Simple (Define (only (Name 1)) 2 (only (Name 3)))) (Some 4) (statement (Simple (Alone (Name 5))) None no_statement)) 6)) ≡
     (1, LeftName (blocks.Inner 0 0 6) 4) ∷ (3, Use) ∷ (5, Use) ∷ []
@@ -44,7 +44,7 @@ pub blank_example : marks (block_sites source (block 0
 unfolding block_sites statements_sites statement_sites simple_sites expr_sites link_sites argument_sites
 blank_example = refl
 
--- `{ var ( a int ; b = a ) ; }`: each of a group begins at the token behind it
+-- `{ var ( a int ; b = a ) ; }`: the scope of each variable of a group begins at the token after its spec
 pub var_example : marks (block_sites source (block 0 (statement (Var 1 (several 2
     (record { value = record { names = only (Named 3); type_use = Some (Local 4); values = None }; separator = Some 5 } ∷
     record { value = record { names = only (Named 6); type_use = None; values = Some (7, only (Name 8)) }; separator = None } ∷ []) 9)) (Some 10)
@@ -62,7 +62,7 @@ pub if_example : marks (block_sites source (block 0
 unfolding block_sites statements_sites statement_sites if_sites else_sites init_sites simple_sites expr_sites
 if_example = refl
 
--- `{ for i := 0; i; i++ { var i int } }`: the body is a block within that of the `for`
+-- `{ for i := 0; i; i++ { var i int } }`: the body is a block inside that of the `for`
 pub for_example : marks (block_sites source (block 0
     (statement (For 1 (clauses (Some (Define (only (Name 2)) 3 (only (Number 4)))) 5 (Some (Name 6)) 7 (Some (Step (Name 8) step.Increment 9)))
     (block 10 (statement (Var 11 (single (record { names = only (Named 12); type_use = Some (Local 13); values = None }))) None no_statement) 14)) None
@@ -71,7 +71,7 @@ pub for_example : marks (block_sites source (block 0
 unfolding block_sites statements_sites statement_sites for_sites group_sites local_sites simple_sites expr_sites type_sites
 for_example = refl
 
--- `_ = p.T { k : v } . f`: a key and what stands behind a dot are no lexical uses
+-- `_ = p.T { k : v } . f`: a composite literal key and a name after a dot are no lexical uses
 pub literal_example : marks (simple_sites source (blocks.Inner 0 0 20) 13 (Assign (only (Blank 1)) 2 (only (Chain (Composite (literal (Imported 3 4 5) 6
     (element (Some (7, 8)) (Name 9) None no_element) 10)) (selector 11 12 no_link))))) ≡
     (1, NotLexical purpose.Blank) ∷ (3, Use) ∷ (5, NotLexical purpose.Selected) ∷ (7, NotLexical purpose.Key) ∷ (9, Use) ∷ (12, NotLexical purpose.Selected)
@@ -79,7 +79,7 @@ pub literal_example : marks (simple_sites source (blocks.Inner 0 0 20) 13 (Assig
 unfolding simple_sites expr_sites literal_sites element_sites link_sites type_sites
 literal_example = refl
 
--- `func init(x int) { }` declares no name of the package, and its parameter begins with the body
+-- `func init(x int) { }` declares no name of the package, and the scope of its parameter begins with the body
 pub init_example : marks (func_sites source (record {
   receiver = None;
   name = 1;
@@ -93,7 +93,7 @@ pub init_example : marks (func_sites source (record {
 unfolding func_sites param_sites result_sites block_sites statements_sites statement_sites type_sites
 init_example = refl
 
--- `func (t *T) m() { t }`: a method is a member, its receiver begins with the body
+-- `func (t *T) m() { t }`: a method is a member, and the scope of its receiver begins with the body
 pub method_example : marks (func_sites source (record {
   receiver = Some (record { lparen = 1; name = Named 2; star = Some 3; type_name = 4; comma = None; rparen = 5 });
   name = 6;
@@ -107,7 +107,7 @@ pub method_example : marks (func_sites source (record {
 unfolding func_sites receiver_sites param_sites result_sites block_sites statements_sites statement_sites simple_sites expr_sites
 method_example = refl
 
--- `import ( k "a" ; "b" )`: a name is seen in its file, a literal declares nothing yet
+-- `import ( k "a" ; "b" )`: the scope of an import's name is its file, and the literal of an import without a name declares nothing yet
 pub import_example : marks (imports_sites source (record {
   keyword = 0;
   imports = several 1 (record { value = record { name = Some 2; path = 3 }; separator = Some 4 } ∷

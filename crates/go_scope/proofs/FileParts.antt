@@ -1,4 +1,4 @@
--- The identifiers of declarations, by the parts that the program goes over.
+-- The identifiers of declarations, by the parts that the program visits.
 use Rattle.std.proofs.Common.{ℕ, ◌≡◌, List, ◌∷◌, ◌++◌, ap, sym, ◌∙◌, map}
 use Rattle.std.specs.List.{flat_map}
 use Rattle.go_scope.specs.declared.model.Block.{Block}

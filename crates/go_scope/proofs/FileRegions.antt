@@ -152,7 +152,7 @@ body_fits s k m (block o ss c) w h =
     let ro : suc o ≤ r.0 = rises_le (suc o) (statements_tokens ss) r.0 r.1.0 in
     (h.0, omega arith, r.1.1.1, statements_fits s o c (suc o) c ss w.1 (omega arith) (omega arith) (rises_up (suc o) (statements_tokens ss) r.0 c rc r.1.0))
 
--- what stands before the body, and the body
+-- the identifiers before the body, and those of the body
 func_body : (s : Source) (o c : ℕ) (receiver : Option ReceiverTree) (name : ℕ) (role : Role) (params : List (Item ParamTree)) (result : ResultTree)
     (body : List Site) →
     Head s o c (sites_if (receiver_sites s (Inner s.rank o c) o) receiver) → Together s.rank o c o o (site s name role) →
@@ -169,7 +169,7 @@ func_body s o c receiver name role params result body received named given oc y 
     (segment_plain_before s.rank o c o c (result_sites s result) body (plain_result s result)
     (segment_widen s.rank o c (suc o) c o c body (omega arith) (omega arith) y))))
 
--- a function's block lies behind its name
+-- a function's block comes after its name
 func_fits : (s : Source) (b n m : ℕ) (f : FuncTree) → IsFunc f → m ≤ b → Rises n (func_tokens f) m →
     (q : ℕ) × ((n ≤ q) × (suc q ≤ m) × Segment s.rank 0 b n q (func_sites s f))
 unfolding func_tokens func_sites

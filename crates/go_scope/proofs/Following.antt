@@ -1,5 +1,5 @@
--- Where declarations are numbered in the order in which blocks are opened and closed, and identifiers in the order of their places:
--- what stands before one, round it, and behind the end of its block.
+-- Declarations before, around and after a declaration, where declarations follow the order in which blocks are opened and closed, and
+-- identifiers that of their positions.
 use Rattle.std.proofs.Common.{ℕ, ◌≡◌, ◌<◌, ◌≤◌, inl, inr, refl, sym, subst, ◌∙◌, arith}
 use Rattle.std.proofs.lemmas.Bool.{cases_order}
 use Rattle.go_scope.specs.declared.model.Block.{Block}
@@ -11,7 +11,7 @@ use Rattle.go_scope.specs.Scopes.{scope_in, Holds, Nests}
 use Rattle.go_scope.specs.WellFormed.{FollowBlocks, IsLaidOut, IsIn, IsUpTo}
 use Rattle.go_scope.proofs.Nesting.{NestsAt}
 
--- an inner block that lies in another one
+-- an inner block that lies in another inner block
 same_file : (l : Layout) (e f g a b : ℕ) → f ≡ g → IsIn l e (Inner g a b) → IsIn l e (Inner f a b)
 same_file l e f g a b same h = let P : ℕ → Type 0 = λ k. IsIn l e (Inner k a b) in subst P (sym same) h
 
@@ -36,7 +36,7 @@ reopened l size h d f e md mf me fe ed (File k) Universe hd hf he n i = absurd i
 reopened l size h d f e md mf me fe ed (File k) Package hd hf he n i = absurd i
 reopened l size h d f e md mf me fe ed (File k) (File g) hd hf he n i = absurd i
 
--- what is declared in a block round that of a later declaration does not follow another declaration of that block
+-- a declaration in a block that encloses that of a later declaration does not follow another declaration of the enclosed block
 pub stays_open : (l : Layout) (size : ℕ) → IsLaidOut l size → (d f e : ℕ) → MayDeclare l d → MayDeclare l f → MayDeclare l e → f < e → e < d → SameBlock l f d →
     NestsAt l d e → Nests (block_of (l.role e)) Package → ⊥
 stays_open l size h d f e md mf me fe ed same n i = reopened l size h d f e md mf me fe ed (block_of (l.role d)) (block_of (l.role e)) refl same refl n i
@@ -59,7 +59,7 @@ closed l o e d lt me md (File f) Universe he hd p x y n i = absurd i
 closed l o e d lt me md (File f) Package he hd p x y n i = absurd i
 closed l o e d lt me md (File f) (File g) he hd p x y n i = absurd i
 
--- what is declared earlier in a block within that of a later inner declaration is not seen where that one is
+-- a later declaration in an inner block is not in the scope of an earlier one in a block inside of that block
 pub not_seen_within : (l : Layout) → FollowBlocks l → (e d u : ℕ) → e < d → MayDeclare l e → MayDeclare l d → InScope l e u → InScope l d u →
     NestsAt l e d → Nests (block_of (l.role d)) Package → ⊥
 not_seen_within l o e d u lt me md x y n i = closed l o e d lt me md (block_of (l.role e)) (block_of (l.role d)) refl refl (l.place u) x y n i
@@ -81,7 +81,7 @@ declared_before_end l size h d may (File f) is = tt
 declared_before_end l size h d may Package is = tt
 declared_before_end l size h d may Universe is = tt
 
--- what stands between a declaration and a place before the end of its block stands before that end
+-- an identifier between a declaration and a position before the end of its block is before that end too
 between : (l : Layout) (size : ℕ) → IsLaidOut l size → (e u v : ℕ) → MayDeclare l e → IsUpTo (l.place e) (l.place u) → IsUpTo (l.place u) (l.place v) →
     (B : Block) → IsIn l e B → EndsBehind B (l.place v) → EndsBehind B (l.place u)
 between l size h e u v may first second (Inner f a b) is end =
@@ -96,7 +96,7 @@ between l size h e u v may first second (File f) is end = tt
 between l size h e u v may first second Package is end = tt
 between l size h e u v may first second Universe is end = tt
 
--- a block that has ended at one place has ended at all that follow
+-- a block that has ended at one position has ended at all later positions
 pub over_from : (l : Layout) (size : ℕ) → IsLaidOut l size → (e u : ℕ) → MayDeclare l e → e < u → u < size →
     (EndsBehind (block_of (l.role e)) (l.place u) → ⊥) → IsOver l size u e
 over_from l size h e u may less within ended v le lt end = elim (cases_order u v) [
@@ -111,7 +111,7 @@ over_from l size h e u may less within ended v le lt end = elim (cases_order u v
 pub over_later : (l : Layout) (size m n e : ℕ) → m ≤ n → IsOver l size m e → IsOver l size n e
 over_later l size m n e le over v nv lt end = over v (let mv : m ≤ v = omega arith in mv) lt end
 
--- behind the end of a block none declares in it, and none sees what it declares
+-- after the end of a block nothing declares in it, and nothing is in the scope of its declarations
 
 pub over_apart : (l : Layout) (size : ℕ) → IsLaidOut l size → (m e d : ℕ) → m ≤ d → d < size → MayDeclare l d → SameBlock l e d → IsOver l size m e → ⊥
 over_apart l size h m e d le lt may same over =
@@ -121,7 +121,7 @@ over_apart l size h m e d le lt may same over =
 pub over_unseen : (l : Layout) (size m e u : ℕ) → m ≤ u → u < size → InScope l e u → IsOver l size m e → ⊥
 over_unseen l size m e u le lt seen over = over u le lt (seen_before_end (block_of (l.role e)) (start_of (l.role e)) (l.place u) seen)
 
--- what an inner block declares is seen behind it
+-- the scope of a declaration in an inner block begins after it
 
 not_before : (l : Layout) (size : ℕ) → IsLaidOut l size → (e u : ℕ) → MayDeclare l e → IsUpTo (l.place u) (l.place e) → (B : Block) → IsIn l e B →
     Holds (scope_in B (start_of (l.role e))) (l.place u) → Nests B Package → ⊥

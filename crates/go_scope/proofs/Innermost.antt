@@ -9,7 +9,7 @@ use Rattle.go_scope.proofs.Nesting.{NestsAt, nests_not, Nested}
 use Rattle.go_scope.specs.Scopes.{Nests}
 use Rattle.go_scope.specs.Table.{Precedes}
 
--- d is the declaration of a name that precedes all others whose scopes hold u
+-- d is the declaration of a name that precedes all others with u in their scope
 pub record IsFirstAt (l : Layout) (names : Names) (name : List ℕ) (u d : ℕ) : Type 0 where
   pub declares : Declares l names d
   pub named : names d ≡ name
@@ -31,7 +31,7 @@ same_not_nests_back l a b s n = same_not_nests l b a (sym s) n
 package_not_file : (b : Block) (f : ℕ) → b ≡ Package → b ≡ File f → ⊥
 package_not_file b f p q = let e : Package ≡ File f = sym p ∙ q in cc
 
--- an import does not nest in a package-level declaration
+-- the block of an import does not lie in the package block
 pub import_not_nests : (l : Layout) (a b : ℕ) → IsPackageLevel l b → IsImport l a → NestsAt l a b → ⊥
 import_not_nests l a b p i n =
     let P : Block → Type 0 = λ k. Nests k (block_of (l.role b)) in
@@ -66,7 +66,7 @@ module _ (l : Layout) (nested : Nested l) where
   pub precedes_asym : (a b u : ℕ) → MayDeclare l a → MayDeclare l b → InScope l a u → InScope l b u → Precedes l a b → Precedes l b a → ⊥
   precedes_asym a b u ma mb ha hb x y = precedes_not a (precedes_trans a b a u ma mb ma ha hb ha x y)
 
-  -- two declarations whose scopes hold a place are ordered
+  -- two declarations with a position in both scopes are ordered
   pub ordered : (a b u : ℕ) → MayDeclare l a → MayDeclare l b → InScope l a u → InScope l b u →
       (a ≡ b) ⊎ (Precedes l a b ⊎ Precedes l b a)
   ordered a b u ma mb ha hb = elim (nested.comparable a b u ma mb ha hb) [
@@ -77,12 +77,12 @@ module _ (l : Layout) (nested : Nested l) where
     | inr o ↦ elim o [ inl n ↦ inr (inl (inr n)) | inr n ↦ inr (inr (inr n)) ]
   ]
 
-  -- a declaration that displaces another holds all that the other holds
+  -- the scope of a declaration that displaces another includes the other's scope
   pub displaces_holds : (a b u : ℕ) → MayDeclare l a → MayDeclare l b → Displaces l a b → InScope l b u → InScope l a u
   displaces_holds a b u ma mb (inl h) hb = nested.shrinking a b u ma mb h.0 h.1 hb
   displaces_holds a b u ma mb (inr h) hb = nested.package_holds a u h.0
 
-  -- counting declarations of one name in one block are the same
+  -- two declarations of one name in one block that both count are equal
   pub one_in_block : (names : Names) (a b : ℕ) → Counts l names a → Counts l names b → names a ≡ names b → SameBlock l a b → a ≡ b
   one_in_block names a b ca cb e s = elim (cases_order a b) [
     | inl same ↦ same

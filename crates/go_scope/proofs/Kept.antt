@@ -1,4 +1,4 @@
--- What a table keeps of its identifiers, one identifier after another.
+-- The contents of a table, one identifier after another.
 use Rattle.std.proofs.Common.{ℕ, ◌≡◌, ◌+◌, ◌<◌, inl, inr, List, [], ◌∷◌, ◌++◌, length, get_or, Bool, Option, IsTrue, sym, ◌∙◌, ap, subst, arith, length-append}
 use Rattle.std.proofs.Math.ListN.{set}
 use Rattle.std.proofs.lemmas.Grind.{common_steps}
@@ -9,7 +9,7 @@ use Rattle.go_scope.specs.Bindings.{Layout, Names}
 use Rattle.go_scope.specs.Known.{AreMarks, AreBindings, IsBinding}
 use Rattle.go_scope.proofs.Uniqueness.{same_or_not}
 
--- what is true of each entry of a list stays true of one more
+-- a fact of each entry of a list stays true when a right entry is appended
 module _ {A : Type 0} (P : ℕ → A → Type 0) where
   last_entry : (xs : List A) (y x : A) → get_or (xs ++ (y ∷ [])) (length xs) x ≡ y
   last_entry xs y x = grind (arith, common_steps)

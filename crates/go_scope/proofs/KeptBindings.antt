@@ -1,5 +1,5 @@
--- What it changes that imports without a name declare: a name keeps its binding to what is no import, unless an import of that
--- name counts whose scope lies within.
+-- Where imports without a name come to declare, a name stays bound to a declaration that is no import. The exception is an import of that
+-- name that counts and has a scope inside the declaration's.
 use Rattle.std.proofs.Common.{ℕ, ◌≡◌, ◌⊎◌, inl, inr, List, Option, Some, None, Bool, true, false, zero, suc, [], ◌∷◌, ap, sym, ◌∙◌, subst, refl}
 use Rattle.std.specs.Prelude.{slice_get}
 use Rattle.go_scope.specs.declared.model.Position.{Position}
@@ -29,7 +29,7 @@ displaces k l e d ee ed h = elim h [
   | inr s ↦ inr (sym (ap block_of ee) ∙ s.0, (s.1.0, sym (ap block_of ed) ∙ s.1.1))
 ]
 
--- an identifier stays what it was, or declared nothing and now declares in a file
+-- an identifier stays, or it declared nothing before and declares in a file after
 abbrev pub Stays : (k l : Layout) (kn ln : Names) → ℕ → Type 0
 Stays k l kn ln d = ((k.role d ≡ l.role d) × (kn d ≡ ln d)) ⊎ ((f : ℕ) × ((k.role d ≡ Declaring (File f) 0) × (may_declare (l.role d) ≡ false)))
 
@@ -104,7 +104,7 @@ module _ (k l : Layout) (kn ln : Names) (w : WellFormed l) (stays : (d : ℕ) �
         ];
       }
 
--- the identifiers of a package, with names
+-- the identifiers of a package, with the names of imports
 
 not_declaring : (r : Role) → is_unnamed_import r ≡ true → may_declare r ≡ false
 not_declaring Use e = refl

@@ -17,11 +17,11 @@ no_leader l names (suc k) e lt de none =
           no_leader l names k f below df (λ g lg ng sg le. none g lg (ng ∙ nf) (sg ∙ sf) (let up : g ≤ e = omega arith in up));
     }) refl refl (let same : e ≤ e = omega arith in same)
 
--- a declaration has a first one of its name in its block, at it or before it
+-- each declaration has a first declaration of its name in its block, at it or before it
 pub leader_none : (l : Layout) (names : Names) (e : ℕ) → Declares l names e → ((f : ℕ) → Leads l names f → names f ≡ names e → SameBlock l f e → f ≤ e → ⊥) → ⊥
 leader_none l names e de none = no_leader l names (suc e) e (omega arith) de none
 
--- the first ones of one name in one block are the same
+-- two first declarations of one name in one block are equal
 pub leads_once : (l : Layout) (names : Names) (d e : ℕ) → Leads l names d → Leads l names e → names d ≡ names e → SameBlock l d e → d ≡ e
 leads_once l names d e x y n s = elim (cases_order d e) [
   | inl same ↦ same
@@ -31,7 +31,7 @@ leads_once l names d e x y n s = elim (cases_order d e) [
   ]
 ]
 
--- with none before it, a declaration is the first one
+-- without an earlier declaration of its name in its block, a declaration is the first
 leads_alone : (l : Layout) (names : Names) (d : ℕ) → Declares l names d → IsLeader l names d None → Leads l names d
 leads_alone l names d x h = record {
   declares = x;
@@ -41,7 +41,7 @@ leads_alone l names d x h = record {
 pub leads_if_none : (l : Layout) (names : Names) (d : ℕ) (leader : Option ℕ) → leader ≡ None → IsLeader l names d leader → Declares l names d → Leads l names d
 leads_if_none l names d leader is h x = leads_alone l names d x (let P : Option ℕ → Type 0 = λ v. IsLeader l names d v in subst P is h)
 
--- with one before it, it is not
+-- with an earlier declaration of its name in its block, a declaration is not the first
 pub leads_not : (l : Layout) (names : Names) (d e : ℕ) (leader : Option ℕ) → leader ≡ Some e → IsLeader l names d leader → Leads l names d → ⊥
 leads_not l names d e leader is k x =
     let P : Option ℕ → Type 0 = λ v. IsLeader l names d v in
@@ -60,7 +60,7 @@ module _ (l : Layout) (nested : Nested l) (names : Names) (d : ℕ) where
     ]
   ]
 
-  -- a left name of `:=` declares unless the first declaration before it holds it
+  -- a left name of `:=` declares unless it is in the scope of the first declaration before it
   pub declares_behind : (leader : Option ℕ) → IsLeader l names d leader → MayDeclare l d → (IsLeftName l d → HoldsAt l leader d → ⊥) → Declares l names d
   declares_behind leader h may free =
       declares_if l nested names d may (λ left e de se ne he. blocked leader h (free left) e de se ne he (nested.earlier e d de.may left se he))
@@ -70,7 +70,7 @@ pub declares_not : (l : Layout) (names : Names) (d : ℕ) (leader : Option ℕ) 
 declares_not l names d None h left holds x = holds
 declares_not l names d (Some e) h left holds x = x.is_new left e h.1.declares.may h.3 h.2 holds
 
--- a declaration counts if it is the first one, and no import that gives way
+-- a declaration counts if it is the first one, and no import whose name the package block declares
 pub counts_if : (l : Layout) (names : Names) (d : ℕ) → Leads l names d → (GivesWay l names d → ⊥) → Counts l names d
 counts_if l names d x stays = record {
   declares = x.declares;

@@ -1,4 +1,4 @@
--- What is kept of identifiers, one identifier after another: the declarations of each block, and of each name those in inner blocks.
+-- The links of identifiers, one identifier after another: the declarations of each outer block, and for each name those in inner blocks.
 use Rattle.std.proofs.Common.{rules, ℕ, ◌≡◌, ◌+◌, ◌<◌, inl, inr, List, [], ◌∷◌, ◌++◌, length, get_or, Option, Some, None, Bool, true, false, cond}
 use Rattle.std.proofs.Common.{refl, sym, ◌∙◌, ap, subst, arith}
 use Rattle.std.specs.Prelude.{◌↔◌}
@@ -64,13 +64,13 @@ same_outer (outer.File f) outer.Universe e = cc
 same_outer (outer.File f) outer.Package e = cc
 same_outer (outer.File f) (outer.File g) e = let same : f ≡ g = cc in ap outer.File same
 
--- what the blocks that are no inner ones declare
+-- the declarations in blocks that are no inner blocks
 
 equal_fields : (x y : OuterName) → equal.ghosts.eq x y ≡ true ↔ ((x.name ≡ y.name) × (x.block ≡ y.block))
 equal_fields x y = search rules
 
 module _ (l : Layout) (names : Names) (d : ℕ) where
-  -- the next identifier is not the first of a name in a block
+  -- the next identifier is not the first declaration of its name in a block
   first_kept : (name : List ℕ) (block : Block) (o : Option ℕ) → (Leads l names d → names d ≡ name → block_of (l.role d) ≡ block → ⊥) →
       IsFirstIn l names name block d o → IsFirstIn l names name block (d + 1) o
   first_kept name block None other h = λ e lt leads named in_block. elim (same_or_not e d) [
@@ -112,7 +112,7 @@ module _ (l : Layout) (names : Names) (d : ℕ) where
       (λ k n m. let P : Block → Type 0 = λ b. Nests b Package in outer_not_inner key.block (subst P m (inner k)))
       (h key)
 
--- of each name the last declaration in an inner block
+-- for each name its last declaration in an inner block
 
 module _ (l : Layout) (size : ℕ) (names : Names) where
   pub lasts_set : (n : ℕ) (last : List (Option ℕ)) (name : ℕ) (o : Option ℕ) → name < size → IsLastOpen l size names (name ∷ []) n o →
@@ -124,7 +124,7 @@ module _ (l : Layout) (size : ℕ) (names : Names) where
         each = each_set (λ k x. IsLastOpen l size names (k ∷ []) n x) last name o size (omega arith) here (λ k x lower other. h.each k x lower);
       }
 
-  -- the next identifier is none of a name in an inner block
+  -- the next identifier is no declaration of a name in an inner block
   still_last : (d : ℕ) (name : List ℕ) (o : Option ℕ) → (LeadsInside l names name d → ⊥) → IsLastOpen l size names name d o →
       IsLastOpen l size names name (d + 1) o
   still_last d name None other h = λ e lt k. elim (same_or_not e d) [
@@ -195,7 +195,7 @@ outer_none l names found none key =
     let P : Option ℕ → Type 0 = λ o. IsFirstIn l names (key.name ∷ []) (block_in key.block) 0 o in
     subst P (sym (none key)) (λ e lt k n m. absurd (omega arith))
 
--- what is kept of identifiers
+-- the links of identifiers
 
 module _ (xs : List Identifier) (numbers : List ℕ) (n : ℕ) (links : Links) (h : AreLinks xs numbers n links) (numbered : AreBelow (length xs) numbers)
     (within : n < length xs) (i : ℕ) (is : i ≡ number_at numbers n) where

@@ -1,4 +1,4 @@
--- Bindings stay where places move and keep their order.
+-- Bindings stay where positions move and keep their order.
 use Rattle.std.proofs.Common.{ℕ, ◌≡◌, ◌<◌, ◌≤◌, inl, inr, Bool, true, refl, ap, sym, ◌∙◌, subst, arith}
 use Rattle.std.specs.Prelude.{◌↔◌}
 use Rattle.std.proofs.lemmas.Bool.{cases_order, cases_lt}

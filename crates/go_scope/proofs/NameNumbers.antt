@@ -1,4 +1,4 @@
--- Numbers that stand for names: found one after the other; and what is found by numbers is found by names.
+-- Numbers for names, found one after another. Declarations and bindings by numbers are those by names.
 use Rattle.std.proofs.Common.{rules, ℕ, zero, suc, ◌≡◌, ◌+◌, ◌<◌, inl, inr, List, [], ◌∷◌, length, Bool, true, false, Option, Some, None, ap, sym}
 use Rattle.std.proofs.Common.{◌∙◌, refl}
 use Rattle.std.proofs.Common.{subst, arith}
@@ -17,7 +17,7 @@ use Rattle.go_scope.specs.Numbering.{is_lexical, IsLexical, HasName, AreFirsts, 
 use Rattle.go_scope.specs.Table.{layout_of, names_of, IsFirstOf}
 use Rattle.go_scope.proofs.TokenRows.{widen, widen_found}
 
--- one more number, where an earlier one is known
+-- one more number, where an earlier identifier has the name
 still : (P : ℕ → Type 0) (n v : ℕ) (o : Option ℕ) → v < n → P v → IsFirstBelow P n o → IsFirstBelow P (n + 1) o
 still P n v None lt p h = absurd (h v lt p)
 still P n v (Some u) lt p h = widen_found P n u h
@@ -37,7 +37,7 @@ module _ {S : Type 0} (l : Layout) (names : Names) (u : ℕ) (firsts : IndexMap 
   found_here : (first : ℕ) → get equal.ghosts.eq firsts name ≡ Some first → IsFirstOf (HasName l names name.bytes.now) u first
   found_here first e = let P : Option ℕ → Type 0 = λ o. IsFirstBelow (HasName l names name.bytes.now) u o in subst P e (h name)
 
-  -- the name is noted
+  -- the name is entered
   pub firsts_later : (first : ℕ) → get equal.ghosts.eq firsts name ≡ Some first → AreFirsts l names (u + 1) firsts
   firsts_later first e key =
       later_by l names u name.bytes.now (sym is) key.bytes.now first (get equal.ghosts.eq firsts key) (equal.ghosts.eq name key) (equal_bytes name key)
@@ -48,12 +48,12 @@ module _ {S : Type 0} (l : Layout) (names : Names) (u : ℕ) (firsts : IndexMap 
       let P : List ℕ → Type 0 = λ n. IsFirstOf (HasName l names n) (u + 1) first in
       subst P is (widen_found (HasName l names name.bytes.now) u first (found_here first e))
 
--- a name that is not looked up is not noted
+-- a name that is not looked up is not entered
 pub firsts_skip : {S : Type 0} (l : Layout) (names : Names) (u : ℕ) (firsts : IndexMap Spelled ℕ S) → (IsLexical l u → ⊥) → AreFirsts l names u firsts →
     AreFirsts l names (u + 1) firsts
 firsts_skip l names u firsts none h key = widen (HasName l names key.bytes.now) u (get equal.ghosts.eq firsts key) (λ has. none has.0) (h key)
 
--- two names have one number exactly if they are the same
+-- two names have the same number exactly if they are equal
 pub told_apart : (l : Layout) (names : Names) (d e x y : ℕ) → IsFirstOf (HasName l names (names d)) (d + 1) x →
     IsFirstOf (HasName l names (names e)) (e + 1) y → (x ≡ y) ↔ (names d ≡ names e)
 told_apart l names d e x y f g = (
@@ -72,7 +72,7 @@ lexical_in_range [] d m = cc
 lexical_in_range (x ∷ xs) zero m = omega arith
 lexical_in_range (x ∷ xs) (suc d) m = let less : d < length xs = lexical_in_range xs d m in omega arith
 
--- names that are looked up are the same for one exactly if they are for the other
+-- two names that are looked up are equal in m exactly if they are equal in n
 abbrev pub Agree : Layout → Names → Names → Type 0
 Agree l m n = (d e : ℕ) → IsLexical l d → IsLexical l e → (m d ≡ m e) ↔ (n d ≡ n e)
 
@@ -142,7 +142,7 @@ binding_agree : (l : Layout) (m n : Names) → Agree l m n → (u : ℕ) (bound 
 binding_agree l m n a u None h = λ d b. h d (bound_agree l n m (agree_back l m n a) u d b)
 binding_agree l m n a u (Some d) h = bound_agree l m n a u d h
 
--- what is found by numbers is found by names
+-- declarations and bindings by numbers are those by names
 pub found_by_names : (xs : List Identifier) (numbers : List ℕ) (k : ℕ) (declaring : List Bool) (bound : List (Option ℕ)) →
     TellApart (layout_of xs) (names_of xs) (length xs) numbers → AreBound (layout_of xs) (told numbers) k declaring bound →
     AreBound (layout_of xs) (names_of xs) k declaring bound

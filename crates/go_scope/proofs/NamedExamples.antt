@@ -1,5 +1,4 @@
--- Worked examples: what names are bound to where imports without a name declare. The package that `"b/q"` names is called
--- `q`, and another one `len`.
+-- Worked examples of bindings where imports without a name declare. The package with the path `b/q` has the name `q`, another one `len`.
 use Rattle.std.proofs.Common.{ℕ, ◌≡◌, ◌<◌, inl, inr, true, List, [], ◌∷◌, Option, Some, None, refl, arith, zero, suc}
 use Rattle.std.specs.Prelude.{codes}
 use Rattle.go_scope.specs.declared.model.Block.TheVariants.{Package, File}
@@ -16,7 +15,7 @@ use Rattle.go_scope.specs.Site.{Site, sites_layout, sites_names}
 abbrev q : List ℕ
 q = codes "q"
 
--- what stands at a token of the first file
+-- an identifier at a token of the first file
 abbrev stands : ℕ → List ℕ → Role → Site
 stands token name role = record { place = record { file = 0; index = token }; name = name; role = role }
 
@@ -26,16 +25,16 @@ literal token = stands token (codes "\"b/q\"") (NotLexical UnnamedImport)
 abbrev imported : ℕ → List ℕ → Site
 imported token name = stands token name (Declaring (File 0) 0)
 
--- what each identifier is called that is the literal of an import without a name
+-- the package's name for each string literal of an import without a name
 abbrev all_q : ℕ → Option (List ℕ)
 all_q u = Some q
 
--- `import "b/q"`, and a use of `q`: the literal declares the name, all else stays
+-- `import "b/q"`, and a use of `q`: the literal declares the name, and all other identifiers stay
 pub name_laid : named_sites all_q (literal 3 ∷ stands 9 q Use ∷ []) ≡ imported 3 q ∷ stands 9 q Use ∷ []
 unfolding named_sites
 name_laid = refl
 
--- where nothing is known of the package, the literal declares nothing
+-- where the package's name is not known, the literal declares nothing
 pub name_unknown : named_sites (λ u. None) (literal 3 ∷ stands 9 q Use ∷ []) ≡ literal 3 ∷ stands 9 q Use ∷ []
 unfolding named_sites
 name_unknown = refl
@@ -59,7 +58,7 @@ DeclaresIn xs d = Declares (sites_layout xs) (sites_names xs) d
 plain : (xs : List Site) (d : ℕ) → may_declare ((sites_layout xs).role d) ≡ true → (is_left_name ((sites_layout xs).role d) ≡ true → ⊥) → DeclaresIn xs d
 plain xs d may other = record { may = may; is_new = λ left. absurd (other left) }
 
--- `import "b/q"` and a use of `q`, which would else be bound to nothing
+-- `import "b/q"` and a use of `q`, which is otherwise bound to nothing
 
 abbrev alone : List Site
 alone = imported 3 q ∷ stands 9 q Use ∷ []
@@ -112,7 +111,7 @@ twice_bound = use_bound (inl refl) (record {
   innermost = λ e c same holds inside. twice_only e c;
 })
 
--- `import "b/len"` of a package `len`, and a use of `len`, which would else be bound to the predeclared name
+-- `import "b/len"` of a package `len`, and a use of `len`, which is otherwise bound to the predeclared name
 
 abbrev len : List ℕ
 len = codes "len"

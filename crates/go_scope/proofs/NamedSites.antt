@@ -1,5 +1,4 @@
--- Identifiers in which imports without a name declare in their files: what stands at each number, and that the layout
--- stays well-formed.
+-- Identifiers where imports without a name declare in their files: the identifier of each number, and the layout, which stays well formed.
 use Rattle.std.proofs.Common.{ℕ, ◌≡◌, ◌+◌, ◌<◌, ◌≤◌, ◌⊎◌, inl, inr, List, [], ◌∷◌, ◌++◌, length, take, get_or, map, Option, Some, None, Bool, true, false}
 use Rattle.std.proofs.Common.{ap, sym, ◌∙◌, refl, subst, arith, zero, suc}
 use Rattle.std.specs.Prelude.{slice_get}
@@ -30,7 +29,7 @@ named_next names [] u d lt = absurd (omega arith)
 named_next names (x ∷ xs) zero d lt = refl
 named_next names (x ∷ xs) (suc u) d lt = ap (λ z. named_site (names 0) x ∷ z) (named_next (λ k. names (suc k)) xs u d (omega arith))
 
--- an identifier stays, or declares in a file from its beginning
+-- an identifier stays, or it declares in a file, from the file's start
 abbrev RoleStays : Role → Role → Type 0
 RoleStays new old = (new ≡ old) ⊎ ((f : ℕ) × (new ≡ Declaring (File f) 0))
 
@@ -204,7 +203,7 @@ level_site x f h = level_role x.role f (λ m. elim (h m) [
   | inr s ↦ inr (λ e. file_not_inner f s.0 s.1.1.from s.1.1.to (sym e ∙ s.1.1.block))
 ])
 
--- the imports of a package that have a name are seen from the beginning of their files
+-- the scopes of imports with a name begin at the start of their files
 pub package_level : (files : List SpelledFile) → AreNumbered files → AreImportsLevel (sites_layout (package_sites files))
 package_level files w d f i = level_site (found_site (slice_get (package_sites files) d)) f
     (each_at (From 0) (λ m. not_may m) (package_sites files) (package_agrees files w).0 d) i

@@ -15,7 +15,7 @@ nests_not (Inner f a b) n = omega arith
 abbrev pub NestsAt : Layout → ℕ → ℕ → Type 0
 NestsAt l d e = Nests (block_of (l.role d)) (block_of (l.role e))
 
--- what the law needs of a layout
+-- the properties of a layout that the law needs
 pub record Nested (l : Layout) : Type 0 where
   pub size : ℕ
   pub finite : (a : ℕ) → MayDeclare l a → a < size

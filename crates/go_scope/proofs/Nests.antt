@@ -20,14 +20,14 @@ left_may (Implied b s) e = refl
 left_may Use e = cc
 left_may (NotLexical p) e = cc
 
--- whether a place is in a block
+-- whether a position is in a block
 abbrev Within : Block → Position → Type 0
 Within (Inner f a b) p = (p.file ≡ f) × (a ≤ p.index) × (p.index < b)
 Within (File f) p = p.file ≡ f
 Within Package p = Unit {0}
 Within Universe p = Unit {0}
 
--- what holds of two blocks of a layout
+-- two inner blocks of a file are equal or disjoint, or one lies in the other
 abbrev NestOrPart : Block → Block → Type 0
 NestOrPart (Inner f a b) (Inner g a' b') = f ≡ g → ((b ≤ a') ⊎ (b' ≤ a)) ⊎ (((a' < a) × (b ≤ b')) ⊎ (((a < a') × (b' ≤ b)) ⊎ ((a ≡ a') × (b ≡ b'))))
 NestOrPart _ _ = Unit {0}
@@ -120,7 +120,7 @@ later_smaller (File f) s t p h x = x
 later_smaller Package s t p h x = tt
 later_smaller Universe s t p h x = tt
 
--- the start of the scope of an outer block's declaration is not within an inner block
+-- the scope of a declaration in an outer block does not begin in an inner block
 abbrev BeginsOutside : Block → Block → ℕ → Type 0
 BeginsOutside (Inner f a b) (Inner g a' b') s = f ≡ g → a' < a → b ≤ b' → (s < a) ⊎ (b ≤ s)
 BeginsOutside _ _ s = Unit {0}
@@ -179,7 +179,7 @@ in_nests Universe (File g) s t p sb sc n o x y i = absurd i
 in_nests Universe Package s t p sb sc n o x y i = absurd i
 in_nests Universe Universe s t p sb sc n o x y i = inl refl
 
--- which left names stand directly in their block
+-- the left names that are directly in their block, in no block inside of it
 abbrev Directly : Block → Block → Position → Type 0
 Directly (Inner f a b) (Inner g a' b') p = f ≡ g → a < a' → b' ≤ b → (p.index < a') ⊎ (b' ≤ p.index)
 Directly _ _ p = Unit {0}
@@ -275,7 +275,7 @@ import_inside B C s t h =
     let Q : Block → Type 0 = λ D. IsInside (WholeFile h.1.0) (scope_in D s) in
     subst P (sym h.1.1) (subst Q (sym h.0) tt)
 
--- two scopes that share a place nest
+-- two scopes that share a position nest
 pub scopes_nest : (l : Layout) → WellFormed l → (d e : ℕ) → MayDeclare l d → MayDeclare l e → (p : Position) →
     Holds (scope_of (l.role d)) p → Holds (scope_of (l.role e)) p → IsInside (scope_of (l.role d)) (scope_of (l.role e)) ⊎
     IsInside (scope_of (l.role e)) (scope_of (l.role d))

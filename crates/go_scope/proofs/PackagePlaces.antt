@@ -1,5 +1,4 @@
--- The identifiers of a package are numbered in the order of their places, and those that an inner block declares stand before their
--- scopes.
+-- The identifiers of a package are numbered in the order of their positions, and a declaration in an inner block is before its scope.
 use Rattle.std.proofs.Common.{ℕ, zero, suc, ◌≡◌, ◌<◌, ◌≤◌, inl, inr, List, [], ◌∷◌, length, map, ap, sym, ◌∙◌, refl, arith}
 use Rattle.std.specs.Prelude.{slice_get}
 use Rattle.std.proofs.lemmas.Bool.{cases_order}
@@ -17,7 +16,7 @@ use Rattle.go_scope.proofs.AmongTrees.{file_among}
 use Rattle.go_scope.proofs.PackageRegions.{From, frame, package_agrees}
 use Rattle.go_scope.proofs.Regions.{Each, EachPair, Related, each_append, each_map, pairs_append, pairs_of_each, inner_file}
 
--- in a file from that rank on
+-- in a file of this rank or a higher one
 abbrev FileFrom : ℕ → Site → Type 0
 FileFrom rank x = rank ≤ x.place.file
 
@@ -37,7 +36,7 @@ files_rise rank (f ∷ fs) w =
           (files_sites (suc rank) fs) here.0 rest.0 here.1 rest.1,
     )
 
--- predeclared names are given the first place of all
+-- predeclared names have the first position of all
 abbrev IsFirstPlace : Site → Type 0
 IsFirstPlace x = x.place ≡ position 0 0
 
@@ -63,7 +62,7 @@ package_rises fs w =
     pairs_append UpTo IsFirstPlace (FileFrom 0) (λ x y h k. first_up_to x y h) names (files_sites 0 fs) first rest.0
     (pairs_of_each UpTo IsFirstPlace (λ x y h k. first_up_to x y h) names first) rest.1
 
--- by numbers
+-- by the numbers of identifiers
 
 each_below : (P : Site → Type 0) (xs : List Site) → Each P xs → (v : ℕ) → v < length xs → P (found_site (slice_get xs v))
 each_below P [] h v lt = absurd (omega arith)

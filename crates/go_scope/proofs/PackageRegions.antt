@@ -1,4 +1,4 @@
--- The identifiers of a package, whose files' tokens rise, make a well-formed layout.
+-- The identifiers of a package have a well-formed layout, if the token indices of each file rise.
 use Rattle.std.proofs.Common.{ℕ, ◌≡◌, ◌<◌, ◌≤◌, ◌⊎◌, List, [], ◌∷◌, ◌++◌, length, true, false, refl, sym, ◌∙◌, subst, arith, zero, suc, inl, inr}
 use Rattle.std.specs.Prelude.{map, slice_get}
 use Rattle.std.proofs.lemmas.List.Elements.{All-head, All-tail}
@@ -18,7 +18,7 @@ use Rattle.go_ast.specs.declared.syntax.Kind.TheVariants as kind
 use Rattle.go_ast.specs.Flatten.{sign, all_tokens, imports_tokens, decl_tokens, flatten}
 use Rattle.go_ast.specs.Tree.{FileTree}
 
--- a declaration of a file whose rank is at least this
+-- a declaration of a file of this rank or a higher one
 abbrev pub From : ℕ → Site → Type 0
 From rank x = may_declare x.role ≡ true → Flat x ⊎ ((f : ℕ) × ((rank ≤ f) × Framed f x))
 

@@ -1,4 +1,4 @@
--- The identifiers of expressions, by the parts that the program goes over.
+-- The identifiers of expressions, by the parts that the program visits.
 use Rattle.std.proofs.Common.{ℕ, ◌≡◌, ◌⊎◌, inl, inr, List, [], ◌++◌, ap, sym, ◌∙◌, refl, append-nil, append_assoc}
 use Rattle.std.specs.List.{flat_map}
 use Rattle.go_scope.specs.Site.{Site, Source}
@@ -85,7 +85,7 @@ unfolding literal_sites literal_view roll-CompositeLit denote.Hole.Carrier.roll
 literal_parts s t o es c = ap (λ z. type_sites s (type_view t) ++ z)
     (element_row s (hidden-the_row-Element-3 es) ∙ ap (flat_map (element_part s)) (items_hidden-the_row-Element-3 es))
 
--- what the program reads of a value, and the value
+-- a value as the program reads it, and the value itself
 
 pub chain_from : (s : Source) (e : Expr) (first : _) (links : _) (v : Expr) (xs : List Link) → e ≡ expr.Chain first links → v ≡ first.value → xs ≡ links.items →
     expr_sites s (expr_view v) ++ flat_map (link_part s) xs ≡ expr_sites s (expr_view e)

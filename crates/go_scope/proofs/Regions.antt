@@ -1,4 +1,4 @@
--- Lists of identifiers that stand in a region of a block: what holds of each, and of any two.
+-- Lists of identifiers in a region of a block: the properties of each identifier, and of any two.
 use Rattle.std.proofs.Common.{ℕ, ◌≡◌, ◌<◌, ◌≤◌, ◌⊎◌, inl, inr, List, [], ◌∷◌, ◌++◌, true, false, sym, ◌∙◌, arith, suc}
 use Rattle.go_scope.specs.declared.model.Block.TheVariants.{Inner}
 use Rattle.go_scope.specs.Bindings.{block_of, start_of, is_left_name, may_declare}
@@ -41,7 +41,7 @@ inner_to f p q g p' q' e = cc
 pub inner_file : (f p q g p' q' : ℕ) → Inner f p q ≡ Inner g p' q' → f ≡ g
 inner_file f p q g p' q' e = cc
 
--- a declaration of a file's, the package's or the universe's block
+-- a declaration of a file block, the package block or the universe block
 pub record Flat (x : Site) : Type 0 where
   pub apart : (f a b : ℕ) → block_of x.role ≡ Inner f a b → ⊥
   pub start : start_of x.role ≡ 0
@@ -78,7 +78,7 @@ pub record Inside (f a b n q : ℕ) (x : Site) : Type 0 where
 abbrev pub Fits : ℕ → ℕ → ℕ → ℕ → ℕ → Site → Type 0
 Fits f a b n q x = may_declare x.role ≡ true → Flat x ⊎ (Own f a b n q x ⊎ Inside f a b n q x)
 
--- what holds of two blocks and two beginnings of scopes
+-- two blocks nest or are disjoint, and the scopes of their declarations begin outside of inner blocks
 pub record Agree (x y : Site) (p q s p' q' s' : ℕ) : Type 0 where
   pub blocks : ((q ≤ p') ⊎ (q' ≤ p)) ⊎ (((p' < p) × (q ≤ q')) ⊎ (((p < p') × (q' ≤ q)) ⊎ ((p ≡ p') × (q ≡ q'))))
   pub first_outside : p < p' → q' ≤ q → s < p'
@@ -86,7 +86,7 @@ pub record Agree (x y : Site) (p q s p' q' s' : ℕ) : Type 0 where
   pub first_directly : is_left_name x.role ≡ true → p < p' → q' ≤ q → (x.place.index < p') ⊎ (q' ≤ x.place.index)
   pub second_directly : is_left_name y.role ≡ true → p' < p → q ≤ q' → (y.place.index < p) ⊎ (q ≤ y.place.index)
 
--- what holds of a declaration and a later one
+-- a declaration and a later one have scopes in order and blocks that agree
 pub record Pair (x y : Site) : Type 0 where
   pub in_order : block_of x.role ≡ block_of y.role → start_of x.role ≤ start_of y.role
   pub agree : (f p q p' q' : ℕ) → block_of x.role ≡ Inner f p q → block_of y.role ≡ Inner f p' q' → Agree x y p q (start_of x.role) p' q' (start_of y.role)
@@ -231,7 +231,7 @@ wider f a b n q n' q' hn hq x h m = elim (h m) [
   ]
 ]
 
--- what fits into a block that lies in another, seen from that
+-- identifiers that fit into a block inside another, as identifiers of the outer one
 pub outward : (f c d n q a b n' q' : ℕ) → c < d → q ≤ d → a < c → d ≤ b → n' ≤ c → d ≤ q' → (x : Site) → Fits f c d n q x → Fits f a b n' q' x
 outward f c d n q a b n' q' cd qd ac db nc dq x h m = elim (h m) [
   | inl flat ↦ inl flat
@@ -307,7 +307,7 @@ segment_plain_before f a b n q xs ys p y = (
   pairs_append Related (λ x. may_declare x.role ≡ false) (Fits f a b n q) (λ u v hu hv mu. not_both u hu mu) xs ys p y.0 (segment_plain f a b n q xs p).1 y.1,
 )
 
--- declarations of files, the package and the universe alone
+-- declarations in file blocks, the package block and the universe block alone
 abbrev pub Level : List Site → Type 0
 Level xs = Each (λ x. may_declare x.role ≡ true → Flat x) xs
 
@@ -320,7 +320,7 @@ segment_level f a b n q xs h = (
 pub level_plain : (xs : List Site) → Plain xs → Level xs
 level_plain xs p = each_map (λ x. may_declare x.role ≡ false) (λ x. may_declare x.role ≡ true → Flat x) (λ x e m. not_both x e m) xs p
 
--- declarations of the block whose scopes begin together
+-- declarations of the block whose scopes begin at one token
 pub record AtStart (f a b n q : ℕ) (x : Site) : Type 0 where
   pub block : block_of x.role ≡ Inner f a b
   pub start : start_of x.role ≡ q
@@ -355,7 +355,7 @@ segment_together f a b n q xs aq nq h = (
 pub together_plain : (f a b n q : ℕ) (xs : List Site) → Plain xs → Each (Together f a b n q) xs
 together_plain f a b n q xs p = each_map (λ x. may_declare x.role ≡ false) (Together f a b n q) (λ x e m. not_both x e m) xs p
 
--- what begins with the block comes before all that the block holds
+-- identifiers at the start of a block come before all others in it
 head_first : (f a b : ℕ) (x y : Site) → Together f a b a a x → Fits f a b a b y → Related x y
 head_first f a b x y t h mx my = elim (t mx) [
   | inl flat ↦ flat_first x y flat

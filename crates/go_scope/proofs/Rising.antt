@@ -1,4 +1,4 @@
--- Tokens whose numbers rise from one bound to before another.
+-- Tokens whose indices rise, from one bound to before another.
 use Rattle.std.proofs.Common.{ℕ, ◌≤◌, List, [], ◌∷◌, ◌++◌, arith, suc}
 use Rattle.go_ast.specs.declared.syntax.Token.{Token}
 use Rattle.go_scope.specs.Trees.{AreRising}

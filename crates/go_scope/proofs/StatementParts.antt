@@ -1,4 +1,4 @@
--- The identifiers of statements, by the parts that the program goes over.
+-- The identifiers of statements, by the parts that the program visits.
 use Rattle.std.proofs.Common.{ℕ, ◌≡◌, List, [], ◌∷◌, ◌++◌, ap, sym, ◌∙◌, refl, map}
 use Rattle.std.specs.List.{flat_map}
 use Rattle.std.specs.Option.{unwrap_or}

@@ -26,7 +26,7 @@ use Rattle.go_ast.specs.Tree.{Address, Chain, Binary, SimpleTree, Alone, Step, U
 use Rattle.go_ast.specs.Tree.{clauses, StatementTree, Empty, Var, Simple, Inner, If, For, Break, Continue, Return, BlockTree, block, StatementTrees}
 use Rattle.go_ast.specs.Tree.{no_statement, statement, IfTree, if_tree, ElseTree, no_else, else_if, else_block}
 
--- items whose tokens rise, from one bound on and up to another
+-- items whose token indices rise, from one bound to before another
 module _ {X : Type 0} (P : Site → Type 0) (tokens : X → List Token) (sites : X → List Site) (sort : Kind) (k q : ℕ)
     (one : (n m : ℕ) (x : X) → k ≤ n → m ≤ q → Rises n (tokens x) m → Each P (sites x)) where
   pub each_rising : (n m : ℕ) (xs : List (Item X)) → k ≤ n → m ≤ q → Rises n (list_tokens sort tokens xs) m → Each P (list_sites sites xs)
@@ -119,10 +119,10 @@ local_fits s a b n q x an h =
     (plain_append (sites_if (type_sites s) x.type_use) (sites_if (value_sites s) x.values) (plain_if (type_sites s) (plain_type s) x.type_use)
     (plain_if (value_sites s) (plain_values s) x.values))
 
--- items, each with its identifiers in the region before the token behind it
+-- items, each with its identifiers in the region before the token after it
 module _ {X : Type 0} (P : X → Type 0) (tokens : X → List Token) (sites : ℕ → X → List Site) (f a b : ℕ)
     (one : (n q : ℕ) (x : X) → a ≤ n → P x → Rises n (tokens x) q → Segment f a b n q (sites q x)) where
-  -- an item with a token behind it, and the others
+  -- an item with a token after it, and the other items
   item_then : (n c : ℕ) (x : X) (p : Option ℕ) (xs : List (Item X)) → a ≤ n → P x → (p ≡ None → xs ≡ []) →
       Rises n (tokens x ++ sign_if kind.Semicolon p ++ list_tokens kind.Semicolon tokens xs) c →
       ((k : ℕ) → n ≤ k → Rises k (list_tokens kind.Semicolon tokens xs) c → Segment f a b k c (separated_sites sites c xs)) →
@@ -170,7 +170,7 @@ simple_if_fits : (s : Source) (a b n q : ℕ) (x : Option SimpleTree) → a ≤ 
 simple_if_fits s a b n q None an h = (tt, tt)
 simple_if_fits s a b n q (Some x) an h = simple_fits s a b n q x an h
 
--- what stands before the condition ends before the condition
+-- the clause before a condition ends before the condition
 init_if_fits : (s : Source) (p b k : ℕ) (i : Option InitTree) → Rises (suc p) (tokens_if init_tokens i) k →
     (q : ℕ) × ((p ≤ q) × (suc q ≤ k) × Segment s.rank p b (suc p) q (sites_if (init_sites s (blocks.Inner s.rank p b)) i))
 unfolding init_tokens init_sites
@@ -200,7 +200,7 @@ close_above n m (block o ss c) h =
     let rc : r.0 ≤ c = r.1.1.0 in
     omega arith
 
--- so does the header of a `for`
+-- the header of a `for` ends before its block
 header_fits : (s : Source) (p b o k : ℕ) (x : ForTree) → IsFor x → Rises (suc p) (for_tokens x) k →
     (q : ℕ) × ((p ≤ q) × (suc q ≤ k) × Segment s.rank p b (suc p) q (for_sites s (blocks.Inner s.rank p b) o x))
 unfolding for_tokens for_sites

@@ -1,4 +1,4 @@
--- What is true of a table's list of identifiers is true of the value that the table stands for.
+-- Facts of a table's list of identifiers, as facts of the package that the table stands for.
 use Rattle.std.proofs.Common.{ℕ, zero, suc, ◌≡◌, List, [], ◌∷◌, arith, length, map, inl, inr, Option, Some, None, sym, ap, subst, ◌∙◌, ◌<◌, get_or}
 use Rattle.std.specs.Prelude.{slice_get, MatchOption}
 use Rattle.std.proofs.lemmas.Bool.{cases_order}
@@ -21,7 +21,7 @@ of_table P xs ys files p ex ef es h =
     let S : List Site → Type 0 = λ zs. P files (sites_layout zs) (sites_names zs) (length zs) in
     subst F ef (subst S es (in_sites (λ l names n. P files l names n) ys (subst X ex h)))
 
--- what is true of a table's list of identifiers is true of the slice that is read
+-- a fact of a table's list of identifiers is one of the slice that is read
 pub in_slice : (P : List Identifier → Type 0) (xs ys : List Identifier) → xs ≡ ys → P ys → P xs
 in_slice P xs ys e h = subst P (sym e) h
 
@@ -34,7 +34,7 @@ first_once P size u v f g = elim (cases_order u v) [
   | inr o ↦ elim o [ inl lt ↦ absurd (g.first u lt f.holds) | inr gt ↦ absurd (f.first v gt g.holds) ]
 ]
 
--- the binding of the first such identifier is that of each such identifier that is the first
+-- the binding of the first identifier at a place is that of each identifier that is the first there
 pub resolved : (P : ℕ → Type 0) (B : ℕ → ℕ → Type 0) (size u : ℕ) (r : Option ℕ) → IsFirstOf P size u → MatchOption r ((d : ℕ) → B u d → ⊥) (λ d. B u d) →
     MatchOption r ((v d : ℕ) → IsFirstOf P size v → B v d → ⊥) (λ d. (v : ℕ) × (IsFirstOf P size v × B v d))
 resolved P B size u None f h = λ v d g b. (let Q : ℕ → Type 0 = λ w. B w d in h d (subst Q (first_once P size v u g f) b))

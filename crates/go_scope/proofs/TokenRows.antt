@@ -1,4 +1,4 @@
--- Numbers at tokens, set one after the other.
+-- Numbers at tokens, set one after another.
 use Rattle.std.proofs.Common.{ℕ, ◌≡◌, ◌+◌, ◌<◌, inl, inr, List, length, get_or, ap, sym, subst, refl, ◌∙◌, arith}
 use Rattle.std.specs.Prelude.{Option, Some, None, slice_get}
 use Rattle.std.proofs.lemmas.Bool.{cases_lt, cases_eq}
@@ -8,22 +8,22 @@ use Rattle.go_scope.specs.Bindings.{Layout}
 use Rattle.go_scope.specs.Table.{StandsAt}
 use Rattle.go_scope.specs.ByToken.{Numbers, Notes, first, later, NotesIdentifier, stands, stands_nowhere, IsFirstBelow, AreIdentifiers, AreRanksOf}
 
--- one more number of which P does not hold
+-- one more number, which does not satisfy P
 pub widen : (P : ℕ → Type 0) (n : ℕ) (o : Option ℕ) → (P n → ⊥) → IsFirstBelow P n o → IsFirstBelow P (n + 1) o
 widen P n None none h = λ u lt p. elim (cases_lt u n) [ inl below ↦ h u below p | inr ge ↦ let e : u ≡ n = omega arith in none (subst P e p) ]
 widen P n (Some u) none h = record { within = let lt : u < n = h.within in omega arith; holds = h.holds; first = h.first }
 
--- one more number, where an earlier one is found
+-- one more number, where an earlier one satisfies P
 pub widen_found : (P : ℕ → Type 0) (n u : ℕ) → IsFirstBelow P n (Some u) → IsFirstBelow P (n + 1) (Some u)
 widen_found P n u h = record { within = let lt : u < n = h.within in omega arith; holds = h.holds; first = h.first }
 
--- the first number of which P holds
+-- the first number that satisfies P
 first_now : (P : ℕ → Type 0) (n : ℕ) (o : Option ℕ) → o ≡ None → P n → IsFirstBelow P n o → IsFirstBelow P (n + 1) (Some n)
 first_now P n o e p h =
     let none : (u : ℕ) → u < n → P u → ⊥ = subst (IsFirstBelow P n) e h in
     record { within = omega arith; holds = p; first = λ u lt q. none u lt q }
 
--- a number is noted at a token where P holds of it, and P holds of it nowhere else
+-- a number is entered at the one token where it satisfies P
 note_more : (P : (file token : ℕ) → ℕ → Type 0) (n : ℕ) (old new : Numbers) (place : Position) → Notes old new place n → P place.file place.index n →
     ((f t : ℕ) → P f t n → (f ≡ place.file) × (t ≡ place.index)) → ((f t : ℕ) → IsFirstBelow (P f t) n (old f t)) → (f t : ℕ) →
     IsFirstBelow (P f t) (n + 1) (new f t)
@@ -54,7 +54,7 @@ abbrev pub place_or : Position → Option Position → Position
 place_or d None = d
 place_or d (Some p) = p
 
--- the next of a list of places
+-- the next of a list of positions
 pub next_rank : (places : List Position) (n : ℕ) (old new : Numbers) (d : Position) → n < length places → Notes old new (get_or places n d) n →
     AreRanksOf places n old → AreRanksOf places (n + 1) new
 next_rank places n old new d lt s h =

@@ -1,4 +1,4 @@
--- Each identifier is bound to one declaration at most.
+-- Each identifier is bound to at most one declaration.
 use Rattle.std.proofs.Common.{ℕ, ◌≡◌, ◌<◌, ◌⊎◌, inl, inr, true, sym, ◌∙◌, subst, arith, zero, suc}
 use Rattle.std.specs.Prelude.{◌↔◌}
 use Rattle.std.proofs.lemmas.Bool.{cases_order}
@@ -25,7 +25,7 @@ module _ (l : Layout) (nested : Nested l) where
   abbrev pub Blocks : Names → ℕ → ℕ → Type 0
   Blocks names d e = MayDeclare l e × SameBlock l e d × (names e ≡ names d) × InScope l e d
 
-  -- that a left name of `:=` is new is said of declarations, and so of all that may declare
+  -- a left name of `:=` is new among declarations, and so among all identifiers that may declare
   pub none_blocks : (names : Names) (d : ℕ) → IsLeftName l d → ((e : ℕ) → Declares l names e → SameBlock l e d → names e ≡ names d → InScope l e d → ⊥) →
       (k e : ℕ) → e < k → Blocks names d e → ⊥
   none_blocks names d left h zero e lt b = omega arith

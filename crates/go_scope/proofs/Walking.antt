@@ -7,12 +7,12 @@ use Rattle.go_scope.specs.Leading.{LeadsInside}
 use Rattle.go_scope.specs.Open.{IsOver, IsLastOpen, AreLinked}
 use Rattle.go_scope.proofs.Following.{over_later}
 
--- d is the next one or stands further on
+-- d is the next declaration or comes after it
 abbrev pub IsLeft : Option ℕ → ℕ → Type 0
 IsLeft None d = ⊥
 IsLeft (Some k) d = d ≤ k
 
--- how many identifiers stand before what is left
+-- the number of identifiers before the ones that are left
 abbrev pub left_of : Option ℕ → ℕ
 left_of None = 0
 left_of (Some d) = suc d
@@ -25,7 +25,7 @@ left_less at (Some e) d is h =
     subst P (sym is) (let lt : suc e < suc d = omega arith in lt)
 
 module _ (l : Layout) (size : ℕ) (names : Names) (name : List ℕ) where
-  -- what is known of the next one
+  -- the properties of the next declaration
   abbrev pub IsKnown : ℕ → Option ℕ → Type 0
   IsKnown n at = ForSome at (λ d. (d < n) × LeadsInside l names name d)
 
@@ -36,7 +36,7 @@ module _ (l : Layout) (size : ℕ) (names : Names) (name : List ℕ) where
       let P : ℕ → Type 0 = λ v. (v < n) × LeadsInside l names name v in
       subst P same (h.0, h.1)
 
-  -- what is not over is left
+  -- a declaration whose block is not over is left
   pub last_left : (n : ℕ) (at : Option ℕ) → IsLastOpen l size names name n at → (e : ℕ) → e < n → LeadsInside l names name e →
       (IsOver l size n e → ⊥) → IsLeft at e
   last_left n None h e lt k lives = lives (h e lt k)
@@ -45,7 +45,7 @@ module _ (l : Layout) (size : ℕ) (names : Names) (name : List ℕ) where
     | inr o ↦ elim o [ inl less ↦ omega arith | inr more ↦ absurd (lives (h.2 e more lt k)) ]
   ]
 
-  -- the next one behind d
+  -- the next declaration after d
   next_last : (n : ℕ) (around : List (Option ℕ)) (d : ℕ) (next x : Option ℕ) → AreLinked l size names n around → (d < n) × LeadsInside l names name d →
       next ≡ get_or around d x → IsLastOpen l size names name d next
   next_last n around d next x h k e =
@@ -55,7 +55,7 @@ module _ (l : Layout) (size : ℕ) (names : Names) (name : List ℕ) where
 
   module _ (n : ℕ) (around : List (Option ℕ)) (at next x : Option ℕ) (d : ℕ) (h : AreLinked l size names n around) (is : at ≡ Some d)
       (en : next ≡ get_or around d x) (k : IsKnown n at) where
-    -- what is left at d, and is not d, is left behind d
+    -- a declaration that is left at d, other than d, is left after d
     pub walk_left : (e : ℕ) → LeadsInside l names name e → (IsOver l size d e → ⊥) → IsLeft at e → (e ≡ d → ⊥) → IsLeft next e
     walk_left e inside lives left other =
         let P : Option ℕ → Type 0 = λ a. IsLeft a e in
@@ -75,7 +75,7 @@ module _ (l : Layout) (size : ℕ) (names : Names) (name : List ℕ) where
     pub walk_ends : left_of next < left_of at
     walk_ends = left_less at next d is (λ e is_next. (last_known d next (next_last n around d next x h (k d is) en) e is_next).0)
 
-  -- one that is over is dropped
+  -- a declaration whose block is over is dropped
   dropped : (n d : ℕ) (next : Option ℕ) → d < n → IsOver l size n d → ((e : ℕ) → d < e → e < n → LeadsInside l names name e → IsOver l size n e) →
       IsLastOpen l size names name d next →
       IsLastOpen l size names name n next

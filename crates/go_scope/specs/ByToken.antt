@@ -1,4 +1,4 @@
--- Numbers that stand at tokens of files.
+-- Tables of numbers by file and token.
 use Rattle.std.specs.Prelude.{ℕ, ◌≡◌, ◌<◌, Bool, true, false, List, [], Option, Some, None, slice_get, slice_index_or, MatchOption}
 use Rattle.std.specs.Global.{Vec}
 use Rattle.go_scope.specs.declared.model.Position.{Position}
@@ -6,55 +6,60 @@ use Rattle.go_scope.specs.Bindings.{Layout, IsIdentifier, is_implied}
 use Rattle.go_scope.specs.Table.{StandsAt, IsFirstOf}
 use Rattle.go_scope.specs.declared.by_token.ByToken.{ByToken}
 
--- for each file and token a number, or none
+-- a number, or none, for each file and token index
 abbrev pub Numbers : Type 0
 Numbers = (file token : ℕ) → Option ℕ
 
+-- the number of a token in the row of its file
 abbrev pub number_in : List (Option ℕ) → ℕ → Option ℕ
 number_in row token = slice_index_or row token None
 
+-- the items of an optional row
 abbrev pub row_at : Option (Vec (Option ℕ)) → List (Option ℕ)
 row_at None = []
 row_at (Some row) = row.items
 
+-- the numbers of the program's table
 abbrev pub number_at : ByToken → Numbers
 number_at b file token = number_in (row_at (slice_get b.rows.items file)) token
 
--- the number at one token is set, and all others stay
+-- in a file's row the number of one token is set, and all others stay
 pub record SetsToken (old new : ℕ → Option ℕ) (token number : ℕ) : Type 0 where
   pub here : new token ≡ Some number
   pub elsewhere : (t : ℕ) → (t ≡ token → ⊥) → new t ≡ old t
 
+-- the number of one position is set, and all others stay
 pub record Sets (old new : Numbers) (place : Position) (number : ℕ) : Type 0 where
   pub here : new place.file place.index ≡ Some number
   pub elsewhere : (f t : ℕ) → (f ≡ place.file → t ≡ place.index → ⊥) → new f t ≡ old f t
 
--- the number at one token is set, unless one is set there
+-- the number of one position is set unless it has one, and all others stay
 pub data Notes (old new : Numbers) (place : Position) (number : ℕ) : Type 0 where
   first : old place.file place.index ≡ None → Sets old new place number → Notes old new place number
   later : {earlier : ℕ} → old place.file place.index ≡ Some earlier → ((f t : ℕ) → new f t ≡ old f t) → Notes old new place number
 
--- an identifier is noted at its token
+-- the identifier u is entered at its position; a predeclared name changes nothing
 pub data NotesIdentifier (l : Layout) (u : ℕ) (old new : Numbers) : Type 0 where
   stands : IsIdentifier l u → Notes old new (l.place u) u → NotesIdentifier l u old new
   stands_nowhere : (IsIdentifier l u → ⊥) → ((f t : ℕ) → new f t ≡ old f t) → NotesIdentifier l u old new
 
--- the first of the numbers below n of which P holds; none where it holds of none
+-- `found` is the first number below n that satisfies P, or none where no such number does
 abbrev pub IsFirstBelow : (ℕ → Type 0) → ℕ → Option ℕ → Type 0
 IsFirstBelow P n found = MatchOption found ((u : ℕ) → u < n → P u → ⊥) (λ u. IsFirstOf P n u)
 
--- the identifier at each token, of those below n
+-- `found` gives for each token its first identifier below n, or none
 abbrev pub AreIdentifiers : Layout → ℕ → Numbers → Type 0
 AreIdentifiers l n found = (file token : ℕ) → IsFirstBelow (StandsAt l (record { file = file; index = token })) n (found file token)
 
--- the ranks below n, by the tokens at which a list of places has them
+-- `found` gives for each token the first rank below n at which the list `places` has its position, or none
 abbrev pub AreRanksOf : List Position → ℕ → Numbers → Type 0
 AreRanksOf places n found = (file token : ℕ) → IsFirstBelow (λ rank. slice_get places rank ≡ Some (record { file = file; index = token })) n (found file token)
 
--- the number at the token of an identifier; none where d stands at none
+-- the given number, or none for a predeclared name
 abbrev pub number_if : (implied : Bool) → Option ℕ → Option ℕ
 number_if true number = None
 number_if false number = number
 
+-- the number at the position of d, or none where d is a predeclared name
 abbrev pub number_of : Layout → Numbers → ℕ → Option ℕ
 number_of l numbers d = number_if (is_implied (l.role d)) (numbers (l.place d).file (l.place d).index)

@@ -1,4 +1,4 @@
--- The identifiers of types and expressions, in source order.
+-- The identifiers of types and expressions, in the order of their tokens.
 use Rattle.std.specs.Prelude.{ℕ, List, [], ◌∷◌, ◌++◌, Option, Some, None}
 use Rattle.std.specs.List.{flat_map}
 use Rattle.go_scope.specs.declared.model.Role.TheVariants.{Use, NotLexical}
@@ -8,7 +8,7 @@ use Rattle.go_ast.specs.Tree.{Item, TypeTree, Local, Imported, Pointer, Slice, E
 use Rattle.go_ast.specs.Tree.{Chain, Binary, OperandTrees, no_operand, operand, LinkTrees, no_link, selector, index, call, ArgumentTrees, no_argument}
 use Rattle.go_ast.specs.Tree.{argument, LiteralTree, literal, ElementTrees, no_element, element}
 
--- the identifiers of what may be absent
+-- the identifiers of an optional tree
 abbrev pub sites_if : {X : Type 0} → (X → List Site) → Option X → List Site
 sites_if f None = []
 sites_if f (Some x) = f x
@@ -17,13 +17,14 @@ sites_if f (Some x) = f x
 abbrev pub list_sites : {X : Type 0} → (X → List Site) → List (Item X) → List Site
 list_sites f xs = flat_map (λ x. f x.value) xs
 
--- the name before a dot is a lexical use, the name behind it is none
+-- the identifiers of a type; in `p.T` the name p is a use, and T a selected name
 unfoldable pub type_sites : Source → TypeTree → List Site
 type_sites s (Local n) = site s n Use ∷ []
 type_sites s (Imported p d n) = site s p Use ∷ site s n (NotLexical purpose.Selected) ∷ []
 type_sites s (Pointer p t) = type_sites s t
 type_sites s (Slice o c t) = type_sites s t
 
+-- the identifier of an optional composite literal key
 abbrev pub key_sites : Source → Option (ℕ × ℕ) → List Site
 key_sites s None = []
 key_sites s (Some k) = site s k.0 (NotLexical purpose.Key) ∷ []

@@ -1,4 +1,4 @@
--- The identifiers of declarations, files and packages, in source order.
+-- The identifiers of declarations, files and packages, in the order of their tokens.
 use Rattle.std.specs.Prelude.{ℕ, suc, List, [], ◌∷◌, ◌++◌, Option, Some, None, map, codes, bytes_eq, if◌then◌else◌}
 use Rattle.std.specs.List.{flat_map}
 use Rattle.go_scope.specs.declared.model.Block.{Block}
@@ -13,15 +13,15 @@ use Rattle.go_scope.specs.StatementSites.{ident_sites, group_sites, open_of, clo
 use Rattle.go_ast.specs.Tree.{Group, GlobalTree, FieldTree, BodyTree, Other, Struct, TypeSpecTree, ReceiverTree, ParamTree, ResultTree, no_result}
 use Rattle.go_ast.specs.Tree.{one_result, results, FuncTree, ImportTree, ImportsTree, DeclTree, VarDecl, TypeDecl, FuncDecl, FileTree}
 
--- a name that the package's block declares
+-- the identifier of a name that the package block declares
 abbrev pub global_name : Source → ℕ → List Site
 global_name s n = site s n (Declaring Package 0) ∷ []
 
--- a name of a field
+-- the identifier of a field's name in its declaration
 abbrev pub member_name : Source → ℕ → List Site
 member_name s n = site s n (NotLexical purpose.Member) ∷ []
 
--- a group of which no item declares a local variable
+-- the identifiers of a group whose specs declare no local variables
 abbrev pub spec_sites : {X : Type 0} → (X → List Site) → Group X → List Site
 spec_sites f g = group_sites (λ following. f) 0 g
 
@@ -38,10 +38,11 @@ body_sites s (Struct p o fs c) = list_sites (field_sites s) fs
 unfoldable pub type_spec_sites : Source → TypeSpecTree → List Site
 type_spec_sites s t = global_name s t.name ++ body_sites s t.body
 
--- receiver and parameters stand in the block of the body, with scopes from its beginning
+-- the identifiers of a receiver, declared in the block b of the body with a scope from the token `start`
 unfoldable pub receiver_sites : Source → Block → ℕ → ReceiverTree → List Site
 receiver_sites s b start r = ident_sites s (Declaring b start) r.name ++ (site s r.type_name Use ∷ [])
 
+-- the identifiers of parameters of one type, declared in the block b of the body with scopes from the token `start`
 unfoldable pub param_sites : Source → Block → ℕ → ParamTree → List Site
 param_sites s b start p = list_sites (ident_sites s (Declaring b start)) p.names ++ type_sites s p.type_use
 
@@ -50,10 +51,11 @@ result_sites s no_result = []
 result_sites s (one_result t) = type_sites s t
 result_sites s (results o ts c) = list_sites (type_sites s) ts
 
+-- the block of a function's body
 abbrev pub func_block : Source → FuncTree → Block
 func_block s f = Inner s.rank (open_of f.body) (close_of f.body)
 
--- a method is a member of its type, and a function `init` is declared in no block
+-- the role of a function's name: a method is a member, a function `init` is declared in no block, any other in the package block
 abbrev pub func_role : Option ReceiverTree → List ℕ → Role
 func_role None name = if bytes_eq name (codes "init") then NotLexical purpose.InitFunction else Declaring Package 0
 func_role (Some r) name = NotLexical purpose.Member
@@ -63,12 +65,12 @@ func_sites s f =
     sites_if (receiver_sites s (func_block s f) (open_of f.body)) f.receiver ++ (site s f.name (func_role f.receiver (s.spell f.name)) ∷
     (list_sites (param_sites s (func_block s f) (open_of f.body)) f.params ++ (result_sites s f.result ++ block_sites s f.body)))
 
--- an import's name, where it has one, is seen in its file; an import without a name declares nothing yet
+-- the identifier of an import's name, declared in the block of its file; none where the import has no name
 abbrev pub import_name : Source → Option ℕ → List Site
 import_name s None = []
 import_name s (Some n) = site s n (Declaring (File s.rank) 0) ∷ []
 
--- the literal of an import tells whether the import has a name of its own
+-- the purpose of an import's string literal, by whether the import has a name
 abbrev pub import_purpose : Option ℕ → Purpose
 import_purpose None = purpose.UnnamedImport
 import_purpose (Some n) = purpose.ImportPath
@@ -84,27 +86,29 @@ decl_sites s (VarDecl k g semicolon) = spec_sites (global_sites s) g
 decl_sites s (TypeDecl k g semicolon) = spec_sites (type_spec_sites s) g
 decl_sites s (FuncDecl k f semicolon) = func_sites s f
 
+-- the identifiers of a file
 unfoldable pub file_sites : Source → FileTree → List Site
 file_sites s f = site s f.name (NotLexical purpose.PackageClause) ∷ (flat_map (imports_sites s) f.imports ++ flat_map (decl_sites s) f.decls)
 
--- the predeclared names
+-- the predeclared names of the Go subset
 abbrev pub universe : List (List ℕ)
 universe = codes "bool" ∷ codes "int" ∷ codes "string" ∷ codes "true" ∷ codes "false" ∷ codes "nil" ∷ codes "append" ∷
     codes "len" ∷ codes "panic" ∷ codes "print" ∷ codes "println" ∷ []
 
+-- a predeclared name as an identifier
 abbrev pub universe_site : List ℕ → Site
 universe_site name = record { place = record { file = 0; index = 0 }; name = name; role = Implied Universe 0 }
 
--- a file with the bytes of its tokens
+-- a file's tree with the bytes of its tokens
 pub record SpelledFile : Type 0 where
   pub tree : FileTree
   pub spell : ℕ → List ℕ
 
--- the identifiers of files, of which the first has that rank
+-- the identifiers of files whose ranks begin with `rank`
 unfoldable pub files_sites : ℕ → List SpelledFile → List Site
 files_sites rank [] = []
 files_sites rank (f ∷ fs) = file_sites (record { rank = rank; spell = f.spell }) f.tree ++ files_sites (suc rank) fs
 
--- the predeclared names, and the identifiers of a package's files in the order of their paths
+-- the identifiers of a package whose files are in the order of their paths: the predeclared names first
 unfoldable pub package_sites : List SpelledFile → List Site
 package_sites fs = map universe_site universe ++ files_sites 0 fs

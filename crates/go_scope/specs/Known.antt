@@ -1,4 +1,4 @@
--- What a table keeps of its identifiers.
+-- The contents of a package's table: which identifiers declare, and to which declaration each is bound.
 use Rattle.std.specs.Prelude.{ℕ, ◌≡◌, ◌<◌, ◌↔◌, List, length, Option, Bool, IsTrue, MatchOption, slice_index_or}
 use Rattle.go_scope.specs.Bindings.{Layout, Names, Declares, IsBoundTo}
 use Rattle.go_scope.specs.ByToken.{Numbers, AreIdentifiers}
@@ -10,37 +10,38 @@ use Rattle.go_scope.specs.Table.{layout_of}
 use Rattle.go_scope.specs.declared.model.Identifier.{Identifier}
 use Rattle.go_scope.specs.declared.declaring.DeclaredIn.{DeclaredIn}
 
--- of each of so many numbers whether it is such
+-- `marks` has n items; item d is true exactly if d satisfies P
 pub record AreMarks (P : ℕ → Type 0) (n : ℕ) (marks : List Bool) : Type 0 where
   pub sized : length marks ≡ n
   pub exact : (d : ℕ) (x : Bool) → d < n → IsTrue (slice_index_or marks d x) ↔ P d
 
--- the links of so many identifiers, which of them declare, and which come first of their name in their blocks, where names are told
--- by their numbers
+-- `declared` is right for the first n identifiers: their links, which of them declare, and which are the first declaration of their name in
+-- their block. `numbers` gives their names' numbers.
 pub record AreFirst (xs : List Identifier) (numbers : List ℕ) (n : ℕ) (declared : DeclaredIn) : Type 0 where
   pub links : AreLinks xs numbers n declared.links
   pub marks : AreMarks (Declares (layout_of xs) (told numbers)) n declared.declaring.items
   pub firsts : AreMarks (Leads (layout_of xs) (told numbers)) n declared.leading.items
 
--- those of all identifiers
+-- `declared` is right for all identifiers
 abbrev pub AreDeclared : List Identifier → List ℕ → DeclaredIn → Type 0
 AreDeclared xs numbers declared = AreFirst xs numbers (length xs) declared
 
--- the declaration to which u is bound, or none
+-- `bound` is the declaration to which u is bound, or none
 abbrev pub IsBinding : Layout → Names → ℕ → Option ℕ → Type 0
 IsBinding l names u bound = MatchOption bound ((d : ℕ) → IsBoundTo l names u d → ⊥) (λ d. IsBoundTo l names u d)
 
--- the declaration to which each identifier is bound, or none
+-- `bindings` gives for each of n identifiers the declaration to which it is bound, or none
 pub record AreBindings (l : Layout) (names : Names) (n : ℕ) (bindings : List (Option ℕ)) : Type 0 where
   pub sized : length bindings ≡ n
   pub each : (u : ℕ) (x : Option ℕ) → u < n → IsBinding l names u (slice_index_or bindings u x)
 
--- which identifiers declare, and to what each is bound
+-- `declaring` marks which of n identifiers declare, and `bound` gives the declaration to which each is bound
 pub record AreBound (l : Layout) (names : Names) (n : ℕ) (declaring : List Bool) (bound : List (Option ℕ)) : Type 0 where
   pub marks : AreMarks (Declares l names) n declaring
   pub bindings : AreBindings l names n bound
 
--- what is kept of the identifiers of a package: which of them declare, to what each is bound, and which one stands at a token
+-- the contents of a package's table are right: which identifiers declare, the declaration to which each is bound, and the identifier of
+-- each token
 pub record AreKnown (p : ScopedPackage) (declaring : List Bool) (bound : List (Option ℕ)) (noted : Numbers) : Type 0 where
   pub known : AreBound (layout_in p) (names_in p) (length p.sites) declaring bound
   pub numbers : AreIdentifiers (layout_in p) (length p.sites) noted

@@ -1,5 +1,4 @@
--- The identifiers of a package in which an import without a name declares the name of the package that it imports, where
--- that name is known.
+-- The identifiers of a package in which imports without a name declare the names of the packages that they import.
 use Rattle.std.specs.Prelude.{ℕ, suc, Bool, true, false, List, [], ◌∷◌, Option, Some, None, slice_get}
 use Rattle.std.specs.Borrow.{Bor}
 use Rattle.go_scope.specs.declared.model.Block.TheVariants.{File}
@@ -9,40 +8,44 @@ use Rattle.go_scope.specs.declared.model.Purpose.TheVariants.{UnnamedImport}
 use Rattle.go_scope.specs.Scoped.{ScopedPackage}
 use Rattle.go_scope.specs.Site.{Site}
 
--- the literal of an import without a name
+-- the role is that of the string literal of an import without a name
 abbrev pub is_unnamed_import : Role → Bool
 is_unnamed_import (NotLexical UnnamedImport) = true
 is_unnamed_import r = false
 
--- the literal of an import declares a name in its file
+-- an import's string literal as the declaration of a name in its file
 abbrev pub named_import : Site → List ℕ → Site
 named_import x name = record { place = x.place; name = name; role = Declaring (File x.place.file) 0 }
 
+-- the identifier, declaring the name if it is marked as the literal of an import without a name and a name is given
 abbrev pub named_where : (unnamed : Bool) → Option (List ℕ) → Site → Site
 named_where true (Some name) x = named_import x name
 named_where true None x = x
 named_where false name x = x
 
--- an identifier, with the name of the package where it is the literal of an import without a name
+-- the identifier, declaring the package's name if it is the string literal of an import without a name and a name is given
 abbrev pub named_site : Option (List ℕ) → Site → Site
 named_site name x = named_where (is_unnamed_import x.role) name x
 
--- identifiers, with the package's name for each number of which one is known
+-- the identifiers, each with the package's name that `names` gives for its number
 unfoldable pub named_sites : (ℕ → Option (List ℕ)) → List Site → List Site
 named_sites names [] = []
 named_sites names (x ∷ xs) = named_site (names 0) x ∷ named_sites (λ u. names (suc u)) xs
 
+-- the package in which imports without a name declare the names that are given
 abbrev pub named : (ℕ → Option (List ℕ)) → ScopedPackage → ScopedPackage
 named names p = record { files = p.files; sites = named_sites names p.sites }
 
+-- an optional name without its borrow
 abbrev pub name_value : Option (Bor (List ℕ)) → Option (List ℕ)
 name_value None = None
 name_value (Some name) = Some name.now
 
+-- the name in a list's item, none beyond its end
 abbrev pub name_in : Option (Option (Bor (List ℕ))) → Option (List ℕ)
 name_in None = None
 name_in (Some name) = name_value name
 
--- the name that a list holds for a number
+-- the name that a list gives for the number u
 abbrev pub name_given : List (Option (Bor (List ℕ))) → ℕ → Option (List ℕ)
 name_given names u = name_in (slice_get names u)

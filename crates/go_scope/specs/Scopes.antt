@@ -1,4 +1,4 @@
--- Places, blocks and scopes of one package.
+-- Positions, blocks and scopes of one package.
 use Rattle.std.specs.Prelude.{ℕ, ◌≡◌, ◌<◌, ◌≤◌}
 use Rattle.go_scope.specs.declared.model.Position.{Position}
 use Rattle.go_scope.specs.declared.model.Block.{Block}
@@ -6,13 +6,14 @@ use Rattle.go_scope.specs.declared.model.Block.TheVariants.{Universe, Package, F
 use Rattle.go_scope.specs.declared.model.Scope.{Scope}
 use Rattle.go_scope.specs.declared.model.Scope.TheVariants.{Everywhere, WholePackage, WholeFile, Interval}
 
--- the scope of a declaration in a block: in an inner one it begins at an index and lasts to the block's end
+-- the scope of a declaration in a block: the whole block, or in an inner block from the token `start` to its end
 abbrev pub scope_in : Block → ℕ → Scope
 scope_in Universe start = Everywhere
 scope_in Package start = WholePackage
 scope_in (File file) start = WholeFile file
 scope_in (Inner file from to) start = Interval file start to
 
+-- the position is in the scope
 abbrev pub Holds : Scope → Position → Type 0
 Holds Everywhere place = Unit {0}
 Holds WholePackage place = Unit {0}
@@ -35,8 +36,8 @@ IsInside (Interval f a b) WholePackage = Unit {0}
 IsInside (Interval f a b) (WholeFile g) = f ≡ g
 IsInside (Interval f a b) (Interval g c d) = (f ≡ g) × (c ≤ a) × (b ≤ d)
 
--- The first block lies in the second. Since an import gives way to a package-level declaration, a file's block
--- stands outside of the package's here.
+-- The first block lies in the second. The package block counts as inside of each file block, as an import gives way to a package-level
+-- declaration.
 abbrev pub Nests : Block → Block → Type 0
 Nests (Inner f a b) (Inner g c d) = (f ≡ g) × (c < a) × (b ≤ d)
 Nests (Inner f a b) Package = Unit {0}

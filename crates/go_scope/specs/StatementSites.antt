@@ -1,5 +1,5 @@
--- The identifiers of statements, in source order. Each statement stands in a block, and before a token: there the scopes
--- of the variables begin that it declares.
+-- The identifiers of statements, in the order of their tokens. A statement belongs to a block, and the token `following` comes after it.
+-- There begin the scopes of the variables that it declares.
 use Rattle.std.specs.Prelude.{ℕ, List, [], ◌∷◌, ◌++◌}
 use Rattle.std.specs.List.{flat_map}
 use Rattle.std.specs.Option.{unwrap_or}
@@ -15,18 +15,18 @@ use Rattle.go_ast.specs.Tree.{Define, LocalTree, InitTree, ForTree, forever, whi
 use Rattle.go_ast.specs.Tree.{Continue, Return, BlockTree, block, StatementTrees, no_statement, statement, IfTree, if_tree, ElseTree, no_else, else_if}
 use Rattle.go_ast.specs.Tree.{else_block}
 
--- a name that is declared; a `_` declares nothing
+-- the identifier of a declared name or a `_`; the latter declares nothing
 abbrev pub ident_sites : Source → Role → IdentTree → List Site
 ident_sites s role (Named n) = site s n role ∷ []
 ident_sites s role (Underscore n) = site s n (NotLexical purpose.Blank) ∷ []
 
--- the left side of a `:=`, of which a name declares or is assigned
+-- the identifiers of a left side of `:=`; a name alone is declared or assigned
 abbrev pub left_sites : Source → Block → ℕ → ExprTree → List Site
 left_sites s b following (Name n) = site s n (LeftName b following) ∷ []
 left_sites s b following (Blank n) = site s n (NotLexical purpose.Blank) ∷ []
 left_sites s b following e = expr_sites s e
 
--- the left side of a `=`, of which a `_` alone is no use
+-- the identifiers of a left side of `=`; a `_` alone is no use
 abbrev pub assigned_sites : Source → ExprTree → List Site
 assigned_sites s (Blank n) = site s n (NotLexical purpose.Blank) ∷ []
 assigned_sites s e = expr_sites s e
@@ -45,7 +45,7 @@ unfoldable pub local_sites : Source → Block → ℕ → LocalTree → List Sit
 local_sites s b following l =
     list_sites (ident_sites s (Declaring b following)) l.names ++ (sites_if (type_sites s) l.type_use ++ sites_if (value_sites s) l.values)
 
--- items, each with the token behind it: its separator, or what closes the list
+-- the identifiers of items, each with the token after it: its separator, or the token `close` after the list
 unfoldable pub separated_sites : {X : Type 0} → (ℕ → X → List Site) → ℕ → List (Item X) → List Site
 separated_sites f close xs = flat_map (λ x. f (unwrap_or x.separator close) x.value) xs
 
@@ -56,16 +56,18 @@ group_sites f following (several o xs c) = separated_sites f c xs
 unfoldable pub init_sites : Source → Block → InitTree → List Site
 init_sites s b i = sites_if (simple_sites s b i.semicolon) i.simple
 
--- what stands between `for` and the brace that opens its block
+-- the identifiers of the header of a `for`, up to the opening brace
 unfoldable pub for_sites : Source → Block → ℕ → ForTree → List Site
 for_sites s b open_brace forever = []
 for_sites s b open_brace (while e) = expr_sites s e
 for_sites s b open_brace (clauses init first condition second post) =
     sites_if (simple_sites s b first) init ++ (sites_if (expr_sites s) condition ++ sites_if (simple_sites s b open_brace) post)
 
+-- the index of a block's opening brace
 abbrev pub open_of : BlockTree → ℕ
 open_of (block o ss c) = o
 
+-- the index of a block's closing brace
 abbrev pub close_of : BlockTree → ℕ
 close_of (block o ss c) = c
 
@@ -81,7 +83,7 @@ unfoldable mutual
   statement_sites s b following (Continue p) = []
   statement_sites s b following (Return p es) = exprs_sites s es
 
-  -- a block of its own, from its one brace to the other
+  -- a block in braces is an inner block, from its opening to its closing brace
   pub block_sites : Source → BlockTree → List Site
   block_sites s (block o ss c) = statements_sites s (blocks.Inner s.rank o c) c ss
 
@@ -90,7 +92,7 @@ unfoldable mutual
   statements_sites s b close (statement x semicolon rest) =
       statement_sites s b (unwrap_or semicolon close) x ++ statements_sites s b close rest
 
-  -- a block of its own round header and branches, from `if` to before the token behind the statement
+  -- an `if` is an inner block with its header and branches, from the keyword to the token `following`
   pub if_sites : Source → ℕ → IfTree → List Site
   if_sites s following (if_tree p init e x rest) =
       sites_if (init_sites s (blocks.Inner s.rank p following)) init ++ (expr_sites s e ++ (block_sites s x ++ else_sites s following rest))

@@ -1,4 +1,4 @@
-//! Numbers that stand at tokens of files: found again in one step.
+//! A table of numbers by file and token: each number is found in one step.
 ghost use Rattle.std.specs.Prelude.{◌≡◌, ◌<◌, ◌≤◌, ℕ, None, length, slice_get, IfOk, OnOk};
 ghost use Rattle.go_scope.specs.ByToken.{number_at, number_in, row_at, Sets, SetsToken, Notes, NotesIdentifier, AreIdentifiers};
 ghost use Rattle.go_scope.specs.Scoped.{layout_in};
@@ -8,13 +8,13 @@ use crate::model::Position;
 use go_ast::FileTree;
 use std::alloc::{AllocError, Global};
 
-/// At each token of each file a number, or none.
+/// A number, or none, for each token of each file of a package.
 #[derive(Drop)]
 pub struct ByToken {
     rows: Vec<Vec<Option<usize>>>,
 }
 
-/// Makes a row reach to a token.
+/// Extends a row so that it includes a token.
 fn reach(row: &mut Vec<Option<usize>>, token: usize) -> Result<(), AllocError>
     ensures kept { OnOk result ((t : ℕ) → number_in row.new.items t ≡ number_in row.old.items t) }
     ensures reached { OnOk result (token < length row.new.items) }
@@ -28,7 +28,7 @@ fn reach(row: &mut Vec<Option<usize>>, token: usize) -> Result<(), AllocError>
     Ok(())
 }
 
-/// Sets the number at a token of one file.
+/// Sets the number of a token in one file's row.
 fn set_token(row: &mut Vec<Option<usize>>, token: usize, number: usize) -> Result<(), AllocError>
     ensures { OnOk result (SetsToken (number_in row.old.items) (number_in row.new.items) token number) }
 {
@@ -37,7 +37,7 @@ fn set_token(row: &mut Vec<Option<usize>>, token: usize, number: usize) -> Resul
     Ok(())
 }
 
-/// A row with no number, as long as the tokens of a file are.
+/// A row without numbers, as long as the file has tokens.
 fn row_of(alloc: Global, file: &FileTree) -> Result<Vec<Option<usize>>, AllocError>
     ensures { IfOk result (λ row. (t : ℕ) → number_in row.items t ≡ None) }
 {
@@ -45,7 +45,7 @@ fn row_of(alloc: Global, file: &FileTree) -> Result<Vec<Option<usize>>, AllocErr
 }
 
 impl ByToken {
-    /// No number at any token, with room for the tokens of files.
+    /// The empty table, with room for the tokens of these files.
     fn over(alloc: Global, files: &[FileTree]) -> Result<ByToken, AllocError>
         ensures { IfOk result (λ found. (file token : ℕ) → number_at found file token ≡ None) }
     {
@@ -56,7 +56,7 @@ impl ByToken {
         Ok(ByToken { rows })
     }
 
-    /// No number at any token.
+    /// The empty table.
     pub fn new(alloc: Global) -> ByToken
         ensures { (file token : ℕ) → number_at result file token ≡ None }
     {
@@ -65,7 +65,7 @@ impl ByToken {
         }
     }
 
-    /// The number at a token.
+    /// The number of a token, if it has one.
     pub fn get(&self, place: Position) -> Option<usize>
         ensures { result ≡ number_at self.now place.file place.index }
     {
@@ -73,7 +73,7 @@ impl ByToken {
         *row.get(place.index)?
     }
 
-    /// The numbers at the tokens of a file, as far as some are known.
+    /// The numbers of a file's tokens; tokens beyond the slice have none.
     fn row(&self, file: usize) -> &[Option<usize>]
         ensures { result.now ≡ row_at (slice_get self.now.rows.items file) }
     {
@@ -83,14 +83,14 @@ impl ByToken {
         }
     }
 
-    /// A number of tokens of a file, behind which there is no number.
+    /// A token index of a file from which on no token has a number.
     pub fn width(&self, file: usize) -> usize
         ensures { (token : ℕ) → result ≤ token → number_at self.now file token ≡ None }
     {
         self.row(file).len()
     }
 
-    /// Makes the rows reach to a file.
+    /// Extends the table so that it includes a file.
     fn reach_file(&mut self, alloc: Global, file: usize) -> Result<(), AllocError>
         ensures kept { OnOk result ((f t : ℕ) → number_at self.new f t ≡ number_at self.old f t) }
         ensures reached { OnOk result (file < length self.new.rows.items) }
@@ -101,7 +101,7 @@ impl ByToken {
         Ok(())
     }
 
-    /// Sets the number at a token.
+    /// Sets the number of a token.
     fn set(&mut self, alloc: Global, place: Position, number: usize) -> Result<(), AllocError>
         ensures { OnOk result (Sets (number_at self.old) (number_at self.new) place number) }
     {
@@ -109,7 +109,7 @@ impl ByToken {
         set_token(&mut self.rows[place.file], place.index, number)
     }
 
-    /// Sets the number at a token, unless one is set there.
+    /// Sets the number of a token, unless it has one.
     pub fn note(&mut self, alloc: Global, place: Position, number: usize) -> Result<(), AllocError>
         ensures { OnOk result (Notes (number_at self.old) (number_at self.new) place number) }
     {
@@ -120,7 +120,7 @@ impl ByToken {
     }
 }
 
-/// Notes an identifier at its token, if it stands at one.
+/// Enters an identifier at its token. A predeclared name has none.
 fn note_identifier(
     alloc: Global,
     found: &mut ByToken,
@@ -136,7 +136,7 @@ fn note_identifier(
     found.note(alloc, identifiers.place(u), u)
 }
 
-/// The identifier at each token of a package.
+/// The identifier of each token of a package.
 pub fn identifiers_by_token(alloc: Global, identifiers: &Identifiers) -> Result<ByToken, AllocError>
     ensures { IfOk result (λ found. AreIdentifiers (layout_in identifiers.now) (length identifiers.now.sites) (number_at found)) }
 {

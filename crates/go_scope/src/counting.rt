@@ -1,4 +1,4 @@
-//! Which declarations count, and to which an identifier is bound.
+//! Finds which declarations count, and to which one each identifier is bound.
 ghost use Rattle.std.specs.Prelude.{◌≡◌, ◌<◌, ◌↔◌, ◌⊎◌, ◌∷◌, [], true, length, IsTrue};
 ghost use Rattle.go_scope.specs.Bindings.{Counts, IsUse, is_use, is_left_name, is_implied, scope_of};
 ghost use Rattle.go_scope.specs.Known.{AreDeclared, IsBinding};
@@ -17,6 +17,7 @@ use crate::outer::{OuterBlock, first_outside};
 use crate::resolve::role_at;
 
 impl Role {
+    /// Whether the role is a plain use.
     pub(crate) fn is_use(self) -> bool
         ensures { result ≡ is_use self }
     {
@@ -29,13 +30,14 @@ impl Role {
         }
     }
 
-    /// Whether an identifier of this role is a lexical use, if it is known whether it declares.
+    /// Whether an identifier of this role is a lexical use, given whether it declares.
     pub(crate) fn is_use_unless(self, declares: bool) -> bool
         ensures { IsTrue result ↔ (is_use self ≡ true) ⊎ ((is_left_name self ≡ true) × (IsTrue declares → ⊥)) }
     {
         self.is_use() || (self.is_left_name() && !declares)
     }
 
+    /// Whether the role is that of a predeclared name.
     pub fn is_implied(self) -> bool
         ensures { result ≡ is_implied self }
     {
@@ -45,6 +47,7 @@ impl Role {
         }
     }
 
+    /// The scope of a declaration of this role.
     pub fn scope(self) -> Scope
         ensures { result ≡ scope_of self }
     {
@@ -52,7 +55,7 @@ impl Role {
     }
 }
 
-/// Whether a declaration comes first of its name in its block.
+/// Whether d is the first declaration of its name in its block.
 fn leads(identifiers: &[Identifier], names: &[usize], declared: &DeclaredIn, d: usize) -> bool
     requires in_range { d < length identifiers.now }
     requires declared { AreDeclared identifiers.now names.now declared.now }
@@ -61,7 +64,7 @@ fn leads(identifiers: &[Identifier], names: &[usize], declared: &DeclaredIn, d: 
     declared.leading[d]
 }
 
-/// Whether d is an import, and its name is declared in the package's block.
+/// Whether d is an import whose name the package block declares too.
 fn gives_way(identifiers: &[Identifier], names: &[usize], links: &Links, d: usize) -> bool
     requires in_range { d < length identifiers.now }
     requires linked { AreLinks identifiers.now names.now (length identifiers.now) links.now }
@@ -73,7 +76,7 @@ fn gives_way(identifiers: &[Identifier], names: &[usize], links: &Links, d: usiz
     }
 }
 
-/// Whether a name is declared in the package's block.
+/// Whether the package block declares a name, given by its number.
 fn is_package_level(identifiers: &[Identifier], names: &[usize], links: &Links, name: usize) -> bool
     requires { AreLinks identifiers.now names.now (length identifiers.now) links.now }
     ensures { IsTrue result ↔ IsInPackage (layout_of identifiers.now) (told names.now) (name ∷ []) }
@@ -81,7 +84,7 @@ fn is_package_level(identifiers: &[Identifier], names: &[usize], links: &Links, 
     first_outside(&links.outer, name, OuterBlock::Package).is_some()
 }
 
-/// Whether an identifier is a declaration that counts.
+/// Whether d is a declaration that counts: the first of its name in its block, and no import whose name the package block declares.
 fn counts(identifiers: &[Identifier], names: &[usize], declared: &DeclaredIn, d: usize) -> bool
     requires in_range { d < length identifiers.now }
     requires declared { AreDeclared identifiers.now names.now declared.now }
@@ -90,7 +93,7 @@ fn counts(identifiers: &[Identifier], names: &[usize], declared: &DeclaredIn, d:
     leads(identifiers, names, declared, d) && !gives_way(identifiers, names, &declared.links, d)
 }
 
-/// Whether an identifier is a lexical use.
+/// Whether an identifier is a lexical use: also a left name of `:=` that does not declare.
 fn is_use(identifiers: &[Identifier], names: &[usize], declared: &DeclaredIn, d: usize) -> bool
     requires in_range { d < length identifiers.now }
     requires declared { AreDeclared identifiers.now names.now declared.now }
@@ -99,7 +102,7 @@ fn is_use(identifiers: &[Identifier], names: &[usize], declared: &DeclaredIn, d:
     role_at(identifiers, d).is_use_unless(declared.declaring[d])
 }
 
-/// The declaration to which an identifier is bound.
+/// The declaration to which an identifier is bound: that of its name for a use, and itself for a declaration that counts.
 pub(crate) fn bound_to(
     identifiers: &[Identifier],
     names: &[usize],

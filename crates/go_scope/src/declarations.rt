@@ -1,4 +1,4 @@
-//! The identifiers of a file's declarations.
+//! Collects the identifiers of a file's imports and top-level declarations.
 ghost use Rattle.std.specs.Prelude.{◌≡◌, OnOk};
 ghost use Rattle.go_scope.specs.ExpressionSites.{sites_if, list_sites};
 ghost use Rattle.go_scope.specs.FileSites.{global_name, member_name, spec_sites, global_sites, field_sites, body_sites, type_spec_sites, receiver_sites, param_sites, result_sites, func_role, func_sites, import_name, import_purpose, import_sites, imports_sites, decl_sites, file_sites};
@@ -17,7 +17,7 @@ use go_ast::tree::{
 };
 use std::alloc::AllocError;
 
-/// Adds names that the package's block declares.
+/// Adds names that the package block declares.
 fn add_globals<'a>(
     source: &RankedFile<'a>,
     found: &mut Vec<Identifier<'a>>,
@@ -31,7 +31,7 @@ fn add_globals<'a>(
     Ok(())
 }
 
-/// Adds names of fields.
+/// Adds the names of fields.
 fn add_members<'a>(
     source: &RankedFile<'a>,
     found: &mut Vec<Identifier<'a>>,
@@ -45,6 +45,7 @@ fn add_members<'a>(
     Ok(())
 }
 
+/// Adds the identifiers of package-level variables of one type.
 fn add_var_spec<'a>(
     source: &RankedFile<'a>,
     found: &mut Vec<Identifier<'a>>,
@@ -56,6 +57,7 @@ fn add_var_spec<'a>(
     add_type(source, found, &spec.var_type)
 }
 
+/// Adds the identifiers of fields of one type.
 fn add_field<'a>(
     source: &RankedFile<'a>,
     found: &mut Vec<Identifier<'a>>,
@@ -67,6 +69,7 @@ fn add_field<'a>(
     add_type(source, found, &field.field_type)
 }
 
+/// Adds the identifiers of the right side of a type definition.
 fn add_body<'a>(
     source: &RankedFile<'a>,
     found: &mut Vec<Identifier<'a>>,
@@ -85,6 +88,7 @@ fn add_body<'a>(
     }
 }
 
+/// Adds the identifiers of a type definition.
 fn add_type_spec<'a>(
     source: &RankedFile<'a>,
     found: &mut Vec<Identifier<'a>>,
@@ -96,7 +100,7 @@ fn add_type_spec<'a>(
     add_body(source, found, &spec.body)
 }
 
-/// Adds the identifiers of a receiver, which stands in the block of the body, with a scope from its beginning.
+/// Adds the identifiers of a receiver. It is declared in the block of the body, with a scope from its opening brace.
 fn add_receiver<'a>(
     source: &RankedFile<'a>,
     found: &mut Vec<Identifier<'a>>,
@@ -115,6 +119,7 @@ fn add_receiver<'a>(
     }
 }
 
+/// Adds the identifiers of parameters of one type.
 fn add_param<'a>(
     source: &RankedFile<'a>,
     found: &mut Vec<Identifier<'a>>,
@@ -128,7 +133,7 @@ fn add_param<'a>(
     add_type(source, found, &param.param_type)
 }
 
-/// Adds the identifiers of parameters, which stand in the block of the body, with scopes from its beginning.
+/// Adds the identifiers of parameters. They are declared in the block of the body, with scopes from its opening brace.
 fn add_params<'a>(
     source: &RankedFile<'a>,
     found: &mut Vec<Identifier<'a>>,
@@ -144,6 +149,7 @@ fn add_params<'a>(
     Ok(())
 }
 
+/// Adds the identifiers of results.
 fn add_results<'a>(
     source: &RankedFile<'a>,
     found: &mut Vec<Identifier<'a>>,
@@ -163,7 +169,7 @@ fn add_results<'a>(
     }
 }
 
-/// The role of a function's name.
+/// The role of a function's name: a method is a member, `init` is declared in no block, any other function in the package block.
 fn function_role(source: &RankedFile<'_>, func: &FuncDecl) -> Role
     ensures { result ≡ func_role (option_view receiver_view func.now.receiver) ((source_of source.now).spell func.now.name) }
 {
@@ -176,6 +182,7 @@ fn function_role(source: &RankedFile<'_>, func: &FuncDecl) -> Role
     }
 }
 
+/// Adds the identifiers of a function or method.
 fn add_func<'a>(
     source: &RankedFile<'a>,
     found: &mut Vec<Identifier<'a>>,
@@ -192,6 +199,7 @@ fn add_func<'a>(
     add_block(source, found, &func.body)
 }
 
+/// Adds the name of an import, if it has one.
 fn add_import_name<'a>(
     source: &RankedFile<'a>,
     found: &mut Vec<Identifier<'a>>,
@@ -205,7 +213,7 @@ fn add_import_name<'a>(
     }
 }
 
-/// What the literal of an import is there for.
+/// The purpose of an import's string literal, by whether the import has a name.
 fn import_purpose(name: Option<usize>) -> Purpose
     ensures { result ≡ import_purpose name }
 {
@@ -215,6 +223,7 @@ fn import_purpose(name: Option<usize>) -> Purpose
     }
 }
 
+/// Adds the identifiers of an import spec: its name, if it has one, and its string literal.
 fn add_import_spec<'a>(
     source: &RankedFile<'a>,
     found: &mut Vec<Identifier<'a>>,
@@ -227,6 +236,7 @@ fn add_import_spec<'a>(
     source.add(found, spec.path, role)
 }
 
+/// Adds the identifiers of an import declaration.
 fn add_imports<'a>(
     source: &RankedFile<'a>,
     found: &mut Vec<Identifier<'a>>,
@@ -245,6 +255,7 @@ fn add_imports<'a>(
     }
 }
 
+/// Adds the identifiers of a declaration of package-level variables.
 fn add_var_specs<'a>(
     source: &RankedFile<'a>,
     found: &mut Vec<Identifier<'a>>,
@@ -263,6 +274,7 @@ fn add_var_specs<'a>(
     }
 }
 
+/// Adds the identifiers of a declaration of types.
 fn add_type_specs<'a>(
     source: &RankedFile<'a>,
     found: &mut Vec<Identifier<'a>>,
@@ -281,6 +293,7 @@ fn add_type_specs<'a>(
     }
 }
 
+/// Adds the identifiers of a top-level declaration.
 fn add_decl<'a>(
     source: &RankedFile<'a>,
     found: &mut Vec<Identifier<'a>>,

@@ -1,4 +1,4 @@
-//! The identifiers of a package from the trees of its files.
+//! Collects the identifiers of a package from the syntax trees of its files.
 ghost use Rattle.std.specs.Prelude.{◌≡◌, ◌∷◌, [], OnOk, IfOk, map};
 ghost use Rattle.go_scope.specs.FileSites.{universe, universe_site, package_sites};
 ghost use Rattle.go_scope.specs.Found.{Adds, site_of};
@@ -41,7 +41,7 @@ fn add_universe(found: &mut Vec<Identifier<'_>>) -> Result<(), AllocError>
     add_predeclared(found, b"println")
 }
 
-/// The identifiers of a package, of which the files are given in the order of their paths.
+/// The identifiers of a package whose files are in the order of their paths.
 fn identifiers_of<'a>(
     alloc: Global,
     files: &'a [FileTree],
@@ -59,7 +59,7 @@ fn identifiers_of<'a>(
     Ok(found)
 }
 
-/// The identifiers of a package, of which the files are given in the order of their paths.
+/// The identifiers of a package whose files are in the order of their paths, after the predeclared names.
 pub fn declare<'a>(alloc: Global, files: &'a [FileTree]) -> Result<Identifiers<'a>, AllocError>
     ensures { IfOk result (λ identifiers. identifiers ≡ scoped files.now) }
 {

@@ -1,4 +1,4 @@
-//! Which identifiers of a package declare, found once for each, in their order.
+//! Finds which identifiers of a package declare, in one pass in their order.
 ghost use Rattle.std.specs.Prelude.{ℕ, List, ◌≡◌, ◌<◌, ◌+◌, ◌↔◌, length, IsTrue, IfOk, OnOk};
 ghost use Rattle.std.specs.Option.{ForSome};
 ghost use Rattle.go_scope.specs.Bindings.{Declares, MayDeclare};
@@ -17,7 +17,7 @@ use crate::outer::first_outside;
 use crate::resolve::{in_scope, role_at};
 use std::alloc::{AllocError, Global};
 
-/// The links of identifiers, whether each declares, and whether it comes first of its name in its block.
+/// For each identifier: its links, whether it declares, and whether it is the first declaration of its name in its block.
 #[derive(Drop)]
 pub struct DeclaredIn {
     pub links: Links,
@@ -25,14 +25,14 @@ pub struct DeclaredIn {
     pub leading: Vec<bool>,
 }
 
-/// Whether an identifier declares, and whether it comes first of its name in its block.
+/// Whether an identifier declares, and whether it is the first declaration of its name in its block.
 #[derive(Clone, Copy)]
 struct Standing {
     declares: bool,
     leads: bool,
 }
 
-/// The first declaration of the next identifier's name in its block.
+/// The first declaration of d's name in d's block, among the identifiers before d.
 fn leader(identifiers: &[Identifier], names: &[usize], links: &Links, d: usize) -> Option<usize>
     requires in_range { d < length identifiers.now }
     requires laid_out { IsLaidOut (layout_of identifiers.now) (length identifiers.now) }
@@ -47,7 +47,7 @@ fn leader(identifiers: &[Identifier], names: &[usize], links: &Links, d: usize) 
     }
 }
 
-/// Whether the scope of a declaration, where there is one, holds the place of u.
+/// Whether the position of u is in the scope of d, if there is such a declaration.
 fn holds(identifiers: &[Identifier], d: Option<usize>, u: usize) -> bool
     requires first { ForSome d (λ e. e < length identifiers.now) }
     requires second { u < length identifiers.now }
@@ -59,7 +59,7 @@ fn holds(identifiers: &[Identifier], d: Option<usize>, u: usize) -> bool
     }
 }
 
-/// Whether an identifier that may declare does so, behind the first declaration of its name in its block.
+/// Whether d, which may declare, does so, given the first declaration of its name in its block before it.
 fn declares(identifiers: &[Identifier], names: &[usize], leader: Option<usize>, d: usize) -> bool
     requires in_range { d < length identifiers.now }
     requires well_formed { WellFormed (layout_of identifiers.now) }
@@ -70,7 +70,7 @@ fn declares(identifiers: &[Identifier], names: &[usize], leader: Option<usize>, 
     !role_at(identifiers, d).is_left_name() || !holds(identifiers, leader, d)
 }
 
-/// What an identifier that may declare does, behind the first declaration of its name in its block.
+/// Whether d, which may declare, does so and is first, given the first declaration of its name in its block before it.
 fn standing_behind(
     identifiers: &[Identifier],
     names: &[usize],
@@ -97,7 +97,7 @@ fn standing_behind(
     }
 }
 
-/// What the next identifier does.
+/// Whether d declares, and whether it is first, given the links of the identifiers before it.
 fn standing_of(identifiers: &[Identifier], names: &[usize], links: &Links, d: usize) -> Standing
     requires in_range { d < length identifiers.now }
     requires laid_out { IsLaidOut (layout_of identifiers.now) (length identifiers.now) }
@@ -118,7 +118,7 @@ fn standing_of(identifiers: &[Identifier], names: &[usize], links: &Links, d: us
 }
 
 impl DeclaredIn {
-    /// Nothing of the identifiers yet, with room for all of them.
+    /// No identifiers yet, with room for all of them.
     fn new(alloc: Global, identifiers: &[Identifier]) -> Result<DeclaredIn, AllocError>
         ensures { IfOk result (λ declared. (numbers : List ℕ) → AreFirst identifiers.now numbers 0 declared) }
     {
@@ -132,7 +132,7 @@ impl DeclaredIn {
         })
     }
 
-    /// Adds the next identifier.
+    /// Adds identifier d, the next one.
     fn add(
         &mut self,
         identifiers: &[Identifier],
@@ -154,7 +154,7 @@ impl DeclaredIn {
     }
 }
 
-/// Which of the identifiers declare, whose names have those numbers.
+/// Which of the identifiers declare. `names` gives the number of each identifier's name.
 pub(crate) fn declared_of(
     alloc: Global,
     identifiers: &[Identifier],

@@ -1,4 +1,4 @@
-//! The identifiers of types and expressions.
+//! Collects the identifiers of types and expressions.
 ghost use Rattle.std.specs.Prelude.{OnOk};
 ghost use Rattle.go_scope.specs.ExpressionSites.{type_sites, expr_sites, link_sites, literal_sites};
 ghost use Rattle.go_scope.specs.Found.{source_of, Adds};

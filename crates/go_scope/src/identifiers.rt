@@ -1,4 +1,4 @@
-//! The identifiers of a package, before it is known to what each is bound.
+//! The identifiers of a package, before they are bound.
 ghost use Rattle.std.specs.Prelude.{ℕ, ◌≡◌, ◌<◌, ◌↔◌, length, map, IsTrue, MatchOption, slice_get};
 ghost use Rattle.go_ast.specs.SourceFile.{source_of, offset_of};
 ghost use Rattle.go_scope.specs.Found.{site_of};
@@ -12,8 +12,7 @@ use base_files::Place;
 use go_ast::FileTree;
 use std::marker::Model;
 
-/// The identifiers of a package, in the order of its files and of their tokens, behind the predeclared names. The order is
-/// that in which they are numbered.
+/// The identifiers of a package, numbered from 0: first the predeclared names, then the identifiers of its files, by path and token.
 #[derive(Drop)]
 pub struct Identifiers<'a> {
     files: &'a [FileTree],
@@ -46,7 +45,7 @@ fn is_token_at(file: &FileTree, token: usize, place: &Place) -> bool
         && file.offset(token) == place.offset
 }
 
-/// Whether a token of one of the files begins at a place.
+/// Whether a position, in these files, begins at a place.
 fn is_place(files: &[FileTree], at: Position, place: &Place) -> bool
     ensures { IsTrue result ↔ IsPlaceOf (slice_get files.now at.file) at.index place.now.path place.now.offset }
 {
@@ -58,7 +57,7 @@ fn is_place(files: &[FileTree], at: Position, place: &Place) -> bool
 }
 
 impl<'a> Identifiers<'a> {
-    /// Identifiers that were taken from files.
+    /// Joins files with the identifiers that were collected from them.
     pub(crate) fn new(files: &'a [FileTree], list: Vec<Identifier<'a>>) -> Identifiers<'a>
         requires { IsLaidOut (layout_of list.items) (length list.items) }
         ensures files { result.files ≡ files.now }
@@ -74,29 +73,28 @@ impl<'a> Identifiers<'a> {
         self.files
     }
 
-    /// The layout of a package's identifiers is well formed, since it is that of its trees.
+    /// The layout of a package's identifiers is well formed, as it comes from syntax trees.
     pub fn is_well_formed(&self)
         ensures { WellFormed (layout_in self.now) }
     {
         let _list = &self.list;
     }
 
-    /// More of their layout: what is declared in a file's block is seen from the file's beginning, blocks are opened and closed in
-    /// the order of declarations, and identifiers are numbered in the order of their places.
+    /// The layout of a package's identifiers has all properties of `IsLaidOut`, as it comes from syntax trees.
     pub(crate) fn are_laid_out(&self)
         ensures { IsLaidOut (layout_in self.now) (length self.now.sites) }
     {
         let _list = &self.list;
     }
 
-    /// How many identifiers there are, the predeclared names among them.
+    /// The number of identifiers, predeclared names included.
     pub fn len(&self) -> usize
         ensures { result ≡ length self.now.sites }
     {
         self.list.len()
     }
 
-    /// What an identifier is there for.
+    /// The role of an identifier.
     pub fn role(&self, u: usize) -> Role
         requires { u < length self.now.sites }
         ensures { result ≡ (layout_in self.now).role u }
@@ -104,7 +102,7 @@ impl<'a> Identifiers<'a> {
         role_at(&self.list, u)
     }
 
-    /// Where an identifier stands.
+    /// The position of an identifier. For a predeclared name it is the first token of the first file.
     pub fn place(&self, u: usize) -> Position
         requires { u < length self.now.sites }
         ensures { result ≡ (layout_in self.now).place u }
@@ -112,7 +110,7 @@ impl<'a> Identifiers<'a> {
         place_at(&self.list, u)
     }
 
-    /// How an identifier is spelled, in UTF-8.
+    /// The name of an identifier, in UTF-8.
     pub fn name(&self, u: usize) -> &'a [u8]
         requires { u < length self.now.sites }
         ensures { result.now ≡ names_in self.now u }
@@ -120,14 +118,14 @@ impl<'a> Identifiers<'a> {
         name_at(&self.list, u)
     }
 
-    /// All identifiers, behind the predeclared names.
+    /// All identifiers, predeclared names first.
     pub fn as_slice(&self) -> &[Identifier<'a>]
         ensures sites { map site_of result.now ≡ self.now.sites }
     {
         &self.list
     }
 
-    /// Whether an identifier, or the literal of an import, begins at a place.
+    /// Whether an identifier, or an import's string literal, begins at a place.
     fn begins_at(&self, u: usize, place: &Place) -> bool
         requires { u < length self.now.sites }
         ensures { IsTrue result ↔ BeginsAt self.now place.now.path place.now.offset u }
@@ -135,7 +133,7 @@ impl<'a> Identifiers<'a> {
         !self.role(u).is_implied() && is_place(self.files(), self.place(u), place)
     }
 
-    /// The identifier that begins at a place, or the literal of an import.
+    /// The identifier, or the import's string literal, that begins at a place.
     pub(crate) fn first_beginning_at(&self, place: &Place) -> Option<usize>
         ensures { MatchOption result ((u : ℕ) → u < length self.now.sites → BeginsAt self.now place.now.path place.now.offset u → ⊥)
             (λ u. IsFirstOf (BeginsAt self.now place.now.path place.now.offset) (length self.now.sites) u) }

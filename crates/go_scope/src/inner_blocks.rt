@@ -1,4 +1,4 @@
-//! The declarations of one name in inner blocks, from the last to the first: which of them an identifier has to do with.
+//! Searches the declarations of a name in inner blocks, from the last to the first.
 ghost use Rattle.std.specs.Prelude.{◌≡◌, ◌<◌, ◌↔◌, ◌∷◌, [], length, IsTrue};
 ghost use Rattle.go_scope.specs.Bindings.{MayDeclare, block_of};
 ghost use Rattle.go_scope.specs.declared.model.Block.TheVariants.{Package};
@@ -15,7 +15,7 @@ use crate::numbering::number_at;
 use crate::resolve::{in_scope, place_at, role_at};
 
 impl Block {
-    /// Whether the block ends behind a place of its file, where it is an inner one.
+    /// Whether an inner block is of the position's file and ends after it. Any other block does not end.
     fn ends_behind(self, place: Position) -> bool
         ensures { IsTrue result ↔ EndsBehind self place }
     {
@@ -26,7 +26,7 @@ impl Block {
     }
 }
 
-/// Whether the block of d has not ended at the place of u, which stands behind d.
+/// Whether the block of d has not ended at the position of u.
 fn lasts(identifiers: &[Identifier], d: usize, u: usize) -> bool
     requires first { d < length identifiers.now }
     requires second { u < length identifiers.now }
@@ -37,7 +37,7 @@ fn lasts(identifiers: &[Identifier], d: usize, u: usize) -> bool
         .ends_behind(place_at(identifiers, u))
 }
 
-/// The last declaration of the next identifier's name in an inner block that has not ended. What has ended is behind it.
+/// The last declaration of u's name, before u, in an inner block that has not ended. All later ones are in blocks that have ended.
 pub(crate) fn still_open(
     identifiers: &[Identifier],
     names: &[usize],
@@ -60,8 +60,8 @@ pub(crate) fn still_open(
     None
 }
 
-/// The first declaration of the next identifier's name in its block, an inner one. Before a declaration of a block round it there
-/// is none.
+/// The first declaration of d's name in d's block, an inner one, among the identifiers before d. The search ends at a declaration of an
+/// enclosing block.
 pub(crate) fn first_inside(
     identifiers: &[Identifier],
     names: &[usize],
@@ -92,8 +92,8 @@ pub(crate) fn first_inside(
     None
 }
 
-/// The nearest declaration of the next identifier's name, of those in inner blocks whose scopes hold it: the last one, since the
-/// blocks of earlier ones lie round it.
+/// The nearest declaration of u's name, before u, among those in inner blocks with u in their scope. It is the last one, as the blocks of
+/// earlier ones enclose its block.
 pub(crate) fn nearest_inside(
     identifiers: &[Identifier],
     names: &[usize],

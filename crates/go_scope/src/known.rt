@@ -1,5 +1,4 @@
-//! What a table keeps of its identifiers: which of them declare, to which declaration each is bound, and which one stands at a
-//! token.
+//! Finds for all identifiers of a package which of them declare, to which declaration each is bound, and which one each token is.
 ghost use Rattle.std.specs.Prelude.{◌<◌, length, IfOk};
 ghost use Rattle.go_scope.specs.ByToken.{number_at};
 ghost use Rattle.go_scope.specs.Known.{AreBindings, AreBound, AreDeclared, AreKnown};
@@ -16,7 +15,7 @@ use crate::numbering::numbers_of;
 use crate::table::DeclId;
 use std::alloc::{AllocError, Global};
 
-/// Whether each identifier declares; the declaration to which each is bound; and at each token the identifier that stands there.
+/// For each identifier whether it declares, and the declaration to which it is bound; for each token its identifier.
 #[derive(Drop)]
 pub struct KnownTable {
     pub declaring: Vec<bool>,
@@ -24,14 +23,14 @@ pub struct KnownTable {
     pub numbers: ByToken,
 }
 
-/// Whether each identifier declares, and the declaration to which it is bound.
+/// For each identifier whether it declares, and the declaration to which it is bound.
 #[derive(Drop)]
 struct BoundRow {
     declaring: Vec<bool>,
     bindings: Vec<Option<DeclId>>,
 }
 
-/// The declaration to which each identifier is bound.
+/// The declaration, or none, to which each identifier is bound.
 fn bindings_of(
     alloc: Global,
     identifiers: &[Identifier],
@@ -49,7 +48,7 @@ fn bindings_of(
     Ok(found)
 }
 
-/// Which identifiers declare, and to what each is bound, where their names are told by numbers.
+/// For identifiers whose names are given by numbers: which of them declare, and to which declaration each is bound.
 fn told_bound(
     alloc: Global,
     identifiers: &[Identifier],
@@ -67,7 +66,7 @@ fn told_bound(
     })
 }
 
-/// Which identifiers declare, and to what each is bound.
+/// Which identifiers declare, and to which declaration each is bound.
 fn bound_of(alloc: Global, identifiers: &[Identifier]) -> Result<BoundRow, AllocError>
     requires { IsLaidOut (layout_of identifiers.now) (length identifiers.now) }
     ensures { IfOk result (λ bound. AreBound (layout_of identifiers.now) (names_of identifiers.now) (length identifiers.now) bound.declaring.items bound.bindings.items) }
@@ -76,7 +75,7 @@ fn bound_of(alloc: Global, identifiers: &[Identifier]) -> Result<BoundRow, Alloc
     told_bound(alloc, identifiers, &names)
 }
 
-/// What is kept of a package's identifiers.
+/// For a package's identifiers: which declare, to which declaration each is bound, and the identifier of each token.
 pub(crate) fn known_of(alloc: Global, identifiers: &Identifiers) -> Result<KnownTable, AllocError>
     ensures { IfOk result (λ known. AreKnown identifiers.now known.declaring.items known.bindings.items (number_at known.numbers)) }
 {

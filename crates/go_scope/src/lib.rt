@@ -1,4 +1,4 @@
-//! Scopes and lexical bindings of a package.
+//! The identifiers of a package, their scopes, and their bindings by scope.
 #![tactic(auto)]
 
 pub mod by_token;

@@ -1,4 +1,4 @@
-//! Where the declarations of a name are found while the identifiers of a package are gone through in their order.
+//! Links between the declarations of a name, made while the identifiers of a package are visited in order.
 ghost use Rattle.std.specs.Prelude.{ℕ, List, ◌≡◌, ◌<◌, ◌+◌, ◌↔◌, ◌∷◌, [], length, IsTrue, IfOk, OnOk};
 ghost use Rattle.go_scope.specs.Leading.{Leads, LeadsInside};
 ghost use Rattle.go_scope.specs.Numbering.{told, AreBelow};
@@ -16,9 +16,12 @@ use crate::room::name_room;
 use indexmap::IndexMap;
 use std::alloc::{AllocError, Global};
 
-/// What each block that is no inner one declares; of each name's number the last declaration in an inner block that has not
-/// ended; and of each identifier the declaration of its name in an inner block that comes next: of one that comes first of its
-/// name in its block the one before it, of any other one the nearest whose scope holds it.
+/// The links of the identifiers visited so far. `outer` maps a name and a block that is no inner one to the first declaration there.
+///
+/// `last` gives, for each name's number, its last declaration in an inner block that has not ended.
+///
+/// `around` gives, for a declaration that is the first of its name in its inner block, the one before it in an inner block. For another
+/// identifier it gives the nearest declaration of its name in an inner block with the identifier in its scope.
 #[derive(Drop)]
 pub struct Links {
     pub outer: IndexMap<OuterName, usize>,
@@ -27,7 +30,7 @@ pub struct Links {
 }
 
 impl Links {
-    /// The links of none of the identifiers.
+    /// The links before any identifier is visited.
     pub(crate) fn new(alloc: Global, identifiers: &[Identifier]) -> Result<Links, AllocError>
         ensures { IfOk result (λ links. (numbers : List ℕ) → AreLinks identifiers.now numbers 0 links) }
     {
@@ -41,7 +44,7 @@ impl Links {
         })
     }
 
-    /// Drops the declarations of the next identifier's name whose blocks have ended, up to the last one whose block has not.
+    /// Removes, for the name of u, the declarations whose blocks have ended, back to the last one whose block has not.
     pub(crate) fn close(&mut self, identifiers: &[Identifier], names: &[usize], u: usize)
         requires in_range { u < length identifiers.now }
         requires laid_out { IsLaidOut (layout_of identifiers.now) (length identifiers.now) }
@@ -53,7 +56,7 @@ impl Links {
         self.last[number_at(names, u)] = last;
     }
 
-    /// Keeps the next identifier as the first of its name in its block, and tells the one before it in an inner block.
+    /// Enters d as the first declaration of its name in its block. Returns the declaration before it in an inner block.
     fn lead(
         &mut self,
         identifiers: &[Identifier],
@@ -85,7 +88,7 @@ impl Links {
         }
     }
 
-    /// Keeps the next identifier, where it comes first of its name in its block, and tells the declaration that comes next.
+    /// Enters d if it is the first declaration of its name in its block (`leads`). Returns the declaration to which d links.
     fn place(
         &mut self,
         identifiers: &[Identifier],
@@ -114,7 +117,7 @@ impl Links {
         }
     }
 
-    /// Links the next identifier.
+    /// Visits identifier d, the next one, and links it.
     pub(crate) fn link(
         &mut self,
         identifiers: &[Identifier],

@@ -1,15 +1,17 @@
-//! Places, blocks, scopes, and the roles of identifiers.
+//! Positions, blocks, scopes, and the roles of identifiers.
 
-/// A file by its rank among the package's paths, and the number of a token in it.
+/// A token of a package: the file's rank among the package's paths, and the token's index in the file, both from 0.
 #[derive(Clone, Copy, PartialEq, Eq, Hash)]
 pub struct Position {
     pub file: usize,
     pub index: usize,
 }
 
-/// A block of the Go specification, "Blocks". A function's body, an `if`, a `for` and a pair of braces have a block of
-/// their own: in a file, from a token to before another. That of an `if` and a `for` begins at the keyword, so that the
-/// header's declarations are seen in all branches.
+/// A block (Go specification, "Blocks"). `Inner` is a file's rank with the indices of the block's first token and of the token at which it
+/// ends. A function's body, an `if`, a `for` and a pair of braces each have an inner block. That of an `if` or a `for` begins at the
+/// keyword, so it includes the header and all branches:
+///
+///   if x := f(); x > 0 { g(x) } else { h(x) }
 #[derive(Clone, Copy)]
 pub enum Block {
     Universe,
@@ -18,7 +20,8 @@ pub enum Block {
     Inner(usize, usize, usize),
 }
 
-/// The places where a declaration's name stands for it.
+/// A scope: the positions at which a declaration's name can be bound to it (Go specification, "Declarations and scope"). `Interval` is a
+/// file's rank with two token indices, the second excluded.
 #[derive(Clone, Copy)]
 pub enum Scope {
     Everywhere,
@@ -27,8 +30,10 @@ pub enum Scope {
     Interval(usize, usize, usize),
 }
 
-/// What an identifier is there for. A left name of `:=` may declare: with the block and the start of the scope that it
-/// would then have. A predeclared name declares with no identifier.
+/// The role of an identifier. `Use` is a use of a name; `Declaring` declares in a block, with a scope from a token on.
+///
+/// `LeftName` is a name on the left side of `:=`, with the block and the start of its scope if it declares. `Implied` is a predeclared
+/// name, which has no identifier in a file. `NotLexical` is an identifier that no scope binds.
 #[derive(Clone, Copy)]
 pub enum Role {
     Use,
@@ -38,28 +43,28 @@ pub enum Role {
     NotLexical(Purpose),
 }
 
-/// What an identifier is there for that no lexical block declares and that is bound by no scope.
+/// The purpose of an identifier that no lexical block declares and no scope binds.
 #[derive(Clone, Copy)]
 pub enum Purpose {
-    /// A name behind a dot: exported by a package, or a field or method.
+    /// The name after a dot: a member, or a name that another package exports.
     Selected,
-    /// The field's name before an element of a literal.
+    /// A composite literal key: the name of a field.
     Key,
-    /// The name of the package in a file's first line.
+    /// The package's name in a package clause.
     PackageClause,
-    /// The name of a field or a method where it is declared.
+    /// The name of a field or method in its declaration.
     Member,
-    /// The literal of an import that has a name.
+    /// The string literal of an import that has a name.
     ImportPath,
-    /// The literal of an import without a name.
+    /// The string literal of an import without a name.
     UnnamedImport,
     /// The name of a function `init`.
     InitFunction,
-    /// A `_` where a name is declared or a value is assigned.
+    /// The `_` in a declaration or on the left side of an assignment.
     Blank,
 }
 
-/// An identifier, or the literal of an import, in a package. Its name is what stands in the file, in UTF-8.
+/// An identifier of a package, or an import's string literal: its position, its bytes in the file, and its role.
 #[derive(Drop)]
 pub struct Identifier<'a> {
     pub place: Position,

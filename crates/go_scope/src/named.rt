@@ -1,4 +1,4 @@
-//! The table in which an import without a name declares the name of the package that it imports.
+//! Makes the table in which an import without a name declares the name of the package that it imports.
 ghost use Rattle.std.specs.Prelude.{◌≡◌, ◌<◌, map, IfOk};
 ghost use Rattle.go_scope.specs.Found.{site_of};
 ghost use Rattle.go_scope.specs.Named.{is_unnamed_import, name_value, name_given, named, named_site, named_sites};
@@ -10,7 +10,7 @@ use crate::table::ScopeTable;
 use std::alloc::{AllocError, Global};
 
 impl Role {
-    /// Whether this is the literal of an import without a name.
+    /// Whether the role is that of the string literal of an import without a name.
     pub fn is_unnamed_import(self) -> bool
         ensures { result ≡ is_unnamed_import self }
     {
@@ -21,7 +21,7 @@ impl Role {
     }
 }
 
-/// The name that is known for a number.
+/// The name at an index, or none beyond the end of the list.
 fn name_given<'a>(names: &[Option<&'a [u8]>], u: usize) -> Option<&'a [u8]>
     ensures { name_value result ≡ name_given names.now u }
 {
@@ -31,7 +31,7 @@ fn name_given<'a>(names: &[Option<&'a [u8]>], u: usize) -> Option<&'a [u8]>
     }
 }
 
-/// An identifier, with the name of the package where it is the literal of an import without a name.
+/// The identifier, which declares `name` in its file if it is the string literal of an import without a name.
 fn named_identifier<'a>(identifier: &Identifier<'a>, name: Option<&'a [u8]>) -> Identifier<'a>
     ensures { site_of result ≡ named_site (name_value name.entry) (site_of identifier.now) }
 {
@@ -50,7 +50,7 @@ fn named_identifier<'a>(identifier: &Identifier<'a>, name: Option<&'a [u8]>) -> 
     }
 }
 
-/// The identifiers of a package, with the package names that are known by number.
+/// The identifiers, where the string literal of an import without a name declares the name that `names` gives for its number.
 fn named_identifiers<'a>(
     alloc: Global,
     identifiers: &[Identifier<'a>],
@@ -65,7 +65,7 @@ fn named_identifiers<'a>(
     Ok(found)
 }
 
-/// The table of a package's identifiers, with what is found of them once.
+/// The table of a package's identifiers, with their bindings.
 fn known_table<'a>(
     alloc: Global,
     identifiers: Identifiers<'a>,
@@ -76,8 +76,8 @@ fn known_table<'a>(
     Ok(ScopeTable::new(identifiers, known))
 }
 
-/// The table in which an import without a name declares in its file, at its literal, the name that is known of the package
-/// that it imports. The names are given by the numbers of the literals; of those without one nothing is known.
+/// The table in which an import without a name declares, in its file, the name of the package that it imports. `names` gives the package's
+/// name by the number of the literal. An import whose package's name is not known declares nothing.
 pub fn name_imports<'a>(
     alloc: Global,
     plain: &Identifiers<'a>,

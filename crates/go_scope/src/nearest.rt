@@ -1,4 +1,4 @@
-//! The declaration to which a use is bound.
+//! Finds the declaration to which a use is bound.
 ghost use Rattle.std.specs.Prelude.{ℕ, ◌≡◌, ◌<◌, length, MatchOption};
 ghost use Rattle.go_scope.specs.Bindings.{BindsAt};
 ghost use Rattle.go_scope.specs.Leading.{Leads};
@@ -13,7 +13,7 @@ use crate::numbering::number_at;
 use crate::outer::{OuterBlock, first_outside};
 use crate::resolve::place_at;
 
-/// The declaration to which the name of u is bound at the place of u: the nearest one in an inner block, or one of no inner block.
+/// The declaration to which the use u is bound: the nearest one in an inner block, or else one of the package, the file or the universe.
 pub(crate) fn binding(
     identifiers: &[Identifier],
     names: &[usize],
@@ -34,8 +34,8 @@ pub(crate) fn binding(
     }
 }
 
-/// The nearest declaration of the name of u whose scope holds u, where no inner block declares one: in the package's block, in the
-/// file's, or a predeclared name.
+/// The declaration of u's name in the package block, or else in the block of u's file, or else the predeclared one. No inner block may have
+/// one.
 fn outside(identifiers: &[Identifier], names: &[usize], links: &Links, u: usize) -> Option<usize>
     requires in_range { u < length identifiers.now }
     requires linked { AreLinks identifiers.now names.now (length identifiers.now) links.now }

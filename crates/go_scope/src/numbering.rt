@@ -1,5 +1,4 @@
-//! Numbers that stand for the names of identifiers: found once for each, so that no look-up after that goes over the bytes of
-//! a name.
+//! Numbers the names of identifiers, so that later searches compare numbers and not bytes.
 ghost use Rattle.std.specs.Prelude.{◌≡◌, ◌<◌, ◌≤◌, ◌+◌, length, IfOk, OnOk};
 ghost use Rattle.go_scope.specs.Numbering.{is_lexical, number_at, AreBelow, AreFirsts, HasName, IsLexical, TellApart};
 ghost use Rattle.go_scope.specs.Table.{layout_of, names_of, IsFirstOf};
@@ -10,14 +9,14 @@ use crate::room::name_room;
 use indexmap::IndexMap;
 use std::alloc::{AllocError, Global};
 
-/// How a name is spelled.
+/// The bytes of a name.
 #[derive(Clone, Copy, PartialEq, Eq, Hash)]
 pub struct Spelled<'a> {
     pub bytes: &'a [u8],
 }
 
 impl Role {
-    /// Whether the name of an identifier of this role is looked up: it is used, or it may declare.
+    /// Whether the name of an identifier of this role is looked up: the identifier is a use, or it may declare.
     fn is_lexical(self) -> bool
         ensures { result ≡ is_lexical self }
     {
@@ -28,7 +27,7 @@ impl Role {
     }
 }
 
-/// The number of the next name that is looked up: that of the first identifier that has it.
+/// The number of the name of u, the next identifier: the number of the first identifier of that name.
 fn first_of<'a>(
     firsts: &mut IndexMap<Spelled<'a>, usize>,
     identifiers: &[Identifier<'a>],
@@ -51,7 +50,7 @@ fn first_of<'a>(
     }
 }
 
-/// The number of the next name; any number where it is not looked up.
+/// The number of the name of u, the next identifier. It is 0 where the name is not looked up.
 fn next_number<'a>(
     firsts: &mut IndexMap<Spelled<'a>, usize>,
     identifiers: &[Identifier<'a>],
@@ -71,7 +70,7 @@ fn next_number<'a>(
     }
 }
 
-/// A number for each name, so that two names that are looked up have one number exactly if they are the same.
+/// A number for the name of each identifier. Two names that are looked up have the same number exactly if they are equal.
 pub(crate) fn numbers_of(
     alloc: Global,
     identifiers: &[Identifier],

@@ -1,4 +1,4 @@
-//! The blocks that are no inner ones, and what each of them declares, by names' numbers.
+//! The blocks that are no inner blocks, and the declarations in them by the number of a name.
 ghost use Rattle.std.specs.Prelude.{ℕ, ◌≡◌, ◌∷◌, []};
 ghost use Rattle.go_scope.specs.Bindings.{Layout, Names};
 ghost use Rattle.go_scope.specs.Leading.{IsFirstIn};
@@ -7,7 +7,7 @@ ghost use Rattle.go_scope.specs.Outer.{block_in, outer_of, AreOuter};
 use crate::model::Block;
 use indexmap::IndexMap;
 
-/// A block that is no inner one.
+/// A block that is no inner block.
 #[derive(Clone, Copy, PartialEq, Eq, Hash)]
 pub enum OuterBlock {
     Universe,
@@ -15,7 +15,7 @@ pub enum OuterBlock {
     File(usize),
 }
 
-/// A name in such a block, by the name's number.
+/// The number of a name, and a block that is no inner block.
 #[derive(Clone, Copy, PartialEq, Eq, Hash)]
 pub struct OuterName {
     pub name: usize,
@@ -23,7 +23,7 @@ pub struct OuterName {
 }
 
 impl Block {
-    /// The block, unless it is an inner one.
+    /// The block, or `None` for an inner block.
     pub(crate) fn outer(self) -> Option<OuterBlock>
         ensures { result ≡ outer_of self }
     {
@@ -36,7 +36,7 @@ impl Block {
     }
 }
 
-/// The first to declare a name in a block that is no inner one, of those that are kept.
+/// The first declaration of a name in a block that is no inner block, among the identifiers visited.
 pub(crate) fn first_outside(
     outer: &IndexMap<OuterName, usize>,
     name: usize,

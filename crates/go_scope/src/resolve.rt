@@ -1,4 +1,4 @@
-//! Roles, blocks and scopes of identifiers.
+//! Properties of roles, blocks and scopes.
 
 ghost use Rattle.std.specs.Prelude.{◌≡◌, ◌<◌, ◌↔◌, length, IsTrue};
 ghost use Rattle.go_scope.specs.Scopes.{Holds, Nests};
@@ -9,6 +9,7 @@ ghost use Rattle.go_scope.specs.Table.{layout_of, names_of};
 use crate::model::{Block, Identifier, Position, Role, Scope};
 
 impl Role {
+    /// Whether an identifier of this role may declare: it is declaring, a left name of `:=`, or predeclared.
     pub(crate) fn may_declare(self) -> bool
         ensures { result ≡ may_declare self }
     {
@@ -18,6 +19,7 @@ impl Role {
         }
     }
 
+    /// Whether the role is that of a left name of `:=`.
     pub(crate) fn is_left_name(self) -> bool
         ensures { result ≡ is_left_name self }
     {
@@ -27,6 +29,7 @@ impl Role {
         }
     }
 
+    /// The block in which an identifier of this role declares; the universe block for a role that does not.
     pub fn block(self) -> Block
         ensures { result ≡ block_of self }
     {
@@ -36,6 +39,7 @@ impl Role {
         }
     }
 
+    /// The token index at which the scope begins; 0 for a role that does not declare.
     pub fn start(self) -> usize
         ensures { result ≡ start_of self }
     {
@@ -47,7 +51,7 @@ impl Role {
 }
 
 impl Scope {
-    /// The scope of a declaration in a block: in an inner one it begins at an index and lasts to the block's end.
+    /// The scope of a declaration in a block: the whole block, or in an inner block from the token `start` to its end.
     pub(crate) fn in_block(block: Block, start: usize) -> Scope
         ensures { result ≡ scope_in block start }
     {
@@ -59,6 +63,7 @@ impl Scope {
         }
     }
 
+    /// Whether a position is in the scope.
     pub(crate) fn holds(self, place: Position) -> bool
         ensures { IsTrue result ↔ Holds self place }
     {
@@ -73,6 +78,8 @@ impl Scope {
 }
 
 impl Block {
+    /// Whether the block lies in `outer`. The package block counts as inside of each file block, as an import gives way to a package-level
+    /// declaration.
     pub(crate) fn nests(self, outer: Block) -> bool
         ensures { IsTrue result ↔ Nests self outer }
     {
@@ -86,6 +93,7 @@ impl Block {
         }
     }
 
+    /// Whether two blocks are equal.
     pub fn same(self, other: Block) -> bool
         ensures { IsTrue result ↔ (self ≡ other) }
     {
@@ -98,6 +106,7 @@ impl Block {
     }
 }
 
+/// The role of an identifier.
 pub(crate) fn role_at(identifiers: &[Identifier], d: usize) -> Role
     requires { d < length identifiers.now }
     ensures { result ≡ (layout_of identifiers.now).role d }
@@ -105,6 +114,7 @@ pub(crate) fn role_at(identifiers: &[Identifier], d: usize) -> Role
     identifiers[d].role
 }
 
+/// The position of an identifier.
 pub(crate) fn place_at(identifiers: &[Identifier], d: usize) -> Position
     requires { d < length identifiers.now }
     ensures { result ≡ (layout_of identifiers.now).place d }
@@ -112,6 +122,7 @@ pub(crate) fn place_at(identifiers: &[Identifier], d: usize) -> Position
     identifiers[d].place
 }
 
+/// The name of an identifier.
 pub(crate) fn name_at<'a>(identifiers: &[Identifier<'a>], d: usize) -> &'a [u8]
     requires { d < length identifiers.now }
     ensures { result.now ≡ names_of identifiers.now d }
@@ -119,7 +130,7 @@ pub(crate) fn name_at<'a>(identifiers: &[Identifier<'a>], d: usize) -> &'a [u8]
     identifiers[d].name
 }
 
-/// Whether the scope of a declaration holds the place of u.
+/// Whether the position of u is in the scope of d.
 pub(crate) fn in_scope(identifiers: &[Identifier], d: usize, u: usize) -> bool
     requires first { d < length identifiers.now }
     requires second { u < length identifiers.now }

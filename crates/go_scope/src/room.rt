@@ -1,14 +1,14 @@
-//! How much room the lists of a package's identifiers are made with. Only speed rests on it.
+//! Estimates how many identifiers and names a package has, so that lists are made with enough room. Only speed depends on it.
 
 use crate::model::Identifier;
 use go_ast::FileTree;
 use go_ast::tree::{Group, ImportDecl};
 use go_scanner::{Class, Piece};
 
-/// How many predeclared names there are.
+/// The number of predeclared names.
 const PREDECLARED: usize = 11;
 
-/// How many imports one keyword has.
+/// The number of specs of an import declaration.
 fn import_count(decl: &ImportDecl) -> usize {
     match &decl.group {
         Group::Single(_) => 1,
@@ -16,7 +16,7 @@ fn import_count(decl: &ImportDecl) -> usize {
     }
 }
 
-/// How many of some tokens are names.
+/// The number of names among tokens.
 fn name_count(tokens: &[Piece]) -> usize {
     let mut count: usize = 0;
     for token in tokens {
@@ -27,7 +27,7 @@ fn name_count(tokens: &[Piece]) -> usize {
     count
 }
 
-/// How many identifiers a file has: its names, and the literals of its imports.
+/// The number of identifiers of a file: its names, and the string literals of its imports.
 fn file_count(file: &FileTree) -> usize {
     let mut count = name_count(file.pieces().tokens());
     for decl in &file.file().imports {
@@ -36,7 +36,7 @@ fn file_count(file: &FileTree) -> usize {
     count
 }
 
-/// How many identifiers the files of a package have, the predeclared names among them.
+/// The number of identifiers of a package's files, predeclared names included.
 pub(crate) fn identifier_count(files: &[FileTree]) -> usize {
     let mut count = PREDECLARED;
     for file in files {
@@ -45,7 +45,7 @@ pub(crate) fn identifier_count(files: &[FileTree]) -> usize {
     count
 }
 
-/// About how many names identifiers have: all of them in a small package, and few in a large one, where a name is used often.
+/// An estimate of how many different names identifiers have. In a large package most names are used often.
 pub(crate) fn name_room(identifiers: &[Identifier]) -> usize {
     identifiers.len() / 8 + 2 * PREDECLARED
 }

@@ -1,4 +1,4 @@
-//! The identifiers of simple statements and of declarations of local variables.
+//! Collects the identifiers of simple statements and of declarations of local variables.
 ghost use Rattle.std.specs.Prelude.{OnOk};
 ghost use Rattle.go_scope.specs.ExpressionSites.{sites_if, list_sites, type_sites, expr_sites, exprs_sites};
 ghost use Rattle.go_scope.specs.StatementSites.{ident_sites, left_sites, assigned_sites, simple_sites, value_sites, local_sites, group_sites, init_sites, for_sites};
@@ -28,7 +28,7 @@ pub(crate) fn add_exprs<'a>(
     Ok(())
 }
 
-/// Adds names that are declared in a role.
+/// Adds declared identifiers, each with this role.
 pub(crate) fn add_idents<'a>(
     source: &RankedFile<'a>,
     found: &mut Vec<Identifier<'a>>,
@@ -43,7 +43,7 @@ pub(crate) fn add_idents<'a>(
     Ok(())
 }
 
-/// Adds a name that is declared in a role, or a `_`.
+/// Adds a declared identifier with this role. A `_` declares nothing.
 pub(crate) fn add_ident<'a>(
     source: &RankedFile<'a>,
     found: &mut Vec<Identifier<'a>>,
@@ -58,7 +58,7 @@ pub(crate) fn add_ident<'a>(
     }
 }
 
-/// Adds the identifiers of the left side of a `:=`, whose scopes would begin at a token.
+/// Adds the identifiers of a left side of `:=`. The scope of a variable that it declares begins at the token `following`.
 fn add_left<'a>(
     source: &RankedFile<'a>,
     found: &mut Vec<Identifier<'a>>,
@@ -75,7 +75,7 @@ fn add_left<'a>(
     }
 }
 
-/// Adds the identifiers of the left sides of a `:=`.
+/// Adds the identifiers of all left sides of `:=`.
 fn add_lefts<'a>(
     source: &RankedFile<'a>,
     found: &mut Vec<Identifier<'a>>,
@@ -91,7 +91,7 @@ fn add_lefts<'a>(
     Ok(())
 }
 
-/// Adds the identifiers of the left side of a `=`.
+/// Adds the identifiers of a left side of `=`. A `_` is no use.
 fn add_assigned<'a>(
     source: &RankedFile<'a>,
     found: &mut Vec<Identifier<'a>>,
@@ -105,7 +105,7 @@ fn add_assigned<'a>(
     }
 }
 
-/// Adds the identifiers of the left sides of a `=`.
+/// Adds the identifiers of all left sides of `=`.
 fn add_all_assigned<'a>(
     source: &RankedFile<'a>,
     found: &mut Vec<Identifier<'a>>,
@@ -119,7 +119,7 @@ fn add_all_assigned<'a>(
     Ok(())
 }
 
-/// Adds the identifiers of a simple statement in a block, before a token.
+/// Adds the identifiers of a simple statement in a block. The token `following` comes after the statement.
 pub(crate) fn add_simple<'a>(
     source: &RankedFile<'a>,
     found: &mut Vec<Identifier<'a>>,
@@ -147,7 +147,7 @@ pub(crate) fn add_simple<'a>(
     }
 }
 
-/// Adds the identifiers of a simple statement, where there is one.
+/// Adds the identifiers of a simple statement, if there is one.
 pub(crate) fn add_optional<'a>(
     source: &RankedFile<'a>,
     found: &mut Vec<Identifier<'a>>,
@@ -163,7 +163,7 @@ pub(crate) fn add_optional<'a>(
     }
 }
 
-/// Adds the identifiers of a type, where there is one.
+/// Adds the identifiers of a type, if there is one.
 fn add_optional_type<'a>(
     source: &RankedFile<'a>,
     found: &mut Vec<Identifier<'a>>,
@@ -177,7 +177,7 @@ fn add_optional_type<'a>(
     }
 }
 
-/// Adds the identifiers of the values of a declaration, where there are any.
+/// Adds the identifiers of the values of a declaration, if there are any.
 fn add_values<'a>(
     source: &RankedFile<'a>,
     found: &mut Vec<Identifier<'a>>,
@@ -191,7 +191,7 @@ fn add_values<'a>(
     }
 }
 
-/// Adds the identifiers of a declaration of local variables in a block, before a token.
+/// Adds the identifiers of a declaration of local variables in a block. The token `following` comes after it.
 pub(crate) fn add_local<'a>(
     source: &RankedFile<'a>,
     found: &mut Vec<Identifier<'a>>,
@@ -211,7 +211,7 @@ pub(crate) fn add_local<'a>(
     add_values(source, found, &local.values)
 }
 
-/// Adds the identifiers of one or several declarations of local variables in a block, before a token.
+/// Adds the identifiers of one or several declarations of local variables in a block. The token `following` comes after them.
 pub(crate) fn add_locals<'a>(
     source: &RankedFile<'a>,
     found: &mut Vec<Identifier<'a>>,
@@ -233,7 +233,7 @@ pub(crate) fn add_locals<'a>(
     }
 }
 
-/// Adds the identifiers of what stands before the condition of an `if`, in the block of the `if`.
+/// Adds the identifiers of the clause before the condition of an `if`, in the block of the `if`.
 pub(crate) fn add_init<'a>(
     source: &RankedFile<'a>,
     found: &mut Vec<Identifier<'a>>,
@@ -248,7 +248,7 @@ pub(crate) fn add_init<'a>(
     }
 }
 
-/// Adds the identifiers of an expression, where there is one.
+/// Adds the identifiers of an expression, if there is one.
 fn add_condition<'a>(
     source: &RankedFile<'a>,
     found: &mut Vec<Identifier<'a>>,
@@ -262,7 +262,7 @@ fn add_condition<'a>(
     }
 }
 
-/// Adds the identifiers of what stands between `for` and the brace that opens its block, in the block of the `for`.
+/// Adds the identifiers of the header of a `for`, in the block of the `for`. `brace` is the opening brace of its body.
 pub(crate) fn add_header<'a>(
     source: &RankedFile<'a>,
     found: &mut Vec<Identifier<'a>>,

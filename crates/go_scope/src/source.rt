@@ -1,4 +1,4 @@
-//! A file whose identifiers are taken, and the list to which they are added.
+//! A file of a package whose identifiers are collected into a list.
 ghost use Rattle.std.specs.Prelude.{◌≡◌, ◌∷◌, [], OnOk};
 ghost use Rattle.go_scope.specs.Site.{site};
 
@@ -6,7 +6,7 @@ use crate::model::{Identifier, Position, Role};
 use go_ast::FileTree;
 use std::alloc::AllocError;
 
-/// A file of a package, with its rank among the package's paths.
+/// A file of a package with its rank among the package's paths, from 0.
 #[derive(Clone, Copy)]
 pub struct RankedFile<'a> {
     pub rank: usize,
@@ -16,14 +16,14 @@ pub struct RankedFile<'a> {
 impl<'a> RankedFile<'a> {
     ghost use Rattle.go_scope.specs.Found.{source_of, Adds};
 
-    /// The bytes of a token, or none if there is no such token.
+    /// The bytes of a token, or none beyond the last token.
     pub(crate) fn spelling(&self, token: usize) -> &'a [u8]
         ensures { result.now ≡ (source_of self.now).spell token }
     {
         self.tree.spelling(token)
     }
 
-    /// Adds the identifier at a token.
+    /// Adds the identifier of a token with this role.
     pub(crate) fn add(
         &self,
         found: &mut Vec<Identifier<'a>>,

@@ -1,4 +1,4 @@
-//! The identifiers of statements and blocks.
+//! Collects the identifiers of statements and blocks.
 ghost use Rattle.std.specs.Prelude.{OnOk};
 ghost use Rattle.go_scope.specs.StatementSites.{statement_sites, block_sites, if_sites, else_sites};
 ghost use Rattle.go_scope.specs.Found.{source_of, Adds};
@@ -12,7 +12,7 @@ use go_ast::tree;
 use go_ast::tree::{Else, IfStmt, Stmt};
 use std::alloc::AllocError;
 
-/// Adds the identifiers of a statement in a block, before a token.
+/// Adds the identifiers of a statement in a block. The token `following` comes after the statement.
 #[cycle(statement)]
 pub(crate) fn add_statement<'a>(
     source: &RankedFile<'a>,
@@ -40,7 +40,7 @@ pub(crate) fn add_statement<'a>(
     }
 }
 
-/// Adds the identifiers of a brace block.
+/// Adds the identifiers of a block in braces.
 #[cycle(statement)]
 pub(crate) fn add_block<'a>(
     source: &RankedFile<'a>,
@@ -57,7 +57,7 @@ pub(crate) fn add_block<'a>(
     Ok(())
 }
 
-/// Adds the identifiers of an `if`, before a token.
+/// Adds the identifiers of an `if`. The token `following` comes after the statement, where the block of the `if` ends.
 #[cycle(statement)]
 fn add_if<'a>(
     source: &RankedFile<'a>,
@@ -74,7 +74,7 @@ fn add_if<'a>(
     add_else(source, found, following, &branch.otherwise)
 }
 
-/// Adds the identifiers of what stands behind the block of an `if`.
+/// Adds the identifiers of the `else` branch of an `if`, if there is one.
 #[cycle(statement)]
 fn add_else<'a>(
     source: &RankedFile<'a>,

@@ -1,4 +1,4 @@
-//! The table of a package's identifiers, scopes and bindings.
+//! The table of a package: its identifiers, their scopes, and their bindings.
 ghost use Rattle.std.specs.Prelude.{ℕ, ◌≡◌, ◌<◌, ◌↔◌, length, IsTrue, MatchOption};
 ghost use Rattle.go_scope.specs.Bindings.{Declares, Counts, IsUse, scope_of};
 ghost use Rattle.go_scope.specs.ByToken.{number_at};
@@ -14,10 +14,10 @@ use base_files::Place;
 use go_ast::FileTree;
 use std::marker::Model;
 
-/// A declaration: the number of its identifier in the table. The predeclared names have the first eleven numbers.
+/// A declaration: the number of its identifier in the table. The first eleven numbers are those of the predeclared names.
 pub type DeclId = usize;
 
-/// The identifiers of a package, and to what each is bound, which is found once.
+/// The identifiers of a package with their bindings, each found once.
 #[derive(Drop)]
 pub struct ScopeTable<'a> {
     identifiers: Identifiers<'a>,
@@ -41,7 +41,7 @@ impl<'a> Model for ScopeTable<'a> {
 }
 
 impl<'a> ScopeTable<'a> {
-    /// The table of a package's identifiers, with what is known of them.
+    /// Joins a package's identifiers with their bindings.
     pub(crate) fn new(identifiers: Identifiers<'a>, known: KnownTable) -> ScopeTable<'a>
         requires { AreKnown identifiers known.declaring.items known.bindings.items (number_at known.numbers) }
         ensures { result ≡ identifiers.entry }
@@ -56,21 +56,21 @@ impl<'a> ScopeTable<'a> {
         self.identifiers.files()
     }
 
-    /// The layout of a table is well formed, since it is that of a package's trees.
+    /// The layout of a package's identifiers is well formed, as it comes from syntax trees.
     pub fn is_well_formed(&self)
         ensures { WellFormed (layout_in self.now) }
     {
         self.identifiers.is_well_formed();
     }
 
-    /// How many identifiers there are, the predeclared names among them.
+    /// The number of identifiers, predeclared names included.
     pub fn len(&self) -> usize
         ensures { result ≡ length self.now.sites }
     {
         self.identifiers.len()
     }
 
-    /// What an identifier is there for.
+    /// The role of an identifier.
     pub fn role(&self, u: usize) -> Role
         requires { u < length self.now.sites }
         ensures { result ≡ (layout_in self.now).role u }
@@ -78,7 +78,7 @@ impl<'a> ScopeTable<'a> {
         self.identifiers.role(u)
     }
 
-    /// Where an identifier stands.
+    /// The position of an identifier. For a predeclared name it is the first token of the first file.
     pub fn place(&self, u: usize) -> Position
         requires { u < length self.now.sites }
         ensures { result ≡ (layout_in self.now).place u }
@@ -86,7 +86,7 @@ impl<'a> ScopeTable<'a> {
         self.identifiers.place(u)
     }
 
-    /// How an identifier is spelled, in UTF-8.
+    /// The name of an identifier, in UTF-8.
     pub fn name(&self, u: usize) -> &'a [u8]
         requires { u < length self.now.sites }
         ensures { result.now ≡ names_in self.now u }
@@ -110,14 +110,14 @@ impl<'a> ScopeTable<'a> {
         self.known.declaring[u]
     }
 
-    /// The identifiers alone.
+    /// The identifiers of the table.
     pub fn identifiers(&self) -> &Identifiers<'a>
         ensures { result.now ≡ self.now }
     {
         &self.identifiers
     }
 
-    /// The identifier at a token, or the literal of an import.
+    /// The identifier, or the import's string literal, of a token.
     pub fn identifier_at(&self, place: Position) -> Option<usize>
         ensures { MatchOption result ((u : ℕ) → u < length self.now.sites → StandsAt (layout_in self.now) place u → ⊥)
             (λ u. IsFoundAt (layout_in self.now) (length self.now.sites) place u) }
@@ -125,7 +125,7 @@ impl<'a> ScopeTable<'a> {
         self.known.numbers.get(place)
     }
 
-    /// The identifier that begins at a place, or the literal of an import.
+    /// The identifier, or the import's string literal, that begins at a place.
     pub fn identifier_beginning_at(&self, place: &Place) -> Option<usize>
         ensures { MatchOption result ((u : ℕ) → u < length self.now.sites → BeginsAt self.now place.now.path place.now.offset u → ⊥)
             (λ u. IsFirstOf (BeginsAt self.now place.now.path place.now.offset) (length self.now.sites) u) }
@@ -133,7 +133,7 @@ impl<'a> ScopeTable<'a> {
         self.identifiers.first_beginning_at(place)
     }
 
-    /// The declaration to which an identifier is bound.
+    /// The declaration to which an identifier is bound, if any.
     pub fn binding(&self, u: usize) -> Option<DeclId>
         requires { u < length self.now.sites }
         ensures { MatchOption result ((d : ℕ) → IsBoundIn self.now u d → ⊥) (λ d. IsBoundIn self.now u d) }
@@ -141,7 +141,7 @@ impl<'a> ScopeTable<'a> {
         self.known.bindings[u]
     }
 
-    /// The declaration to which the identifier that begins at a place is bound.
+    /// The declaration to which the identifier that begins at a place is bound, if any.
     pub fn resolve(&self, place: &Place) -> Option<DeclId>
         ensures { let found = IsFirstOf (BeginsAt self.now place.now.path place.now.offset) (length self.now.sites) in
             MatchOption result ((u d : ℕ) → found u → IsBoundIn self.now u d → ⊥) (λ d. (u : ℕ) × (found u × IsBoundIn self.now u d)) }
@@ -160,7 +160,7 @@ impl<'a> ScopeTable<'a> {
         self.role(declaration).scope()
     }
 
-    /// Whether a declaration does not count, beside another of its name.
+    /// Whether a declaration does not count, because of another one of its name.
     pub fn is_repeated(&self, declaration: DeclId) -> bool
         requires { declaration < length self.now.sites }
         ensures { let l = layout_in self.now in

@@ -1,6 +1,8 @@
-//! The tests of what neither a stored session nor a run of the program can make: bindings in packages with faults. They are over public
-//! calls alone. They stand apart from the crates, since a crate with tests of its own is proved twice; and with nothing below them but
-//! what they name, since a crate of tests is built, by two compilers, with all below it.
+//! Tests of bindings in packages with faults, which neither a stored session nor a run of the program shows. They use public functions
+//! alone.
+//!
+//! They are a crate of their own, since a crate with tests is proved twice. It needs only the crates that it names, since two compilers
+//! build a crate of tests with all crates that it needs.
 #![tactic(auto)]
 
 #[cfg(test)]

@@ -1,5 +1,5 @@
-//! What names are bound to in packages with faults, of which no session tells the uses. In a text the comment `@` stands before a use and
-//! the comment `^` before the identifier that declares what the use means; without the latter it means no declaration of the package.
+//! Tests what names are bound to in packages with faults. In a text the comment `/*@*/` marks a use, and `/*^*/` the declaring identifier
+//! to which it is bound. Without the second mark the use is bound to no declaration of the package.
 use crate::assertion::{file, holds};
 use base_files::{Path, Place};
 use go_ast::FileTree;
@@ -10,11 +10,12 @@ use go_scope::table::ScopeTable;
 use std::alloc::Global;
 use std::process::Abort;
 
+/// The path of the one file.
 fn path(rt: &impl Abort, alloc: Global) -> Path {
     Path::read(alloc, "a/a.go", 2).ok().expect(rt, "a path")
 }
 
-/// The one file of a package.
+/// The parsed file of a package of one file.
 fn files(rt: &impl Abort, alloc: Global, text: &str) -> Vec<FileTree> {
     let file = file(rt, alloc, text.as_bytes());
     let tree = parse_file(alloc, &path(rt, alloc), &file)
@@ -25,14 +26,15 @@ fn files(rt: &impl Abort, alloc: Global, text: &str) -> Vec<FileTree> {
     files
 }
 
-/// The table of a package where nothing is known of what it imports.
+/// The table of a package, with the names of imported packages unknown.
 fn plain_table<'a>(rt: &impl Abort, alloc: Global, files: &'a [FileTree]) -> ScopeTable<'a> {
     let plain = declare(alloc, files).expect(rt, "memory");
     let none: [Option<&[u8]>; 0] = [];
     name_imports(alloc, &plain, &none).expect(rt, "memory")
 }
 
-/// Where the identifier begins that declares what an identifier means, or None for none and for a predeclared name.
+/// The offset of the declaring identifier to which the identifier at a place is bound. `None` where it is bound to nothing or to a
+/// predeclared name.
 fn declared_at(table: &ScopeTable<'_>, place: &Place) -> Option<usize> {
     let declaration = table.resolve(place)?;
     let identifier = table.identifiers().as_slice().get(declaration)?;
@@ -43,12 +45,12 @@ fn declared_at(table: &ScopeTable<'_>, place: &Place) -> Option<usize> {
     Some(file.offset(identifier.place.index))
 }
 
-/// Where a text goes on behind a comment of five bytes.
+/// The offset after a comment of five bytes.
 fn behind(text: &str, comment: &str) -> Option<usize> {
     text.find(comment).map(|at| at.saturating_add(5))
 }
 
-/// Asserts that the marked use means what is marked.
+/// Asserts that the marked use is bound to the marked declaring identifier.
 fn is_bound(rt: &impl Abort, alloc: Global, text: &str) {
     let files = files(rt, alloc, text);
     let table = plain_table(rt, alloc, &files);
@@ -60,7 +62,7 @@ fn is_bound(rt: &impl Abort, alloc: Global, text: &str) {
     holds(rt, declared_at(&table, &place) == behind(text, "/*^*/"));
 }
 
-/// Nothing is known of the packages that are imported, so an import without a name declares none.
+/// Packages of one file, one on each line. An import without a name declares nothing, as no package's name is known.
 const BINDINGS: &str = r#"package a; func f(/*^*/p int) { var p int; /*@*/p = 1 }
 package a; var /*^*/x int; var x int; func f() { print(/*@*/x) }
 package a; var /*^*/x int; var x int; func f() { /*@*/x = 1 }

@@ -1,8 +1,9 @@
-//! Why the program ends before its input does.
+//! Why a session of the program ended before its input.
 use server_session::SessionFault;
 use std::alloc::AllocError;
 use thiserror::Error;
 
+/// Why a session of the program ended before its input. Each message goes to standard error.
 #[derive(Debug, Drop, Error)]
 pub enum ProgramFault {
     #[error("memory fault")]

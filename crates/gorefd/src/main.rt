@@ -1,4 +1,4 @@
-//! The program `gorefd`: one session over a book of its own, from standard input to standard output; or a server on a socket.
+//! The program `gorefd`: serves one session over a book of its own, from standard input to standard output, or sessions on a socket.
 #![tactic(auto)]
 
 mod fault;
@@ -14,11 +14,11 @@ use std::fmt::Display;
 use std::io::{BufReader, BufWriter, ErrorKind};
 use std::process::ExitCode;
 
-/// What is told of words that cannot be read.
+/// The usage text where a word of the command line is not UTF-8.
 const NOT_UTF8: &str =
     "error: a word is not UTF-8\n\nUsage: gorefd <COMMAND>\n\nFor more information, try '--help'.\n";
 
-/// Serves one session over standard input and output.
+/// Serves one session from standard input to standard output.
 fn run(rt: &(impl Input + Print + AllocGlobal)) -> Result<(), ProgramFault> {
     let alloc = rt.alloc();
     let input = BufReader::new(alloc, rt.reader()).map_err(|_| ProgramFault::Memory)?;
@@ -28,7 +28,7 @@ fn run(rt: &(impl Input + Print + AllocGlobal)) -> Result<(), ProgramFault> {
     Ok(())
 }
 
-/// Tells how many entries the journal has.
+/// Prints how many entries the settled journal has, and returns the exit status.
 fn settled<R: Print + Eprint>(rt: &R, entries: u64) -> ExitCode {
     match println!(rt; "settled {entries}") {
         Ok(()) => ExitCode::SUCCESS,
@@ -36,13 +36,13 @@ fn settled<R: Print + Eprint>(rt: &R, entries: u64) -> ExitCode {
     }
 }
 
-/// Says on standard error why the program ended, and gives its exit status.
+/// Prints on standard error why the program ended, and returns the exit status 1.
 fn ended(rt: &impl Eprint, fault: impl Display + Drop) -> ExitCode {
     let _ = eprintln!(rt; "gorefd: {fault}");
     ExitCode::from(1)
 }
 
-/// Tells what is told of words that ask nothing, and gives the exit status.
+/// Prints the text of words that make no request, and returns the exit status: 0 for help, 2 for a usage text.
 fn told<R: Print + Eprint>(rt: &R, fault: &WordsFault) -> ExitCode {
     match fault {
         WordsFault::Memory => ended(rt, ProgramFault::Memory),

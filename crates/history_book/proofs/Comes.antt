@@ -1,4 +1,4 @@
--- What a delivery comes to that is fresh.
+-- The outcome of a fresh delivery.
 use Rattle.std.proofs.Common.{ℕ, List, Result, Ok, Err, IfOk, subst}
 use Rattle.std.specs.declared.alloc.AllocError.{AllocError}
 use Rattle.build_unit.specs.declared.built.Built.{Built}

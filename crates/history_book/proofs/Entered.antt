@@ -1,4 +1,4 @@
--- What an event that was answered leaves in the journal is its entry.
+-- The entry that an answered event leaves in the journal.
 use Rattle.std.proofs.Common.{◌≡◌, ℕ, ◌∷◌, [], ◌++◌, List, Option, MatchOption, Some, None, refl, sym, ap, subst, ◌∙◌}
 use Rattle.base_edits.specs.EditSet.{FileChanges}
 use Rattle.history_machine.specs.declared.entry.Entry.{Entry}
@@ -12,7 +12,7 @@ use Rattle.history_machine.specs.Step.{AnswersOrLacks, Keeps}
 use Rattle.history_book.specs.Entered.{entry_left, with_entry}
 use Rattle.history_book.specs.declared.question.Asked.{Asked}
 
--- what is known of an event before it is answered, and what its answer tells of it
+-- the facts that are known of an event before its answer, and those that its answer adds, make up its entry
 pub record TellsEntry (current : ℕ) (event : Event) (reply : Reply) (asked : Asked) (out : Option Told) (subject : Option ℕ) (edits : Option FileChanges)
     : Type 0 where
   pub kind_is : asked.kind ≡ kind_of event
@@ -21,7 +21,7 @@ pub record TellsEntry (current : ℕ) (event : Event) (reply : Reply) (asked : A
   pub subject_is : subject ≡ subject_after (subject_of event) reply
   pub edits_are : edits ≡ edits_of event reply
 
--- the entry of the event and its reply, if this is told of it
+-- the entry of the event and its reply with this outcome; none without an outcome
 abbrev entry_if : ℕ → Event → Reply → Option Told → Option Entry
 entry_if current event reply None = None
 entry_if current event reply (Some told) = Some (entry_of current event reply told)
@@ -55,7 +55,7 @@ pub left_copy : (current : ℕ) (event : Event) (reply : Reply) (asked : Asked) 
 left_copy current event reply asked out subject edits left t is =
     subst (IsEntryIf current event reply) (sym (is ∙ left_is current event reply asked out subject edits t)) (copied current event reply (told_of reply) refl)
 
--- and the journal has it besides
+-- the journal gains the entry of the event and its reply
 pub left_kept : (old : Content) (journal : List Entry) (event : Event) (reply : Reply) (new : Content) (journals : List Entry) (asked : Asked)
     (out : Option Told) (subject : Option ℕ) (edits : Option FileChanges) (left : Option Entry) → AnswersOrLacks old event reply new →
     ShowsLine journal event reply → TellsEntry old.current.number event reply asked out subject edits → left ≡ entry_left asked out subject edits →

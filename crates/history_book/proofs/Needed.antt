@@ -1,4 +1,4 @@
--- The place that an event needs, by what is known of it.
+-- The room that an event needs in the journal, from the facts that are known before its answer.
 use Rattle.std.proofs.Common.{◌≡◌, ℕ, ◌+◌, ◌≤◌, ◌↔◌, inr, inl, Bool, true, false, IsTrue, refl, sym, subst, ⊎_elim, arith}
 use Rattle.std.proofs.lemmas.Bool.{false≢true}
 use Rattle.build_unit.specs.Jobs.{JobsOut}
@@ -31,7 +31,7 @@ place_for most due out Take false is within = (λ h. h, λ h. h)
 place_for most due out (Deliver job built) false is within = (λ h. ⊎_elim (λ o. absurd (false≢true (is.1 o))) (λ m. m) h, λ h. inr h)
 place_for most due out (GiveBack job) false is within = (λ h. ⊎_elim (λ o. absurd (false≢true (is.1 o))) (λ m. m) h, λ h. inr h)
 
--- there is room for the entries of an event, or it brings a Job that is out
+-- the journal has room for the entries of the event, or the event brings a Job that is out
 pub place_now : (most due : ℕ) (out : JobsOut) (event : Event) (is_out : Bool) → (IsTrue is_out ↔ BringsOut out event) →
     ((IsTrue is_out → ⊥) → due + 2 ≤ most) → HasPlace most due out event
 place_now most due out event true is more = place_there most due out event (is.0 refl)

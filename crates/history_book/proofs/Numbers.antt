@@ -1,4 +1,4 @@
--- The number of a delivery's package.
+-- The number of a delivery's package in a state.
 use Rattle.std.proofs.Common.{◌≡◌, ℕ, Option, None, Some, MatchOption, slice_get}
 use Rattle.std.specs.List.{Contains}
 use Rattle.base_files.specs.Packages.{package_paths}
@@ -9,7 +9,7 @@ use Rattle.history_machine.specs.Deliveries.{IsFresh}
 use Rattle.history_book.specs.Fresh.{AreOfState}
 
 module _ (state : State) (job : JobRecord) (built : Built) where
-  -- a path that is none of a package has no inputs
+  -- a path of no package has no inputs
   pub number_found : built.package ≡ job.package → job.number ≡ state.number → built.number ≡ state.number → (found : Option ℕ) →
       MatchOption found (Contains (package_paths state.files) job.package → ⊥) (λ number. slice_get (package_paths state.files) number ≡ Some job.package)
       → MatchOption found (IsFresh state job built → ⊥) (AreOfState state job built)

@@ -1,4 +1,4 @@
--- An event that is entered once there is room for its entry.
+-- An event that is answered and entered in the journal, once there is room for its entry.
 use Rattle.std.proofs.Common.{◌≡◌, ℕ, ◌+◌, ◌≤◌, ◌↔◌, List, length, false, IsTrue, sym, subst}
 use Rattle.std.proofs.lemmas.Bool.{false≢true}
 use Rattle.build_unit.specs.Jobs.{JobsOut}

@@ -1,4 +1,4 @@
--- A delivery that the current state takes in is an answer.
+-- A delivery that the current state takes in is an answer of the machine.
 use Rattle.std.proofs.Common.{refl, sym, ap, subst}
 use Rattle.build_unit.specs.Jobs.{JobsOut, Loses, label_of}
 use Rattle.build_unit.specs.declared.built.Built.{Built}

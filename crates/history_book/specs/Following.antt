@@ -1,10 +1,10 @@
--- The state that follows another by a change of its files.
+-- The state after a change.
 use Rattle.std.specs.Prelude.{◌≡◌, ℕ}
 use Rattle.build_carry.specs.Carried.{IsCarried}
 use Rattle.history_machine.specs.State.{State}
 use Rattle.workspace_snapshot.specs.declared.change.Change.{Change}
 
--- it has this number, the files of the change, and the units that the change carries over
+-- The new state is the one after the change: it has this number, the change's files, and the finished units that the change carries over.
 pub record IsStateAfter (old : State) (number : ℕ) (change : Change) (new : State) : Type 0 where
   pub numbered : new.number ≡ number
   pub has_files : new.files ≡ change.files

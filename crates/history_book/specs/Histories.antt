@@ -1,4 +1,4 @@
--- What the machine is of which a history is the states.
+-- The content of the machine that a history is part of.
 use Rattle.std.specs.Prelude.{◌≡◌}
 use Rattle.base_files.specs.declared.limits.Limits.{Limits}
 use Rattle.build_unit.specs.Jobs.{JobsOut}
@@ -9,7 +9,7 @@ use Rattle.history_machine.specs.State.{State}
 use Rattle.history_machine.specs.Step.{AnswersOrLacks}
 use Rattle.history_book.specs.declared.history.History.{History}
 
--- with these limits and Jobs out
+-- the content with the states of this history, these limits and these Jobs out
 abbrev pub content_of : History → Limits → JobsOut → Content
 content_of h limits out = record {
   limits = limits;
@@ -21,14 +21,14 @@ content_of h limits out = record {
   out = out;
 }
 
--- the event is answered so, whatever the limits and whichever Jobs are out
+-- the event gets this reply and leaves the new history, whatever the limits are and whichever Jobs are out
 abbrev pub Moves : History → Event → Reply → History → Type 0
 Moves old event reply new = (limits : Limits) (out : JobsOut) → AnswersOrLacks (content_of old limits out) event reply (content_of new limits out)
 
--- whichever Jobs are out, the state is the current one, and no redo leaves it
+-- the new history has `next` as its current state, and no state for redo, whichever Jobs are out
 abbrev pub IsChanged : Limits → History → State → History → Type 0
 IsChanged limits old next new = (out : JobsOut) → content_of new limits out ≡ changed (content_of old limits out) next.files next.finished
 
--- the states are the same
+-- both histories give the same content, whatever the limits are and whichever Jobs are out
 abbrev pub IsSame : History → History → Type 0
 IsSame old new = (limits : Limits) (out : JobsOut) → content_of new limits out ≡ content_of old limits out

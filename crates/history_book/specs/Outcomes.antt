@@ -1,4 +1,4 @@
--- What a delivery comes to.
+-- The outcomes of deliveries.
 use Rattle.std.specs.Prelude.{◌≡◌, ⊤, length}
 use Rattle.base_files.specs.Packages.{package_paths}
 use Rattle.workspace_check.specs.Found.{KnowsVerdicts}
@@ -14,6 +14,8 @@ use Rattle.history_machine.specs.declared.event.Reply.TheVariants.{Done, Refused
 use Rattle.history_book.specs.declared.deliveries.Outcome.{Outcome}
 use Rattle.history_book.specs.declared.deliveries.Outcome.TheVariants.{Late, Known, Entered}
 
+-- The outcome of a delivery to the state. It is `Late` where the delivery is not of the state, `Known` where its package is finished. Else
+-- it is `Entered`, with the table that gains the unit.
 abbrev pub ComesTo : State → JobRecord → Built → Outcome → Type 0
 ComesTo state job built Late = ¬ (IsFresh state job built)
 ComesTo state job built Known = IsFresh state job built × HasUnit state job.package
@@ -21,7 +23,7 @@ ComesTo state job built (Entered finished known) =
     IsFresh state job built × ¬ (HasUnit state job.package) × Gains state.files state.finished job.package built.unit finished
     × (length finished ≡ length (package_paths state.files)) × IsRightlyBuilt built × KnowsVerdicts state.files known
 
--- where the inputs of what was built are those of its package: this is finished, or it is finished now
+-- the outcome of a delivery whose inputs are those of its package: its package was finished before, or the table gains its unit
 abbrev pub FinishesIn : State → Built → Outcome → Type 0
 FinishesIn state built Late = ⊥
 FinishesIn state built Known = HasUnit state built.package
@@ -29,12 +31,12 @@ FinishesIn state built (Entered finished known) =
     ¬ (HasUnit state built.package) × Gains state.files state.finished built.package built.unit finished
     × (length finished ≡ length (package_paths state.files)) × IsRightlyBuilt built × KnowsVerdicts state.files known
 
--- a table that is entered is one of the state's packages, and what is known then is right
+-- the table of an entered delivery has a place for each package of the state, and its findings are right
 abbrev pub HasTable : State → Outcome → Type 0
 HasTable state (Entered finished known) = (length finished ≡ length (package_paths state.files)) × KnowsVerdicts state.files known
 HasTable state outcome = ⊤
 
--- the reply to a delivery, and the state after it
+-- the reply to a delivery of this outcome, and the state after it
 abbrev pub Settles : State → Outcome → Reply → State → Type 0
 Settles old Late reply new = (reply ≡ Refused (Stale old.number)) × (new ≡ old)
 Settles old Known reply new = (reply ≡ Refused Already) × (new ≡ old)

@@ -12,23 +12,23 @@ use Rattle.history_machine.specs.declared.event.Reply.TheVariants.{Logged, Refus
 use Rattle.history_book.specs.declared.handing.HandingIn.{HandingIn}
 use Rattle.history_book.specs.declared.handing.HandingIn.TheVariants as handing
 
--- a change of the workspace
+-- the event that a commit, an undo or a redo is
 abbrev pub changing_event : Changing → Event
 changing_event (changing.Commit basis change) = Commit basis change
 changing_event (changing.Undo basis) = Undo basis
 changing_event (changing.Redo basis) = Redo basis
 
--- a Job that is handed in
+-- the event that hands a Job in
 abbrev pub handing_event : HandingIn → Event
 handing_event (handing.Deliver job built) = Deliver job built
 handing_event (handing.GiveBack job) = GiveBack job
 
--- the number of the current state, and the line of an entry, if there is one
+-- the reply that the answer to a log is
 abbrev pub logged : Result (ℕ × Option Line) Refusal → Reply
 logged (Ok shown) = Logged shown.0 shown.1
 logged (Err refusal) = Refused refusal
 
--- the edits of a change that was admitted
+-- the edits of an admitted change; none where it is refused
 abbrev pub edits_made : Result (ℕ × FileChanges) Refusal → Option FileChanges
 edits_made (Ok made) = Some made.1
 edits_made (Err refusal) = None

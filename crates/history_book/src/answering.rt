@@ -1,4 +1,4 @@
-//! What an event leaves of the states and of the journal.
+//! Answers an event: changes the content, and adds the event's entry to the journal.
 ghost use Rattle.std.specs.Prelude.{◌≡◌, ◌+◌, ◌≤◌, length, vec_capacity};
 ghost use Rattle.history_machine.specs.Machine.{HasNumbers};
 ghost use Rattle.history_machine.specs.Kept.{IsEntryIf};
@@ -11,7 +11,7 @@ use crate::entering::add_entry;
 use crate::question::{Answered, Asked, Question};
 use history_machine::{Entry, Line};
 
-/// Adds the entry of an event that was answered to the journal, if it has one. With the answer comes a copy of the entry.
+/// Adds the entry of an answered event to the journal, if the event has one. Returns the answer, and a copy of the entry.
 pub fn enter<A>(journal: &mut Vec<Entry>, asked: Asked, answered: Answered<A>) -> (A, Option<Entry>)
     requires { length journal.old.items + 1 ≤ vec_capacity journal.old }
     ensures answer { result.0 ≡ answered.answer }
@@ -37,7 +37,7 @@ pub fn enter<A>(journal: &mut Vec<Entry>, asked: Asked, answered: Answered<A>) -
     (answer, Some(copy))
 }
 
-/// Answers an event, and adds its entry to the journal. With the answer comes a copy of the entry.
+/// Answers an event, and adds its entry to the journal, which has room for it. Returns the answer, and a copy of the entry.
 pub fn answer<Q: Question>(
     content: &mut Content,
     journal: &mut Vec<Entry>,

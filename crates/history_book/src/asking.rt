@@ -1,4 +1,4 @@
-//! The questions that change no state: a look, a line of the journal, and a Take.
+//! The questions that change no state: a look, a log and a Take.
 ghost use Rattle.std.specs.Prelude.{◌≡◌};
 ghost use Rattle.history_machine.specs.Journal.{line_at};
 ghost use Rattle.history_book.specs.Questions.{logged};
@@ -11,11 +11,12 @@ use base_files::Refusal;
 use build_unit::Job;
 use history_machine::{Entry, EntryKind, Line, Told, View};
 
-/// A look at the current state.
+/// Asks for a view of the current state.
 #[derive(Clone, Copy)]
 pub struct Looking;
 
-/// Asks for the line of the entry of this number. The answer is the number of the current state, and the line, if there is one.
+/// Asks for the line of the entry of this number. The answer is the number of the current state, and the line, or `None` past the journal's
+/// end.
 #[derive(Clone, Copy)]
 pub struct Logging(pub u64);
 
@@ -23,7 +24,7 @@ pub struct Logging(pub u64);
 #[derive(Clone, Copy)]
 pub struct Taking;
 
-/// What is shown of the entry of a number.
+/// The line of the entry of this number, or `None` past the journal's end.
 fn line_at(journal: &[Entry], number: u64) -> Option<Line>
     ensures { result ≡ line_at journal.now number }
 {

@@ -1,4 +1,4 @@
-//! The book: the states of a workspace with the Jobs that are out, and the journal of the events that move among them.
+//! The book: the states of a workspace, the Jobs that are out, and the journal of the events.
 ghost use Rattle.std.specs.Prelude.{◌≡◌, ◌+◌, ◌≤◌, ◌↔◌, IfOk, IsTrue, OnErr, OnOk, length, vec_capacity};
 ghost use Rattle.workspace_check.specs.Found.{KnowsVerdicts};
 ghost use Rattle.history_machine.specs.Machine.{content, opening};
@@ -21,15 +21,15 @@ use workspace_check::Known;
 use workspace_graph::Graph;
 use workspace_snapshot::MadeChange;
 
-/// The states of a workspace, with a cursor on the current one, the Jobs that are out, and the journal. Its contracts speak of it
-/// as a machine of events. It is ended by `close`.
+/// The states of a workspace, with a cursor on the current one, the Jobs that are out, and the journal. Contracts see a book as a machine
+/// of events. `close` ends it.
 #[must_use]
 pub struct Book {
     content: Content,
     journal: Vec<Entry>,
 }
 
-/// It is a fact of each book that its content is the replay of its journal.
+/// The invariant of each book says that its content is the replay of its journal.
 impl Model for Book {
     ghost use Rattle.std.specs.Prelude.{◌+◌, ◌≤◌, length, vec_capacity};
     ghost use Rattle.history_machine.specs.Codes.{entry_code};
@@ -53,7 +53,8 @@ impl Model for Book {
         × ∥ IsReplay a.content.limits a.journal.items a.content ∥₁ };
 }
 
-/// Makes room for the entry of an event, and for those of the Jobs out then. For a Job that is out the room is there.
+/// Makes room for the entry of an event, and for the entries that are due for the Jobs out. For the entry of a Job that is out the room was
+/// made when it was taken.
 fn make_room(journal: &mut Vec<Entry>, content: &Content, asked: &Asked) -> Result<(), AllocError>
     requires { length content.now.out.jobs ≤ 1000000 }
     ensures items { journal.new.items ≡ journal.old.items }
@@ -68,7 +69,7 @@ fn make_room(journal: &mut Vec<Entry>, content: &Content, asked: &Asked) -> Resu
 }
 
 impl Book {
-    /// A history of one state, which has the number 0 and no files.
+    /// A book of one state, which has the number 0 and no files. No Job is out, and the journal is empty.
     pub fn new(alloc: Global, limits: Limits) -> Result<Book, AllocError>
         ensures { IfOk result (λ book. book ≡ opening limits) }
     {
@@ -79,7 +80,7 @@ impl Book {
         })
     }
 
-    /// The entries of the events, each with its reply, the first first.
+    /// The entries of the events, each with its reply, the oldest first.
     pub fn journal(&self) -> &[Entry]
         ensures journal { result.now ≡ self.now.journal }
         ensures replay { ∥ IsReplay self.now.limits self.now.journal (content self.now) ∥₁ }
@@ -87,23 +88,23 @@ impl Book {
         self.journal.as_slice()
     }
 
-    /// How many entries the journal has, with those that are kept for the Jobs out.
+    /// How many entries the journal has, and is still to have for the Jobs out.
     fn entries_due(&self) -> u64
         ensures { result ≡ entries_due self.now }
     {
         self.journal.len() as u64 + self.content.out.len() as u64
     }
 
-    /// Whether the journal has room for so many entries beside those that are due.
+    /// Whether the journal has room for `needed` entries beside those that are due.
     fn has_room(&self, needed: u64) -> bool
         ensures { IsTrue result ↔ (entries_due self.now + needed ≤ self.now.limits.journal) }
     {
         self.content.limits.journal - self.entries_due() >= needed
     }
 
-    /// One step of the machine, with a copy of the entry that it added. Room is made before anything changes, so a refusal for want of
-    /// memory, or of room in the journal, leaves the book as it was, and keeps no entry. The copy of the entry of a Job that is given
-    /// back takes no memory.
+    /// Makes one step of the machine, and returns a copy of the entry that it adds. Room is made before anything changes. So a refusal for
+    /// want of memory, or of room in the journal, changes nothing and keeps no entry. The copy of the entry of a Job that is given back
+    /// takes no memory.
     pub fn step_kept<Q: Question>(&mut self, question: Q) -> (Q::Answer, Option<Entry>)
         ensures { StepKept self.old (Q.event question) (Q.reply result.0) result.1 self.new }
     {
@@ -117,8 +118,8 @@ impl Book {
         }
     }
 
-    /// One step of the machine. Room is made before anything changes, so a refusal for want of memory, or of room in the
-    /// journal, leaves the book as it was, and keeps no entry.
+    /// Makes one step of the machine. Room is made before anything changes. So a refusal for want of memory, or of room in the journal,
+    /// changes nothing and keeps no entry.
     pub fn step<Q: Question>(&mut self, question: Q) -> Q::Answer
         ensures { Step self.old (Q.event question) (Q.reply result) self.new }
     {
@@ -127,8 +128,8 @@ impl Book {
         answer
     }
 
-    /// The step that a `Changing::Commit` is, for a change whose base is known to have the current files: the basis alone is compared with
-    /// what is current, and no text.
+    /// Makes the step of a `Changing::Commit` whose base is known to have the current files. It compares the basis with the current number,
+    /// and no text.
     pub fn commit_on_current(&mut self, basis: u64, change: MadeChange) -> Result<u64, Refusal>
         requires { change.base ≡ self.old.current.files }
         ensures { Step self.old (Commit basis change) (done result) self.new }
@@ -143,8 +144,8 @@ impl Book {
         }
     }
 
-    /// The step that a `HandingIn::Deliver` is, for a Job and what was built that are known to bring the inputs of the package in the
-    /// current files: their numbers and packages are compared with what is current, and no text.
+    /// Makes the step of a `HandingIn::Deliver`. The Job, and what was built, are known to have the inputs of their package in the current
+    /// files. It compares numbers and packages, and no text.
     pub fn deliver_on_current(&mut self, job: Job, built: Built) -> Handed
         requires { BringsCurrent self.old.current.files job built }
         ensures { Step self.old (Deliver job built) (handed result) self.new }
@@ -159,8 +160,8 @@ impl Book {
         }
     }
 
-    /// Takes in what was found in packages of these files, if they are those of the current state. It is no event: it decides how
-    /// long something takes, and the machine stays as it is.
+    /// Keeps the findings of the packages of `files`, if these are the current files. It is no event: it affects how long later questions
+    /// take, and the machine stays as it is.
     pub fn learn(&mut self, files: &Graph, known: Known)
         requires { KnowsVerdicts files.now known }
         ensures { self.new ≡ self.old }
@@ -168,7 +169,7 @@ impl Book {
         self.content.learn(files, known);
     }
 
-    /// The same of files that are known to be those of the current state: they are not compared.
+    /// Keeps the findings of the packages of the current files. No file is compared.
     pub fn learn_current(&mut self, known: Known)
         requires { KnowsVerdicts self.old.current.files known }
         ensures { self.new ≡ self.old }
@@ -176,7 +177,7 @@ impl Book {
         self.content.learn_current(known);
     }
 
-    /// Ends the history, and tells how many entries its journal had.
+    /// Ends the book, and returns the length of its journal.
     pub fn close(self) -> u64
         ensures { result ≡ length self.journal }
     {

@@ -1,4 +1,4 @@
-//! The questions that change the workspace.
+//! The questions that change the workspace: a commit, an undo and a redo.
 ghost use Rattle.std.specs.Prelude.{◌≡◌, ◌+◌, ◌≤◌, None, length, vec_capacity};
 ghost use Rattle.history_machine.specs.Journal.{edits_of, subject_after, told_of};
 ghost use Rattle.history_book.specs.Questions.{changing_event, edits_made};
@@ -12,8 +12,8 @@ use base_files::Refusal;
 use history_machine::{Entry, EntryKind, MadeEdits, Told};
 use workspace_snapshot::MadeChange;
 
-/// A change, an undo or a redo. The number is the basis: the state that the sender believes to be current. The answer is the number
-/// of the state that is current then.
+/// A commit, an undo or a redo. The number is the basis: the state that the client believes to be current. The answer is the number of the
+/// state that is current after it.
 pub enum Changing {
     /// It is admitted where its base has the current files, byte for byte.
     Commit(u64, MadeChange),
@@ -21,7 +21,7 @@ pub enum Changing {
     Redo(u64),
 }
 
-/// What is answered by the number of a state.
+/// The answer to an undo or a redo, with what its entry keeps of it.
 fn answered(outcome: Result<u64, Refusal>) -> Answered<Result<u64, Refusal>>
     ensures answer { result.answer ≡ outcome }
     ensures out { result.out ≡ told_of (done outcome) }
@@ -37,7 +37,7 @@ fn answered(outcome: Result<u64, Refusal>) -> Answered<Result<u64, Refusal>>
     }
 }
 
-/// What is answered by the number of a new state, and its edits.
+/// The answer to a commit, with what its entry keeps of it: the edits, if the change is admitted.
 fn answered_edits(outcome: Result<(u64, MadeEdits), Refusal>) -> Answered<Result<u64, Refusal>>
     ensures answer { done result.answer ≡ committed outcome }
     ensures out { result.out ≡ told_of (committed outcome) }
@@ -58,7 +58,7 @@ fn answered_edits(outcome: Result<(u64, MadeEdits), Refusal>) -> Answered<Result
     }
 }
 
-/// Answers a change, and gives its edits if it is admitted.
+/// Answers a commit. Its base is compared with the current files.
 fn commit(content: &mut Content, basis: u64, change: MadeChange) -> Answered<Result<u64, Refusal>>
     requires { HasNumbers content.old }
     ensures answer { AnswersOrLacks content.old (Commit basis change) (done result.answer) content.new }
@@ -69,7 +69,7 @@ fn commit(content: &mut Content, basis: u64, change: MadeChange) -> Answered<Res
     answered_edits(content.commit(basis, change))
 }
 
-/// The same for a change whose base is known to have the current files.
+/// Answers a commit whose base is known to have the current files.
 fn commit_on_current(
     content: &mut Content,
     basis: u64,
@@ -85,7 +85,7 @@ fn commit_on_current(
     answered_edits(content.commit_on_current(basis, change))
 }
 
-/// Answers such a change, and adds its entry to the journal, in which there is room for it.
+/// Answers a commit whose base is known to have the current files, and adds its entry to the journal, which has room for it.
 pub(crate) fn enter_on_current(
     content: &mut Content,
     journal: &mut Vec<Entry>,

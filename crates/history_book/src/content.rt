@@ -1,4 +1,4 @@
-//! The states of a workspace with the Jobs that are out, and what events make of them.
+//! The content of a book: the states of a workspace, the Jobs that are out, and what each event makes of them.
 ghost use Rattle.std.specs.Prelude.{◌≡◌, ◌↔◌, IfOk, IsTrue, length};
 ghost use Rattle.workspace_check.specs.Found.{KnowsVerdicts};
 ghost use Rattle.build_unit.specs.Jobs.{IsOut};
@@ -47,7 +47,7 @@ impl Model for Content {
     ghost invariant = { λ a. length a.history.earlier.items + length a.history.later.items ≤ a.limits.undo_depth };
 }
 
-/// Whether a change was planned on some files.
+/// Whether the base of a change has these files, byte for byte.
 fn is_based(change: &MadeChange, files: &Graph) -> bool
     ensures { IsTrue result ↔ (change.now.base ≡ files.now) }
 {
@@ -55,7 +55,7 @@ fn is_based(change: &MadeChange, files: &Graph) -> bool
 }
 
 impl Content {
-    /// One state, which has the number 0 and no files.
+    /// The content of one state, which has the number 0 and no files. No Job is out.
     pub fn new(alloc: Global, limits: Limits) -> Result<Content, AllocError>
         ensures { IfOk result (λ states. states ≡ content (opening limits)) }
     {
@@ -103,6 +103,7 @@ impl Content {
         self.out.is_out(job)
     }
 
+    /// A view of the current state. The files and the finished units are shared.
     pub fn look(&self) -> Result<View, Refusal>
         ensures { AnswersOrLacks self.now Look (looked result) self.now }
     {
@@ -116,7 +117,7 @@ impl Content {
         })
     }
 
-    /// Admits a change of the current files.
+    /// Admits a change whose base has the current files. Returns the new state's number and the change's edits.
     fn admit(&mut self, change: MadeChange) -> Result<(u64, MadeEdits), Refusal>
         requires numbers { HasNumbers self.old }
         requires base { change.base ≡ self.old.current.files }
@@ -133,8 +134,8 @@ impl Content {
         Ok((number, edits))
     }
 
-    /// The change is admitted where the basis is the current number and its base has the current files, byte for byte. Besides the
-    /// number of the new state it gives the edits, for the entry.
+    /// Admits a change where its basis is the current number and its base has the current files, byte for byte. Returns the new state's
+    /// number, and the edits for the entry.
     pub fn commit(&mut self, basis: u64, change: MadeChange) -> Result<(u64, MadeEdits), Refusal>
         requires { HasNumbers self.old }
         ensures answer { AnswersOrLacks self.old (Commit basis change) (committed result) self.new }
@@ -148,7 +149,7 @@ impl Content {
         self.admit(change)
     }
 
-    /// The same for a change whose base is known to have the current files: the numbers alone are compared.
+    /// Admits a change whose base is known to have the current files, where its basis is the current number. No file is compared.
     pub fn commit_on_current(
         &mut self,
         basis: u64,
@@ -166,6 +167,7 @@ impl Content {
         Err(Refusal::Moved { current: number })
     }
 
+    /// Makes the state before the current one current again, where the basis is the current number. Returns that state's number.
     pub fn undo(&mut self, basis: u64) -> Result<u64, Refusal>
         requires { HasNumbers self.old }
         ensures { AnswersOrLacks self.old (Undo basis) (done result) self.new }
@@ -173,6 +175,7 @@ impl Content {
         self.history.undo(basis)
     }
 
+    /// Makes the state current again that the last undo left, where the basis is the current number. Returns that state's number.
     pub fn redo(&mut self, basis: u64) -> Result<u64, Refusal>
         requires { HasNumbers self.old }
         ensures { AnswersOrLacks self.old (Redo basis) (done result) self.new }
@@ -180,6 +183,7 @@ impl Content {
         self.history.redo(basis)
     }
 
+    /// Hands out a Job of the first package that waits to be built, with the package's inputs.
     pub fn take(&mut self) -> Result<Job, Refusal>
         requires { HasNumbers self.old }
         ensures { AnswersOrLacks self.old Take (taken result) self.new }
@@ -196,7 +200,7 @@ impl Content {
         Ok(job)
     }
 
-    /// Takes in what a delivery comes to, if its Job is out.
+    /// Takes the Job back, and lets the outcome of its delivery into the current state. A Job that is not out comes back.
     fn enter(&mut self, job: Job, built: Built, outcome: Result<Outcome, AllocError>) -> Handed
         requires { IfOk outcome (ComesTo self.old.current job built) }
         ensures { AnswersOrLacks self.old (Deliver job built) (handed result) self.new }
@@ -214,7 +218,7 @@ impl Content {
         }
     }
 
-    /// A Job that is not out comes back before anything is made.
+    /// Answers a delivery. A Job that is not out comes back before any text is compared.
     pub fn deliver(&mut self, job: Job, built: Built) -> Handed
         ensures { AnswersOrLacks self.old (Deliver job built) (handed result) self.new }
     {
@@ -225,7 +229,7 @@ impl Content {
         self.enter(job, built, outcome)
     }
 
-    /// The same for a delivery that is known to bring the inputs of its package in the current files: no text is compared.
+    /// Answers a delivery that is known to have the inputs of its package in the current files. No text is compared.
     pub fn deliver_on_current(&mut self, job: Job, built: Built) -> Handed
         requires { BringsCurrent self.old.current.files job built }
         ensures { AnswersOrLacks self.old (Deliver job built) (handed result) self.new }
@@ -234,7 +238,7 @@ impl Content {
         self.enter(job, built, outcome)
     }
 
-    /// It takes no memory, and always succeeds for a Job that is out.
+    /// Takes a Job back that was not built. It takes no memory, and always succeeds for a Job that is out.
     pub fn give_back(&mut self, job: Job) -> Handed
         ensures { AnswersOrLacks self.old (GiveBack job) (handed result) self.new }
     {
@@ -247,7 +251,7 @@ impl Content {
         Handed::Done(number)
     }
 
-    /// Takes in what was found in packages of some files, if they are those of the current state.
+    /// Keeps the findings of the packages of `files`, if these are the current files. For want of memory it drops them.
     pub fn learn(&mut self, files: &Graph, known: Known)
         requires { KnowsVerdicts files.now known }
         ensures { self.new ≡ self.old }
@@ -257,7 +261,7 @@ impl Content {
         }
     }
 
-    /// The same of the files of the current state, which are not compared.
+    /// Keeps the findings of the packages of the current files. No file is compared.
     pub fn learn_current(&mut self, known: Known)
         requires { KnowsVerdicts self.old.current.files known }
         ensures { self.new ≡ self.old }
@@ -267,6 +271,7 @@ impl Content {
         }
     }
 
+    /// Drops all states and Jobs.
     pub fn close(self) {
         let Content {
             alloc: _,

@@ -1,4 +1,4 @@
-//! What a delivery comes to.
+//! Decides the outcome of a delivery.
 ghost use Rattle.std.specs.Prelude.{◌≡◌, IfOk, Some, slice_get};
 ghost use Rattle.base_files.specs.Packages.{package_paths};
 ghost use Rattle.build_unit.specs.Inputs.{AreInputs};
@@ -12,18 +12,18 @@ use history_machine::State;
 use std::alloc::{AllocError, Global};
 use workspace_check::SharedKnown;
 
-/// What a delivery comes to.
+/// The outcome of a delivery.
 #[derive(Drop)]
 pub(crate) enum Outcome {
     /// The Job, or what was built, is not of the state.
     Late,
-    /// The package is finished.
+    /// The package was finished before.
     Known,
-    /// The package is finished now: this is the table, and what is known then.
+    /// The delivery finishes the package: the new table of finished units, and what is known after it.
     Entered(Finished, SharedKnown),
 }
 
-/// What a delivery comes to, where the package that was built has this number, and its inputs are those that it was built from.
+/// The outcome of a delivery of the package of this number, whose inputs are known to be those that it was built from.
 fn outcome_at(
     alloc: Global,
     state: &State,
@@ -45,7 +45,7 @@ fn outcome_at(
     Ok(Outcome::Entered(finished, known))
 }
 
-/// What a delivery to a state comes to: the texts of the package's closure are compared.
+/// The outcome of a delivery to a state. The texts of the package's closure are compared.
 pub(crate) fn outcome_of(
     alloc: Global,
     state: &State,
@@ -60,7 +60,7 @@ pub(crate) fn outcome_of(
     outcome_at(alloc, state, number, built)
 }
 
-/// The same of a delivery that is known to bring the package's inputs: no text is compared.
+/// The outcome of a delivery that is known to have the package's inputs. No text is compared.
 pub(crate) fn outcome_on_current(
     alloc: Global,
     state: &State,

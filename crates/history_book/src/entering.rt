@@ -1,9 +1,9 @@
-//! How the journal gains an entry.
+//! Adds entries to the journal.
 ghost use Rattle.std.specs.Prelude.{◌≡◌, ◌+◌, ◌++◌, ◌∷◌, ◌≤◌, [], length, vec_capacity};
 
 use history_machine::{Entry, Line, MadeEdits, entry_twice};
 
-/// Adds an entry to the journal, in which there is room for it, and gives a copy of it.
+/// Adds an entry to the journal, which has room for it, and returns a copy of the entry.
 pub fn add_entry(
     journal: &mut Vec<Entry>,
     line: Line,

@@ -1,4 +1,4 @@
-//! The state that follows another by a change of its files.
+//! Makes the state after a change.
 ghost use Rattle.std.specs.Prelude.{◌≡◌, IfOk, IsTrue};
 ghost use Rattle.workspace_check.specs.Found.{KnowsVerdicts};
 ghost use Rattle.build_carry.specs.Changes.{AreMarks};
@@ -13,7 +13,8 @@ use workspace_check::SharedKnown;
 use workspace_graph::Graph;
 use workspace_snapshot::MadeChange;
 
-/// The units of a state, and what it knows of packages, as far as a change to these files carries them over.
+/// The finished units of a state, and what it knows of its packages, as far as a change to `files` carries them over. Units and findings of
+/// marked packages are left out.
 fn carried_by(
     alloc: Global,
     current: &State,
@@ -40,7 +41,7 @@ fn has_nothing(current: &State) -> bool
     current.known.get().is_empty()
 }
 
-/// What a change of a state to these files carries over that has nothing to be carried.
+/// A table without finished units for `files`, where the state has none, and what stays known of the packages.
 fn carried_bare(
     alloc: Global,
     current: &State,
@@ -53,8 +54,8 @@ fn carried_bare(
     nothing_carried(alloc, &current.finished, current.known.get(), files)
 }
 
-/// The same for a change of the state's files. The packages are marked by the folders that its edit set names, unless nothing is to be
-/// carried.
+/// The finished units of a state, and what it knows of its packages, as far as a change carries them over. The folders that the edit set
+/// names determine which packages are marked. Where nothing is finished and nothing known, none is marked.
 fn carried_over(
     alloc: Global,
     current: &State,
@@ -72,7 +73,7 @@ fn carried_over(
     carried_by(alloc, current, files, &marks)
 }
 
-/// The state that a change of a state's files makes, under this number, and the change's edits.
+/// The state after a change, with this number, and the change's edits.
 pub(crate) fn state_after(
     alloc: Global,
     current: &State,

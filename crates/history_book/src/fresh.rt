@@ -1,4 +1,4 @@
-//! Whether a delivery is still of a state.
+//! Decides whether a delivery is of a state.
 ghost use Rattle.std.specs.Prelude.{◌≡◌, ◌<◌, ◌↔◌, ℕ, Contains, IfOk, IsTrue, List, MatchOption, length};
 ghost use Rattle.std.specs.List.{All};
 ghost use Rattle.std.specs.List.Sorted.{IsStrictlyIncreasing};
@@ -15,13 +15,15 @@ use history_machine::State;
 use std::alloc::{AllocError, Global};
 use workspace_graph::Graph;
 
+/// Whether what was built is of the Job's package.
 fn is_same_package(job: &Job, built: &Built) -> bool
     ensures { IsTrue result ↔ (built.now.package ≡ job.now.package) }
 {
     built.package().path() == job.package().path()
 }
 
-/// Whether a Job, and what was built, are of the inputs of a package, by the numbers of the packages in its closure.
+/// Whether the inputs of a Job, and those of what was built, are the texts of a package's closure. The closure is given by the numbers of
+/// its packages, which rise.
 fn have_inputs(files: &Graph, closure: &[usize], job: &Job, built: &Built) -> bool
     requires numbers { All (λ number. number < length (package_paths files.now)) closure.now }
     requires rising { IsStrictlyIncreasing closure.now }
@@ -30,7 +32,8 @@ fn have_inputs(files: &Graph, closure: &[usize], job: &Job, built: &Built) -> bo
     are_inputs_of_both(files, closure, job.inputs(), built.inputs())
 }
 
-/// The number of a Job's package, where what was built is of this package too, and both are of the state by their numbers.
+/// The number of the Job's package in the state. It is `None` where what was built is of another package, or the Job or what was built has
+/// another state's number. No text is compared.
 pub fn number_of(state: &State, job: &Job, built: &Built) -> Option<usize>
     ensures { MatchOption result (IsFresh state.now job.now built.now → ⊥) (AreOfState state.now job.now built.now) }
 {
@@ -44,7 +47,8 @@ pub fn number_of(state: &State, job: &Job, built: &Built) -> Option<usize>
     state.files.number_of(job.package().path())
 }
 
-/// The number of the package, where what was built may enter the state.
+/// The number of the Job's package in the state, or `None` where the delivery may not enter the state. The texts of the package's closure
+/// are compared.
 pub fn fresh_number(
     alloc: Global,
     state: &State,

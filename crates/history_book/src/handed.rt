@@ -1,4 +1,4 @@
-//! The answer to a Job that was handed in, and what a delivery leaves of the current state.
+//! The answer to a Job that is handed in, and how the current state takes in a delivery.
 ghost use Rattle.history_book.specs.Outcomes.{HasTable, Settles};
 ghost use Rattle.history_book.specs.Handed.{handed};
 
@@ -7,15 +7,15 @@ use base_files::Refusal;
 use build_unit::{Built, Job};
 use history_machine::State;
 
-/// The number of `Done` is that of the current state. With `Back` what was handed in comes back: for want of memory or of room in
-/// the journal, or since its Job is not out.
+/// The answer to a Job that is handed in. The number of `Done` is that of the current state. `Back` returns the Job, and what was built:
+/// for want of memory or of room in the journal, or since the Job is not out.
 pub enum Handed {
     Done(u64),
     Refused(Refusal),
     Back(Refusal, Job, Option<Built>),
 }
 
-/// The answer to a delivery, which the current state takes in.
+/// Lets the outcome of a delivery into the current state, and returns the answer.
 pub(crate) fn take_in(current: &mut State, outcome: Outcome) -> Handed
     requires { HasTable current.old outcome }
     ensures { Settles current.old outcome (handed result) current.new }

@@ -1,4 +1,4 @@
-//! The questions that bring a Job back.
+//! The questions that hand a Job in: a delivery, and a Job that is given back.
 ghost use Rattle.std.specs.Prelude.{◌≡◌, ◌+◌, ◌≤◌, ◌↔◌, IsTrue, None, Some, length, vec_capacity};
 ghost use Rattle.build_unit.specs.Jobs.{IsOut};
 ghost use Rattle.history_machine.specs.Journal.{subject_after, told_of};
@@ -14,14 +14,15 @@ use base_files::Refusal;
 use build_unit::{Built, Job};
 use history_machine::{Entry, EntryKind, Told};
 
-/// A Job that is handed in.
+/// Hands in a Job.
 pub enum HandingIn {
-    /// With what was built for it.
+    /// The Job was built: hands in its unit too.
     Deliver(Job, Built),
+    /// The Job was not built.
     GiveBack(Job),
 }
 
-/// What is known of a Job that is handed in.
+/// The kind and the basis of an event that hands in a Job, and whether the Job is out.
 pub(crate) fn asked_of(kind: EntryKind, job: &Job, content: &Content) -> Asked
     ensures kind { result.kind ≡ kind }
     ensures basis { result.basis ≡ job.now.number }
@@ -34,7 +35,7 @@ pub(crate) fn asked_of(kind: EntryKind, job: &Job, content: &Content) -> Asked
     }
 }
 
-/// What is answered to a Job with this ticket that was handed in.
+/// The answer to a Job with this ticket, with what its entry keeps of it.
 fn answered(ticket: u64, outcome: Handed) -> Answered<Handed>
     ensures answer { result.answer ≡ outcome }
     ensures out { result.out ≡ told_of (handed outcome) }
@@ -57,7 +58,7 @@ fn answered(ticket: u64, outcome: Handed) -> Answered<Handed>
     }
 }
 
-/// Answers a delivery that is known to bring the inputs of its package in the current files.
+/// Answers a delivery that is known to have the inputs of its package in the current files.
 fn deliver_on_current(content: &mut Content, job: Job, built: Built) -> Answered<Handed>
     requires { BringsCurrent content.old.current.files job built }
     ensures answer { AnswersOrLacks content.old (Deliver job built) (handed result.answer) content.new }
@@ -69,7 +70,8 @@ fn deliver_on_current(content: &mut Content, job: Job, built: Built) -> Answered
     answered(ticket, content.deliver_on_current(job, built))
 }
 
-/// Answers such a delivery, and adds its entry to the journal, in which there is room for it.
+/// Answers a delivery that is known to have the inputs of its package in the current files. Adds its entry to the journal, which has room
+/// for it.
 pub(crate) fn enter_delivery(
     content: &mut Content,
     journal: &mut Vec<Entry>,

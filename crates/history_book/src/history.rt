@@ -1,4 +1,4 @@
-//! The states of a workspace, and how a change, undo and redo move among them.
+//! The states of a workspace, and how a change, an undo and a redo move among them.
 ghost use Rattle.std.specs.Prelude.{◌≡◌, ◌+◌, ◌^◌, ◌<◌, ◌≤◌, IfOk, OnErr, OnOk, length, vec_len};
 ghost use Rattle.history_machine.specs.Machine.{newest};
 ghost use Rattle.history_machine.specs.Step.{done};
@@ -19,11 +19,11 @@ pub struct History {
     pub later: Vec<State>,
     /// The number of the next new state.
     pub next: u64,
-    /// How many changes, undos and redos there were.
+    /// How many visits have begun: each change, undo and redo begins one.
     pub visit: u64,
 }
 
-/// Drops the oldest state where there is one too many.
+/// Drops the oldest state where there is one more than `depth`.
 fn keep_newest(states: &mut Vec<State>, depth: usize)
     requires { vec_len states.old ≤ depth + 1 }
     ensures { states.new.items ≡ newest depth states.old.items }
@@ -34,7 +34,7 @@ fn keep_newest(states: &mut Vec<State>, depth: usize)
 }
 
 impl History {
-    /// Makes a state with the next number the current one, which no redo leaves. A visit begins.
+    /// Makes a state with the next number the current one, and drops all states that redo reaches. A visit begins.
     pub fn go_on(&mut self, limits: Limits, next: State) -> Result<u64, AllocError>
         requires next { self.old.next + 1 < 2 ^ 64 }
         requires visit { self.old.visit + 1 < 2 ^ 64 }
@@ -56,7 +56,7 @@ impl History {
         Ok(number)
     }
 
-    /// Makes the state before the current one the current one, where the basis is the current one's number.
+    /// Makes the state before the current one current again, where the basis is the current number. Returns that state's number.
     pub fn undo(&mut self, basis: u64) -> Result<u64, Refusal>
         requires { self.old.visit + 1 < 2 ^ 64 }
         ensures moves { Moves self.old (Undo basis) (done result) self.new }
@@ -78,7 +78,7 @@ impl History {
         Ok(number)
     }
 
-    /// The same of the state that was left last by undo.
+    /// Makes the state current again that the last undo left, where the basis is the current number. Returns that state's number.
     pub fn redo(&mut self, basis: u64) -> Result<u64, Refusal>
         requires { self.old.visit + 1 < 2 ^ 64 }
         ensures moves { Moves self.old (Redo basis) (done result) self.new }

@@ -1,4 +1,4 @@
-//! The content of a book, and the calls that change and ask it.
+//! The book of a workspace's history: its content, its journal, and the questions that change and read it.
 #![tactic(auto)]
 
 mod answering;

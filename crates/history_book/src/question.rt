@@ -1,4 +1,4 @@
-//! What a book is asked: an event of one kind, with the type of the answers that it may get.
+//! The questions of a book: each is an event of one kind, and has a type for its answers.
 ghost use Rattle.std.specs.Prelude.{◌≡◌, ◌↔◌, IsTrue, None, false};
 ghost use Rattle.history_book.specs.Needed.{entries_needed};
 ghost use Rattle.history_machine.specs.Journal.{ShowsLine, basis_of, edits_of, kind_of, subject_after, subject_of, told_of};
@@ -11,46 +11,48 @@ use crate::content::Content;
 use base_files::Refusal;
 use history_machine::{Entry, EntryKind, MadeEdits, Told};
 
-/// What is known of an event before it is answered.
+/// What the entry of an event keeps that is known before the answer, and whether the event's Job is out.
 #[derive(Clone, Copy)]
 pub struct Asked {
     pub kind: EntryKind,
     pub basis: u64,
-    /// Whether it brings a Job that is out.
+    /// Whether the event hands in a Job that is out.
     pub is_out: bool,
 }
 
-/// What an event is answered, with what its entry tells of it, if it has one.
+/// The answer to an event, and what the event's entry keeps of the answer.
 pub struct Answered<A> {
     pub answer: A,
+    /// The outcome for the entry, or `None` where the event has no entry.
     pub out: Option<Told>,
-    /// The number that a log asks for, or the ticket of the Job that is handed out or in.
+    /// The number of the entry that a log asks for, or the ticket of the Job that is handed out or in.
     pub subject: Option<u64>,
     /// The edits of an admitted change.
     pub made: Option<MadeEdits>,
 }
 
-/// An event of one kind. The type of its answers tells which replies it may get.
+/// An event of one kind. The type of its answers determines which replies it may get.
 pub trait Question {
     type Answer;
 
-    /// The event that it is.
+    /// The event that the question is.
     ghost event: { Self → Event };
 
     /// The reply that an answer is.
     ghost reply: { Self.Answer → Reply };
 
+    /// The kind of the event.
     fn kind(&self) -> EntryKind
         ensures { result ≡ kind_of (event self.now) };
 
-    /// What is known of it, where this is current.
+    /// The kind and the basis of the event, and whether it hands in a Job that is out.
     fn asked(&self, content: &Content) -> Asked
         ensures kind { result.kind ≡ kind_of (event self.now) }
         ensures basis { result.basis ≡ basis_of content.now.current.number (event self.now) }
         ensures out { IsTrue result.is_out ↔ BringsOut content.now.out (event self.now) };
 
-    /// Answers it. A log is shown an entry of the journal. Room is made before anything changes, so want of memory leaves all as it
-    /// was.
+    /// Answers the question: changes the content, but not the journal, of which a log is shown an entry. Room is made before anything
+    /// changes, so want of memory changes nothing.
     fn ask(self, content: &mut Content, journal: &[Entry]) -> Answered<Self::Answer>
         requires { HasNumbers content.old }
         ensures answer { AnswersOrLacks content.old (event self) (reply result.answer) content.new }
@@ -59,13 +61,13 @@ pub trait Question {
         ensures subject { result.subject ≡ subject_after (subject_of (event self)) (reply result.answer) }
         ensures made { result.made ≡ edits_of (event self) (reply result.answer) };
 
-    /// The answer that refuses it, with what it brought.
+    /// The answer that refuses the question, and brings back its Job and what was built.
     fn refuse(self, refusal: Refusal) -> Self::Answer
         ensures { reply result ≡ refused (event self) refusal };
 }
 
 impl Asked {
-    /// What is known of an event that brings no Job.
+    /// The kind and the basis of an event that hands in no Job.
     pub fn alone(kind: EntryKind, basis: u64) -> Asked
         ensures { result ≡ record { kind = kind; basis = basis; is_out = false } }
     {
@@ -76,7 +78,7 @@ impl Asked {
         }
     }
 
-    /// For how many entries there must be room before the event, beside those that are due.
+    /// For how many entries the journal needs room before the event, beside those that are due.
     pub fn entries_needed(&self) -> u64
         ensures { result ≡ entries_needed self.now }
     {
@@ -91,7 +93,7 @@ impl Asked {
 }
 
 impl<A> Answered<A> {
-    /// An answer that admits no change.
+    /// An answer whose entry keeps no edits.
     pub fn new(answer: A, out: Option<Told>, subject: Option<u64>) -> Answered<A>
         ensures answer { result.answer ≡ answer }
         ensures out { result.out ≡ out }

@@ -1,4 +1,4 @@
-//! What an entry tells of a refusal.
+//! What an entry keeps of a refusal.
 ghost use Rattle.std.specs.Prelude.{◌≡◌};
 ghost use Rattle.std.specs.Option.{option_map};
 ghost use Rattle.history_machine.specs.Journal.{reason_of};
@@ -6,6 +6,7 @@ ghost use Rattle.history_machine.specs.Journal.{reason_of};
 use base_files::Refusal;
 use history_machine::{Reason, Told};
 
+/// The reason that an entry keeps of a refusal, or `None` where the refused event has no entry.
 fn reason_of(refusal: &Refusal) -> Option<Reason>
     ensures { result ≡ reason_of refusal.now }
 {
@@ -20,7 +21,7 @@ fn reason_of(refusal: &Refusal) -> Option<Reason>
     }
 }
 
-/// What its entry tells of a refusal, if the event has one.
+/// The outcome that an entry keeps of a refusal, or `None` where the refused event has no entry.
 pub(crate) fn refusal_told(refusal: &Refusal) -> Option<Told>
     ensures { result ≡ option_map (λ why. Told.Refused why) (reason_of refusal.now) }
 {

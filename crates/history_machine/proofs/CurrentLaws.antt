@@ -1,5 +1,5 @@
--- Finished units are those of the whole workspace: what a change carries is told by its closure, and what enters was built from
--- the texts of its closure.
+-- Finished units are current: a change carries over the units of packages whose closure keeps its texts, and a delivery was built from the
+-- texts of its closure.
 use Rattle.std.proofs.Common.{◌≡◌, ℕ, zero, suc, List, [], ◌∷◌, ◌++◌, Some, slice_get, refl, sym, ap, subst, ◌∙◌, ⊎_elim}
 use Rattle.std.proofs.Math.ListN.{set}
 use Rattle.std.specs.List.{All, Contains}
@@ -31,13 +31,13 @@ use Rattle.history_machine.specs.Step.{Answers}
 use Rattle.history_machine.specs.Current.{AreUnits, HasCurrentUnits, UnitsAreCurrent, StepsKeepUnits, FinishedAreCurrent}
 use Rattle.build_carry.proofs.ClosureTexts.{inputs_same, package_there}
 
--- what a list has where it was written
+-- the element at a position that was set
 set_here : {X : Type 0} (xs : List X) (n : ℕ) (y z : X) → slice_get (set xs n y) n ≡ Some z → y ≡ z
 set_here [] n y z h = absurd (none-some z h)
 set_here (x ∷ xs) zero y z h = same_Some y z h
 set_here (x ∷ xs) (suc n) y z h = set_here xs n y z h
 
--- the units of the states alone
+-- the finished units of a content are current
 abbrev Units : Content → Type 0
 Units c = UnitsAreCurrent (with_journal c [])
 
@@ -47,7 +47,7 @@ units_of m u = record { earlier = u.earlier; current = u.current; later = u.late
 units_with : (m : Machine) → Units (content m) → UnitsAreCurrent m
 units_with m u = record { earlier = u.earlier; current = u.current; later = u.later }
 
--- the same states have the same units
+-- the units stay current where earlier, current and later states stay
 units_stay : (old k new : Content) → new ≡ k → k.earlier ≡ old.earlier → k.current ≡ old.current → k.later ≡ old.later → Units old → Units new
 units_stay old k new e earlier current later u = subst Units (sym e) (record {
   earlier = subst (All HasCurrentUnits) (sym earlier) u.earlier;
@@ -55,7 +55,7 @@ units_stay old k new e earlier current later u = subst Units (sym e) (record {
   later = subst (All HasCurrentUnits) (sym later) u.later;
 })
 
--- the cursor moved by one state
+-- the units stay current where undo or redo moves the cursor by one state
 units_before : (n m : Content) → IsOneBefore n m → Units m → Units n
 units_before n m moved u =
     let back = All-pop HasCurrentUnits m.earlier n.earlier (Some n.current) moved.earlier u.earlier in
@@ -74,13 +74,13 @@ units_after n m moved u =
       later = back.0;
     }
 
--- what is carried
+-- the units that a change carries over are current
 units_carried : (v : Workspace) (old : Table) (w : Workspace) (new : Table) → IsCarried v old w new → AreUnits v old → AreUnits w new
 units_carried v old w new carried u p unit finished =
     let before = (carried.each p unit).0 finished in
     local_unit v w p unit (at_contains v before.0.0 p before.0.1) before.1 (u p unit before.0)
 
--- what is delivered
+-- a delivered unit is current
 unit_built : (state : State) (job : JobRecord) (built : Built) → IsFresh state job built → IsRightlyBuilt built → IsUnitOf state.files job.package built.unit
 unit_built state job built fresh right =
     let same = inputs_same state.files job.package built.inputs fresh.built_inputs in

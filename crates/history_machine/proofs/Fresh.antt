@@ -1,4 +1,4 @@
--- When what was built is fresh, and what the table of units has at a number.
+-- Fresh deliveries, and the unit that a table has at a package's number.
 use Rattle.std.proofs.Common.{◌≡◌, ℕ, true, false, List, Option, Some, None, MatchOption, Bor, is_some, slice_get}
 use Rattle.std.proofs.lemmas.Bool.{true≢false, false≢true}
 use Rattle.base_files.specs.Packages.{package_paths}

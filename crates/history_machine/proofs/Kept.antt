@@ -17,7 +17,7 @@ use Rattle.history_machine.specs.Machine.{Machine}
 use Rattle.history_machine.specs.Step.{BringsJob, BringsOut, HasRoom, IsBackOf, Step, refused}
 use Rattle.history_machine.proofs.Stepped.{full_step, lacking_step}
 
--- a refusal of an event that brought no Job
+-- the reply that refuses an event that brings no Job
 refused_is : (event : Event) (refusal : Refusal) → ¬ (BringsJob event) → Refused refusal ≡ refused event refusal
 refused_is Look refusal none = refl
 refused_is (Log asked) refusal none = refl
@@ -28,13 +28,13 @@ refused_is Take refusal none = refl
 refused_is (Deliver job built) refusal none = absurd (none tt)
 refused_is (GiveBack job) refusal none = absurd (none tt)
 
--- a refusal with which what the event brought comes back
+-- the reply that refuses an event and brings back its Job
 back_is : (event : Event) (refusal : Refusal) (job : JobRecord) (unit : Option Built) → IsBackOf event job unit → Back refusal job unit ≡ refused event refusal
 back_is (Deliver of built) refusal job unit is = ap (λ x. Back refusal x unit) is.0 ∙ ap (λ x. Back refusal of x) is.1
 back_is (GiveBack of) refusal job unit is = ap (λ x. Back refusal x unit) is.0 ∙ ap (λ x. Back refusal of x) is.1
 back_is event refusal job unit is = absurd is
 
--- what tells nothing has turned its event away
+-- a reply that leaves no entry turns its event away
 turned_away : (old : Machine) (event : Event) (reply : Reply) (new : Machine) → Step old event reply new → told_of reply ≡ None → IsTurnedAway event reply ×
     (new ≡ old)
 turned_away old event (Refused Memory) new s none = (inl (refused_is event Memory s.0), s.1)
@@ -43,7 +43,7 @@ turned_away old event (Back Memory job unit) new s none = (inl (back_is event Me
 turned_away old event (Back JournalFull job unit) new s none = (inr (back_is event JournalFull job unit s.0), s.2)
 turned_away old event reply new s none = absurd (none-some s.2.out (sym none ∙ s.2.tells))
 
--- the entry that a step added
+-- the entry that a step adds
 added : (old : Machine) (event : Event) (reply : Reply) (new : Machine) (told : Told) → Step old event reply new → told_of reply ≡ Some told
     → new.journal ≡ old.journal ++ entry_of old.current.number event reply told ∷ []
 added old event (Refused Memory) new told s is = absurd (none-some told is)
@@ -59,7 +59,7 @@ step_kept old event reply None new s is = (s, turned_away old event reply new s 
 step_kept old event reply (Some entry) new s is =
     (s, (is, added old event reply new is.0 s is.1 ∙ ap (λ (x : Entry). old.journal ++ x ∷ []) (sym is.2)))
 
--- what is turned away for want of room in the journal, or of memory, is a step that keeps no entry
+-- a refusal for want of memory, or of room in the journal, is a step that keeps no entry
 pub full_kept : (m : Machine) (event : Event) (reply : Reply) → reply ≡ refused event JournalFull → (HasRoom m event → ⊥) → StepKept m event reply None m
 full_kept m event reply is none = subst (λ (x : Reply). StepKept m event x None m) (sym is) (full_step m event none, (inr refl, refl))
 

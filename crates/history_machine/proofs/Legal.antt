@@ -1,4 +1,4 @@
--- Runs, one after another, and the journal that they leave.
+-- Runs one after another, and the journals that they leave.
 use Rattle.std.proofs.Common.{◌≡◌, ℕ, ◌+◌, ◌≤◌, List, [], ◌∷◌, ◌++◌, length, refl, sym, subst, arith}
 use mathlib.Core.Logic.{∥∥₁_map}
 use Rattle.base_files.specs.declared.limits.Limits.{Limits}
@@ -14,7 +14,7 @@ pub Run-append : (old mid new : Machine) (es fs : List (Event × Reply)) → Run
 Run-append old mid new [] fs h k = rw (← h) k
 Run-append old mid new (e ∷ es) fs h k = (h.0, h.1, Run-append h.0 mid new es fs h.2 k)
 
--- one step more
+-- a run with one step more
 pub run_on : (old mid new : Machine) (es : List (Event × Reply)) (event : Event) (reply : Reply) → Run old es mid → Step mid event reply new →
     Run old (es ++ (event, reply) ∷ []) new
 run_on old mid new es event reply run step = Run-append old mid new es ((event, reply) ∷ []) run (new, step, refl)
@@ -29,7 +29,7 @@ replay_on limits old event reply c journal step before =
     ∥∥₁_map before (λ (is : IsReplay limits old.journal (content old)).
     (is.0 ++ (event, reply) ∷ [], run_on (opening limits) old (with_journal c journal) is.0 event reply is.1 step))
 
--- the fact of a book's content and its journal, which has room for so many entries
+-- the invariant of a book with this content and this journal, which has room for so many entries
 abbrev pub BookHolds : Content → List Entry → ℕ → Type 0
 BookHolds c journal capacity =
     (c.next ≤ length journal + 1)
@@ -39,13 +39,13 @@ BookHolds c journal capacity =
     × (length journal + length c.out.jobs ≤ capacity)
     × ∥ IsReplay c.limits journal c ∥₁
 
--- where the journal is the same, and its room is not less
+-- the invariant stays where the journal stays and its room doesn't shrink
 pub holds_still : (c : Content) (journal journals : List Entry) (capacity more : ℕ) → journals ≡ journal → capacity ≤ more → BookHolds c journal capacity →
     BookHolds c journals more
 holds_still c journal journals capacity more same grows k =
     subst (λ (x : List Entry). BookHolds c x more) (sym same) (k.0, k.1, k.2, k.3, omega (arith, grows, k.4), k.5)
 
--- where an event is answered, once there is room
+-- the invariant stays where an event is answered, once there is room for its entry
 pub holds_on : (old new : Content) (journal mid journals : List Entry) (capacity more last : ℕ) (event : Event) (reply : Reply)
     → BookHolds old journal capacity → mid ≡ journal → capacity ≤ more → last ≡ more
     → HasRoom (with_journal old journal) event → HasPlace more (length mid + length old.out.jobs) old.out event → Keeps old mid event reply new journals

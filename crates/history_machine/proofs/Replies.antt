@@ -1,4 +1,4 @@
--- Which replies the machine gives.
+-- The replies that the machine gives.
 use Rattle.std.proofs.Common.{refl}
 use Rattle.base_files.specs.declared.refusal.Refusal.{Refusal}
 use Rattle.base_files.specs.declared.refusal.Refusal.TheVariants.{Memory, JournalFull, NoJob}
@@ -38,7 +38,7 @@ may_reply old event (Back Memory back unit) new s = absurd s.0
 may_reply old event (Back JournalFull back unit) new s = absurd s.0
 may_reply old event reply new s = absurd s.1
 
--- an event may be refused with what it brought
+-- an event may be refused, and get back its Job and what was built
 pub refused_may : (event : Event) (refusal : Refusal) → MayReply event (refused event refusal)
 refused_may Look refusal = tt
 refused_may (Log asked) refusal = tt

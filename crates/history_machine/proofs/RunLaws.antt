@@ -1,5 +1,5 @@
--- Quiet events leave the states that undo and redo reach, and the cursor, so undo and redo find what they left. What is delivered
--- meanwhile enters the current state alone.
+-- Undo and redo after a run that admits no change: the run keeps the cursor and the states that undo and redo reach. Deliveries of the run
+-- change the current state alone.
 use Rattle.std.proofs.Common.{◌≡◌, ℕ, ◌-◌, ◌≤◌, List, [], ◌∷◌, ◌++◌, length, drop, refl, sym, ap, ◌∙◌, arith, length-append, reverse, append_assoc}
 use Rattle.std.proofs.lemmas.List.{drop-append-le, reverse-append}
 use Rattle.base_files.specs.declared.refusal.Refusal.TheVariants.{Memory, Moved, NothingToUndo, NothingToRedo, JournalFull, Stale, Already, NoJob}
@@ -12,7 +12,7 @@ use Rattle.history_machine.specs.Machine.{Content, Machine, content, newest}
 use Rattle.history_machine.specs.Step.{Step, Answers}
 use Rattle.history_machine.specs.Run.{Run, IsAdmitted, IsQuiet, Restores, UndoRestores, RedoRestores, MovesCursor}
 
--- the last element, or d
+-- the last element of a list, or `d` where it is empty
 last_or : State → List State → State
 last_or d [] = d
 last_or d (x ∷ xs) = last_or x xs

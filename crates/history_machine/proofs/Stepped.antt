@@ -1,4 +1,4 @@
--- What the book adds to an answer: its entry, and that numbers, visits, tickets and Jobs fit the journal after it.
+-- From an answer to a step: the book adds the entry, and numbers, visits, tickets and Jobs stay within their bounds.
 use Rattle.std.proofs.Common.{◌≡◌, ℕ, ◌+◌, ◌≤◌, ◌<◌, ◌⊎◌, inl, inr, List, [], ◌∷◌, ◌++◌, length, Option, MatchOption, Some, None, refl, sym, ap, subst, ◌∙◌}
 use Rattle.std.proofs.Common.{⊎_elim, arith, length-append}
 use Rattle.std.proofs.lemmas.List.Edits.{length-remove}
@@ -20,7 +20,7 @@ use Rattle.history_machine.specs.Step.{Answers, BringsOut, HasPlace, HasRoom, Ke
 
 -- ---- the entry
 
--- what is answered has an entry
+-- an answered event has an entry
 tells : (old : Content) (event : Event) (reply : Reply) (new : Content) → Answers old event reply new → (out : Told) × (told_of reply ≡ Some out)
 tells old Look (Looked view) new a = (_, refl)
 tells old (Log asked) (Logged number line) new a = (_, refl)
@@ -85,7 +85,7 @@ no_room_back old Take job unit new a = a
 no_room_back old (Deliver back built) job unit new a = a
 no_room_back old (GiveBack back) job unit new a = a
 
--- what is answered, and has its entry, is a step
+-- an answered event with its entry is a step
 pub kept_step : (old : Machine) (event : Event) (reply : Reply) (c : Content) (journal : List Entry) → HasRoom old event →
     Keeps (content old) old.journal event reply c journal → Step old event reply (with_journal c journal)
 kept_step old event (Refused Memory) c journal room k = (k.0.0, same_machine old c journal k.0.1 k.2)
@@ -144,7 +144,7 @@ some_out out job has =
 one_of : (most entries jobs : ℕ) → 1 ≤ jobs → entries + jobs ≤ most → entries + 1 ≤ most
 one_of most entries jobs some due = omega (arith, some, due)
 
--- then one entry more has room
+-- one more entry has room
 pub place_for_one : (most entries : ℕ) (out : JobsOut) (event : Event) → entries + length out.jobs ≤ most →
     HasPlace most (entries + length out.jobs) out event → entries + 1 ≤ most
 place_for_one most entries out Look due has = omega (arith, has)
@@ -158,7 +158,7 @@ place_for_one most entries out (Deliver job built) due has =
 place_for_one most entries out (GiveBack job) due has =
     ⊎_elim (λ is. one_of most entries (length out.jobs) (some_out out job is) due) (λ more. omega (arith, more)) has
 
--- ---- what the journal bounds
+-- ---- the bounds that the journal gives
 record Fits (m : Machine) (most : ℕ) (c : Content) : Type 0 where
   next : c.next ≤ m.next + 1
   visit : c.visit ≤ m.visit + 1
@@ -221,7 +221,7 @@ module _ (m : Machine) (most : ℕ) (due : entries_due m ≤ most) where
       (ap (λ (x : Content). x.limits) a.1.2)
   answer_fits event reply c room a = absurd a
 
--- the event is answered and the journal has one entry more, or nothing changes
+-- the event is answered and the journal gains its entry, or nothing changes
 answered_or_same : (old : Content) (journal : List Entry) (event : Event) (reply : Reply) (new : Content) (journals : List Entry) →
     Keeps old journal event reply new journals
     → (Answers old event reply new × (length journals ≡ length journal + 1)) ⊎ ((new ≡ old) × (journals ≡ journal))
@@ -230,7 +230,7 @@ answered_or_same old journal event (Back Memory job unit) new journals k = inr (
 answered_or_same old journal event reply new journals k =
     inl (k.0, (let kept = records old journal event reply new journals k.0 k.1 k.2 in ap length kept.journal ∙ length-append journal _))
 
--- the numbers, visits and tickets are within the entries, and the entries that are due within so many
+-- numbers, visits and tickets are at most as many as the entries, and the entries due are within the journal's limit
 pub record AreBounded (c : Content) (entries most : ℕ) : Type 0 where
   pub next : c.next ≤ entries + 1
   pub visit : c.visit ≤ entries

@@ -1,4 +1,4 @@
--- When what was built may enter a state.
+-- When a delivery may enter the current state's table.
 use Rattle.std.specs.Prelude.{◌≡◌, List, ℕ}
 use Rattle.build_unit.specs.Inputs.{AreInputs}
 use Rattle.build_unit.specs.declared.built.Built.{Built}
@@ -8,8 +8,8 @@ use Rattle.build_unit.specs.Units.{IsUnitIn}
 use Rattle.build_carry.specs.Finished.{IsFinished}
 use Rattle.history_machine.specs.State.{State}
 
--- what was built is of the Job's package, both are of the state's number, and the inputs of both are the texts of the package's
--- closure
+-- The delivery is of the state: what was built is of the Job's package, and both have the state's number. The inputs of both are the texts
+-- of the package's closure in the state.
 pub record IsFresh (state : State) (job : JobRecord) (built : Built) : Type 0 where
   pub same_package : built.package ≡ job.package
   pub job_number : job.number ≡ state.number
@@ -21,6 +21,6 @@ pub record IsFresh (state : State) (job : JobRecord) (built : Built) : Type 0 wh
 abbrev pub IsRightlyBuilt : Built → Type 0
 IsRightlyBuilt built = IsUnitIn built.inputs built.package built.unit
 
--- the package p is finished
+-- the package p of the state is finished
 abbrev pub HasUnit : State → List ℕ → Type 0
 HasUnit state p = (unit : PackageUnit) × IsFinished state.files state.finished p unit

@@ -1,4 +1,4 @@
--- The journal: what is kept of each event and its reply, and what a log shows of it.
+-- The journal: the entry of each event and its reply, and the line that a log shows of it.
 use Rattle.std.specs.Prelude.{◌≡◌, ℕ, ◌∷◌, ◌++◌, [], ⊤, List, Option, Some, None, slice_get}
 use Rattle.std.specs.Option.{option_map}
 use Rattle.base_edits.specs.EditSet.{FileChanges}
@@ -17,6 +17,7 @@ use Rattle.history_machine.specs.declared.event.Event.TheVariants.{Look, Log, Co
 use Rattle.history_machine.specs.declared.event.Reply.{Reply}
 use Rattle.history_machine.specs.declared.event.Reply.TheVariants.{Looked, Logged, Done, Taken, Refused, Back}
 
+-- the kind of an event
 abbrev pub kind_of : Event → EntryKind
 kind_of Look = kind.Look
 kind_of (Log number) = kind.Log
@@ -27,7 +28,7 @@ kind_of Take = kind.Take
 kind_of (Deliver job built) = kind.Deliver
 kind_of (GiveBack job) = kind.GiveBack
 
--- the basis that an event gives, the number of its Job, or else that of the current state
+-- the basis that the event gives, the number of the event's Job, or else the number of the current state
 abbrev pub basis_of : ℕ → Event → ℕ
 basis_of current (Commit basis change) = basis
 basis_of current (Undo basis) = basis
@@ -36,24 +37,24 @@ basis_of current (Deliver job built) = job.number
 basis_of current (GiveBack job) = job.number
 basis_of current event = current
 
--- the number that a log asks for, or the ticket of the Job that is handed in
+-- the number of the entry that a log asks for, or the ticket of the Job that the event hands in; other events have none
 abbrev pub subject_of : Event → Option ℕ
 subject_of (Log number) = Some number
 subject_of (Deliver job built) = Some job.ticket
 subject_of (GiveBack job) = Some job.ticket
 subject_of event = None
 
--- the same, or the ticket of the Job that is handed out
+-- the ticket of the Job that the reply hands out, or else this subject
 abbrev pub subject_after : Option ℕ → Reply → Option ℕ
 subject_after subject (Taken job) = Some job.ticket
 subject_after subject reply = subject
 
--- the edits of an admitted change
+-- the edits of an admitted change; any other event and reply have none
 abbrev pub edits_of : Event → Reply → Option FileChanges
 edits_of (Commit basis change) (Done number) = Some change.edits
 edits_of event reply = None
 
--- why an event was refused whose entry is kept
+-- the reason that an entry keeps of a refusal; a refusal that leaves no entry has none
 abbrev pub reason_of : Refusal → Option Reason
 reason_of (Moved current) = Some (reason.Moved current)
 reason_of NothingToUndo = Some reason.NothingToUndo
@@ -63,7 +64,8 @@ reason_of Already = Some reason.Already
 reason_of NoJob = Some reason.NoJob
 reason_of refusal = None
 
--- What the entry tells of a reply. There is none for want of memory, or of room in the journal: such an event has no entry.
+-- The outcome that the entry keeps of a reply. A refusal for want of memory, or of room in the journal, has none, since its event has no
+-- entry.
 abbrev pub told_of : Reply → Option Told
 told_of (Looked view) = Some (told.Done view.snapshot.number)
 told_of (Logged number line) = Some (told.Done number)
@@ -72,7 +74,7 @@ told_of (Taken job) = Some (told.Done job.number)
 told_of (Refused refusal) = option_map (λ why. told.Refused why) (reason_of refusal)
 told_of (Back refusal job unit) = option_map (λ why. told.Refused why) (reason_of refusal)
 
--- the entry of an event and its reply, which tells this, where the state of that number was current before
+-- the entry of an event, its reply and this outcome, where `current` is the number of the current state before the event
 abbrev pub entry_of : ℕ → Event → Reply → Told → Entry
 entry_of current event reply out = record {
   line = record { kind = kind_of event; basis = basis_of current event; out = out };
@@ -80,16 +82,16 @@ entry_of current event reply out = record {
   edits = edits_of event reply;
 }
 
--- what is shown of the entry of a number; there is none past the end
+-- the line of the entry of this number; none past the journal's end
 abbrev pub line_at : List Entry → ℕ → Option Line
 line_at journal number = option_map (λ entry. entry.line) (slice_get journal number)
 
--- a log shows the entry that it asks for of those before it
+-- where the event is a log, the reply shows the line that it asks for; the journal is that before the event
 abbrev pub ShowsLine : List Entry → Event → Reply → Type 0
 ShowsLine journal (Log number) (Logged current line) = line ≡ line_at journal number
 ShowsLine journal event reply = ⊤
 
--- The journal has one entry more, that of the event and its reply; a log is shown an entry of those before.
+-- The new journal is the old one and the entry of the event and its reply. The reply to a log shows a line of the old journal.
 pub record Records (current : ℕ) (old : List Entry) (event : Event) (reply : Reply) (new : List Entry) : Type 0 where
   pub out : Told
   pub tells : told_of reply ≡ Some out

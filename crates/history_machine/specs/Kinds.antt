@@ -1,4 +1,4 @@
--- How the kinds of entries are spelled, and which refusals they tell.
+-- The names of the kinds of events, and the refusals that reasons stand for.
 use Rattle.std.specs.Prelude.{ℕ, List, codes}
 use Rattle.base_files.specs.declared.refusal.Refusal.{Refusal}
 use Rattle.base_files.specs.declared.refusal.Refusal.TheVariants as refusal
@@ -7,6 +7,7 @@ use Rattle.history_machine.specs.declared.entry.EntryKind.TheVariants as kind
 use Rattle.history_machine.specs.declared.entry.Reason.{Reason}
 use Rattle.history_machine.specs.declared.entry.Reason.TheVariants as reason
 
+-- the name of a kind in the replies of a session
 abbrev pub kind_name : EntryKind → List ℕ
 kind_name kind.Look = codes "look"
 kind_name kind.Log = codes "log"
@@ -17,7 +18,7 @@ kind_name kind.Take = codes "take"
 kind_name kind.Deliver = codes "deliver"
 kind_name kind.GiveBack = codes "give"
 
--- the refusal that an entry tells
+-- the refusal that a reason stands for
 abbrev pub refusal_of : Reason → Refusal
 refusal_of (reason.Moved current) = refusal.Moved current
 refusal_of reason.NothingToUndo = refusal.NothingToUndo

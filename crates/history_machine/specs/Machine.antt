@@ -1,4 +1,4 @@
--- The history of a workspace as a machine: its states, the Jobs that are out, and what its steps make of them.
+-- The history of a workspace as a machine: its states, the Jobs that are out, and how its steps change both.
 use Rattle.std.specs.Prelude.{◌≡◌, ℕ, ◌+◌, ◌-◌, ◌^◌, ◌<◌, List, [], ◌∷◌, ◌++◌, length, drop, reverse}
 use Rattle.std.specs.FinMap as map
 use Rattle.base_files.specs.Workspace.{Workspace}
@@ -13,7 +13,7 @@ use Rattle.workspace_snapshot.specs.declared.change.Change.{Change}
 use Rattle.history_machine.specs.declared.entry.Entry.{Entry}
 use Rattle.history_machine.specs.State.{State}
 
--- The states of a workspace, with the Jobs that are out: what events move.
+-- The states of a workspace, with a cursor on the current one, and the Jobs that are out.
 pub record Content : Type 0 where
   pub limits : Limits
   -- the states that undo reaches, the nearest last
@@ -23,12 +23,12 @@ pub record Content : Type 0 where
   pub later : List State
   -- the number of the next new state
   pub next : ℕ
-  -- each admitted change, undo and redo begins a visit: how many there were
+  -- how many visits have begun: each admitted change, undo and redo begins one
   pub visit : ℕ
   -- the Jobs that are out
   pub out : JobsOut
 
--- The same, with the journal of the events.
+-- The states of a workspace, the Jobs that are out, and the journal of the events.
 pub record Machine : Type 0 where
   pub limits : Limits
   pub earlier : List State
@@ -37,12 +37,14 @@ pub record Machine : Type 0 where
   pub next : ℕ
   pub visit : ℕ
   pub out : JobsOut
-  -- the entries of the events, each with its reply, the first first
+  -- the entries of the events, each with its reply, the oldest first
   pub journal : List Entry
 
+-- the machine without its journal
 abbrev pub content : Machine → Content
 content m = record { limits = m.limits; earlier = m.earlier; current = m.current; later = m.later; next = m.next; visit = m.visit; out = m.out }
 
+-- the machine with this content and this journal
 abbrev pub with_journal : Content → List Entry → Machine
 with_journal c journal = record {
   limits = c.limits;
@@ -56,22 +58,24 @@ with_journal c journal = record {
   journal = journal;
 }
 
--- the states in the order in which they were made, and how many come before the current one
+-- all states, from the oldest to the newest
 abbrev pub states : Content → List State
 states m = m.earlier ++ m.current ∷ reverse m.later
 
+-- the place of the current state among all states, from 0
 abbrev pub cursor : Content → ℕ
 cursor m = length m.earlier
 
--- the machine with one entry more
+-- the machine, with this entry added to its journal
 abbrev pub recorded : Machine → Entry → Machine
 recorded m entry = record m { journal = m.journal ++ entry ∷ [] }
 
--- the last states, as many as may be undone
+-- the last `depth` states of a list
 abbrev pub newest : ℕ → List State → List State
 newest depth states = drop (length states - depth) states
 
--- a new current state, which no redo leaves; a visit begins
+-- The content after a change to these files and this table: the new state is the current one, with the next number. No state is left for
+-- redo, and a visit begins.
 abbrev pub changed : Content → Workspace → Table → Content
 changed m files finished = record m {
   earlier = newest m.limits.undo_depth (m.earlier ++ m.current ∷ []);
@@ -81,49 +85,52 @@ changed m files finished = record m {
   visit = m.visit + 1;
 }
 
--- the cursor of n stands one state before that of m, over the same states
+-- n and m have the same list of states, and n's cursor is one state before m's
 pub record IsOneBefore (n m : Content) : Type 0 where
   pub limits : n.limits ≡ m.limits
   pub earlier : m.earlier ≡ n.earlier ++ n.current ∷ []
   pub later : n.later ≡ m.later ++ m.current ∷ []
   pub next : n.next ≡ m.next
 
--- a visit begins, and the same Jobs are out
+-- a visit begins, and the Jobs out stay
 pub record BeginsVisit (old new : Content) : Type 0 where
   pub visit : new.visit ≡ old.visit + 1
   pub out : new.out ≡ old.out
 
--- the next number, the visit and the ticket can be counted on by one
+-- the next number, the count of visits and the next ticket can each grow by one within 64 bits
 pub record HasNumbers (c : Content) : Type 0 where
   pub next : c.next + 1 < 2 ^ 64
   pub visit : c.visit + 1 < 2 ^ 64
   pub ticket : c.out.ticket + 1 < 2 ^ 64
 
--- a Job that was out is out no more
+-- the Job was out, and is not out after the event; nothing else changes
 abbrev pub Returns : Content → JobRecord → Content → Type 0
 Returns old job new = (out : JobsOut) × Loses old.out (label_of job) out × (new ≡ record old { out = out })
 
+-- the state with another table of finished units
 abbrev pub with_finished : State → Table → State
 with_finished state finished = record state { finished = finished }
 
--- a Job that was out is out no more, and its package is finished in the current state, with this unit
+-- the Job was out, and is not out after the event; its package is finished in the current state, with this unit
 abbrev pub Enters : Content → JobRecord → PackageUnit → Content → Type 0
 Enters old job unit new =
     (out : JobsOut) × (finished : Table) × Loses old.out (label_of job) out
     × Gains old.current.files old.current.finished job.package unit finished
     × (new ≡ record old { current = with_finished old.current finished; out = out })
 
+-- the snapshot of the current state
 abbrev pub snapshot_of : Content → Snapshot
 snapshot_of m = record { number = m.current.number; limits = m.limits; files = m.current.files }
 
+-- the view of the current state: its snapshot, its finished units, and how many steps undo and redo can make
 abbrev pub view_of : Content → View
 view_of m = record { snapshot = snapshot_of m; finished = m.current.finished; undo = length m.earlier; redo = length m.later }
 
--- the change was planned on the current state
+-- the change is based on the current state: its basis is the current number, and its base the current files
 abbrev pub FitsCurrent : Content → ℕ → Change → Type 0
 FitsCurrent m basis change = (basis ≡ m.current.number) × (change.base ≡ m.current.files)
 
--- one state, with number 0, no files and nothing finished; no Job is out
+-- the machine of one state, which has the number 0, no files and no finished unit; no Job is out
 abbrev pub opening : Limits → Machine
 opening limits = record {
   limits = limits;

@@ -1,4 +1,4 @@
--- Which replies an event may get.
+-- The replies that an event may get.
 use Rattle.std.specs.Prelude.{⊤}
 use Rattle.history_machine.specs.declared.event.Event.{Event}
 use Rattle.history_machine.specs.declared.event.Event.TheVariants.{Look, Log, Commit, Undo, Redo, Take, Deliver, GiveBack}
@@ -6,7 +6,8 @@ use Rattle.history_machine.specs.declared.event.Reply.{Reply}
 use Rattle.history_machine.specs.declared.event.Reply.TheVariants.{Looked, Logged, Done, Taken, Refused, Back}
 use Rattle.history_machine.specs.Step.{IsBackOf}
 
--- a view answers a look, a line of the journal a log, a Job a Take, and a number the others; what an event brought comes back with it alone
+-- The reply is of a form that the event may get. `Looked` answers a look alone, `Logged` a log, `Taken` a Take, and `Done` any other event.
+-- `Back` answers only an event that brings a Job, and returns what it brought.
 abbrev pub MayReply : Event → Reply → Type 0
 MayReply Look (Looked view) = ⊤
 MayReply Look (Refused refusal) = ⊤

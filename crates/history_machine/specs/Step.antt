@@ -1,5 +1,4 @@
--- The steps of the machine: a reply to each event, and the machine that it leaves. Jobs, and what was built, stand in it as their
--- data.
+-- The steps of the machine: a reply to each event, and the machine after it. Contracts see a Job, and what was built, as data.
 use Rattle.std.specs.Prelude.{◌≡◌, ℕ, ◌+◌, ◌≤◌, ◌⊎◌, ⊤, List, [], ◌∷◌, ◌++◌, length, Option, MatchOption, Some, None, Result, Ok, Err}
 use Rattle.base_files.specs.declared.refusal.Refusal.{Refusal}
 use Rattle.base_files.specs.declared.refusal.Refusal.TheVariants.{Memory, Moved, NothingToUndo, NothingToRedo, JournalFull, Stale, Already, NoJob}
@@ -20,12 +19,12 @@ use Rattle.history_machine.specs.Machine.{Content, Machine, BeginsVisit, Enters,
 use Rattle.history_machine.specs.Waiting.{IsNextJob, WaitsIn}
 use Rattle.history_machine.specs.Deliveries.{IsFresh, IsRightlyBuilt, HasUnit}
 
--- how many entries the journal has, with those that are kept for the Jobs out
+-- how many entries the journal has, and is still to have for the Jobs out
 abbrev pub entries_due : Machine → ℕ
 entries_due m = length m.journal + length m.out.jobs
 
--- Among so many entries there is place for that of the event beside those that are due, and for those of the Jobs out then. One is
--- kept for each Job that is out.
+-- Of `most` entries, `due` of which are due, enough are left for the event's entry, and for that of the Job of a Take. An event that hands
+-- in a Job that is out has its entry among the due ones.
 abbrev pub HasPlace : (most due : ℕ) → JobsOut → Event → Type 0
 HasPlace most due out Take = due + 2 ≤ most
 HasPlace most due out (Deliver job built) = IsOut out job ⊎ (due + 1 ≤ most)
@@ -36,30 +35,30 @@ HasPlace most due out event = due + 1 ≤ most
 abbrev pub HasRoom : Machine → Event → Type 0
 HasRoom m event = HasPlace m.limits.journal (entries_due m) m.out event
 
--- the event brings a Job that is out
+-- the event hands in a Job that is out
 abbrev pub BringsOut : JobsOut → Event → Type 0
 BringsOut out (Deliver job built) = IsOut out job
 BringsOut out (GiveBack job) = IsOut out job
 BringsOut out event = ⊥
 
--- the event brings a Job, or a Job with what was built
+-- the event hands in a Job, out or not
 abbrev pub BringsJob : Event → Type 0
 BringsJob (Deliver job built) = ⊤
 BringsJob (GiveBack job) = ⊤
 BringsJob event = ⊥
 
--- what the event brought comes back
+-- the event hands in this Job, and what was built if it is a delivery
 abbrev pub IsBackOf : Event → JobRecord → Option Built → Type 0
 IsBackOf (Deliver job built) back unit = (back ≡ job) × (unit ≡ Some built)
 IsBackOf (GiveBack job) back unit = (back ≡ job) × (unit ≡ None)
 IsBackOf event back unit = ⊥
 
--- to give back a Job that is out takes no memory
+-- the event may be refused for want of memory: all but a Job that is out and is given back
 abbrev pub MayLackMemory : JobsOut → Event → Type 0
 MayLackMemory out (GiveBack job) = ¬ (IsOut out job)
 MayLackMemory out event = ⊤
 
--- The reply to an event, and what is after it. It speaks of the states and the Jobs out alone, not of the journal.
+-- The content after an event that gets this reply. The journal, and want of memory, don't count here.
 abbrev pub Answers : Content → Event → Reply → Content → Type 0
 Answers old Look (Looked view) new = (view ≡ view_of old) × (new ≡ old)
 Answers old (Log asked) (Logged number line) new = (number ≡ old.current.number) × (new ≡ old)
@@ -85,46 +84,49 @@ Answers old (GiveBack job) (Back NoJob back unit) new = ¬ (IsOut old.out job) �
 Answers old (GiveBack job) (Done number) new = (number ≡ old.current.number) × Returns old job new
 Answers old event reply new = ⊥
 
--- the same, or memory was wanting: then nothing changes, and what the event brought comes back
+-- the content after an event that gets this reply; for want of memory nothing changes, and the event's Job comes back
 abbrev pub AnswersOrLacks : Content → Event → Reply → Content → Type 0
 AnswersOrLacks old event (Refused Memory) new = ¬ (BringsJob event) × (new ≡ old)
 AnswersOrLacks old event (Back Memory job unit) new = IsBackOf event job unit × MayLackMemory old.out event × (new ≡ old)
 AnswersOrLacks old event reply new = Answers old event reply new
 
--- The event is answered, and the journal has its entry; or memory was wanting, and nothing changes.
+-- Content and journal after an event that gets this reply. The journal gains the event's entry, except for want of memory, when nothing
+-- changes.
 abbrev pub Keeps : Content → List Entry → Event → Reply → Content → List Entry → Type 0
 Keeps old journal event reply new journals =
     AnswersOrLacks old event reply new × ShowsLine journal event reply
     × MatchOption (told_of reply) (journals ≡ journal) (λ told. journals ≡ journal ++ entry_of old.current.number event reply told ∷ [])
 
--- From old, the machine may give this reply to the event and go on to new: there is room, the event is answered, and the journal
--- has one entry more.
+-- From old, the machine may give this reply to the event and become new. The journal has room for the event's entry, and gains it.
 abbrev pub Step : Machine → Event → Reply → Machine → Type 0
--- for want of memory, or of room in the journal, an event is refused: nothing changes, no entry is kept, and its Job comes back
+-- An event that is refused for want of memory, or of room in the journal, changes nothing and has no entry; its Job comes back.
 Step old event (Refused Memory) new = ¬ (BringsJob event) × (new ≡ old)
 Step old event (Refused JournalFull) new = ¬ (BringsJob event) × ¬ (HasRoom old event) × (new ≡ old)
 Step old event (Back Memory job unit) new = IsBackOf event job unit × MayLackMemory old.out event × (new ≡ old)
 Step old event (Back JournalFull job unit) new = IsBackOf event job unit × ¬ (HasRoom old event) × (new ≡ old)
 Step old event reply new = HasRoom old event × Answers (content old) event reply (content new) × Records old.current.number old.journal event reply new.journal
 
--- the replies that the parts of a step give
+-- the reply to a look with this answer
 abbrev pub looked : Result View Refusal → Reply
 looked (Ok view) = Looked view
 looked (Err refusal) = Refused refusal
 
+-- the reply to an event that is answered by a state's number
 abbrev pub done : Result ℕ Refusal → Reply
 done (Ok number) = Done number
 done (Err refusal) = Refused refusal
 
+-- the reply to a Take with this answer
 abbrev pub taken : Result JobRecord Refusal → Reply
 taken (Ok job) = Taken job
 taken (Err refusal) = Refused refusal
 
+-- the reply to a commit that is answered by the new state's number and the change's edits
 abbrev pub committed : Result (ℕ × FileChanges) Refusal → Reply
 committed (Ok made) = Done made.0
 committed (Err refusal) = Refused refusal
 
--- the reply that refuses an event, with what it brought
+-- the reply that refuses an event; it brings back the event's Job, and what was built
 abbrev pub refused : Event → Refusal → Reply
 refused (Deliver job built) refusal = Back refusal job (Some built)
 refused (GiveBack job) refusal = Back refusal job None

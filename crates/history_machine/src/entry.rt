@@ -1,4 +1,4 @@
-//! What the journal keeps of each event and its reply.
+//! The entries of the journal: one for each event, with its outcome.
 ghost use Rattle.std.specs.Prelude.{◌≡◌, ◌↔◌, IfOk, IsTrue};
 ghost use Rattle.history_machine.specs.Kinds.{kind_name, refusal_of};
 
@@ -9,7 +9,7 @@ use std::alloc::{AllocError, Global};
 use std::marker::Model;
 use std::sync::Arc;
 
-/// What kind of event an entry is of.
+/// The kind of an event.
 #[derive(Clone, Copy, Debug, PartialEq, Eq)]
 pub enum EntryKind {
     Look,
@@ -23,7 +23,7 @@ pub enum EntryKind {
 }
 
 impl EntryKind {
-    /// How the kind is spelled in replies.
+    /// The kind's name in the replies of a session.
     pub fn name(self) -> &'static str
         ensures { result.now ≡ kind_name self }
     {
@@ -40,7 +40,7 @@ impl EntryKind {
     }
 }
 
-/// Why the event of an entry was refused. Want of memory, or of room in the journal, leaves no entry.
+/// Why an event that has an entry was refused. An event that is refused for want of memory, or of room in the journal, has no entry.
 #[derive(Clone, Copy, Debug, PartialEq, Eq)]
 pub enum Reason {
     Moved { current: u64 },
@@ -52,7 +52,7 @@ pub enum Reason {
 }
 
 impl Reason {
-    /// The refusal that was answered.
+    /// The refusal that this reason stands for in a reply.
     pub fn refusal(self) -> Refusal
         ensures { result ≡ refusal_of self }
     {
@@ -67,18 +67,19 @@ impl Reason {
     }
 }
 
-/// How the event of an entry was answered. The number is that of the state that was current after it.
+/// The outcome of an event. The number of `Done` is that of the state that was current after the event.
 #[derive(Clone, Copy, Debug, PartialEq, Eq)]
 pub enum Told {
     Done(u64),
     Refused(Reason),
 }
 
-/// What is shown of an entry. The basis of a look, a log and a take is the number of the state that was current, that of a
-/// delivery, or of a Job that was given back, the Job's.
+/// What a log shows of an entry: its kind, its basis and its outcome.
 #[derive(Clone, Copy, Debug, PartialEq, Eq)]
 pub struct Line {
     pub kind: EntryKind,
+    /// The number of the state that the event was based on. For a commit, an undo and a redo the client gives it; a delivery and a Job that
+    /// is given back have the Job's number; any other event has the number of the current state.
     pub basis: u64,
     pub out: Told,
 }
@@ -88,7 +89,7 @@ pub struct SharedEdits {
     edits: Arc<EditSet, Global>,
 }
 
-/// Written out, so that crates above call it and don't prove again how each part is dropped.
+/// Written out, so that crates above call it and need no proof of how each part is dropped.
 impl Drop for SharedEdits {
     fn drop(self) {
         let SharedEdits { edits } = self;
@@ -106,6 +107,7 @@ impl Model for SharedEdits {
 }
 
 impl SharedEdits {
+    /// Moves an edit set behind a shared pointer.
     pub(crate) fn new(alloc: Global, edits: EditSet) -> Result<SharedEdits, AllocError>
         ensures { IfOk result (λ shared. shared ≡ edits) }
     {
@@ -113,6 +115,7 @@ impl SharedEdits {
         Ok(SharedEdits { edits })
     }
 
+    /// The edit set.
     pub fn edits(&self) -> &EditSet
         ensures { result.now ≡ self.now }
     {
@@ -139,17 +142,17 @@ impl Clone for SharedEdits {
     }
 }
 
-/// An entry of the journal: its line, and what is needed besides to do its event again. It has no files of a workspace but
-/// those that a change brought. Which finished units a change carries over is told by the files before and after it, so no entry lists them.
+/// An entry of the journal: its line, its subject, and the edits of an admitted change. Of a workspace's files an entry has only those that
+/// its change added. It lists no finished units: the files before and after a change determine which of them the change carries over.
 pub struct Entry {
     pub line: Line,
-    /// The number of the entry that a log asked for, or the ticket of the Job that was taken, handed in or given back.
+    /// The number of the entry that a log asked for, or the ticket of the Job that was taken, delivered or given back.
     pub subject: Option<u64>,
     /// The edits of an admitted change.
     pub edits: Option<SharedEdits>,
 }
 
-/// Written out, so that crates above call it and don't prove again how each part is dropped.
+/// Written out, so that crates above call it and need no proof of how each part is dropped.
 impl Drop for Entry {
     fn drop(self) {
         let Entry {
@@ -178,7 +181,7 @@ impl Clone for Entry {
 }
 
 impl Entry {
-    /// Whether both are equal in all their parts. Edits are compared by their texts.
+    /// Whether both entries are equal in all their parts. Edits are compared text by text.
     pub fn same(&self, other: &Entry) -> bool
         ensures { IsTrue result ↔ (self.now ≡ other.now) }
     {

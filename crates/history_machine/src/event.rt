@@ -1,28 +1,34 @@
-//! What happens to a book, and what it replies: the words of its contracts. Code asks questions of one kind each (`Question` of history_book).
+//! The events of a book and the replies to them, as contracts name them. Code uses a question of one kind instead (`Question` of
+//! history_book).
 use crate::entry::Line;
 use crate::view::View;
 use base_files::Refusal;
 use build_unit::{Built, Job};
 use workspace_snapshot::MadeChange;
 
-/// What happens to a book. The number is the basis: the state that the sender believes to be current.
+/// An event of a book. The number of a `Commit`, `Undo` or `Redo` is its basis: the state that the client believes to be current.
 pub enum Event {
+    /// Asks for a view of the current state.
     Look,
     /// Asks for the line of an entry of the journal, by its number.
     Log(u64),
-    /// It is admitted where its base has the current files, byte for byte.
+    /// Asks for a change of the workspace. It is admitted where its basis is the current number and its base has the current files, byte
+    /// for byte.
     Commit(u64, MadeChange),
+    /// Makes the state before the current one current again.
     Undo(u64),
+    /// Makes the state current again that the last undo left.
     Redo(u64),
     /// Asks for a Job of the first package that waits to be built.
     Take,
     /// Hands in what was built for a Job.
     Deliver(Job, Built),
+    /// Hands a Job in that was not built.
     GiveBack(Job),
 }
 
-/// The number of `Done` is that of the state that is current after the event. With `Back` what a refused event brought
-/// comes back: for want of memory or of room in the journal, or since its Job is not out.
+/// The reply to an event. The number of `Done` is that of the state that is current after the event. `Back` returns the Job, and what was
+/// built, of a refused event: for want of memory or of room in the journal, or since the Job is not out.
 pub enum Reply {
     Looked(View),
     /// The number of the current state, and the line of the entry, if there is one.

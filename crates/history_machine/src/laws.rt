@@ -1,4 +1,4 @@
-//! What holds over every list of events, from what `Book::step` says of one.
+//! The laws of the history, over every list of events: each follows from the contract of `Book::step`.
 ghost use Rattle.history_machine.specs.Current.{FinishedAreCurrent, StepsKeepUnits};
 ghost use Rattle.history_machine.specs.Run.{
   UndoRestores,
@@ -18,26 +18,26 @@ pub fn undo_and_redo_restore()
     ensures cursor { MovesCursor }
 {}
 
-/// The number of a state is never used again.
+/// Each state's number is given to no later state.
 pub fn numbers_are_used_once()
     ensures rise { NumbersRise }
     ensures fresh { NumbersAreNew }
 {}
 
-/// A refusal changes nothing but the number of entries and, where a delivery is stale or already there, the Jobs out.
+/// A refusal adds its entry to the journal. It changes nothing else, except that a delivery that is stale or already finished spends its
+/// Job.
 pub fn refusals_keep_all()
     ensures { RefusalsKeepAll }
 {}
 
-/// A run adds to the journal the entries of its events, each with its reply, in their order, and no others; so what a run from
-/// the opening state leaves is the replay of its journal.
+/// A run adds exactly the entries of its events to the journal, in their order. So the content after a run from the opening state is the
+/// replay of its journal.
 pub fn journals_are_legal()
     ensures entries { HasEntries }
     ensures legal { RunsAreLegal }
 {}
 
-/// Each finished unit of each state is that of its package in the state's whole workspace, whatever is delivered and in
-/// whatever order.
+/// Each finished unit of each state is the unit of its package in the state's whole workspace, whatever is delivered and in whatever order.
 pub fn finished_units_are_current()
     ensures steps { StepsKeepUnits }
     ensures always { FinishedAreCurrent }

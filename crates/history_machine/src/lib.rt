@@ -1,5 +1,4 @@
-//! The history of a workspace as a machine: its states, the events and the entries of the journal, and what holds over every list of
-//! events.
+//! The history of a workspace as a machine: its states, its events, the entries of its journal, and its laws over every list of events.
 #![tactic(auto)]
 
 mod entry;

@@ -1,4 +1,4 @@
-//! The edits of a change, as they are made for two entries.
+//! Makes an admitted change's edits ready for two entries: that of the journal and its copy.
 ghost use Rattle.std.specs.Prelude.{◌≡◌, IfOk};
 
 use crate::entry::{Entry, Line, SharedEdits};
@@ -6,8 +6,8 @@ use base_edits::EditSet;
 use std::alloc::{AllocError, Global};
 use std::marker::Model;
 
-/// The edits of a change, held twice: for the entry of the journal, and for its copy. So the copy takes no memory once the change
-/// is admitted.
+/// The edits of a change, held twice: for the entry of the journal, and for its copy. So the copy needs no memory once the change is
+/// admitted.
 #[derive(Drop)]
 pub struct MadeEdits {
     kept: SharedEdits,
@@ -26,6 +26,7 @@ impl Model for MadeEdits {
 }
 
 impl MadeEdits {
+    /// Shares an edit set, and clones the share once.
     pub fn new(alloc: Global, edits: EditSet) -> Result<MadeEdits, AllocError>
         ensures { IfOk result (λ made. made ≡ edits) }
     {
@@ -34,6 +35,7 @@ impl MadeEdits {
         Ok(MadeEdits { kept, copy })
     }
 
+    /// The edits for the entry, and those for its copy.
     fn into_both(self) -> (SharedEdits, SharedEdits)
         ensures kept { result.0 ≡ self }
         ensures copy { result.1 ≡ self }
@@ -43,7 +45,7 @@ impl MadeEdits {
     }
 }
 
-/// An entry, and a copy of it.
+/// Makes an entry and a copy of it. It takes no memory.
 pub fn entry_twice(line: Line, subject: Option<u64>, made: Option<MadeEdits>) -> (Entry, Entry)
     ensures entry { result.0 ≡ record { line = line; subject = subject; edits = made } }
     ensures copy { result.1 ≡ record { line = line; subject = subject; edits = made } }

@@ -1,15 +1,17 @@
-//! When edits are the same, text for text.
+//! Compares edit sets part by part, and texts byte by byte.
 ghost use Rattle.std.specs.Prelude.{◌≡◌, ◌↔◌, IsTrue};
 
 use base_edits::{Edit, EditSet, Edits, Fate, FileChange};
 use base_files::{FileText, Path};
 
-/// Can be compared in all its parts.
+/// A value that is compared with another in all its parts.
 pub(crate) trait SameParts {
+    /// Whether both values are equal.
     fn same(&self, other: &Self) -> bool
         ensures { IsTrue result ↔ (self.now ≡ other.now) };
 }
 
+/// Whether both lists have equal elements in the same order.
 fn all_same<T: SameParts>(one: &[T], other: &[T]) -> bool
     ensures { IsTrue result ↔ (one.now ≡ other.now) }
 {
@@ -24,6 +26,7 @@ fn all_same<T: SameParts>(one: &[T], other: &[T]) -> bool
     true
 }
 
+/// Whether both texts have the same bytes.
 fn same_text(one: &FileText, other: &FileText) -> bool
     ensures { IsTrue result ↔ (one.now ≡ other.now) }
 {
@@ -72,6 +75,7 @@ impl SameParts for (Path, FileText) {
     }
 }
 
+/// Whether both edit sets are equal.
 pub(crate) fn same_sets(one: &EditSet, other: &EditSet) -> bool
     ensures { IsTrue result ↔ (one.now ≡ other.now) }
 {

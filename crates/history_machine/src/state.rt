@@ -1,4 +1,4 @@
-//! One state of the history.
+//! A state of the history.
 ghost use Rattle.std.specs.Prelude.{◌≡◌, IfOk};
 ghost use Rattle.workspace_check.specs.Found.{KnowsVerdicts};
 
@@ -11,7 +11,8 @@ use workspace_check::SharedKnown;
 use workspace_graph::Graph;
 use workspace_snapshot::Snapshot;
 
-/// A workspace with its number, the units of those of its packages that are finished, and what is known of packages.
+/// A state: its number, its files, the units of its finished packages, and what is known of its packages. Contracts see all but what is
+/// known.
 pub struct State {
     pub number: u64,
     pub files: Graph,
@@ -19,7 +20,7 @@ pub struct State {
     pub known: SharedKnown,
 }
 
-/// Written out, so that crates above call it and don't prove again how each part is dropped.
+/// Written out, so that crates above call it and need no proof of how each part is dropped.
 impl Drop for State {
     fn drop(self) {
         let State {
@@ -52,13 +53,14 @@ impl Model for State {
 }
 
 impl State {
+    /// The state's number.
     pub fn number(&self) -> u64
         ensures { result ≡ self.now.number }
     {
         self.number
     }
 
-    /// The state, shared, as a snapshot.
+    /// A snapshot of the state, with what is known of its packages. The files are shared, not copied.
     pub fn snapshot(&self, limits: Limits) -> Result<KnownSnapshot, AllocError>
         ensures { IfOk result (λ snapshot. snapshot ≡ record { number = self.now.number; limits = limits; files = self.now.files }) }
     {
@@ -72,7 +74,7 @@ impl State {
         Ok(KnownSnapshot::new(snapshot, known))
     }
 
-    /// Takes in what was found in packages of some files, if they are its own.
+    /// Keeps the findings of the packages of `files`, if the state has these files. Otherwise it drops them.
     pub fn learn(&mut self, files: &Graph, known: SharedKnown)
         requires { KnowsVerdicts files.now known }
         ensures { self.new ≡ self.old }
@@ -82,7 +84,7 @@ impl State {
         }
     }
 
-    /// The same of its own files, which are not compared.
+    /// Keeps the findings of the state's own packages. No file is compared.
     pub fn learn_own(&mut self, known: SharedKnown)
         requires { KnowsVerdicts self.old.files known }
         ensures { self.new ≡ self.old }

@@ -1,4 +1,4 @@
-//! What a client sees of a state.
+//! What a client sees of the current state: a snapshot, the finished units, and how far undo and redo reach.
 ghost use Rattle.std.specs.Prelude.{◌≡◌};
 ghost use Rattle.workspace_check.specs.Found.{KnowsVerdicts};
 
@@ -30,6 +30,7 @@ impl Model for KnownSnapshot {
 }
 
 impl KnownSnapshot {
+    /// A snapshot, with what is known of its packages.
     pub(crate) fn new(snapshot: Snapshot, known: SharedKnown) -> KnownSnapshot
         requires { KnowsVerdicts snapshot.files known }
         ensures { result ≡ snapshot }
@@ -37,25 +38,28 @@ impl KnownSnapshot {
         KnownSnapshot { snapshot, known }
     }
 
+    /// The snapshot.
     pub fn get(&self) -> &Snapshot
         ensures { result.now ≡ self.now }
     {
         &self.snapshot
     }
 
+    /// The number of the snapshot's state.
     pub fn number(&self) -> u64
         ensures { result ≡ self.now.number }
     {
         self.snapshot.number
     }
 
+    /// The snapshot's files.
     pub fn files(&self) -> &Graph
         ensures { result.now ≡ self.now.files }
     {
         &self.snapshot.files
     }
 
-    /// What is known of the packages of the files.
+    /// What is known of the packages of the snapshot's files.
     pub fn known(&self) -> &Known
         ensures { KnowsVerdicts self.now.files result.now }
     {
@@ -63,7 +67,7 @@ impl KnownSnapshot {
     }
 }
 
-/// A snapshot, with the units of its packages that are finished, and how many steps undo and redo can make from it.
+/// A snapshot, with the units of its finished packages, and how many steps undo and redo can make from it.
 #[derive(Drop)]
 pub struct View {
     pub snapshot: KnownSnapshot,

@@ -26,7 +26,7 @@ use Rattle.law_faultless.specs.Arities.{written_arity, AreArities}
 use Rattle.law_faultless.proofs.FunctionsSettled.{IsInFile, in_file_of, called_as, behind_at}
 use Rattle.law_faultless.proofs.Names.{plain_apart, methods_apart}
 
--- names are the same or not
+-- Two names are equal or not.
 
 abbrev Decides : FunctionName → FunctionName → Type 0
 Decides a b = (a ≡ b) ⊎ (a ≡ b → ⊥)

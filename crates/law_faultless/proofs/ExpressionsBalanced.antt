@@ -31,7 +31,7 @@ use Rattle.law_faultless.proofs.Turning.{Turns, none_turns, turns_as, turns_join
 use Rattle.law_faultless.proofs.Standing.{IsOneValue, Stands, Settles, plain_value, name_stands, prefixed_value, operated_turns}
 use Rattle.law_faultless.proofs.LinksBalanced.{selected_stands, index_stands, called_stands}
 
--- what stands is settled as well
+-- An operand that leaves what its meaning says leaves it as a whole chain too.
 settles : (arity : FunctionName → Arity) (o : Operand) (m : Meaning) → Stands arity o m → Settles arity o m
 settles arity o (Value k a) h = h
 settles arity o (TypeName t) h = tt

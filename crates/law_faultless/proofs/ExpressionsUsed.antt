@@ -1,5 +1,5 @@
--- In an expression that has a meaning each name behind a dot and each key is a member that it asks for, or bound behind the name of a
--- package.
+-- In an expression that has a meaning each key is a member that it asks for. So is each selector that is not bound as a qualified
+-- identifier.
 use Rattle.std.proofs.Common.{ℕ, ◌≡◌, inl, inr, true, false, List, [], ◌∷◌, ◌++◌, Some}
 use Rattle.go_ast.specs.Tree.{TypeTree, ExprTree, LinkTrees, OperandTrees, ArgumentTrees, LiteralTree, ElementTrees}
 use Rattle.go_ast.specs.Tree as tree

@@ -1,4 +1,4 @@
--- What the tree of a file tells of its identifiers, and that behind the name of an import stands its literal.
+-- The identifiers in the tree of a file. The literal of an import stands behind the import's name.
 use Rattle.std.proofs.Common.{ℕ, zero, suc, ◌≡◌, List, [], ◌∷◌, ◌++◌, Option, Some, None, map, refl}
 use Rattle.std.specs.Prelude.{slice_get}
 use Rattle.std.specs.List.{AllByRecursion, flat_map}

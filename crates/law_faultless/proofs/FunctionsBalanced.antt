@@ -21,7 +21,7 @@ use Rattle.law_faultless.proofs.ExpressionsBalanced.{Answers, expression_settles
 use Rattle.law_faultless.proofs.Keeping.{Keeps}
 use Rattle.law_faultless.proofs.StatementsBalanced.{statement_keeps, block_keeps}
 
--- the height before line n, if the lines are run in turn; at the end and behind it always the same
+-- The height before line n, if the lines run one after another. Behind the last line it stays.
 height : (FunctionName → Arity) → ℕ → List Line → ℕ → ℕ
 height arity h [] n = h
 height arity h (l ∷ ls) zero = h

@@ -45,7 +45,7 @@ results_wanted w none_written = refl
 results_wanted w (one_written h) = ap (λ z. Wants z.type_of ∷ []) (type_true w h)
 results_wanted w (several_written h) = types_wanted w h
 
--- as many results, however they are told
+-- The number of results, of trees and of types
 
 types_told : {w : World} {is : List (Item TypeTree)} {ts : List PlainType} → AreTypes w is ts → length is ≡ length ts
 types_told no_type_left = refl

@@ -152,7 +152,7 @@ function_name_kept K s f h =
     (all_right K (sites_if (receiver_sites s b o) f.receiver) (site s f.name (func_role f.receiver (s.spell f.name)) ∷
     (list_sites (param_sites s b o) f.params ++ (result_sites s f.result ++ block_sites s f.body))) h).0
 
--- what holds of the identifiers of a file holds of those of its functions
+-- A property of each identifier of a file is one of each identifier of its functions.
 pub function_kept : (K : Site → Type 0) (s : Source) (tree : _) (k : ℕ) (f : FuncTree) (c : ℕ) → AllByRecursion K (file_sites s tree) →
     Holds tree.decls (FuncDecl k f c) → AllByRecursion K (func_sites s f)
 unfolding file_sites decl_sites

@@ -5,7 +5,8 @@ use Rattle.build_object.specs.Statements.{Exits, further, block_exits, branched,
 use Rattle.law_faultless.specs.Stack.{Arity, Runs}
 use Rattle.law_faultless.proofs.Turning.{behind, is_behind, behind_append, Scans, scans_first, scans_second, runs_joined, Turns}
 
--- the stack is empty behind the lines where it is before them, and each line does what it says where it is empty at the exits too
+-- The lines keep the stack empty: it is empty behind them where it is before them. Each line keeps to its effect where the stack is empty
+-- at the exits too.
 pub record Keeps (arity : FunctionName → Arity) (x : Exits) (lines : List Line) : Type 0 where
   pub level : (at : ℕ → ℕ) (i : ℕ) → at i ≡ 0 → Scans arity at i lines → at (behind lines i) ≡ 0
   pub runs : (at : ℕ → ℕ) (i : ℕ) → at i ≡ 0 → Scans arity at i lines → at (behind lines i + x.next) ≡ 0 → at (behind lines i + x.out) ≡ 0 →

@@ -30,7 +30,7 @@ local_may (Implied block start) e = refl
 local_may Use e = absurd (true≢false (sym e))
 local_may (NotLexical p) e = absurd (true≢false (sym e))
 
--- those before what stands behind
+-- The identifiers before the rest of a list: those of A, and those that were passed.
 abbrev pub past : List Site → List Site → List Site
 past A [] = A
 past A (x ∷ xs) = past (x ∷ A) xs

@@ -40,7 +40,7 @@ pub below_more : (n m : ℕ) → n ≤ m → (xs : List Site) → AllByRecursion
 below_more n m le [] h = tt
 below_more n m le (x ∷ xs) h = ((let lt : x.place.index < n = h.0 in omega arith), below_more n m le xs h.1)
 
--- the same of left sides
+-- The identifiers of left sides stand before the tokens behind these.
 
 pub left_stands : (B : ℕ → Type 0) (s : Source) (b : Block) (q n m : ℕ) (e : ExprTree) → Strung B n (expr_tokens e) m →
     AllByRecursion (λ x. x.place.index < m) (left_sites s b q e)

@@ -165,7 +165,7 @@ as_many : {w : World} {ks : List Kind} {ts : List PlainType} → FitInTurn w ks 
 as_many no_values = refl
 as_many (then_fits f more) = ap suc (as_many more)
 
--- n arguments, and what stands before them
+-- A call: the operand before it, n arguments, and the line of the call.
 call_lines : (arity : FunctionName → Arity) (o : Operand) (n before left : ℕ) (arguments : List Line) (standing : Standing) → IsHead arity o standing before →
     Turns arity 0 n arguments →
     Turns arity (before + n) left (calling n standing) → Turns arity 0 left (o.value ++ (arguments ++ calling n o.standing))

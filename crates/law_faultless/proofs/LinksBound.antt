@@ -42,7 +42,7 @@ use Rattle.law_faultless.specs.MemberNames.{IsMemberName, a_selected, a_key}
 use Rattle.law_faultless.proofs.Sites.{files_among, each_numbered}
 
 module _ (w : Workspace) (known : Verdicts) (path : List ℕ) (p : Package) (h : IsPackageIn w known path p) where
-  -- what holds of each identifier of a file, by its place and role, holds of u
+  -- A property of each identifier of a file, by its token and role, is one of u.
   pub at_number : (P : ℕ → Role → Type 0) (q : Purpose) → is_unnamed_import (NotLexical q) ≡ false → (NotLexical purpose.Blank ≡ NotLexical q → ⊥) →
       (u : ℕ) → Stands p u → p.layout.role u ≡ NotLexical q → (s : SourceFile) → slice_get p.files (p.layout.place u).file ≡ Some s →
       ((source : Source) → AllByRecursion (λ x. P x.place.index x.role) (file_sites source s.tree)) → P (p.layout.place u).index (NotLexical q)

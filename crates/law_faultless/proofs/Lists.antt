@@ -1,4 +1,4 @@
--- Lists: what holds of each, and what they hold.
+-- Lists: properties of all their items, and the items that they have.
 use Rattle.std.proofs.Common.{inl, inr, List, [], ◌∷◌, subst}
 use Rattle.std.specs.Prelude.{Contains}
 use Rattle.std.specs.List.{AllByRecursion, flat_map}

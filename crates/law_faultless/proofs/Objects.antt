@@ -79,7 +79,7 @@ module _ (P : List Line → Type 0) where
       (decls_good s names f.tree.decls (h 0 f s refl refl))
       (files_good ss (names_behind_all names f.tree.decls) fs (λ file g t at there. h (suc file) g t at there))
 
-  -- what holds of the code of each function of each file holds of each function of the object
+  -- A property of the code of each function of each file is one of each function of the object.
   pub object_good : (p : Package) (files_of : List ℕ → List SourceFile) (o : Object) → IsObjectOf p files_of o →
       ((file : ℕ) (f : SourceFile) → slice_get p.files file ≡ Some f → (s : Source) → IsSourceOf p files_of file f s → (k : ℕ) (g : FuncTree) (c : ℕ) →
       Holds f.tree.decls (FuncDecl k g c) → (name : FunctionName) → P (function_of s g name).code) →

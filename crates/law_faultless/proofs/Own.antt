@@ -79,7 +79,7 @@ module _ (w : Workspace) (known : Verdicts) (path : List ℕ) (p : Package) (h :
         let own_file : spelled_file t.0 ≡ g = same_Some (spelled_file t.0) g (sym got ∙ ap (slice_get fs) (sym same) ∙ has) in
         subst (λ (z : SpelledFile). AllByRecursion (λ x. P x.place.index x.role) (file_sites (record { rank = F; spell = z.spell }) z.tree)) own_file parts)
 
-    -- what holds of each identifier of a file holds of one that declares inside of it
+    -- A property of each identifier of a file is one of an identifier that declares inside of it.
     module _ (d f a c : ℕ) (may : MayDeclare p.layout d) (block : block_of (p.layout.role d) ≡ Inner f a c) (there : (p.layout.place d).file ≡ F) where
       by_kind : IsKept Q universe (given w known path p h d) (old_site w known path p h d) (new_site w known path p h d) →
           P (p.layout.place d).index (p.layout.role d)

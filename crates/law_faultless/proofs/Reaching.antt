@@ -137,7 +137,8 @@ body_within s n k m (block o ss c) nk w h =
     let fits = statements_fits s o c (suc o) c ss w.1 (omega arith) (omega arith) (rises_up (suc o) (statements_tokens ss) r.0 c rc r.1.0) in
     (omega arith, omega arith, all_fit s.rank o c (suc o) c n m (statements_sites s (Inner s.rank o c) c ss) (omega arith) (omega arith) fits.0)
 
--- the tokens are taken apart as where a function's block is shown to lie behind its name, which says another thing of the same parts
+-- The tokens of a function are taken apart here as in the proof that its block lies behind its name. That proof shows another fact of these
+-- parts.
 func_within : (s : Source) (n m : ℕ) (f : FuncTree) → IsFunc f → Rises n (func_tokens f) m → AllByRecursion (IsWithin n m) (func_sites s f)
 unfolding func_tokens func_sites
 func_within s n m f w h =
@@ -185,7 +186,7 @@ decl_within s n m (FuncDecl k f semicolon) w h =
     let sm : suc semicolon ≤ m = r.1.1.1 in
     wider_within n (suc k) r.0 m (func_sites s f) (omega arith) (omega arith) (func_within s (suc k) r.0 f w r.1.0)
 
--- what the name at a token may be bound to: what stands there, or what has a scope that holds it
+-- A declaring identifier to which the name at token n may be bound: it stands there, or its scope contains the token.
 abbrev pub Reaches : ℕ → (index : ℕ) → Role → Type 0
 Reaches n i r = (i ≡ n) ⊎ ((f : ℕ) × ((a : ℕ) × ((b : ℕ) × ((block_of r ≡ Inner f a b) × (start_of r ≤ n) × (n < b)))))
 

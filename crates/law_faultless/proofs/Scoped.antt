@@ -77,7 +77,7 @@ sorted_held n (x ∷ xs) y h i = elim i [
   | inr r ↦ (let le : n ≤ x.place.index = h.0 in let further : suc x.place.index ≤ y.place.index = sorted_held (suc x.place.index) xs y h.1 r in omega arith)
 ]
 
--- what is told of an identifier by those before it
+-- An identifier is resolved by the identifiers before it.
 
 abbrev Resolvable : World → (ℕ → Type 0) → List Site → Site → Type 0
 Resolvable v B all x =
@@ -133,7 +133,7 @@ files_identified rank (f ∷ fs) =
     all_append (λ (x : Site). is_implied x.role ≡ false) (file_sites s f.tree) (files_sites (suc rank) fs)
     (identified s (file_sites s f.tree) (identifiers_among (flatten f.tree)) (file_pairs s f.tree)) (files_identified (suc rank) fs)
 
--- of a table, what holds of each identifier of files holds of one with such a block
+-- A property of each identifier of a table is one of an identifier with an inner block.
 inner_found : (P : Site → Type 0) (xs : List Site) → AllByRecursion P xs → (u f a c : ℕ) → block_of (found_site (slice_get xs u)).role ≡ Inner f a c →
     P (found_site (slice_get xs u))
 inner_found P [] h u f a c e = let z : ⊥ = cc in absurd z
@@ -205,7 +205,7 @@ module _ (w : Workspace) (known : Verdicts) (path : List ℕ) (p : Package) (h :
         ∙ inner_numbered (λ (x : Site). is_implied x.role ≡ false) universe (files_sites 0 (map spelled_file h.files))
         (files_identified 0 (map spelled_file h.files)) d f a c plain
 
-    -- what holds of each identifier of its file holds of it
+    -- A property of each identifier of its file is one of d.
     at_inner : (P : ℕ → Role → Type 0) (s : SourceFile) → slice_get p.files (p.layout.place d).file ≡ Some s →
         AllByRecursion (λ x. P x.place.index x.role) (file_sites (record { rank = (p.layout.place d).file; spell = spelling_of s }) s.tree) →
         P (p.layout.place d).index (p.layout.role d)

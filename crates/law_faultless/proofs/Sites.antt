@@ -1,4 +1,4 @@
--- What holds of the identifiers of a file holds of those of the package that stand in it.
+-- A property of each identifier of a file is one of each identifier of the package that stands in the file.
 use Rattle.std.proofs.Common.{ℕ, zero, suc, ◌≡◌, ◌+◌, List, [], ◌∷◌, ◌++◌, false, map, ap, sym, subst, refl, ◌∙◌, arith}
 use Rattle.std.specs.Prelude.{Option, Some, slice_get}
 use Rattle.std.specs.List.{AllByRecursion}

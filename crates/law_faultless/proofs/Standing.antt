@@ -48,13 +48,13 @@ Stands arity o Package = IsHead arity o Qualifies 0
 Stands arity o (Results ts) = IsHead arity o (Values (length ts)) (length ts)
 Stands arity o Broken = ⊤
 
--- the same of a chain as an expression: only values are told of it
+-- A whole chain leaves what its meaning says: one value, or the results of a call. For other meanings nothing is required.
 abbrev pub Settles : (FunctionName → Arity) → Operand → Meaning → Type 0
 Settles arity o (Value k a) = IsOneValue arity o
 Settles arity o (Results ts) = IsHead arity o (Values (length ts)) (length ts)
 Settles arity o m = ⊤
 
--- a value whose address is told by the same lines
+-- A value whose lines are those of its address too
 pub plain_value : (arity : FunctionName → Arity) (lines : List Line) → Turns arity 0 1 lines → IsOneValue arity (plain lines)
 plain_value arity lines t = record { standing = refl; value = t; address = t }
 

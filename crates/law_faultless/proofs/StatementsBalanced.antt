@@ -153,7 +153,7 @@ mutual
       (condition_turns arity w s slots c f.1.grouped (λ q a. k q (in_condition i a)))
       (λ y. block_keeps arity w results s slots y r f.2 (λ q a. k q (in_then i c a))) (λ q a. k q (in_otherwise i c r a)))
 
-  -- a condition, a block, and what stands behind it
+  -- A condition, a block, and the code behind `else`
   else_keep : (arity : FunctionName → Arity) (w : World) (results : List PlainType) (s : Source) (slots : List ℕ) (x : Exits) (cond : List Line)
       (body : Exits → List Line) {before after : Locals} {o : ElseTree} → ElseIsTyped w results before o after →
       IsElse o → Turns arity 0 1 cond → ((y : Exits) → Keeps arity y (body y)) → Answers arity (over w s) slots (ElseAsks w results before o) →

@@ -1,4 +1,4 @@
--- Tokens numbered one by one up to another, of which those that are `_` are told.
+-- Tokens that are numbered one by one up to another, where it is known which of them are `_`.
 use Rattle.std.proofs.Common.{ℕ, suc, ◌≡◌, ◌<◌, ◌≤◌, List, [], ◌∷◌, ◌++◌, Bool, ap, refl, arith}
 use Rattle.std.specs.List.{AllByRecursion}
 use Rattle.go_ast.specs.declared.syntax.Kind.{Kind}

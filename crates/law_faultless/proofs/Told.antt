@@ -34,8 +34,8 @@ use Rattle.types_declared.specs.Files.{group_items}
 use Rattle.types_info.proofs.DeclKinds.{Holds}
 use Rattle.law_tokens.proofs.Elements.{all_append, all_left, all_right}
 
--- What is told of an identifier at a token of a file by its role. K: the token is of that kind. G: it is the name of what the package's
--- block declares. F: the file's block may declare.
+-- The facts of an identifier at a token of a file, by its role. K: the token is of this kind. G: it is the name of a package-level
+-- declaration. F: the file's block may declare.
 abbrev pub Told : (K : Kind → ℕ → Type 0) → (G : ℕ → Type 0) → (F : Type 0) → ℕ → Role → Type 0
 Told K G F i (Declaring PackageBlock start) = K kind.Name i × G i
 Told K G F i (Declaring (Inner file from to) start) = K kind.Name i

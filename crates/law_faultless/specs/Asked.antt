@@ -1,4 +1,4 @@
--- What the code of an expression is made of beside its tree: the values of literals, what names are bound to, and members.
+-- The questions that the code of an expression asks beside its tree: values of literals, meanings of names, and members.
 use Rattle.std.specs.Prelude.{ℕ, Bool, List, Option, Some}
 use Rattle.go_ast.specs.declared.syntax.BinaryOp.{BinaryOp}
 use Rattle.go_ast.specs.declared.syntax.PrefixOp.{PrefixOp}
@@ -10,9 +10,11 @@ use Rattle.law_typing.specs.Names.{IsType}
 use Rattle.law_typing.specs.Links.{Selects, Indexes, Calls}
 use Rattle.law_typing.specs.Meanings.{HasMeaning, AreValues}
 
--- The value of the integer or of the string at a token; what the name at a token is bound to, also one behind the name of a
--- package; the member that a name behind a value of a type is, or a key in a literal of the type; the slot of the local that
--- is declared at a token, and of the one that a left name of `:=` is bound to.
+-- A question about the token with a number. `OfInteger` and `OfText`: the value of the integer or the string. `OfName`: the meaning of the
+-- name. `OfExport`: the meaning of the selector of a qualified identifier.
+--
+-- `OfMember`: the member that the selector, or the key of a composite literal, names in this type. `OfDeclared`: the slot of the local
+-- declared there. `OfLeft`: the slot of the local to which a left name of `:=` is bound.
 pub data Question : Type 0 where
   OfInteger : ℕ → Question
   OfText : ℕ → Question
@@ -23,6 +25,7 @@ pub data Question : Type 0 where
   OfLeft : ℕ → Question
 
 mutual
+  -- The code of an expression asks the question, where `locals` are in scope.
   pub data Asks (w : World) (locals : Locals) : ExprTree → Question → Type 0 where
     for_integer : {p : ℕ} → Asks w locals (tree.Number p) (OfInteger p)
     for_text : {p : ℕ} → Asks w locals (tree.Text p) (OfText p)
@@ -37,7 +40,7 @@ mutual
     in_binary : {e : ExprTree} {rest : OperandTrees} {q : Question} → Asks w locals e q → Asks w locals (tree.Binary e rest) q
     in_operands : {e : ExprTree} {rest : OperandTrees} {q : Question} → OperandsAsk w locals rest q → Asks w locals (tree.Binary e rest) q
 
-  -- links behind what means m
+  -- The code of links asks the question, where the meaning before them is m.
   pub data LinksAsk (w : World) (locals : Locals) : Meaning → LinkTrees → Question → Type 0 where
     for_member : {d n : ℕ} {rest : LinkTrees} {t : PlainType} {a : Bool} → LinksAsk w locals (Value (Typed t) a) (tree.selector d n rest) (OfMember n t)
     for_export : {d n : ℕ} {rest : LinkTrees} → LinksAsk w locals Package (tree.selector d n rest) (OfExport n)
@@ -51,22 +54,25 @@ mutual
     behind_call : {o c : ℕ} {xs : ArgumentTrees} {rest : LinkTrees} {m s : Meaning} {ks : List Kind} {q : Question} → AreValues w locals xs ks →
         Calls w m ks s → LinksAsk w locals s rest q → LinksAsk w locals m (tree.call o xs c rest) q
 
+  -- The code of one of the operands behind the first asks the question.
   pub data OperandsAsk (w : World) (locals : Locals) : OperandTrees → Question → Type 0 where
     in_operand : {o : BinaryOp} {p : ℕ} {e : ExprTree} {rest : OperandTrees} {q : Question} → Asks w locals e q →
         OperandsAsk w locals (tree.operand o p e rest) q
     in_later_operand : {o : BinaryOp} {p : ℕ} {e : ExprTree} {rest : OperandTrees} {q : Question} → OperandsAsk w locals rest q →
         OperandsAsk w locals (tree.operand o p e rest) q
 
+  -- The code of one of the arguments asks the question.
   pub data ArgumentsAsk (w : World) (locals : Locals) : ArgumentTrees → Question → Type 0 where
     in_argument : {e : ExprTree} {c : Option ℕ} {rest : ArgumentTrees} {q : Question} → Asks w locals e q → ArgumentsAsk w locals (tree.argument e c rest) q
     in_later_argument : {e : ExprTree} {c : Option ℕ} {rest : ArgumentTrees} {q : Question} → ArgumentsAsk w locals rest q →
         ArgumentsAsk w locals (tree.argument e c rest) q
 
+  -- The code of a composite literal asks the question.
   pub data LiteralAsks (w : World) (locals : Locals) : LiteralTree → Question → Type 0 where
     in_elements : {x : TypeTree} {o c : ℕ} {es : ElementTrees} {t : PlainType} {q : Question} → IsType w x t → ElementsAsk w locals t es q →
         LiteralAsks w locals (tree.literal x o es c) q
 
-  -- elements of a literal of type t
+  -- The code of the elements of a composite literal of type t asks the question.
   pub data ElementsAsk (w : World) (locals : Locals) : PlainType → ElementTrees → Question → Type 0 where
     for_key : {t : PlainType} {key : ℕ × ℕ} {e : ExprTree} {c : Option ℕ} {rest : ElementTrees} →
         ElementsAsk w locals t (tree.element (Some key) e c rest) (OfMember key.0 t)

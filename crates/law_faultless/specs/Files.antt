@@ -5,7 +5,8 @@ use Rattle.go_ast.specs.Tree as tree
 use Rattle.types_expr.specs.World.{World, Locals}
 use Rattle.law_typing.specs.Declarations.{DeclIsTyped, FunctionIsTyped}
 
--- the function is one of the declarations, and typed where the locals are those that the declarations before it lead to
+-- The function is among these declarations, and is typed behind those before it. The first `Locals` are those before the declarations, the
+-- last those before the function.
 pub data IsFunctionIn (w : World) (is_init : ℕ → Bool) : Locals → List DeclTree → FuncTree → Locals → Type 0 where
   this_function : {before after : Locals} {p c : ℕ} {f : FuncTree} {ds : List DeclTree} → FunctionIsTyped w (is_init f.name) before f after →
       IsFunctionIn w is_init before (tree.FuncDecl p f c ∷ ds) f before

@@ -1,9 +1,9 @@
--- A machine that runs lines, of which just the height of its stack is told.
+-- A machine that runs lines, as far as the height of its stack is concerned.
 use Rattle.std.specs.Prelude.{ℕ, suc, ◌≡◌, ◌≤◌, ◌+◌, ◌-◌, List, Some, slice_get}
 use Rattle.build_object.specs.Lines.{FunctionName, Line}
 use Rattle.law_faultless.specs.Stack.{Arity, Effect, Works, Calls, Tests, Leads, LeadsBack, Returns, Ends, effect}
 
--- from line i with h values to line j with k values; what returns or ends goes no further
+-- A line with this effect leads from line i with h values on the stack to line j with k values. A return and an end lead nowhere.
 pub data Steps : Effect → (i h j k : ℕ) → Type 0 where
   works : {taken put i : ℕ} (below : ℕ) → Steps (Works taken put) i (below + taken) (suc i) (below + put)
   calls : {n i : ℕ} {a : Arity} (below : ℕ) → Steps (Calls n a) i (below + n) (suc i) (below + a.results)
@@ -12,13 +12,14 @@ pub data Steps : Effect → (i h j k : ℕ) → Type 0 where
   leads : {n i h : ℕ} → Steps (Leads n) i h (suc i + n) h
   leads_back : {n i h : ℕ} → Steps (LeadsBack n) i h (suc i - n) h
 
--- a run that begins at the first line, with so many values on the stack, comes to line i with h values
+-- A run from the first line, with `before` values on the stack, reaches line i with h values.
 pub data Reaches (arity : FunctionName → Arity) (lines : List Line) (before : ℕ) : (i h : ℕ) → Type 0 where
   begins : Reaches arity lines before 0 before
   further : {i h j k : ℕ} {l : Line} → Reaches arity lines before i h → slice_get lines i ≡ Some l → Steps (effect arity l) i h j k →
       Reaches arity lines before j k
 
--- there is what the line asks for: enough values; as many as the function has parameters; just the results; none
+-- A stack of h values suits the effect. A line that takes values finds enough of them. A call gives as many as the function has parameters.
+-- A return finds just the results, and the end of a function none.
 abbrev pub IsReady : Effect → ℕ → Type 0
 IsReady (Works taken put) h = taken ≤ h
 IsReady (Calls n a) h = (n ≡ a.parameters) × (n ≤ h)

@@ -1,4 +1,4 @@
--- That the names of a file stand for something in what it is judged by.
+-- The names of a file mean something in the world by which the file is judged.
 use Rattle.std.specs.Prelude.{ℕ, suc, ◌≡◌, ◌<◌, ⊤}
 use Rattle.go_ast.specs.SourceFile.{SourceFile}
 use Rattle.go_scope.specs.declared.model.Role.{Role}
@@ -11,15 +11,15 @@ use Rattle.types_expr.specs.World.{World, Local, Means}
 use Rattle.types_declared.specs.Package.{Package}
 use Rattle.law_faultless.specs.Scopes.{IsBlankAt}
 
--- An identifier with that role at the token: a lexical use is bound to something, and is no `_`; so is a name behind the name of a
--- package; a left name of `:=` is bound to a local.
+-- An identifier with this role at the token means something. A lexical use is bound to something, and is no `_`. So is the selector of a
+-- qualified identifier. A left name of `:=` is bound to a local. Of any other identifier nothing is required.
 abbrev pub StandsForSomething : World → SourceFile → (token : ℕ) → Role → Type 0
 StandsForSomething v s n Use = (v.bound n ≡ Means Broken → ⊥) × (IsBlankAt s n → ⊥)
 StandsForSomething v s n (NotLexical Selected) = (b : ℕ) → suc (suc b) ≡ n → v.bound b ≡ Means PackageName → v.bound n ≡ Means Broken → ⊥
 StandsForSomething v s n (LeftName block start) = (k : ℕ) × (v.bound n ≡ Local k)
 StandsForSomething v s n r = ⊤
 
--- the same of each identifier of a file of the package
+-- Each identifier of the file means something in the world v.
 abbrev pub NamesMean : Package → (file : ℕ) → World → SourceFile → Type 0
 NamesMean p file v s =
     (u n : ℕ) → u < p.size → StandsAt p.layout (record { file = file; index = n }) u → StandsForSomething v s n (p.layout.role u)

@@ -1,4 +1,4 @@
--- What of the questions of a function is not told by its file alone.
+-- The part of a question that the file of a function leaves open.
 use Rattle.std.specs.Prelude.{ℕ, ◌≡◌, ⊤, List, Some}
 use Rattle.types_expr.specs.Types.{Meaning, Value, TypeName, Function, BuiltinName, Package, Results, Broken}
 use Rattle.types_expr.specs.World.{Bound, Local, Means, BrokenVariable, BrokenFunction, BrokenType}
@@ -9,7 +9,7 @@ use Rattle.law_faultless.specs.Stack.{Arity}
 use Rattle.law_faultless.specs.Asked.{Question, OfInteger, OfText, OfName, OfExport, OfMember, OfDeclared, OfLeft}
 use Rattle.law_faultless.specs.Answered.{IsKnown, plain_arity, MemberIsKnown}
 
--- a function has the arity that it is called with; no name means a call's results
+-- If the name at token n means a function, its name in objects has the arity of the function. A name never means the results of a call.
 abbrev pub HasArity : (arity : FunctionName → Arity) → Source → ℕ → Meaning → Type 0
 HasArity arity s n (Value k a) = ⊤
 HasArity arity s n (TypeName t) = ⊤
@@ -19,7 +19,8 @@ HasArity arity s n Package = ⊤
 HasArity arity s n (Results ts) = ⊥
 HasArity arity s n Broken = ⊤
 
--- a local that is used is one of the function's
+-- If the name at token n is a local, the local has one of the function's slots. If it means a function, its name in objects has the arity
+-- of the function.
 abbrev pub IsOwnName : (arity : FunctionName → Arity) → Source → (slots : List ℕ) → ℕ → Bound → Type 0
 IsOwnName arity s slots n (Local place) = IsKnown (slot_of slots place)
 IsOwnName arity s slots n (Means m) = HasArity arity s n m
@@ -27,7 +28,7 @@ IsOwnName arity s slots n BrokenVariable = ⊤
 IsOwnName arity s slots n BrokenFunction = ⊤
 IsOwnName arity s slots n BrokenType = ⊤
 
--- what is left open of a question
+-- The part of the question that the file leaves open has an answer. The file alone answers questions of literals and of declared locals.
 abbrev pub IsSettled : (arity : FunctionName → Arity) → Source → (slots : List ℕ) → Question → Type 0
 IsSettled arity s slots (OfInteger n) = ⊤
 IsSettled arity s slots (OfText n) = ⊤

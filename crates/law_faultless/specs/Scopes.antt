@@ -1,4 +1,4 @@
--- What the scopes of a file tell of its identifiers, by what the file is judged by.
+-- The names of a file as its scopes bind them, by the file's world.
 use Rattle.std.specs.Prelude.{ℕ, suc, ◌≡◌, ◌≤◌, ◌⊎◌, ⊤, Bool, true, false, List, [], ◌∷◌, Contains}
 use Rattle.go_ast.specs.declared.syntax.Kind.TheVariants as kind
 use Rattle.go_ast.specs.SourceFile.{SourceFile}
@@ -14,17 +14,17 @@ use Rattle.types_expr.specs.Types.{Package as PackageName}
 use Rattle.types_expr.specs.World.{World, Local, Means}
 use Rattle.law_typing.specs.Names.{IsWhole}
 
--- it may declare in the block of a function or inside it
+-- Whether an identifier with this role may declare a local, in the block of a function or inside it.
 abbrev pub may_be_local : Role → Bool
 may_be_local (Declaring (Inner file from to) start) = true
 may_be_local (LeftName (Inner file from to) start) = true
 may_be_local r = false
 
--- a local variable that is bound to its own declaration
+-- The identifier y declares a local, and is bound to this local.
 abbrev pub IsOwn : World → Site → Type 0
 IsOwn w y = (w.bound y.place.index ≡ Local y.place.index) × (may_be_local y.role ≡ true)
 
--- the name at a token is bound to a local that an earlier identifier declares, whose scope has begun
+-- The name at token n is bound to a local that an identifier of A declares, and whose scope has begun.
 pub record IsEarlier (w : World) (A : List Site) (n : ℕ) : Type 0 where
   pub local : Site
   pub among : Contains A local
@@ -32,9 +32,10 @@ pub record IsEarlier (w : World) (A : List Site) (n : ℕ) : Type 0 where
   pub bound : w.bound n ≡ Local local.place.index
   pub begun : start_of local.role ≤ n
 
--- What the scopes tell of an identifier, where those of A stand before it. A lexical use stands for something, or is a local that was
--- declared before, and it is no `_`; a name behind the name of a package stands for something; a left name of `:=` declares, or is
--- such a local. B: that a token is `_`.
+-- An identifier with this role at token n is resolved, where the identifiers of A stand before it. B: a token is `_`.
+--
+-- A lexical use means something, or is a local that was declared before, and it is no `_`. The selector of a qualified identifier means
+-- something. A left name of `:=` declares a local, or is one that was declared before.
 abbrev pub IsResolved : World → (B : ℕ → Type 0) → List Site → ℕ → Role → Type 0
 IsResolved w B A n Use = (((m : Meaning) × ((w.bound n ≡ Means m) × IsWhole m)) ⊎ IsEarlier w A n) × (B n → ⊥)
 IsResolved w B A n (NotLexical purpose.Selected) = (b : ℕ) → suc (suc b) ≡ n → w.bound b ≡ Means PackageName →
@@ -42,10 +43,11 @@ IsResolved w B A n (NotLexical purpose.Selected) = (b : ℕ) → suc (suc b) ≡
 IsResolved w B A n (LeftName block start) = (w.bound n ≡ Local n) ⊎ IsEarlier w A n
 IsResolved w B A n r = ⊤
 
+-- Each identifier of the list is resolved, where those of A, and those before it in the list, stand before it.
 abbrev pub AreResolved : World → (B : ℕ → Type 0) → List Site → List Site → Type 0
 AreResolved w B A [] = ⊤
 AreResolved w B A (x ∷ xs) = IsResolved w B A x.place.index x.role × AreResolved w B (x ∷ A) xs
 
--- the token of that number is `_`
+-- The token with this number is `_`.
 abbrev pub IsBlankAt : SourceFile → ℕ → Type 0
 IsBlankAt s n = IsOfKind s.cut n kind.Blank

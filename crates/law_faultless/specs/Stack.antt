@@ -1,18 +1,20 @@
--- The discipline of the stack that lines of code work on: how high it is at each line.
+-- The discipline of the stack on which lines of code work: its height at each line.
 use Rattle.std.specs.Prelude.{ℕ, suc, ◌≡◌, ◌≤◌, ◌+◌, ◌-◌, ⊤, List, [], ◌∷◌, length}
 use Rattle.build_object.specs.Lines.{FunctionName, Line, Integer, Text, Truth, Nil, Local, Global, Field, FieldThrough, Index, Load, Negate, Not, Operate}
 use Rattle.build_object.specs.Lines.{Duplicate, Pop, JumpUnless, JumpIf, Jump, JumpBack, Call, CallBuiltin, Zero, With, MakeSlice, New, LocalAddress}
 use Rattle.build_object.specs.Lines.{GlobalAddress, FieldAddress, IndexAddress, BlankAddress, Set, Assign, Return, End}
 use Rattle.build_object.specs.Operands.{builtin_results}
 
--- how many values a function takes, its receiver counted, and how many it gives back
+-- How many values a function takes, its receiver counted, and how many it gives back.
 pub record Arity : Type 0 where
   pub parameters : ℕ
   pub results : ℕ
 
--- What a line does to the stack: it takes so many values and puts so many others in their place; it gives a function so many
--- values; it takes a value and leads on, or so many lines behind the next one; it leads there, or so many lines before the next
--- one; it returns so many values; it ends the function.
+-- The effect of a line on the stack.
+--
+-- `Works`: it takes so many values, and puts so many others in their place. `Calls`: it gives so many values to a function with this arity.
+-- `Tests`: it takes a value, and goes on at the next line or that many lines behind it. `Leads`: it goes on that many lines behind the next
+-- one. `LeadsBack`: it goes on that many lines before the next one. `Returns`: it returns so many values. `Ends`: it ends the function.
 pub data Effect : Type 0 where
   Works : ℕ → ℕ → Effect
   Calls : ℕ → Arity → Effect
@@ -22,6 +24,7 @@ pub data Effect : Type 0 where
   Returns : ℕ → Effect
   Ends : Effect
 
+-- The effect of each kind of line, where functions have these arities.
 abbrev pub effect : (arity : FunctionName → Arity) → Line → Effect
 effect arity (Integer n) = Works 0 1
 effect arity (Text bytes) = Works 0 1
@@ -58,14 +61,13 @@ effect arity (Assign n) = Works (n + n) 0
 effect arity (Return n) = Returns n
 effect arity End = Ends
 
--- at: how many values lie on the stack before each line; before line i there are as many as are taken, and before the next
--- line those are gone, and so many others lie there
+-- Line i takes `taken` values and puts `put` others in their place. `at` gives the height of the stack before each line.
 pub record Moves (at : ℕ → ℕ) (i taken put : ℕ) : Type 0 where
   pub enough : taken ≤ at i
   pub left : at (suc i) + taken ≡ at i + put
 
--- Line i does so: a jump finds the same height where it leads to; a call gives a function as many values as it has parameters; a
--- return leaves no value but the results, and the end none.
+-- Line i keeps to its effect. A jump finds at its target the height that it leaves. A call gives as many values as the function has
+-- parameters. A return leaves no value but the results, and the end of a function none.
 abbrev pub Obeys : (at : ℕ → ℕ) → (i : ℕ) → Effect → Type 0
 Obeys at i (Works taken put) = Moves at i taken put
 Obeys at i (Calls n a) = (n ≡ a.parameters) × Moves at i n a.results
@@ -75,16 +77,17 @@ Obeys at i (LeadsBack n) = (n ≤ suc i) × (at (suc i - n) ≡ at i)
 Obeys at i (Returns n) = at i ≡ n
 Obeys at i Ends = at i ≡ 0
 
+-- Line i is `l`, and keeps to its effect.
 abbrev pub RunsAt : (arity : FunctionName → Arity) → (at : ℕ → ℕ) → (i : ℕ) → Line → Type 0
 RunsAt arity at i l = Obeys at i (effect arity l)
 
--- each of the lines does, the first of which is line i
+-- Each of these lines keeps to its effect. The first of them is line i.
 abbrev pub Runs : (arity : FunctionName → Arity) → (at : ℕ → ℕ) → (i : ℕ) → List Line → Type 0
 Runs arity at i [] = ⊤
 Runs arity at i (l ∷ ls) = RunsAt arity at i l × Runs arity at (suc i) ls
 
--- There is one height for each line, by whatever way it is reached: so many values before the first line, and so many at the end of
--- the lines and wherever a jump leads behind them.
+-- The lines are balanced: each line has one height of the stack, by whatever way it is reached. It is `before` at the first line. It is
+-- `after` behind the last line, and wherever a jump leads behind it.
 pub record IsBalanced (arity : FunctionName → Arity) (before : ℕ) (lines : List Line) (after : ℕ) : Type 0 where
   pub at : ℕ → ℕ
   pub begins : at 0 ≡ before

@@ -1,12 +1,12 @@
--- What files are judged by where nothing is broken.
+-- Worlds in which nothing is broken.
 use Rattle.std.specs.Prelude.{ℕ, ◌≡◌, true, Some}
 use Rattle.types_expr.specs.declared.symbol.Symbol.{Symbol}
 use Rattle.types_expr.specs.Types.{PlainType, Kind, Value}
 use Rattle.types_expr.specs.World.{World, Means, BrokenVariable, BrokenFunction, BrokenType, ABrokenMethod}
 use Rattle.law_typing.specs.Operators.{IsUntyped}
 
--- No name is bound to a broken type, variable or function, and no member is a broken method; of what can be assigned, each
--- variable has a type.
+-- In the world w no name is bound to a broken type, variable or function, and no member is a broken method. Each value that can be assigned
+-- has a type.
 pub record IsUnbroken (w : World) : Type 0 where
   pub types : (n : ℕ) → w.bound n ≡ BrokenType → ⊥
   pub variables : (n : ℕ) → w.bound n ≡ BrokenVariable → ⊥

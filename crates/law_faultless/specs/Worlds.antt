@@ -1,4 +1,4 @@
--- What the files of a package are judged by.
+-- The worlds by which the files of a package are judged.
 use Rattle.std.specs.Prelude.{ℕ, ◌≡◌, Some, slice_get}
 use Rattle.go_ast.specs.SourceFile.{SourceFile}
 use Rattle.types_expr.specs.World.{World}
@@ -8,10 +8,10 @@ use Rattle.base_files.specs.Workspace.{Workspace}
 use Rattle.workspace_check.specs.Verdicts.{Verdicts}
 use Rattle.refs_binding.specs.Uses.{IsPackage}
 
--- each file of the package is judged by something
+-- Each file of the package has a world.
 abbrev pub HaveWorlds : Package → Type 0
 HaveWorlds p = (file : ℕ) (s : SourceFile) → slice_get p.files file ≡ Some s → (v : World) × IsWorldOf p file s v
 
--- so is each file of the packages of the workspace
+-- Each file of each package of the workspace has a world.
 abbrev pub HaveAllWorlds : Workspace → Verdicts → Type 0
 HaveAllWorlds w known = (p : Package) → IsPackage w known p → HaveWorlds p

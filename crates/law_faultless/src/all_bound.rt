@@ -1,4 +1,4 @@
-//! The laws of the names of members.
+//! Laws of member names: names behind a dot and keys of composite literals are bound to fields and methods.
 ghost use Rattle.std.specs.Prelude.{ℕ, ◌≡◌, List, [], Some, slice_get};
 ghost use Rattle.base_files.specs.Workspace.{Workspace};
 ghost use Rattle.go_ast.specs.SourceFile.{SourceFile};
@@ -29,23 +29,23 @@ ghost use Rattle.law_faultless.specs.Scopes.{AreResolved, IsBlankAt};
 ghost use Rattle.law_faultless.specs.Unbroken.{IsUnbroken};
 ghost use Rattle.law_faultless.specs.Worlds.{HaveWorlds, HaveAllWorlds};
 
-/// In a file that keeps the typing rules each name behind a dot is bound to a field or a method, unless it stands behind the name of a
-/// package; and so is each key.
+/// In a file that keeps the typing rules each member name is bound to a field or a method. A member name is the selector of a selection
+/// that is no qualified identifier, or a key of a composite literal.
 pub fn member_names_of_typed_files_are_bound()
     ensures { (w : Workspace) → (known : Verdicts) → (p : Package) → IsPackage w known p → (u : ℕ) → Stands p u → IsMemberName p u →
         (uses : List MemberUse) → (a : AreUsesIn p (p.layout.place u).file uses) → FileIsTyped a.world (is_init a.source) a.source.tree →
         (d : Declaration) × BindsByMember p u d }
 {}
 
-/// In a workspace without faults each such name is bound so in a file that uses nothing broken.
+/// In a workspace without faults each member name of a file that uses nothing broken is bound to a field or a method.
 pub fn member_names_are_bound_unless_excused()
     ensures { (w : Workspace) → ListsFaults w [] → (known : Verdicts) → AreVerdicts w known → (p : Package) → IsPackage w known p → (u : ℕ) → Stands p u →
         IsMemberName p u → (uses : List MemberUse) → (a : AreUsesIn p (p.layout.place u).file uses) →
         (FileIsExcused a.world (is_init a.source) a.source.tree → ⊥) → (d : Declaration) × IsBoundTo w known p u d }
 {}
 
-/// In a workspace without faults nothing that a package declares is broken: no definition, each variable has a type, and each function
-/// and method a signature.
+/// In a workspace without faults no declaration is broken: no type definition is, each variable has a type, and each function and method
+/// has a signature.
 pub fn declarations_are_whole()
     ensures definitions { (w : Workspace) → ListsFaults w [] → (known : Verdicts) → AreVerdicts w known → (p : Package) → IsPackage w known p →
         HaveWorlds p → (rank : ℕ) → IsBroken p rank → ⊥ }
@@ -56,8 +56,7 @@ pub fn declarations_are_whole()
         HaveWorlds p → (rank : ℕ) → (f : PlacedFunction) → slice_get (package_functions p) rank ≡ Some f → (s : Signature) × HasSignature p f s }
 {}
 
-/// In a workspace without faults each function with a receiver is a method of a definition of its package, and its name is not bound to
-/// nothing.
+/// In a workspace without faults each function with a receiver is a method of a type definition of its package. Its name is bound.
 pub fn functions_with_receivers_are_methods()
     ensures are_methods { (w : Workspace) → ListsFaults w [] → (known : Verdicts) → AreVerdicts w known → (p : Package) → IsPackage w known p →
         HaveWorlds p → (rank : ℕ) → (f : PlacedFunction) → slice_get (package_functions p) rank ≡ Some f →
@@ -68,23 +67,22 @@ pub fn functions_with_receivers_are_methods()
         ((d : Declaration) → IsBoundTo w known p u d → ⊥) → ⊥ }
 {}
 
-/// In a workspace without faults no name of a file is bound to a broken type, variable or function, no member is a broken method, and
-/// each variable has a type.
+/// In a workspace without faults no name of a file is bound to a broken type, variable or function. No member is a broken method, and each
+/// variable has a type.
 pub fn nothing_broken_is_named()
     ensures { (w : Workspace) → ListsFaults w [] → (known : Verdicts) → AreVerdicts w known → HaveAllWorlds w known →
         (p : Package) → IsPackage w known p → (file : ℕ) → (s : SourceFile) → (v : World) → IsWorldOf p file s v → IsUnbroken v }
 {}
 
-/// In a workspace without faults a file keeps the typing rules where its names are known: each lexical use stands for something, or is a
-/// local that was declared before, and each name behind the name of a package stands for something.
+/// In a workspace without faults a file whose names are resolved keeps the typing rules. Each lexical use means something, or is a local
+/// that was declared before. Each qualified identifier means something.
 pub fn files_of_known_names_keep_the_rules()
     ensures { (w : Workspace) → ListsFaults w [] → (known : Verdicts) → AreVerdicts w known → HaveAllWorlds w known →
         (p : Package) → IsPackage w known p → (file : ℕ) → (uses : List MemberUse) → (a : AreUsesIn p file uses) → (s : Source) →
         AreResolved a.world (IsBlankAt a.source) [] (file_sites s a.source.tree) → FileIsTyped a.world (is_init a.source) a.source.tree }
 {}
 
-/// In a workspace without faults each name behind a dot is bound to a field or a method, unless it stands behind the name of a package,
-/// and so is each key, in a file whose names stand for something in what it is judged by.
+/// In a workspace without faults each member name of a file is bound to a field or a method, if the file's names mean something.
 pub fn member_names_are_bound_where_names_mean()
     ensures { (w : Workspace) → ListsFaults w [] → (known : Verdicts) → AreVerdicts w known → HaveAllWorlds w known →
         (p : Package) → IsPackage w known p → (u : ℕ) → Stands p u → IsMemberName p u →

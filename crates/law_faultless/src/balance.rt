@@ -1,4 +1,4 @@
-//! The laws of the stack on which the lines of an object work.
+//! Laws of the stack on which the lines of an object work.
 ghost use Rattle.std.specs.Prelude.{ℕ, ◌≡◌, ◌+◌, Bool, List, Some, length, slice_get};
 ghost use Rattle.go_ast.specs.Tree.{ExprTree, StatementTree, FuncTree};
 ghost use Rattle.go_ast.specs.WellFormed.{IsExpr, IsStatement, IsFunc};
@@ -19,9 +19,9 @@ ghost use Rattle.law_faultless.specs.Asked.{Question, Asks};
 ghost use Rattle.law_faultless.specs.Answered.{IsAnswered};
 ghost use Rattle.law_faultless.specs.StatementsAsked.{StatementAsks, FunctionAsks};
 
-/// Where code is balanced, a run comes to each of its lines with one height of the stack, whatever way it takes; and there is
-/// what the line asks for: it never takes from an empty stack, a call gives as many values as the function has parameters, a
-/// return leaves just the results, and the end nothing.
+/// Balanced code runs. Every run reaches a line with one height of the stack, whatever way it takes. Each line finds what it takes: no
+/// value is taken from an empty stack, and a call gives as many values as the function has parameters. A return leaves just the results,
+/// and the end of a function none.
 pub fn balanced_code_runs()
     ensures height { (arity : FunctionName → Arity) → (lines : List Line) → (before after : ℕ) → IsBalanced arity before lines after →
         (i h k : ℕ) → Reaches arity lines before i h → Reaches arity lines before i k → h ≡ k }
@@ -29,22 +29,21 @@ pub fn balanced_code_runs()
         (i h : ℕ) → (l : Line) → Reaches arity lines before i h → slice_get lines i ≡ Some l → IsReady (effect arity l) h }
 {}
 
-/// The code of an expression that is a value, where all that it asks for is known, leaves one value over whatever lies on the
-/// stack.
+/// The code of an expression that is a value leaves one value more on the stack, if each of its questions is answered.
 pub fn values_are_balanced()
     ensures { (arity : FunctionName → Arity) → (s : Source) → (slots : List ℕ) → (locals : Locals) → (e : ExprTree) → (k : Kind) → (a : Bool) →
         HasMeaning s.world locals e (Value k a) → IsExpr e → ((q : Question) → Asks s.world locals e q → IsAnswered arity s slots q) →
         (height : ℕ) → IsBalanced arity height (value_lines s slots e) (height + 1) }
 {}
 
-/// The code of a call that has no result, or several, leaves just these.
+/// The code of a call that has no result, or several, leaves its results on the stack, if each of its questions is answered.
 pub fn results_are_balanced()
     ensures { (arity : FunctionName → Arity) → (s : Source) → (slots : List ℕ) → (locals : Locals) → (e : ExprTree) → (ts : List PlainType) →
         HasMeaning s.world locals e (Results ts) → IsExpr e → ((q : Question) → Asks s.world locals e q → IsAnswered arity s slots q) →
         (height : ℕ) → IsBalanced arity height (value_lines s slots e) (height + length ts) }
 {}
 
-/// The code of a statement that keeps the typing rules leaves the stack empty, wherever it leads.
+/// The code of a statement that keeps the typing rules leaves the stack empty, wherever it leads. Each of its questions must be answered.
 pub fn statements_are_balanced()
     ensures { (arity : FunctionName → Arity) → (s : Source) → (slots : List ℕ) → (results : List PlainType) → (before after : Locals) →
         (x : StatementTree) →
@@ -53,7 +52,7 @@ pub fn statements_are_balanced()
         (exits : Exits) → IsBalanced arity 0 (statement_lines s slots (length results) exits x) 0 }
 {}
 
-/// The code of a function that keeps the typing rules, where all that it asks for is known, keeps the discipline of the stack.
+/// The code of a function that keeps the typing rules is balanced, if each of its questions is answered.
 pub fn functions_are_balanced()
     ensures { (arity : FunctionName → Arity) → (s : Source) → (is_init : Bool) → (before after : Locals) → (f : FuncTree) →
         FunctionIsTyped s.world is_init before f after → IsFunc f → ((q : Question) → FunctionAsks s.world before f q →

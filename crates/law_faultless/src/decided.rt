@@ -1,4 +1,4 @@
-//! The laws of what is decided of names.
+//! Laws of what is decided of names: whether they are bound, and that they mean something or nothing.
 ghost use Rattle.std.specs.Prelude.{ℕ, ◌⊎◌};
 ghost use Rattle.go_scope.specs.Bindings.{Layout, Names, IsBoundTo};
 ghost use Rattle.go_scope.specs.WellFormed.{WellFormed};
@@ -14,8 +14,8 @@ pub fn bindings_are_decided()
         ((d : ℕ) × IsBoundTo l names u d) ⊎ ((d : ℕ) → IsBoundTo l names u d → ⊥) }
 {}
 
-/// The name at each token of a package is bound to something, where its strings have values and it is decided which definitions are
-/// broken.
+/// The name at each token of a package has a meaning, be it that of a name bound to nothing. The strings of the package have values, and it
+/// is decided which type definitions are broken.
 pub fn names_are_decided()
     ensures { (p : Package) → WellFormed p.layout → AreStringsKnown p → ((rank : ℕ) → IsBroken p rank ⊎ (IsBroken p rank → ⊥)) →
         (file token : ℕ) → (b : Bound) × IsName p file token b }

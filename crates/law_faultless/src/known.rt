@@ -1,4 +1,4 @@
-//! The laws of what the code of a package is made of.
+//! Laws of the parts of a package's code: the answers to its questions.
 ghost use Rattle.std.specs.Prelude.{ℕ, ◌≡◌, List, Some, length};
 ghost use Rattle.go_ast.specs.SourceFile.{SourceFile, IsSourceFile};
 ghost use Rattle.go_ast.specs.Tree.{FuncTree};
@@ -21,20 +21,20 @@ ghost use Rattle.law_faultless.specs.Called.{IsCalledByName};
 ghost use Rattle.law_faultless.specs.Files.{IsFunctionIn};
 ghost use Rattle.law_faultless.specs.Open.{IsSettled};
 
-/// Each local that a function declares has one of its slots.
+/// Each local that a function declares has a slot.
 pub fn declared_locals_have_slots()
     ensures { (w : World) → (before : Locals) → (f : FuncTree) → (n : ℕ) → FunctionAsks w before f (OfDeclared n) →
         IsKnown (slot_of (slots_of w f) n) }
 {}
 
-/// Of each name that means a variable or a function of a package it is known what that is called.
+/// Each name that means a variable or a function of a package has a name in objects.
 pub fn names_of_packages_are_known()
     ensures { (p : Package) → (files_of : List ℕ → List SourceFile) → (file : ℕ) → (f : SourceFile) → (s : Source) → IsSourceOf p files_of file f s →
         (n : ℕ) → (m : Meaning) → s.world.bound n ≡ Means m → IsCalledByName m → IsKnown (s.global n) }
 {}
 
-/// In a function of a file, the type that is known before a name behind a dot, or of the literal that a key stands in, is the one
-/// by the typing rules.
+/// In a function of a file the source knows the type before each selector, and the type of the composite literal around each key. These are
+/// the types of the typing rules.
 pub fn types_before_members_are_known()
     ensures { (p : Package) → (files_of : List ℕ → List SourceFile) → (file : ℕ) → (f : SourceFile) → (s : Source) →
         IsSourceOf p files_of file f s → IsSourceFile f →
@@ -42,7 +42,7 @@ pub fn types_before_members_are_known()
         (n : ℕ) → (t : PlainType) → FunctionAsks s.world at g (OfMember n t) → s.before n ≡ Some t }
 {}
 
-/// In a function of a file the value of each integer and of each string is known.
+/// In a function of a file each integer and each string has a value.
 pub fn literals_are_known()
     ensures integers { (p : Package) → (files_of : List ℕ → List SourceFile) → (file : ℕ) → (f : SourceFile) → (s : Source) →
         IsSourceOf p files_of file f s → IsSourceFile f →
@@ -54,8 +54,8 @@ pub fn literals_are_known()
         FunctionAsks s.world at g (OfText n) → IsKnown (s.text n) }
 {}
 
-/// The code of a typed function of a file keeps the discipline of the stack, where what the file does not tell by itself is settled:
-/// that a local that is used is one of the function's, how many values functions take and give, and what members are called.
+/// The code of a typed function of a file is balanced, if the questions that the file alone leaves open are settled. These are: whether a
+/// local belongs to the function, the arities of functions, and the names of members.
 pub fn functions_of_files_are_balanced()
     ensures { (arity : FunctionName → Arity) → (p : Package) → (files_of : List ℕ → List SourceFile) → (file : ℕ) → (f : SourceFile) →
         (s : Source) → IsSourceOf p files_of file f s → IsSourceFile f →

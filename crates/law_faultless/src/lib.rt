@@ -1,5 +1,5 @@
-//! In a workspace without faults names stand for something and members are bound; all that the code of packages asks for is known, and this
-//! code is balanced. Laws alone.
+//! Laws of workspaces without faults: identifiers are bound, names mean something, and the code of packages is balanced. There is no code
+//! that runs.
 #![tactic(auto)]
 
 pub mod all_bound;

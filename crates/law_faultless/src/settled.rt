@@ -1,4 +1,4 @@
-//! The laws of what the code of packages asks for, where a workspace has no faults.
+//! Laws of the questions that the code of a package asks, in a workspace without faults: each has an answer.
 ghost use Rattle.std.specs.Prelude.{ℕ, ◌≡◌, List, [], Some, length, slice_get, Contains};
 ghost use Rattle.base_files.specs.Packages.{package_paths};
 ghost use Rattle.base_files.specs.Workspace.{Workspace};
@@ -27,15 +27,16 @@ ghost use Rattle.build_unit.specs.Units.{AreFilesBelow, IsCompiled};
 ghost use Rattle.law_faultless.specs.Arities.{AreArities};
 ghost use Rattle.law_faultless.specs.Known.{IsFunctionOf};
 
-/// In a workspace without faults the functions of all packages have arities by their names: no two of a package are called alike.
+/// In a workspace without faults the functions of all packages have arities by their names in objects: no two functions of a package have
+/// one name.
 pub fn functions_have_arities()
     ensures { (w : Workspace) → ListsFaults w [] → (known : Verdicts) → AreVerdicts w known →
         (arity : FunctionName → Arity) × AreArities w known arity }
 {}
 
-/// In a workspace without faults nothing that the code of a function asks for is left open: each local that it names is one of its own,
-/// each function takes and gives as many values as it is written with, it is known where fields stand and what methods are called, no
-/// name behind the name of a package means a package, and none the results of a call.
+/// In a workspace without faults the code of a function leaves no question open. Each local that it names is its own, and each function has
+/// the arity with which it is written. The positions of fields and the names of methods are known. No qualified identifier means a package,
+/// and no name the results of a call.
 pub fn what_is_asked_is_settled()
     ensures { (w : Workspace) → ListsFaults w [] → (known : Verdicts) → AreVerdicts w known →
         (arity : FunctionName → Arity) → AreArities w known arity → (p : Package) → IsPackage w known p →
@@ -45,7 +46,7 @@ pub fn what_is_asked_is_settled()
         IsSettled arity s (slots_of s.world g) q }
 {}
 
-/// So all that the code of a function of a file asks for is known: no line of it is left out.
+/// In a workspace without faults each question of the code of a function is answered. So no line of its code is left out.
 pub fn what_is_asked_is_known()
     ensures { (w : Workspace) → ListsFaults w [] → (known : Verdicts) → AreVerdicts w known →
         (arity : FunctionName → Arity) → AreArities w known arity → (p : Package) → IsPackage w known p →
@@ -55,7 +56,7 @@ pub fn what_is_asked_is_known()
         (q : Question) → FunctionAsks s.world before g q → IsAnswered arity s (slots_of s.world g) q }
 {}
 
-/// And the code of each function of each file is balanced.
+/// In a workspace without faults the code of each function of each file is balanced.
 pub fn functions_are_balanced()
     ensures { (w : Workspace) → ListsFaults w [] → (known : Verdicts) → AreVerdicts w known →
         (arity : FunctionName → Arity) → AreArities w known arity → (p : Package) → IsPackage w known p →
@@ -65,7 +66,7 @@ pub fn functions_are_balanced()
         IsBalanced arity 0 (body_lines s (slots_of s.world g) (length (result_types g.result)) g.body) 0 }
 {}
 
-/// So is the code of each function of an object.
+/// In a workspace without faults the code of each function of an object is balanced.
 pub fn objects_are_balanced()
     ensures { (w : Workspace) → ListsFaults w [] → (known : Verdicts) → AreVerdicts w known →
         (arity : FunctionName → Arity) → AreArities w known arity → (p : Package) → IsPackage w known p →
@@ -73,7 +74,8 @@ pub fn objects_are_balanced()
         (f : Function) → Contains o.declarations (FunctionOf f) → IsBalanced arity 0 f.code 0 }
 {}
 
-/// So is the code of each function of the object that a package compiles to, whose text its unit holds.
+/// In a workspace without faults the code of each function is balanced in the object that a package compiles to. The unit of the package
+/// has the text of this object.
 pub fn units_are_balanced()
     ensures { (w : Workspace) → ListsFaults w [] → (known : Verdicts) → AreVerdicts w known →
         (arity : FunctionName → Arity) → AreArities w known arity → (p : List ℕ) → Contains (package_paths w) p →

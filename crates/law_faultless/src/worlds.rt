@@ -1,4 +1,4 @@
-//! The laws of worlds and of what names stand for, without a premise but that the workspace has no faults.
+//! Laws of worlds and of names, whose only premise is a workspace without faults.
 ghost use Rattle.std.specs.Prelude.{ℕ, ◌≡◌, true, false, List, [], Some, slice_get};
 ghost use Rattle.base_files.specs.Workspace.{Workspace};
 ghost use Rattle.go_ast.specs.SourceFile.{SourceFile};
@@ -23,12 +23,12 @@ ghost use Rattle.law_faultless.specs.Unbroken.{IsUnbroken};
 ghost use Rattle.law_faultless.specs.Worlds.{HaveAllWorlds};
 ghost use Rattle.law_faultless.specs.Roles.{is_to_be_bound, is_of_something};
 
-/// In a workspace without faults each file of a package is judged by something.
+/// In a workspace without faults each file of a package has a world, by which it is judged.
 pub fn packages_have_worlds()
     ensures { (w : Workspace) → ListsFaults w [] → (known : Verdicts) → AreVerdicts w known → HaveAllWorlds w known }
 {}
 
-/// In a workspace without faults the names of each file stand for something in what it is judged by.
+/// In a workspace without faults the names of each file mean something in its world.
 pub fn names_stand_for_something()
     ensures { (w : Workspace) → ListsFaults w [] → (known : Verdicts) → AreVerdicts w known → (p : Package) → IsPackage w known p →
         (file : ℕ) → (s : SourceFile) → slice_get p.files file ≡ Some s → (v : World) → IsWorldOf p file s v → NamesMean p file v s }
@@ -40,21 +40,21 @@ pub fn files_keep_the_rules()
         (file : ℕ) → (s : SourceFile) → slice_get p.files file ≡ Some s → (v : World) → IsWorldOf p file s v → FileIsTyped v (is_init s) s.tree }
 {}
 
-/// In a workspace without faults each name behind a dot that does not stand behind the name of a package is bound to a field or a method,
-/// and so is each key.
+/// In a workspace without faults each member name is bound to a field or a method. A member name is the selector of a selection that is no
+/// qualified identifier, or a key of a composite literal.
 pub fn member_names_are_bound()
     ensures { (w : Workspace) → ListsFaults w [] → (known : Verdicts) → AreVerdicts w known → (p : Package) → IsPackage w known p →
         (u : ℕ) → Stands p u → IsMemberName p u → (d : Declaration) × IsBoundTo w known p u d }
 {}
 
-/// In a workspace without faults each identifier has a declaration that declares, is a lexical use, stands behind a dot or is a key.
+/// In a workspace without faults each identifier is bound that declares, is a lexical use, stands behind a dot or is a key.
 pub fn identifiers_are_bound()
     ensures { (w : Workspace) → ListsFaults w [] → (known : Verdicts) → AreVerdicts w known → (p : Package) → IsPackage w known p →
         (u : ℕ) → Stands p u → is_to_be_bound (p.layout.role u) ≡ true → (d : Declaration) × IsBoundTo w known p u d }
 {}
 
-/// In a workspace without faults nothing that a package declares is broken: no definition, each variable has a type, each function and
-/// method a signature, and each function with a receiver is a method of a definition of the package, whose name is not bound to nothing.
+/// In a workspace without faults no declaration is broken: no type definition is, each variable has a type, and each function and method
+/// has a signature. Each function with a receiver is a method of a type definition of its package, and its name is bound.
 pub fn nothing_is_broken()
     ensures definitions { (w : Workspace) → ListsFaults w [] → (known : Verdicts) → AreVerdicts w known → (p : Package) → IsPackage w known p →
         (rank : ℕ) → IsBroken p rank → ⊥ }
@@ -72,14 +72,15 @@ pub fn nothing_is_broken()
         (file : ℕ) → (s : SourceFile) → (v : World) → IsWorldOf p file s v → IsUnbroken v }
 {}
 
-/// In a workspace without faults no identifier is bound to nothing, but the names in package clauses, those `_` that declare or are
-/// assigned, and the names of functions `init`; the literal of an import is no identifier.
+/// In a workspace without faults each identifier is bound, with three exceptions: names in package clauses, names of functions `init`, and
+/// each `_` that declares or is assigned. The literal of an import is no identifier here.
 pub fn no_identifier_is_unbound()
     ensures { (w : Workspace) → ListsFaults w [] → (known : Verdicts) → AreVerdicts w known → (p : Package) → IsPackage w known p →
         (u : ℕ) → Stands p u → is_of_something (p.layout.role u) ≡ true → ((d : Declaration) → IsBoundTo w known p u d → ⊥) → ⊥ }
 {}
 
-/// So in a workspace without faults what holds a byte and has no declaration, so that `uses` refuses it, is one of these.
+/// In a workspace without faults an identifier without a declaration, which `uses` refuses, is one of these: a name in a package clause, a
+/// `_`, the name of a function `init`, or an import's literal.
 pub fn what_has_no_declaration()
     ensures { (w : Workspace) → ListsFaults w [] → (path : List ℕ) → (offset : ℕ) → (h : HasNoDeclaration w path offset) →
         is_of_something (h.asked_in.layout.role (named_by h.asked_in.layout h.number)) ≡ false }

@@ -39,7 +39,7 @@ module _ (e : ℕ → ℕ) (l k : Layout) (a : Along e l k) (later : Names) wher
     ]
   ]
 
-  -- what holds of these, holds of all that may declare
+  -- A fact on these identifiers is one on all that may declare.
   each : (Q : ℕ → Type 0) → ((d : ℕ) → Q (e d)) → (x : ℕ) → MayDeclare k x → Q x
   each Q holds x may = let c = a.covers x may in subst Q c.1 (holds c.0)
 

@@ -44,7 +44,7 @@ use Rattle.law_rename.proofs.Finding.{IsHeld, IsToken, KindsAbout, bare, held_in
 use Rattle.law_rename.proofs.TokensBehind.{behind, seam}
 use Rattle.law_rename.proofs.Standing.{import_stands}
 
--- what stands before an import without a name
+-- The tokens before an import without a name.
 
 abbrev Leads : Kind → Type 0
 Leads k = (k ≡ kind.Import) ⊎ ((k ≡ kind.LeftParen) ⊎ (k ≡ kind.Semicolon))

@@ -71,7 +71,7 @@ behind_bytes a b text other q lies same =
     ∙ ap (λ (k : ℕ). drop k text) here in
     ap (λ (k : ℕ). take k (drop (start - a + b) other)) size ∙ ap (take (q.span.end - start)) bytes
 
--- what holds of each of two lists, and of what they are put together to
+-- A fact on each element of two lists is one on each element of their concatenation.
 
 pub all_of_both : {X : Type 0} (P : X → Type 0) (xs ys : List X) → AllByRecursion P xs → AllByRecursion P ys → AllByRecursion P (xs ++ ys)
 all_of_both P [] ys one other = other

@@ -43,7 +43,7 @@ from_covers (suc n) zero other = (0, from_zero (suc n))
 from_covers (suc n) (suc x) other =
     let rest = from_covers n x (λ e. other (ap suc e)) in (suc rest.0, from_suc (suc n) rest.0 ∙ ap suc rest.1)
 
--- what stands at them
+-- The identifiers at the new numbers.
 
 module _ (by : Site → Site) (stood one two : Site) where
   stands_else : (before behind : List Site) (d : ℕ) → (d ≡ length before → ⊥) →

@@ -1,4 +1,4 @@
--- Edits of names that are told by the numbers of tokens.
+-- Edits of names that are given by token indices.
 use Rattle.std.proofs.Common.{ℕ, ◌≡◌, List, Some, refl}
 use Rattle.std.specs.Prelude.{slice_get}
 use Rattle.std.specs.List.{Contains}

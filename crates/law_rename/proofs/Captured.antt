@@ -1,4 +1,4 @@
--- What the new names show captured is what the old names tell.
+-- The identifiers captured by the new names are those that the old names predict.
 use Rattle.std.proofs.Common.{ℕ, ◌≡◌, inl, inr, List, sym, ◌∙◌, subst}
 use Rattle.go_scope.specs.Table.{Precedes}
 use Rattle.go_scope.specs.Bindings.{Layout, Names, IsLeftName, SameBlock, InScope, Declares, AllCount, BindsAt, IsUse, IsBoundTo, use_bound, own}

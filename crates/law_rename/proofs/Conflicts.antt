@@ -1,4 +1,4 @@
--- What the old names say of a rename is what the new names show.
+-- The conflicts by the old names are those that the new names show.
 use Rattle.std.proofs.Common.{ℕ, ◌≡◌, ◌<◌, ◌⊎◌, inl, inr, List, refl, sym, ◌∙◌, subst, arith, zero, suc}
 use Rattle.go_scope.specs.Table.{Precedes}
 use Rattle.go_scope.specs.Bindings.{Layout, Names, MayDeclare, IsLeftName, SameBlock, InScope, Declares, Counts, AllCount, BindsAt, IsUse, IsBoundTo}

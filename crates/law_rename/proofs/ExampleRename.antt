@@ -18,7 +18,7 @@ x = 120 ∷ []
 abbrev xy : List ℕ
 xy = 120 ∷ 121 ∷ []
 
--- what stands at a token of the one file
+-- The identifier at a token of the only file.
 abbrev stands : ℕ → List ℕ → Role → Site
 stands token name role = record { place = record { file = 0; index = token }; name = name; role = role }
 

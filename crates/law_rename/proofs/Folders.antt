@@ -1,4 +1,4 @@
--- What stands before a slash in a path.
+-- The part of a path before one of its slashes.
 use Rattle.std.proofs.Common.{ℕ, ◌≡◌, ◌≤◌, eqb, List, [], ◌∷◌, ◌++◌, length, refl, sym, ap, ◌∙◌, arith, length-append}
 use Rattle.std.specs.List.{list_all, onto_first}
 use Rattle.std.proofs.lemmas.Bool.{and_parts}

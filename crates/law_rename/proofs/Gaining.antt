@@ -187,7 +187,7 @@ same_rest p =
     ∙ sym (ap (drop (length p.front + length (put_bytes p))) (sym (append_assoc p.front (put_bytes p) tail))
     ∙ drop_at (p.front ++ put_bytes p) tail (length p.front + length (put_bytes p)) (length-append p.front (put_bytes p)))
 
--- the literal's tokens, and what stands before them in both
+-- The literal's tokens, and the tokens before them in both texts.
 pub record Tokens (p : NamePut) : Type 0 where
   pub ones : List Piece
   pub behind : List Piece

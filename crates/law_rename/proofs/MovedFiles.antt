@@ -318,7 +318,7 @@ module _ (move : ℕ → ℕ → ℕ) (rank : ℕ) (old new : ℕ → List ℕ) 
   result_moved (one_result t) = type_moved t
   result_moved (results o ts c) = list_moved (type_sites before) (type_sites after) (type_by g) type_moved ts
 
-  -- a function's role is told by its name
+  -- The name of a function decides its role.
   init_or : (b : Bool) → (if b then NotLexical purpose.InitFunction else Declaring blocks.Package 0) ≡
       moved_role move (if b then NotLexical purpose.InitFunction else Declaring blocks.Package 0)
   init_or true = refl

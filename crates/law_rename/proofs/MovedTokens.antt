@@ -16,7 +16,7 @@ use Rattle.base_edits.proofs.Held.{first_in, later_in}
 use Rattle.law_rename.specs.Renamings.{AreNameEdits, moved_piece, recut}
 use Rattle.law_rename.proofs.KeptBytes.{other_bytes}
 
--- what holds of each of a list holds of all
+-- A fact on each element of a list is one on all.
 pub each_in : {X : Type 0} (P : X → Type 0) (xs : List X) → ((x : X) → Contains xs x → P x) → AllByRecursion P xs
 each_in P [] each = tt
 each_in P (x ∷ xs) each = (each x (first_in x xs), each_in P xs (λ y has. each y (later_in x xs y has)))

@@ -90,7 +90,7 @@ was_literal front literal rest before after c is whole =
     let piece : IsPiece c literal = subst (IsPiece c) (take_at literal rest (length literal) refl) stands.piece in
     record { leads = found.leads; first = opens literal (string_piece c literal is piece) }
 
--- the same pieces lead up to what is put
+-- The pieces before the inserted bytes stay.
 
 no_word_open : (c : Class) → IsNoWord c → is_open c ≡ true → ⊥
 no_word_open class.Name none is = none.no_name refl

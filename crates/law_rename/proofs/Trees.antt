@@ -25,7 +25,7 @@ use Rattle.law_rename.proofs.KeptBytes.{IsEdited, each_edit, edited_or_kept, kep
 use Rattle.law_rename.proofs.Many.{recut_cut}
 use Rattle.law_rename.proofs.MovedTokens.{each_in, tokens_moved}
 
--- what holds of each piece, and of semicolons, holds of each token
+-- A fact on each piece, and on semicolons, is one on each token.
 pub each_token : (P : Piece → Type 0) → ((at : ℕ) → P (semicolon at)) → (text : List ℕ) (ps : List Piece) → AllByRecursion P ps →
     AllByRecursion P (tokens_of text ps)
 unfolding tokens_of
@@ -83,7 +83,7 @@ file_stays f edits is are keep =
       whole = subst IsWhole same is.whole;
     }
 
--- what stands at a token
+-- The piece at a token.
 
 pub offset_moved : (f : SourceFile) (edits : List Edit) (n : ℕ) → IsCut f.cut.text f.cut.pieces → AreNameEdits f.cut.pieces edits →
     offset_of (renamed_file edits f) n ≡ moved_offset edits (offset_of f n)

@@ -1,4 +1,4 @@
--- Small cases of the definitions.
+-- Small examples of replaced names.
 use Rattle.std.specs.Prelude.{◌≡◌, ℕ, List, [], ◌∷◌, refl}
 use Rattle.go_scanner.specs.declared.operators.Operator.TheVariants.{Assign}
 use Rattle.go_scanner.specs.declared.piece.Class.{Class}
@@ -10,14 +10,15 @@ use Rattle.base_edits.specs.declared.edit.Edit.{Edit}
 use Rattle.go_ast.specs.Kinds.{kinds_from, kinds_of}
 use Rattle.law_rename.specs.Renamings.{recut}
 
+-- A piece by its class and its ends.
 abbrev piece : Class → ℕ → ℕ → Piece
 piece class start end = record { class = class; span = record { start = start; end = end } }
 
--- a=a and a newline
+-- The text `a=a` and a line feed.
 abbrev old : CutText
 old = record { text = 97 ∷ 61 ∷ 97 ∷ 10 ∷ []; pieces = piece Name 0 1 ∷ piece (Operator Assign) 1 2 ∷ piece Name 2 3 ∷ piece Newline 3 4 ∷ [] }
 
--- bc for each a
+-- Both `a` are replaced by `bc`.
 abbrev both : List Edit
 both = record { span = record { start = 0; end = 1 }; text = 98 ∷ 99 ∷ [] } ∷ record { span = record { start = 2; end = 3 }; text = 98 ∷ 99 ∷ [] } ∷ []
 

@@ -13,42 +13,43 @@ use Rattle.law_rename.specs.Around.{AroundImport, around_by, bare_import, file_w
 use Rattle.law_rename.specs.Named.{NamePut, after_put, before_put}
 use Rattle.law_rename.specs.MovedSites.{moved_site}
 
--- the bytes of a token, by its number; none beyond the last token
+-- The bytes of the token of index `n`; none beyond the last token.
 abbrev pub spelled : CutText → ℕ → List ℕ
 spelled c n = spelling_at c.text (slice_get (tokens_in c) n)
 
--- a tree with the bytes of its text's tokens
+-- The tree, with the bytes of the tokens of its text.
 abbrev pub spelled_tree : CutText → FileTree → SpelledFile
 spelled_tree c t = record { tree = t; spell = spelled c }
 
--- the identifiers of a file of a rank
+-- The identifiers of the file of that rank.
 abbrev pub sites_in : ℕ → SpelledFile → List Site
 sites_in rank f = file_sites (record { rank = rank; spell = f.spell }) f.tree
 
--- an import without a name that gains one: the rank of its file, the number of its literal's token, the literal's bytes, and the name
+-- An import without a name that gains one: the rank of its file, the token index and the bytes of its string literal, and the name.
 pub record Gain : Type 0 where
   pub rank : ℕ
   pub number : ℕ
   pub literal : List ℕ
   pub name : List ℕ
 
--- the new numbers of the package's tokens: the name's comes in before the literal's
+-- The index after the gain of the token of index `n` in the file of that rank. The name's token comes in before the literal's.
 abbrev pub moved_by : Gain → ℕ → ℕ → ℕ
 moved_by i file n = cond (nat_eq file i.rank) (from_on i.number n) n
 
--- the import's literal while it has no name
+-- The identifier of the import's string literal before the gain, which declares nothing.
 abbrev pub unnamed_site : Gain → Site
 unnamed_site i = record { place = record { file = i.rank; index = i.number }; name = i.literal; role = NotLexical UnnamedImport }
 
--- what the import declares in its file, at its first token, under a name
+-- The declaring identifier of the import in its file, at the import's first token, with the given name.
 abbrev pub import_site : Gain → List ℕ → Site
 import_site i name = record { place = record { file = i.rank; index = i.number }; name = name; role = Declaring (File i.rank) 0 }
 
--- the import's literal behind its name
+-- The identifier of the import's string literal after the gain, behind the name.
 abbrev pub path_site : Gain → Site
 path_site i = record { place = record { file = i.rank; index = i.number + 1 }; name = i.literal; role = NotLexical ImportPath }
 
--- In the place of the identifier of a number there are two, the import's name and its literal, and all others stay, moved.
+-- The identifiers `new` are those of `old`, moved. In place of the one of number `at`, which is `stood`, there are two: the import's name
+-- and its literal.
 pub record HasGained (i : Gain) (stood : Site) (at : ℕ) (old new : List Site) : Type 0 where
   pub before : List Site
   pub behind : List Site
@@ -56,18 +57,19 @@ pub record HasGained (i : Gain) (stood : Site) (at : ℕ) (old new : List Site) 
   pub old_is : old ≡ before ++ stood ∷ behind
   pub new_is : new ≡ map (moved_site (moved_by i)) before ++ import_site i i.name ∷ path_site i ∷ map (moved_site (moved_by i)) behind
 
--- Of the other imports without a name, the names of their packages are the same, given by the numbers that the identifiers get.
+-- The other imports without a name keep the names of their packages: `names` gives them by the old numbers of identifiers, and `later` by
+-- the new ones.
 abbrev pub AreLater : ℕ → List Site → (ℕ → Option (List ℕ)) → (ℕ → Option (List ℕ)) → Type 0
 AreLater at old names later = (d : ℕ) → (d ≡ at → ⊥) → is_unnamed_import ((sites_layout old).role d) ≡ true → later (from_on at d) ≡ names d
 
--- the gain of an import in whose text a name is put before the literal, which is the token of a number
+-- The gain of the import whose string literal is the token of index `number` in the file of that rank.
 abbrev pub gain_of : ℕ → ℕ → NamePut → Gain
 gain_of rank number p = record { rank = rank; number = number; literal = p.literal; name = p.name }
 
--- the file before, in which the literal is the path of an import without a name
+-- The file before the gain, in which the literal is the path of an import without a name.
 abbrev pub file_before : ℕ → AroundImport → NamePut → SpelledFile
 file_before number a p = spelled_tree (before_put p) (file_with (bare_import number) a)
 
--- the file after, in which the import has the name
+-- The file after the gain, in which the import has the name.
 abbrev pub file_after : ℕ → AroundImport → NamePut → SpelledFile
 file_after number a p = spelled_tree (after_put p) (file_with (named_import number) (around_by (from_on number) a))

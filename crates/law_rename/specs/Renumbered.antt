@@ -1,4 +1,4 @@
--- A tree with the numbers of its tokens changed.
+-- Trees whose token indices are replaced by the values of a function `g`.
 use Rattle.std.specs.Prelude.{ℕ, List, Option, None, Some, map, option_map}
 use Rattle.go_ast.specs.declared.syntax.Token.{Token}
 use Rattle.go_ast.specs.Tree.{Item, Group, single, several, IdentTree, Named, Underscore, BasicTree, Integer, String, TypeTree, Local, Imported, Pointer}
@@ -10,6 +10,7 @@ use Rattle.go_ast.specs.Tree.{statement, IfTree, if_tree, ElseTree, no_else, els
 use Rattle.go_ast.specs.Tree.{Struct, TypeSpecTree, ReceiverTree, ParamTree, ResultTree, no_result, one_result, results, FuncTree, ImportsTree, DeclTree}
 use Rattle.go_ast.specs.Tree.{VarDecl, TypeDecl, FuncDecl, FileTree}
 
+-- The token with its index changed by `g`. The definitions from here to `decl_by` do this for each kind of tree.
 abbrev pub numbered : (ℕ → ℕ) → Token → Token
 numbered g t = record { kind = t.kind; place = g t.place }
 
@@ -85,7 +86,7 @@ simple_by g (Update e op p f) = Update (expr_by g e) op (g p) (expr_by g f)
 simple_by g (Assign es p fs) = Assign (exprs_by g es) (g p) (exprs_by g fs)
 simple_by g (Define es p fs) = Define (exprs_by g es) (g p) (exprs_by g fs)
 
--- `=` and the values behind it
+-- `=` and the values behind it, with token indices changed by `g`.
 abbrev pub values_by : {X : Type 0} → (ℕ → ℕ) → (X → X) → ℕ × List (Item X) → ℕ × List (Item X)
 values_by g f v = (g v.0, items_by g f v.1)
 
@@ -189,7 +190,7 @@ decl_by g (VarDecl k v s) = VarDecl (g k) (group_by g (global_by g) v) (g s)
 decl_by g (TypeDecl k v s) = TypeDecl (g k) (group_by g (type_spec_by g) v) (g s)
 decl_by g (FuncDecl k f s) = FuncDecl (g k) (func_by g f) (g s)
 
--- the tree with each number of a token as a function has it
+-- The tree of a file with all token indices changed by `g`.
 abbrev pub renumbered : (ℕ → ℕ) → FileTree → FileTree
 renumbered g f = record {
   keyword = g f.keyword;

@@ -1,9 +1,9 @@
--- What other packages see of a package's declarations.
+-- The declarations of a package that other packages see.
 use Rattle.std.specs.Prelude.{ℕ, ◌≡◌, true, List}
 use Rattle.go_scope.specs.Bindings.{Layout, Names, Counts, IsPackageLevel}
 use Rattle.types_declared.specs.Laid.{is_exported}
 
--- under a name other packages see the declaration e
+-- Other packages see the declaration `e` under `name`: it is a package-level declaration that counts, and has this name, which is exported.
 pub record IsSeenAs (l : Layout) (names : Names) (name : List ℕ) (e : ℕ) : Type 0 where
   pub package_level : IsPackageLevel l e
   pub counts : Counts l names e

@@ -1,4 +1,4 @@
-//! The laws of imports without a name, and of a name put before their literals.
+//! Laws of imports without a name, and of a name that is inserted before their string literals.
 ghost use Rattle.std.specs.Prelude.{◌≡◌, ◌<◌, ℕ, suc, ◌+◌, List, ◌∷◌, ◌++◌, length, Some, None, Bool, false, codes, slice_get, take, drop};
 ghost use Rattle.std.specs.List.{All, Contains};
 ghost use Rattle.go_scanner.specs.declared.piece.Class.TheVariants.{Name};
@@ -20,22 +20,21 @@ ghost use Rattle.law_rename.specs.Named.{MayPut, NamePut, after_put, before_put,
 ghost use Rattle.law_rename.specs.Put.{NoWordEndsAt};
 ghost use Rattle.law_rename.specs.MayGain.{MayGain, inserted};
 
-/// Each import of a file stands in a place of it: the file is what stands around the import, with the import there. And what stands so in a
-/// file is one of its imports.
+/// An import spec is one of the file's exactly if the file's tree is that import in some surroundings.
 pub fn imports_stand_in_their_files()
     ensures found { (f : FileTree) (i : ImportTree) → Contains (imports_in f) i → (a : AroundImport) × (f ≡ file_with i a) }
     ensures among { (i : ImportTree) (a : AroundImport) → Contains (imports_in (file_with i a)) i }
 {}
 
-/// The literal of each import without a name stands in its file's text such that a name may be put before it: with a blank before the name
-/// too, or without one where no word and no number ends at the literal.
+/// A name may be inserted before the string literal of each import without a name. A blank must precede the name where a word or a number
+/// ends at the literal.
 pub fn imports_without_a_name_may_gain_one()
     ensures { (f : SourceFile) (i : ImportTree) (name : List ℕ) (blank_first : Bool) → IsSourceFile f → Contains (imports_in f.tree) i → i.name ≡ None →
         IsPiece Name name → (blank_first ≡ false → NoWordEndsAt (offset_of f i.path) f.cut.pieces) → MayGain f i.path name blank_first }
 {}
 
-/// At the literal of an import without a name no word and no number ends but the word `import`: so the name needs no blank before it where
-/// that word does not end there.
+/// At the string literal of an import without a name no word ends but `import`, and no number. So the name needs no blank before it unless
+/// `import` ends there.
 pub fn literals_stand_behind_no_other_word()
     ensures { (f : SourceFile) (i : ImportTree) → IsSourceFile f → Contains (imports_in f.tree) i → i.name ≡ None →
         ((before : ℕ) → i.path ≡ suc before → spelling_of f before ≡ codes "import" →
@@ -43,8 +42,8 @@ pub fn literals_stand_behind_no_other_word()
         NoWordEndsAt (offset_of f i.path) f.cut.pieces }
 {}
 
-/// Where an edit puts bytes at an offset, beside others that end before it or take bytes away behind it, the new text is that of the others
-/// with the bytes put where they move the offset.
+/// Inserting bytes can be done after the other edits of a text: they are inserted at the moved offset. The other edits must end before the
+/// offset, or replace bytes behind it.
 pub fn bytes_are_put_beside_other_edits()
     ensures { (text put : List ℕ) (at : ℕ) (before behind : List Edit) → AreInOrder 0 (before ++ inserted at put ∷ behind) →
         LieWithin (length text) (before ++ inserted at put ∷ behind) → All (λ d. at < d.span.end) behind →
@@ -53,8 +52,8 @@ pub fn bytes_are_put_beside_other_edits()
         edited_text (before ++ inserted at put ∷ behind) text ≡ take place new ++ (put ++ drop place new) }
 {}
 
-/// So where an import gains a name and others are replaced in the same text, as the name's uses, the new text is the one in which they are
-/// replaced, with the name put before the literal: what is told of either holds of both, one after the other.
+/// An import gains a name while other names of its file are replaced. The new text is that with the names replaced, and the import's name
+/// then inserted before the literal. So the laws of both steps apply one after the other.
 pub fn a_name_is_put_beside_replaced_ones()
     ensures { (f : SourceFile) (number : ℕ) (name : List ℕ) (blank_first : Bool) (before behind : List Edit) → IsCut f.cut.text f.cut.pieces →
         AreNameEdits f.cut.pieces (before ++ behind) → (g : MayGain (renamed_file (before ++ behind) f) number name blank_first) →
@@ -62,8 +61,8 @@ pub fn a_name_is_put_beside_replaced_ones()
         AreInOrder 0 whole → LieWithin (length f.cut.text) whole → edited_text whole f.cut.text ≡ (after_put g.put).text }
 {}
 
-/// Where the old text, with a tree in which the literal is the path of an import without a name, is a file within the limit of nesting, the new
-/// text with the tree in which the import has the name is one.
+/// If the old text is a file whose tree has the literal as the path of an import without a name, the new text is a file. Its tree has the
+/// import with the name.
 pub fn named_import_is_in_the_file()
     ensures { (path : List ℕ) (p : NamePut) (number : ℕ) (a : AroundImport) → MayPut p →
         slice_get (tokens_in (before_put p)) number ≡ Some (literal_piece p) → kind_of_name p.name ≡ kind.Name →

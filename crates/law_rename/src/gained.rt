@@ -1,4 +1,4 @@
-//! The laws of an import without a name that gains one.
+//! Laws of an import without a name that gains one.
 ghost use Rattle.std.specs.Prelude.{◌≡◌, ◌↔◌, ℕ, suc, ◌+◌, List, ◌∷◌, ◌++◌, length, Option, Some, None, slice_get};
 ghost use Rattle.go_scanner.specs.CutText.{tokens_in};
 ghost use Rattle.go_scope.specs.Bindings.{Counts, IsBoundTo, Names};
@@ -13,8 +13,8 @@ ghost use Rattle.law_rename.specs.Named.{MayPut, NamePut, after_put, before_put,
 ghost use Rattle.law_rename.specs.Gained.{AreLater, Gain, HasGained, file_after, file_before, gain_of, import_site, sites_in, spelled};
 ghost use Rattle.law_rename.specs.Gained.{unnamed_site};
 
-/// Where a name and a blank are put before a string literal, each token of the old text is spelled as before, at its new number. The token
-/// that comes in is spelled as the name, and stands where the literal stood; the literal is behind it.
+/// Where a name and a blank are inserted before a string literal, each old token keeps its bytes at its new index. The new token has the
+/// bytes of the name and the literal's old index; the literal comes next.
 pub fn named_text_is_spelled()
     ensures kept { (p : NamePut) (number : ℕ) → MayPut p → slice_get (tokens_in (before_put p)) number ≡ Some (literal_piece p) →
         (n : ℕ) → spelled (after_put p) (from_on number n) ≡ spelled (before_put p) n }
@@ -24,16 +24,16 @@ pub fn named_text_is_spelled()
         spelled (after_put p) (number + 1) ≡ p.literal }
 {}
 
-/// Where the literal is the path of an import without a name, the file's identifiers stay as they were, with the numbers of tokens from the
-/// literal's on greater by one: in places, in the ends of blocks and in the beginnings of scopes. Just in the place of the literal, which
-/// declared nothing, there are two: the name, which is declared in the file, and the literal behind it, which is the path of a named import.
+/// The identifiers of the file stay, with token indices from the literal's on greater by one. In place of the literal's identifier, which
+/// declared nothing, there are two: the name, declared in the file block, and the literal.
 pub fn named_import_is_among_the_identifiers()
     ensures { (rank number : ℕ) (p : NamePut) (a : AroundImport) → MayPut p → slice_get (tokens_in (before_put p)) number ≡ Some (literal_piece p) →
         (at : ℕ) × HasGained (gain_of rank number p) (unnamed_site (gain_of rank number p)) at (sites_in rank (file_before number a p))
         (sites_in rank (file_after number a p)) }
 {}
 
-/// So it is in the package: the identifiers of its other files, and the predeclared names, stay as they are.
+/// The law `named_import_is_among_the_identifiers` for the package: the identifiers of its other files, and the predeclared ones, stay as
+/// they are.
 pub fn named_import_is_in_the_package()
     ensures { (p : NamePut) (number : ℕ) (a : AroundImport) (first rest : List SpelledFile) → MayPut p →
         slice_get (tokens_in (before_put p)) number ≡ Some (literal_piece p) → IsTreeOf (file_with (bare_import number) a) (kinds_of (before_put p)) →
@@ -42,9 +42,8 @@ pub fn named_import_is_in_the_package()
         (package_sites (first ++ file_after number a p ∷ rest)) }
 {}
 
-/// Where imports without a name declare the names of their packages, the import declared that name at its literal. With a name of its own it
-/// declares this one at it, and its literal declares nothing; all else stays, moved. Where its package's name was not known, it declares
-/// only now.
+/// An import without a name declares the name of its package at its string literal, if that name is known. With a name of its own it
+/// declares that one instead, at the name's token. All other identifiers stay, moved.
 pub fn declaration_moves_to_the_name()
     ensures known { (i : Gain) (at : ℕ) (old new : List Site) (names later : ℕ → Option (List ℕ)) (called : List ℕ) →
         HasGained i (unnamed_site i) at old new → AreLater at old names later → names at ≡ Some called →
@@ -54,9 +53,10 @@ pub fn declaration_moves_to_the_name()
         HasGained i (unnamed_site i) at (named_sites names old) (named_sites later new) }
 {}
 
-/// All bindings stay. Take any names for the identifiers of the new package, and let the old ones be called as those at their new numbers:
-/// then one is bound to another in the old package exactly if it is in the new one, and one counts exactly if it does there. The literal is
-/// bound to nothing, and nothing to it. All but the import are called as before.
+/// All bindings stay. For any names in the new package, give each old identifier the name at its new number.
+///
+/// An identifier is bound to another in the old package exactly if it is in the new one, and counts exactly if it does there. The literal
+/// is bound to nothing, and nothing is bound to it. All identifiers but the import keep their names.
 pub fn bindings_stay_where_an_import_gains_a_name()
     ensures bound { (i : Gain) (called : List ℕ) (at : ℕ) (old new : List Site) → HasGained i (import_site i called) at old new →
         (later : Names) (u d : ℕ) → IsBoundTo (sites_layout old) (λ x. later (from_on (suc at) x)) u d ↔
@@ -74,8 +74,8 @@ pub fn bindings_stay_where_an_import_gains_a_name()
         sites_names new (from_on (suc at) at) ≡ i.name }
 {}
 
-/// Where an import without a name gains another name than it declared, and all that was bound to it is called so too, each identifier stays
-/// bound to its declaration exactly if the old names tell no conflict of that rename on the old scopes.
+/// An import without a name gains another name than it declared, and all identifiers bound to it get that name. Each identifier stays bound
+/// to its declaration exactly if that rename has no conflict by the old names and scopes.
 pub fn imports_gain_other_names_without_conflicts()
     ensures { (i : Gain) (called : List ℕ) (at : ℕ) (old new : List Site) → HasGained i (import_site i called) at old new → (later : Names) →
         Renames (sites_layout old) (sites_names old) at i.name (λ x. later (from_on (suc at) x)) →

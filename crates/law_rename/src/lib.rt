@@ -1,5 +1,5 @@
-//! What stays where names of a text are replaced or an import gains one: pieces, tokens and the tree, the identifiers of the package, and
-//! what these are bound to. Laws alone.
+//! Laws of renames and of imports that gain a name: pieces, tokens and trees are kept, and so are the identifiers of a package and their
+//! bindings.
 #![tactic(auto)]
 
 pub mod bare_imports;

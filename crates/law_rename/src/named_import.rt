@@ -1,4 +1,4 @@
-//! The laws of a name that is put before a string literal.
+//! Laws of a name that is inserted before a string literal.
 ghost use Rattle.std.specs.Prelude.{◌≡◌, ℕ, ◌+◌, List, [], ◌∷◌, ◌++◌, length, map, slice_get, Some};
 ghost use Rattle.go_scanner.specs.declared.piece.Class.{Class};
 ghost use Rattle.go_scanner.specs.declared.piece.Class.TheVariants.{Blank, Name};
@@ -16,9 +16,8 @@ ghost use Rattle.law_rename.specs.Named.{MayPut, NamePut, after_put, before_put,
 ghost use Rattle.law_rename.specs.Named.{with_one_at};
 ghost use Rattle.law_rename.specs.Put.{NoWordEndsAt, name_and_blank};
 
-/// Where a name and a blank are put before a string literal, the new text is cut where the old one was: into the same pieces before, the
-/// name, the blank, and the literal and all behind it, moved by as much. Before the literal no word and no number may end, or a blank is put
-/// before the name too.
+/// Inserting a name and a blank before a string literal keeps all pieces; the literal and those behind it move. Where a word or a number
+/// ends at the literal, a blank must be inserted before the name too.
 pub fn put_name_is_cut()
     ensures apart { (front literal name rest : List ℕ) (before after : List Piece) (class : Class) → IsPiece Name name → IsStringClass class →
         NoWordEndsAt (length front) before →
@@ -34,26 +33,26 @@ pub fn put_name_is_cut()
         ((before ++ piece_at Blank (length front) (32 ∷ []) ∷ name_and_blank (length front + 1) name) ++ behind) }
 {}
 
-/// The same, said of the text with its pieces.
+/// The pieces of `after_put` are the cut of its text.
 pub fn named_text_is_cut()
     ensures { (p : NamePut) → MayPut p → IsCut (after_put p).text (after_put p).pieces }
 {}
 
-/// The tokens of the new text are the old ones with the name's put in before the literal's: those before it as they were, the literal's and
-/// all behind it moved, inserted semicolons among them. So the numbers of tokens from the literal's on are greater by one.
+/// The tokens of the new text are the old ones, moved, with the name's token inserted before the literal's. Token indices from the
+/// literal's on are greater by one.
 pub fn named_text_gains_a_token()
     ensures { (p : NamePut) (number : ℕ) → MayPut p → slice_get (tokens_in (before_put p)) number ≡ Some (literal_piece p) →
         tokens_in (after_put p) ≡ with_one_at number (name_piece p) (moved_behind p) (tokens_in (before_put p)) }
 {}
 
-/// Their kinds are the old ones with the name's kind more, and the numbers from the literal's on greater by one.
+/// The kinds of the new tokens are the old ones, with the name's kind inserted. Token indices from the literal's on are greater by one.
 pub fn named_text_gains_a_kind()
     ensures { (p : NamePut) (number : ℕ) → MayPut p → slice_get (tokens_in (before_put p)) number ≡ Some (literal_piece p) →
         kinds_of (after_put p) ≡ with_one_at number (name_token p.name number) later (kinds_of (before_put p)) }
 {}
 
-/// Where the old text has a tree in which the literal is the path of an import without a name, the new text has the tree in which this import
-/// has the name, and the numbers of tokens from the literal's on are greater by one. The name is not `_`.
+/// The old text has a tree in which the literal is the path of an import without a name. The new text has the tree in which this import has
+/// the name. Token indices from the literal's on are greater by one. The name is not `_`.
 pub fn named_import_is_in_the_tree()
     ensures { (p : NamePut) (number : ℕ) (a : AroundImport) → MayPut p → slice_get (tokens_in (before_put p)) number ≡ Some (literal_piece p) →
         kind_of_name p.name ≡ kind.Name → IsTreeOf (file_with (bare_import number) a) (kinds_of (before_put p)) →

@@ -1,4 +1,4 @@
--- An identifier that is there for another purpose is bound by no scope.
+-- No scope binds an identifier whose role is not lexical.
 use Rattle.std.proofs.Common.{ℕ, ◌≡◌, inl, inr, ap, sym, ◌∙◌, subst}
 use Rattle.std.proofs.lemmas.Bool.{true≢false}
 use Rattle.go_scope.specs.declared.model.Purpose.{Purpose}

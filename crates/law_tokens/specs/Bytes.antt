@@ -1,22 +1,22 @@
--- Which bytes of a file an identifier holds.
+-- The identifier at a byte of a file.
 use Rattle.std.specs.Prelude.{ℕ, ◌≡◌, ◌<◌, ◌≤◌, ◌+◌, List, length, Option, Some, None, slice_get}
 use Rattle.go_scanner.specs.Cuts.{IsCut}
 use Rattle.go_ast.specs.SourceFile.{SourceFile, spelling_of, offset_of}
 use Rattle.go_scope.specs.Bindings.{Layout, IsIdentifier}
 
--- a token begins at that byte or before, and ends behind it
+-- There is a file, it has the path, and the offset is one of the bytes of its token of that index.
 abbrev pub TokenHolds : Option SourceFile → ℕ → List ℕ → ℕ → Type 0
 TokenHolds None token path offset = ⊥
 TokenHolds (Some f) token path offset = (f.path ≡ path) × (offset_of f token ≤ offset) × (offset < offset_of f token + length (spelling_of f token))
 
--- an identifier, or the literal of an import, holds that byte of the file
+-- The offset of the file at the path is one of the bytes of `u`, which is an identifier or an import's string literal.
 abbrev pub HoldsByte : List SourceFile → Layout → (path : List ℕ) → (offset u : ℕ) → Type 0
 HoldsByte files l path offset u = IsIdentifier l u × TokenHolds (slice_get files (l.place u).file) (l.place u).index path offset
 
--- each file is cut
+-- The pieces of each file are those into which the scanner cuts its text.
 abbrev pub AreCut : List SourceFile → Type 0
 AreCut files = (i : ℕ) (f : SourceFile) → slice_get files i ≡ Some f → IsCut f.cut.text f.cut.pieces
 
--- no two files have one path
+-- No two files have one path.
 abbrev pub HaveOwnPaths : List SourceFile → Type 0
 HaveOwnPaths files = (i j : ℕ) (f g : SourceFile) → slice_get files i ≡ Some f → slice_get files j ≡ Some g → f.path ≡ g.path → i ≡ j

@@ -1,4 +1,4 @@
--- Which roles of identifiers are told by the tokens round them.
+-- The roles of identifiers that the tokens next to them decide.
 use Rattle.std.specs.Prelude.{ℕ, suc, ◌≡◌, ◌↔◌, Some, slice_get}
 use Rattle.go_scanner.specs.CutText.{CutText}
 use Rattle.go_ast.specs.declared.syntax.Kind.{Kind}
@@ -9,15 +9,16 @@ use Rattle.go_scope.specs.declared.model.Purpose.TheVariants.{Selected, Key}
 use Rattle.go_scope.specs.declared.model.Role.{Role}
 use Rattle.go_scope.specs.declared.model.Role.TheVariants.{NotLexical}
 
--- the token of that number is of that kind
+-- There is a token of index `i`, and it is of kind `k`.
 abbrev pub IsOfKind : CutText → ℕ → Kind → Type 0
 IsOfKind c i k = (t : Token) × ((slice_get (kinds_of c) i ≡ Some t) × (t.kind ≡ k))
 
--- a dot stands before the token
+-- The token before that of the index is a dot.
 abbrev pub IsBehindDot : CutText → ℕ → Type 0
 IsBehindDot c index = (i : ℕ) × ((suc i ≡ index) × IsOfKind c i Dot)
 
--- the identifier at a token is a selected name exactly where a dot stands before it, and a key exactly where a colon stands behind it
+-- The role is that of a selector exactly if a dot is before the token. It is that of a composite literal key exactly if a colon is behind
+-- it.
 pub record IsToldByTokens (c : CutText) (index : ℕ) (role : Role) : Type 0 where
   pub selected : (role ≡ NotLexical Selected) ↔ IsBehindDot c index
   pub key : (role ≡ NotLexical Key) ↔ IsOfKind c (suc index) Colon

@@ -1,4 +1,4 @@
-//! The laws of the order of identifiers, and of the tokens and bytes that they hold.
+//! Laws of the order of identifiers, and of their tokens and bytes. Each is the contract of a function that does nothing.
 ghost use Rattle.std.specs.Prelude.{ℕ, ◌≡◌, ◌<◌, ◌↔◌, List, [], Option, Some, length, map, slice_get, Contains};
 ghost use Rattle.base_files.specs.Packages.{package_files};
 ghost use Rattle.base_files.specs.Workspace.{Workspace};
@@ -25,41 +25,39 @@ ghost use Rattle.law_tokens.specs.MemberNames.{member_names};
 ghost use Rattle.law_tokens.specs.Order.{StandInOrder};
 ghost use Rattle.law_tokens.specs.Tokens.{identifiers_among};
 
-/// The identifiers of a package stand in the order of their numbers, where the tokens of each file are numbered in their order.
+/// The identifiers of a package are in the order of their numbers, where the tokens of each file are numbered in their order.
 pub fn identifiers_stand_in_order()
     ensures { (files : List SpelledFile) → AreNumbered files → StandInOrder (sites_layout (package_sites files)) (length (package_sites files)) }
 {}
 
-/// They still do where imports without a name declare.
+/// The identifiers of a package stay in the order of their numbers where imports without a name declare the names of their packages.
 pub fn named_imports_stand_in_order()
     ensures { (names : ℕ → Option (List ℕ)) → (p : ScopedPackage) → StandInOrder (layout_in p) (length p.sites) → StandInOrder (layout_in (named names p)) (length (named names p).sites) }
 {}
 
-/// Where identifiers stand in order, one at most stands at a token.
+/// Where identifiers are in the order of their numbers, at most one is at a token.
 pub fn identifiers_stand_apart()
     ensures { (l : Layout) → (size : ℕ) → StandInOrder l size → (at : Position) → (u v : ℕ) → u < size → v < size → StandsAt l at u → StandsAt l at v → u ≡ v }
 {}
 
-/// The identifiers of a file stand one at each name or `_` among its tokens and at each literal of an import, in the order
-/// of tokens, and are spelled as these are.
+/// The identifiers of a file are at exactly its identifier tokens and the string literals of its imports, in order. Their names are the
+/// bytes of these.
 pub fn sites_cover_tokens()
     ensures { (s : Source) → (f : FileTree) → CoverTokens s (file_sites s f) (identifiers_among (flatten f)) }
 {}
 
-/// An identifier of a package stands at each name or `_` among the tokens of its files and at each literal of an import,
-/// and at no other token.
+/// The identifiers of a package are at exactly the identifier tokens of its files and the string literals of their imports.
 pub fn identifiers_cover_tokens()
     ensures { (files : List FileParts) → AreSourceFiles files → (at : Position) → IsPlaceOfOne files at ↔ HasOneAt (layout_in (scoped files)) (length (scoped files).sites) at }
 {}
 
-/// The same tokens where imports without a name declare.
+/// The tokens that have an identifier stay the same where imports without a name declare the names of their packages.
 pub fn named_imports_cover_tokens()
     ensures { (names : ℕ → Option (List ℕ)) → (p : ScopedPackage) → (at : Position) →
         HasOneAt (layout_in p) (length p.sites) at ↔ HasOneAt (layout_in (named names p)) (length (named names p).sites) at }
 {}
 
-/// An identifier of a package is a selected name exactly where a dot stands before it, and a key exactly where a colon stands
-/// behind it.
+/// An identifier of a package is a selector exactly if a dot is before it. It is a composite literal key exactly if a colon is behind it.
 pub fn roles_are_told_by_tokens()
     ensures { (files : List FileParts) → AreSourceFiles files → (u : ℕ) →
         let l = layout_in (scoped files) in
@@ -67,7 +65,7 @@ pub fn roles_are_told_by_tokens()
         IsToldByTokens f.cut (l.place u).index (l.role u) }
 {}
 
-/// The same where imports without a name declare.
+/// The law `roles_are_told_by_tokens`, where imports without a name declare the names of their packages.
 pub fn named_roles_are_told_by_tokens()
     ensures { (names : ℕ → Option (List ℕ)) → (files : List FileParts) → AreSourceFiles files → (u : ℕ) →
         let l = layout_in (named names (scoped files)) in
@@ -75,7 +73,7 @@ pub fn named_roles_are_told_by_tokens()
         IsToldByTokens f.cut (l.place u).index (l.role u) }
 {}
 
-/// The name by which a field or a method is declared has the role of a member.
+/// The identifier that declares a field or a method has the role of a member.
 pub fn member_names_are_members()
     ensures { (files : List FileParts) → AreSourceFiles files → (at : Position) → (f : FileParts) → slice_get files at.file ≡ Some f →
         Contains (member_names (file_view f.file)) at.index → (u : ℕ) →
@@ -83,7 +81,7 @@ pub fn member_names_are_members()
         u < length (scoped files).sites → StandsAt l at u → l.role u ≡ NotLexical Member }
 {}
 
-/// The same where imports without a name declare.
+/// The law `member_names_are_members`, where imports without a name declare the names of their packages.
 pub fn named_member_names_are_members()
     ensures { (names : ℕ → Option (List ℕ)) → (files : List FileParts) → AreSourceFiles files → (at : Position) → (f : FileParts) → slice_get files at.file ≡ Some f →
         Contains (member_names (file_view f.file)) at.index → (u : ℕ) →
@@ -91,38 +89,38 @@ pub fn named_member_names_are_members()
         u < length (named names (scoped files)).sites → StandsAt l at u → l.role u ≡ NotLexical Member }
 {}
 
-/// An identifier that is there for another purpose, as a selected name or a key, is bound by no scope.
+/// No scope binds an identifier whose role is not lexical, such as a selector or a composite literal key.
 pub fn other_purposes_are_unbound()
     ensures { (l : Layout) → (names : Names) → (u d : ℕ) → (p : Purpose) → l.role u ≡ NotLexical p → IsBoundTo l names u d → ⊥ }
 {}
 
-/// A byte of a file lies in one identifier at most.
+/// A byte of a file is in at most one identifier.
 pub fn bytes_lie_in_one_identifier()
     ensures { (files : List SourceFile) → AreCut files → HaveOwnPaths files → (l : Layout) → (size : ℕ) → StandInOrder l size → (path : List ℕ) → (offset u v : ℕ) →
         u < size → v < size → HoldsByte files l path offset u → HoldsByte files l path offset v → u ≡ v }
 {}
 
-/// One identifier of a package at most begins at a byte.
+/// At most one identifier of a package begins at a byte.
 pub fn identifiers_begin_apart()
     ensures { (files : List FileParts) → AreSourceFiles files → HaveOwnPaths (map source_of files) → (path : List ℕ) → (offset u v : ℕ) →
         let p = scoped files in
         u < length p.sites → v < length p.sites → BeginsAt p path offset u → BeginsAt p path offset v → u ≡ v }
 {}
 
-/// The same where imports without a name declare.
+/// At most one identifier of a package begins at a byte, also where imports without a name declare the names of their packages.
 pub fn named_imports_begin_apart()
     ensures { (names : ℕ → Option (List ℕ)) → (files : List FileParts) → AreSourceFiles files → HaveOwnPaths (map source_of files) → (path : List ℕ) → (offset u v : ℕ) →
         let p = named names (scoped files) in
         u < length p.sites → v < length p.sites → BeginsAt p path offset u → BeginsAt p path offset v → u ≡ v }
 {}
 
-/// The files of a package of a workspace, where each has a tree, are parsed from their texts, and have different paths.
+/// The files of a package of a workspace have the trees of their texts, if all have trees, and no two have one path.
 pub fn package_files_have_own_paths()
     ensures sources { (w : Workspace) → (path : List ℕ) → (files : List FileParts) → AreParsed (package_files w path) files [] → AreSourceFiles files }
     ensures paths { (w : Workspace) → (path : List ℕ) → (files : List FileParts) → AreParsed (package_files w path) files [] → HaveOwnPaths (map source_of files) }
 {}
 
-/// A byte of a file of a package of a workspace lies in one identifier at most.
+/// A byte of a file of a package of a workspace is in at most one identifier.
 pub fn package_bytes_lie_in_one_identifier()
     ensures { (w : Workspace) → (path : List ℕ) → (files : List FileParts) → AreParsed (package_files w path) files [] → (names : ℕ → Option (List ℕ)) →
         (file : List ℕ) → (offset u v : ℕ) →

@@ -1,5 +1,5 @@
-//! The identifiers of a package stand at all names among the tokens of its files, in the order of their numbers, so a byte lies
-//! in one of them at most.
+//! Laws of the tokens at which the identifiers of a package are: all identifier tokens of its files, in the order of their numbers. So a
+//! byte is in at most one of them.
 #![tactic(auto)]
 
 pub mod laws;

@@ -1,4 +1,4 @@
--- The values of a list as they are found, by their kinds.
+-- The values of a list as the judgement finds them, by their kinds.
 use Rattle.std.proofs.Common.{ℕ, ◌≡◌, Bool, true, false, List, [], ◌∷◌, length, Option, Some, None, refl, sym, ap, ◌∙◌, true≢false, if◌then◌else◌, suc, arith}
 use Rattle.types_expr.specs.declared.types.Basic.{Basic}
 use Rattle.types_expr.specs.declared.classes.TypeClass.{TypeClass}
@@ -16,7 +16,7 @@ use Rattle.law_typing.proofs.Fitting.{fits_true, true_fits}
 use Rattle.law_typing.proofs.Classes.{class_true, class_is}
 use Rattle.law_typing.proofs.Steps.{empty_first, empty_second, empty_both}
 
--- values of these kinds, none of them broken
+-- the values have these kinds, and none is broken
 abbrev pub AreOf : List Argued → List Kind → Type 0
 AreOf [] [] = Unit {0}
 AreOf [] (k ∷ ks) = ⊥

@@ -1,4 +1,4 @@
--- What calls are, as it is found.
+-- The judgement of calls agrees with the rules of calls.
 use Rattle.std.proofs.Common.{ℕ, ◌≡◌, ◌==◌, Bool, true, false, List, [], ◌∷◌, length, Option, Some, None, refl, sym, ap, ◌∙◌, subst, true≢false}
 use Rattle.std.proofs.Common.{if◌then◌else◌, eq-eqb, eqb-true, arith}
 use Rattle.types_expr.specs.declared.types.Basic.TheVariants as basic
@@ -22,7 +22,7 @@ use Rattle.law_typing.proofs.Fitting.{converts_true, true_converts}
 use Rattle.law_typing.proofs.Classes.{class_true, class_is, slice_class}
 use Rattle.law_typing.proofs.Arguments.{AreOf, whole_all, kinds_of, as_many, in_turn_silent, silent_in_turn, each_silent, silent_each, printed_true, true_printed}
 
--- from the rules to what is found
+-- from the rules to the judgement
 
 gives_meaning : {ts : List PlainType} {m : Meaning} → Gives ts m → result_meaning ts ≡ m
 gives_meaning nothing = refl
@@ -96,9 +96,9 @@ calls_true w start place vs a (print {ks} p) = agrees_as (called_when (all_print
 calls_true w start place vs a (println {ks} p) = agrees_as (called_when (all_printed w vs) vs ks start (Results []) a (printed_true w vs a p))
     (means_it results_whole)
 
--- and back
+-- from the judgement to the rules
 
--- the values of a call are whole, and the call is one that the rules know
+-- none of the values of a call is broken, and the call has the meaning r by the rules
 abbrev pub IsCall : World → List Argued → Meaning → Meaning → Type 0
 IsCall w vs m r = (ks : List Kind) × AreOf vs ks × Calls w m ks r
 

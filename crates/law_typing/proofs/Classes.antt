@@ -1,4 +1,4 @@
--- The classes of values say of which basic types and kinds they are.
+-- The class of a value determines its basic type or kind.
 use Rattle.std.proofs.Common.{◌≡◌, true, ◌⊎◌, inl, inr, refl, sym, ap, subst, true≢false}
 use Rattle.types_expr.specs.declared.types.Basic.{Basic}
 use Rattle.types_expr.specs.declared.types.Basic.TheVariants as basic

@@ -1,4 +1,4 @@
--- What is found to mean something, not broken, means that by the rules.
+-- An expression that the judgement gives a meaning, not broken, has this meaning by the rules.
 use Rattle.std.proofs.Common.{ℕ, ◌≡◌, Bool, true, false, List, [], ◌∷◌, Option, Some, None, refl, sym, ap, ◌∙◌, subst, true≢false}
 use Rattle.go_ast.specs.declared.syntax.BinaryOp.{BinaryOp}
 use Rattle.go_ast.specs.declared.syntax.PrefixOp.{PrefixOp}
@@ -32,7 +32,7 @@ use Rattle.law_typing.proofs.Elements.{is_taken, free_new, IsFieldKey, whole_key
 pub whole_as : {m n : Meaning} → m ≡ n → IsWhole n → IsWhole m
 whole_as e n h = n (sym e ∙ h)
 
--- what was found of a part is a value
+-- a part whose judged meaning is a value is one by the rules
 pub has_value : {w : World} {locals : Locals} {e : ExprTree} {m : Meaning} {k : Kind} {a : Bool} → (IsWhole m → HasMeaning w locals e m) → m ≡ Value k a →
     HasMeaning w locals e (Value k a)
 has_value {w} {locals} {e} f h = subst (λ z. HasMeaning w locals e z) h (f (whole_as h value_whole))

@@ -1,4 +1,4 @@
--- The laws of typing.
+-- The laws of typing of expressions.
 use Rattle.std.proofs.Common.{◌≡◌, ◌↔◌, ◌⊎◌, inl, inr, All, [], sym, ◌∙◌, subst}
 use Rattle.go_ast.specs.Tree.{ExprTree}
 use Rattle.types_expr.specs.Types.{Meaning}

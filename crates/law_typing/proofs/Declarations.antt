@@ -1,4 +1,4 @@
--- Declarations of a package, and files: no fault is found in what is typed, and what has no fault is typed or excused.
+-- Package-level declarations and files: a typed one has no fault, and one without a fault is typed or excused.
 use Rattle.std.proofs.Common.{ℕ, ◌≡◌, ◌==◌, Bool, ◌⊎◌, inl, inr, List, [], ◌∷◌, ◌++◌, map, length, Option, Some, None, refl, sym, ap, ◌∙◌, suc, eqb-true}
 use Rattle.go_ast.specs.Tree.{Item, BasicTree, Integer, String, GlobalTree, FieldTree, BodyTree, TypeSpecTree, DeclTree, FileTree}
 use Rattle.go_ast.specs.Tree as tree

@@ -1,4 +1,4 @@
--- The elements of literals, as they are found.
+-- The judgement of the elements of literals agrees with the rules.
 use Rattle.std.proofs.Common.{ℕ, ◌≡◌, ◌==◌, Bool, true, false, ◌&&◌, ◌||◌, List, [], ◌∷◌, ◌++◌, Option, Some, None, refl, sym, ap, ◌∙◌, true≢false}
 use Rattle.std.proofs.Common.{if◌then◌else◌, eq-eqb, eqb-true}
 use Rattle.go_ast.specs.Tree.{TypeTree, ElementTrees}
@@ -42,7 +42,7 @@ pub field_key : {u : Underlying} {m : Option Member} (seen : Seen) {x s : Symbol
     seen s.rank ≡ false → key_in u seen m ≡ FieldKey s.rank t
 field_key {u} {m} seen {x} {s} {t} e f n = ap (λ z. key_in z seen m) e ∙ (ap (key_of_member seen) f ∙ ap (λ b. if b then WrongKey else FieldKey s.rank t) n)
 
--- what a key is that is whole
+-- the key k is whole: it names a field that no earlier key named
 pub record IsFieldKey (u : Underlying) (seen : Seen) (m : Option Member) (k : Key) : Type 0 where
   pub owner : Symbol
   pub symbol : Symbol
@@ -94,7 +94,7 @@ empty_is : (xs : List ℕ) → is_empty xs ≡ true → xs ≡ []
 empty_is [] h = refl
 empty_is (x ∷ xs) h = absurd (true≢false (sym h))
 
--- what an element is that is whole
+-- an element is whole: its key is, its value fits, and the other elements are whole
 pub record IsElement (w : World) (k : JudgedKey) (place : ℕ) (j : Judged) (rest : JudgedElements) : Type 0 where
   pub key : k.whole ≡ true
   pub kind : Kind
@@ -143,9 +143,9 @@ pub slice_ends : (w : World) (start : ℕ) (t : PlainType) {u : PlainType} {whol
     literal_meaning w start (Some t) whole unkeyed ≡ means (Value (Typed t) false)
 slice_ends w start t {u} {whole} unkeyed e h = ap (λ z. literal_ends start t z whole unkeyed) e ∙ ap (λ b. literal_ends start t (SliceOf u) b unkeyed) h
 
--- and back
+-- from the judgement to the rules
 
--- the literal is one of a type, and it is found to be that
+-- the literal is one of a type by the rules, and m is the meaning of a value of this type
 pub record IsLiteralFound (w : World) (locals : Locals) (l : tree.LiteralTree) (m : Meaning) : Type 0 where
   pub type_of : PlainType
   pub is_literal : IsLiteralOf w locals l type_of

@@ -1,4 +1,4 @@
--- What small expressions mean by the rules, and some that mean nothing.
+-- The meanings of small expressions by the rules, and some expressions without a meaning.
 use Rattle.std.proofs.Common.{ℕ, ◌==◌, [], ◌∷◌, Option, Some, None, true, false, refl, sym, inl, if◌then◌else◌}
 use Rattle.go_ast.specs.declared.syntax.BinaryOp.TheVariants as op
 use Rattle.go_ast.specs.Tree.{ExprTree}

@@ -1,4 +1,4 @@
--- What is typed is not excused, since behind typed parts there are the same locals however the rules are applied.
+-- A typed part is not excused, since the rules determine the locals after typed parts.
 use Rattle.std.proofs.Common.{ℕ, ◌≡◌, Bool, List, [], ◌∷◌, Option, Some, None, refl, sym, ap, ◌∙◌, subst}
 use Rattle.go_ast.specs.Tree.{Item, Group, TypeTree, ExprTree, SimpleTree, InitTree, StatementTree, BlockTree, StatementTrees, IfTree, ElseTree, ParamTree}
 use Rattle.go_ast.specs.Tree.{ResultTree, FuncTree, FieldTree, BodyTree, DeclTree, FileTree}
@@ -52,10 +52,11 @@ start before = record { locals = before; faults = []; uses = [] }
 at_start : (before : Locals) → IsAt (start before) before
 at_start before = record { locals_are = refl; faultless = refl }
 
--- a rule that leads to the same locals however it is applied; a rule that types nothing that is excused
+-- the rule R determines the locals after a part
 abbrev LeadsToOne : {X : Type 0} → Rule X → Type 0
 LeadsToOne {X} R = (before after other : Locals) (x : X) → R before x after → R before x other → after ≡ other
 
+-- the rule R types no part that is excused by E
 abbrev Excludes : {X : Type 0} → Rule X → Excuse X → Type 0
 Excludes {X} R E = (before after : Locals) (x : X) → R before x after → E before x → ⊥
 

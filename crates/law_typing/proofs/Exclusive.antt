@@ -1,4 +1,4 @@
--- A simple statement that is typed is not excused.
+-- A typed simple statement is not excused.
 use Rattle.std.proofs.Common.{ℕ, ◌≡◌, Bool, true, false, List, Option, sym, subst, true≢false}
 use Rattle.go_ast.specs.Tree.{Item, ExprTree, SimpleTree}
 use Rattle.go_ast.specs.Tree as tree

@@ -1,4 +1,4 @@
--- Expressions: a fault just where a rule is broken.
+-- Expressions: the judgement finds a fault at exactly the tokens where a rule is broken.
 use Rattle.std.proofs.Common.{ℕ, ◌≡◌, Bool, true, false, ◌⊎◌, inl, inr, List, [], ◌++◌, Option, Some, None, refl, sym, ap, ◌∙◌, subst, true≢false}
 use Rattle.go_ast.specs.declared.syntax.BinaryOp.{BinaryOp}
 use Rattle.go_ast.specs.declared.syntax.PrefixOp.{PrefixOp}
@@ -44,7 +44,7 @@ use Rattle.law_typing.proofs.PlacedCalling.{operated_found, operated_once}
 use Rattle.law_typing.proofs.PlacedElements.{IsFieldMisfit, IsElementMisfit, slice_told, key_told, misfit_told, Behind, behind_one, behind_none, behind_told}
 use Rattle.law_typing.proofs.PlacedElements.{elements_whole, whole_elements, has_unkeyed, unkeyed_is}
 
--- what adds to the faults before just the places of which B holds
+-- The faults `after` are those of `before`, and one at each token of which B holds.
 record Adds (before after : List ℕ) (B : ℕ → Type 0) : Type 0 where
   stays : (p : ℕ) → Holds before p → Holds after p
   found : (p : ℕ) → Holds after p → Holds before p ⊎ B p
@@ -114,7 +114,7 @@ no_link_breaks (misfit m) e = cc
 no_link_breaks (no_call n a c m) e = cc
 no_link_breaks (behind_call x b) e = cc
 
--- what breaks a rule behind a link
+-- links after a first one break a rule at token p, where R relates the meanings before and after the first
 record IsBehind (w : World) (locals : Locals) (start place : ℕ) (R : Meaning → Meaning → Type 0) (q : Option Meaning) (rest : LinkTrees) (p : ℕ) : Type 0 where
   state : Option Meaning
   next : Next R q state

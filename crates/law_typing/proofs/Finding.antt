@@ -1,4 +1,4 @@
--- Each fault of an expression stands at the innermost part that breaks a rule.
+-- Each fault of an expression is at the innermost part that breaks a rule.
 use Rattle.std.proofs.Common.{ℕ, ◌≡◌, Bool, true, false, inl, inr, List, [], ◌∷◌, ◌++◌, length, Option, Some, None, refl, sym, ap, ◌∙◌, subst, true≢false, suc}
 use Rattle.go_ast.specs.declared.syntax.BinaryOp.{BinaryOp}
 use Rattle.go_ast.specs.Tree.{TypeTree, ExprTree, LinkTrees, OperandTrees, ArgumentTrees, LiteralTree, ElementTrees}
@@ -249,7 +249,7 @@ known_key : (w : World) (t : PlainType) (named : List ℕ) (key rank : ℕ) (u :
     IsFieldKey (underlying w t) (is_taken named) (w.member key t) (key_at w (is_taken named) t key)
 known_key w t named key rank u e = whole_key (underlying w t) (is_taken named) (w.member key t) (ap is_whole_key e)
 
--- the value behind a key
+-- the value after a key
 slice_each : (P : ℕ → Type 0) (w : World) (locals : Locals) (t : PlainType) (named : List ℕ) (key : Option (ℕ × ℕ)) (e : ExprTree) (c : Option ℕ)
     (rest : ElementTrees) →
     ((p : ℕ) → ElementsHaveFault w locals t named (tree.element key e c rest) p → P p) →

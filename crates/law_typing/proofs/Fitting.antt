@@ -1,4 +1,4 @@
--- The tests of fitting and converting say what fits and what converts.
+-- The functions `fits` and `converts` agree with the rules of assignability and conversion.
 use Rattle.std.proofs.Common.{◌≡◌, Bool, true, false, ◌&&◌, ◌⊎◌, inl, inr, refl, sym, ap, ◌∙◌, subst, true≢false}
 use Rattle.types_expr.specs.Types.{PlainType, BasicType, Defined, Pointer, Slice, Underlying, Plain, PointerTo, SliceOf, Struct, Kind, Typed, Untyped, Nil}
 use Rattle.types_expr.specs.Types.{same_type, same_underlying, is_named, either_unnamed, has_nil}

@@ -1,4 +1,4 @@
--- What takes values, as it is found: no value is refused exactly where each is taken.
+-- Targets as the check finds them: no value is refused exactly where each is taken.
 use Rattle.std.proofs.Common.{ℕ, ◌≡◌, ◌==◌, Bool, true, false, ◌&&◌, if◌then◌else◌, List, [], ◌∷◌, map, length, Option, Some, None, refl, sym, ap, ◌∙◌}
 use Rattle.std.proofs.Common.{subst, suc, arith, eq-eqb, eqb-true}
 use Rattle.go_ast.specs.Tree.{Item, IdentTree}
@@ -80,7 +80,7 @@ sound_aims [] = refl
 sound_aims (Fresh ∷ ts) = sound_aims ts
 sound_aims (OfType t ∷ ts) = sound_aims ts
 
--- values given to what takes them, where a wrong count is a fault
+-- values given to targets, where a wrong count is a fault
 pub counted : {A : Type 0} (c : Bool) (xs : List ℕ) (ys : List ℕ) → (if c then xs else ys) ≡ [] → (ys ≡ [] → A) → (c ≡ true → xs ≡ [] → A) → A
 counted true xs ys h f g = g refl h
 counted false xs ys h f g = f h

@@ -1,4 +1,4 @@
--- Functions: no fault is found in what is typed, and what has no fault is typed or excused.
+-- Functions: a typed one has no fault, and one without a fault is typed or excused.
 use Rattle.std.proofs.Common.{ℕ, ◌≡◌, Bool, true, false, ◌&&◌, if◌then◌else◌, ◌⊎◌, inl, inr, List, [], ◌∷◌, ◌++◌, map, Option, Some, None, is_none}
 use Rattle.std.proofs.Common.{option_map, refl, sym, ap, ◌∙◌, subst, true≢false}
 use Rattle.go_ast.specs.Tree.{Item, TypeTree, ReceiverTree, ParamTree, ResultTree, FuncTree}

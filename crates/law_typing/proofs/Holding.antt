@@ -1,4 +1,4 @@
--- What a list of faults holds, and that it tells just where a rule is broken.
+-- Which tokens a list of faults has, and that these are exactly those where a rule is broken.
 use Rattle.std.proofs.Common.{ℕ, ◌≡◌, Bool, true, false, if◌then◌else◌, ◌⊎◌, inl, inr, List, [], ◌∷◌, ◌++◌, Option, Some, None, refl, subst, arith}
 use Rattle.std.specs.List.{Contains}
 use Rattle.std.proofs.lemmas.List.Elements.{Contains-append_left, Contains-append_right, Contains-append_cases, Contains-push, Contains-push_cases}
@@ -36,7 +36,7 @@ holds_cases [] ys p h = inr h
 holds_cases (x ∷ xs) ys p (inl e) = inl (inl e)
 holds_cases (x ∷ xs) ys p (inr h) = elim (holds_cases xs ys p h) [ inl a ↦ inl (inr a) | inr b ↦ inr b ]
 
--- just the places of which B holds
+-- the faults are at exactly the tokens of which B holds
 pub record Tells (faults : List ℕ) (B : ℕ → Type 0) : Type 0 where
   pub found : (p : ℕ) → Holds faults p → B p
   pub stands : (p : ℕ) → B p → Holds faults p
@@ -54,7 +54,7 @@ both_told xs ys a c f g h = record {
 pub told_as : {xs : List ℕ} {A B : ℕ → Type 0} → Tells xs A → ((p : ℕ) → A p → B p) → ((p : ℕ) → B p → A p) → Tells xs B
 told_as a f g = record { found = λ p h. f p (a.found p h); stands = λ p b. a.stands p (g p b) }
 
--- at most one place, where C holds
+-- token p is `place`, and C holds
 abbrev pub At : ℕ → Type 0 → ℕ → Type 0
 At place C p = (place ≡ p) × C
 

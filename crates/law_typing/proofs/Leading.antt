@@ -1,4 +1,4 @@
--- The locals behind names, as they are found.
+-- The locals that declared names add, as the check finds them.
 use Rattle.std.proofs.Common.{ℕ, ◌≡◌, ◌==◌, Bool, true, false, if◌then◌else◌, List, [], ◌∷◌, map, length, Option, Some, None, refl, sym, ap, ◌∙◌, suc}
 use Rattle.std.proofs.Common.{true≢false, eq-eqb, eqb-true, arith}
 use Rattle.go_ast.specs.Tree.{Item, IdentTree, TypeTree}

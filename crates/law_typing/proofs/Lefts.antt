@@ -1,4 +1,4 @@
--- Left sides as they are found: without a fault exactly where each can take a value.
+-- Left sides as the check finds them: they have no fault exactly where each can take a value.
 use Rattle.std.proofs.Common.{ℕ, ◌≡◌, Bool, true, false, if◌then◌else◌, List, [], ◌∷◌, ◌++◌, map, Option, Some, None, refl, sym, ap, ◌∙◌, subst, true≢false}
 use Rattle.std.proofs.Common.{◌⊎◌, inl, inr, eq-eqb, eqb-true}
 use Rattle.go_ast.specs.Tree.{Item, ExprTree}
@@ -24,12 +24,12 @@ use Rattle.law_typing.specs.Excused.{assigned_without_type, later_assigned, Defi
 use Rattle.law_typing.proofs.Values.{value_true, value_settled, IsOperandFound, operand_true, operand_settled}
 use Rattle.law_typing.proofs.Giving.{aim, AreNew}
 
--- left sides that are found to take values so, without a fault
+-- the left sides l are judged to be these targets, without a fault
 pub record AreLefts (l : Lefts) (ts : List Taker) : Type 0 where
   pub targets : l.targets ≡ map aim ts
   pub faultless : l.faults ≡ []
 
--- one left side, found so
+-- the left side l is judged to be this target, without a fault
 record IsLeft (l : Lefts) (t : Taker) : Type 0 where
   target : l.targets ≡ aim t ∷ []
   faultless : l.faults ≡ []

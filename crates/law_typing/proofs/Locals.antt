@@ -1,4 +1,4 @@
--- Declarations of locals: no fault is found in what is typed, and what has no fault is typed or excused.
+-- Declarations of locals: a typed one has no fault, and one without a fault is typed or excused.
 use Rattle.std.proofs.Common.{ℕ, ◌≡◌, inl, inr, List, [], ◌∷◌, map, Option, Some, None, refl, sym, ap, ◌∙◌, subst}
 use Rattle.go_ast.specs.Tree.{Item, IdentTree, TypeTree, ExprTree, LocalTree}
 use Rattle.types_expr.specs.Types.{PlainType}

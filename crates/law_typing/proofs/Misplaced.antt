@@ -1,4 +1,4 @@
--- Types, arguments and elements that are faults stand where they break their rules.
+-- Types, arguments and keys that are faults have these at the tokens where they break their rules.
 use Rattle.std.proofs.Common.{ℕ, ◌≡◌, Bool, true, false, List, [], ◌∷◌, length, Option, Some, None, refl, sym, ap, ◌∙◌, subst, true≢false, if◌then◌else◌, arith}
 use Rattle.go_ast.specs.Tree.{TypeTree, ArgumentTrees}
 use Rattle.go_ast.specs.Tree as tree

@@ -1,4 +1,4 @@
--- What names mean and which types are written, as it is found.
+-- The judgement of names and written types agrees with the rules.
 use Rattle.std.proofs.Common.{ℕ, ◌≡◌, Option, Some, None, option_map, refl, ap, ◌∙◌, subst}
 use Rattle.go_ast.specs.Tree.{TypeTree}
 use Rattle.go_ast.specs.Tree as tree

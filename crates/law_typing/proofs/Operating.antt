@@ -1,4 +1,4 @@
--- The tests of operators say which operands they take, and what they make of them.
+-- The judgement of operators agrees with the rules of operators.
 use Rattle.std.proofs.Common.{◌≡◌, Bool, true, false, ◌||◌, Option, Some, None, refl, sym, ap, ◌∙◌, subst, true≢false, if◌then◌else◌}
 use Rattle.go_ast.specs.declared.syntax.BinaryOp.{BinaryOp}
 use Rattle.go_ast.specs.declared.syntax.BinaryOp.TheVariants as op
@@ -25,7 +25,7 @@ use Rattle.law_typing.proofs.Fitting.{fits_true, true_fits}
 use Rattle.law_typing.proofs.Steps.{value_whole}
 use Rattle.law_typing.proofs.Classes.{class_true, class_is, pointer_comparable, is_of_int, is_of_bool, is_of_ordered, ordered_true}
 
--- what two operands have in common
+-- the common kind of two operands
 
 right_joined : (w : World) (t : PlainType) {k : Kind} → IsUntyped k → fits w k t ≡ true → joined w (Typed t) k ≡ Some (Typed t)
 unfolding joined
@@ -79,7 +79,7 @@ go_together w Nil Nil k h = let e : Nil ≡ k = cc in subst (λ z. GoTogether w 
 go_together w (Untyped b) Nil k h = cc
 go_together w Nil (Untyped b) k h = cc
 
--- what operators make of that
+-- the result of an operation on a common kind
 
 arithmetic_family : {o : BinaryOp} → IsArithmetic o → family_of o ≡ family.Arithmetic
 unfolding family_of
@@ -136,7 +136,7 @@ operates_true w (compares_with_nil {o} {t} q f) = operated w o family.Equality (
 operates_true w (compares_nil_with {o} {t} q f) = operated w o family.Equality (equality_family q) (left_fits a_nil f) ∙
     holds (Untyped basic.Bool) (nil_class w t f)
 
--- and back
+-- from the judgement to the rules
 
 some_when : {A : Type 0} (b : Bool) (v r : A) → when b v ≡ Some r → (b ≡ true) × (v ≡ r)
 some_when b v r h = if_some b v r h

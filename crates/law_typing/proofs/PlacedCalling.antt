@@ -1,4 +1,4 @@
--- Calls and operators: what each leads to, and where it breaks a rule.
+-- Calls and operators: their meanings, and the tokens where they break a rule.
 use Rattle.std.proofs.Common.{ℕ, ◌≡◌, ◌==◌, Bool, true, false, if◌then◌else◌, inl, inr, List, [], ◌∷◌, length, Option, Some, None, refl, sym, ap, ◌∙◌}
 use Rattle.std.proofs.Common.{subst, suc, true≢false, eq-eqb}
 use Rattle.go_ast.specs.declared.syntax.BinaryOp.{BinaryOp}
@@ -63,7 +63,7 @@ calls_rule w locals start place xs m = record {
       (q.0, by_values (complete_arguments w locals xs q.1.0 q.1.1) q.1.2);
 }
 
--- a call that breaks a rule behind what an operand means
+-- a call after an operand of a given meaning breaks a rule at this token
 pub data CallBreaks (w : World) (locals : Locals) (start place : ℕ) (xs : ArgumentTrees) : Option Meaning → ℕ → Type 0 where
   cannot_be_called : {m : Meaning} → IsNoCallee m → CallBreaks w locals start place xs (Some m) place
   a_misfit : {m : Meaning} {p : ℕ} → Misfits w locals m xs p → CallBreaks w locals start place xs (Some m) p
@@ -269,7 +269,7 @@ pub operated_found : (w : World) (locals : Locals) (o : BinaryOp) (start : ℕ) 
 unfolding operation
 operated_found w locals o start e m = next_on w locals o start e (value_kind m) (value_kind (judge_value w locals e).meaning) refl
 
--- an operation leads to one kind
+-- an operation has at most one kind
 pub operated_once : (w : World) (locals : Locals) {o : BinaryOp} {e : ExprTree} {q r s : Option Kind} → NextOperated w locals o e q r →
     NextOperated w locals o e q s → r ≡ s
 operated_once w locals {o} (operates {j = j} {l = l} h r) (operates g s) = sym (operates_true w r) ∙ (ap (operate w o j) (one_kind w locals h g)

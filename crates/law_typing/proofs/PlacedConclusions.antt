@@ -1,4 +1,4 @@
--- The laws of the places of faults.
+-- The laws of places.
 use Rattle.std.proofs.Common.{ℕ, ◌≡◌, ◌↔◌, ◌⊎◌, inl, inr, Bool, List, subst, [], ◌∷◌, refl}
 use Rattle.std.specs.List.{Contains}
 use Rattle.go_ast.specs.Tree.{ExprTree, FileTree}
@@ -27,7 +27,7 @@ stands_in : {X : Type 0} {R : Rule X} {B : Breaks X} {check : Checked → X → 
 stands_in t s x p (inl h) = t.stays s x p (contains_holds s.faults p h)
 stands_in t s x p (inr b) = t.stands s x p b
 
--- the faults that a check finds are those before, and those that stand where a rule is broken
+-- the faults after a check are those before it and those at tokens where a rule is broken
 pub places : {X : Type 0} {R : Rule X} {B : Breaks X} {check : Checked → X → Checked} → IsTold X R B check → (s : Checked) (x : X) (p : ℕ) →
     Contains (check s x).faults p ↔ (Contains s.faults p ⊎ B s.locals x p)
 places {check = check} t s x p = (
@@ -35,7 +35,7 @@ places {check = check} t s x p = (
   λ h. holds_contains (check s x).faults p (stands_in t s x p h),
 )
 
--- the locals that a check finds behind a part are those to which it leads
+-- the locals after a check are those that the part declares
 pub outcomes : {X : Type 0} {R : Rule X} {B : Breaks X} {check : Checked → X → Checked} → IsTold X R B check → (s : Checked) (x : X) (after : Locals) →
     R s.locals x after ↔ ((check s x).locals ≡ after)
 outcomes {R = R} t s x after = (λ r. t.only s x after r, λ e. subst (λ z. R s.locals x z) e (t.leads s x))

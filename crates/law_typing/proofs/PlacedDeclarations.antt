@@ -1,4 +1,4 @@
--- Declarations of a package, and files: a fault just where a rule is broken.
+-- Package-level declarations and files: the check finds a fault at exactly the tokens where a rule is broken.
 use Rattle.std.proofs.Common.{ℕ, ◌≡◌, ◌==◌, Bool, true, false, if◌then◌else◌, ◌⊎◌, inl, inr, List, [], ◌∷◌, map, length, Option, Some, None, refl, sym, ap}
 use Rattle.std.proofs.Common.{◌∙◌, subst, suc, true≢false, eq-eqb, eqb-true}
 use Rattle.go_ast.specs.Tree.{Item, Group, BasicTree, Integer, String, GlobalTree, FieldTree, BodyTree, TypeSpecTree, DeclTree, FileTree}
@@ -75,7 +75,7 @@ literals_told w t (n ∷ names) (i ∷ is) e = both_told (refused w (literal_val
     (map (λ j. Wants (Some t)) names)) (literal_told w t i.value) (literals_told w t names is (suc_same e))
     (at_place (LiteralMisfits w t (i ∷ is)) (λ m. misfit_of w t i is i.value refl m)) (λ p b. later_literal b) (λ p b. misfit_cases b)
 
--- where the type is broken none is refused
+-- where the type is broken, no literal is refused
 none_refused : (w : World) (names : List (Item ℕ)) (is : List (Item BasicTree)) → all_refused w (literals is) (map (λ i. Wants None) names) ≡ []
 unfolding all_refused refused
 none_refused w names [] = refl
@@ -87,7 +87,7 @@ none_refused w (n ∷ names) (i ∷ is) = none_refused w names is
 abbrev Literals : Type 0
 Literals = ℕ × List (Item BasicTree)
 
--- what can be wrong with values
+-- the values of variables have a fault at this token
 data ValuesBreak (w : World) (g : GlobalTree) : ℕ → Type 0 where
   a_misfit : {t : PlainType} {v : Literals} {p : ℕ} → g.values ≡ Some v → IsType w g.type_use t → length v.1 ≡ length g.names → LiteralMisfits w t v.1 p →
       ValuesBreak w g p
@@ -199,7 +199,7 @@ type_spec_told w = told_of TypeSpecTree (Stays TypeSpecTree) (TypeBreaksAt w) (c
 
 -- declarations
 
--- a group that declares no local leads to the locals before it
+-- after a group that declares no local, the locals are those before it
 items_stay : {X : Type 0} {B : Locals → X → ℕ → Type 0} {check : Checked → X → Checked} → IsTold X (Stays X) B check → (s : Checked) (is : List (Item X)) →
     (check_items check s is).locals ≡ s.locals
 unfolding check_items

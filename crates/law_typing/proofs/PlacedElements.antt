@@ -1,4 +1,4 @@
--- The elements of literals: where they break a rule, and when they are whole.
+-- The elements of literals: the tokens where they break a rule, and when they are whole.
 use Rattle.std.proofs.Common.{ℕ, ◌≡◌, Bool, true, false, if◌then◌else◌, ◌⊎◌, inl, inr, List, [], ◌∷◌, Option, Some, None, refl, sym, ap, ◌∙◌, subst, true≢false}
 use Rattle.go_ast.specs.Tree.{ExprTree, ElementTrees}
 use Rattle.go_ast.specs.Tree as tree
@@ -23,7 +23,7 @@ use Rattle.law_typing.specs.Expressions.{AreWhole, no_element_left, whole_value,
 use Rattle.law_typing.proofs.Holding.{Tells, told_as, At, nothing_at, fault_at, test_told, some_same, none_some}
 use Rattle.law_typing.proofs.PlacedValues.{kind_is, kind_means}
 
--- what a key is found to be
+-- the key k as the judgement finds it, by the rules
 
 abbrev NoField : World → PlainType → List ℕ → ℕ → Type 0
 NoField w t named key = (s : Symbol) (u : PlainType) → IsKey w t named key s u → ⊥
@@ -74,7 +74,7 @@ key_by w t named key WrongKey e = a_wrong_one (no_field_by w t named key e refl)
 pub key_is : (w : World) (t : PlainType) (named : List ℕ) (key : ℕ) → KeyIs w t named key (key_at w (is_taken named) t key)
 key_is w t named key = key_by w t named key (key_at w (is_taken named) t key) refl
 
--- a key is one field
+-- a key denotes at most one field
 one_field : (w : World) (t : PlainType) (named : List ℕ) (key : ℕ) {s x : Symbol} {u y : PlainType} → IsKey w t named key s u → IsKey w t named key x y →
     FieldKey s.rank u ≡ FieldKey x.rank y
 one_field w t named key f g = sym (field_found w t named key f) ∙ field_found w t named key g
@@ -97,7 +97,7 @@ key_told w t named key = elim (key_is w t named key) [
   | a_wrong_one n b e ↦ subst (λ z. Tells (key_faults z key) (At key (NoField w t named key × (IsBrokenKey w t key → ⊥)))) (sym e) (fault_at key (n, b))
 ]
 
--- the value behind a key
+-- the value after a key
 
 pub record IsFieldMisfit (w : World) (locals : Locals) (t : PlainType) (named : List ℕ) (key : ℕ) (e : ExprTree) : Type 0 where
   pub symbol : Symbol
@@ -198,7 +198,7 @@ misfit_told w locals t named key e = elim (key_is w t named key) [
       (behind_other_told w locals t named key e n)
 ]
 
--- the elements behind a key
+-- the elements after a key
 
 pub data Behind (w : World) (locals : Locals) (t : PlainType) (named : List ℕ) (key : ℕ) (rest : ElementTrees) (p : ℕ) : Type 0 where
   behind_one : {s : Symbol} {u : PlainType} → IsKey w t named key s u → ElementsBreakAt w locals t (s.rank ∷ named) rest p → Behind w locals t named key rest p
@@ -231,7 +231,7 @@ behind_told w locals t named key rest f = elim (key_is w t named key) [
       (told_as (f named) (λ p x. behind_none n x) (λ p x. behind_others n x))
 ]
 
--- elements in which nothing is broken, of a literal of no slice
+-- whole elements of a literal that is no slice
 
 no_wanted : (w : World) (t : PlainType) → ((u : PlainType) → underlying w t ≡ SliceOf u → ⊥) → (o : Option PlainType) → element_of (underlying w t) ≡ o →
     o ≡ None

@@ -1,4 +1,4 @@
--- Small statements that break a rule, and where; and one behind what is not known, which breaks none.
+-- Small statements that break a rule, with the token; and a statement after a local of unknown type, which breaks none.
 use Rattle.std.proofs.Common.{ℕ, ◌≡◌, ◌==◌, if◌then◌else◌, Bool, true, false, [], ◌∷◌, Option, Some, None, sym, true≢false}
 use Rattle.go_ast.specs.declared.syntax.StepOp.TheVariants as step
 use Rattle.go_ast.specs.Tree as tree
@@ -12,7 +12,7 @@ use Rattle.law_typing.specs.PlacedGiving.{nothing_given, all_given, wrong_return
 use Rattle.law_typing.specs.PlacedSimple.{in_operand, not_assignable, SimpleBreaksAt, in_step, no_step}
 use Rattle.law_typing.specs.PlacedStatements.{StatementBreaksAt, no_return}
 
--- the name at the token 6 is that of a local that is declared at 0
+-- the name at token 6 is that of a local that is declared at token 0
 abbrev world : World
 world = record { bound = λ p. if p == 6 then Local 0 else Means Broken; member = λ n t. None; definition = λ s. Struct s }
 
@@ -28,7 +28,7 @@ step_of_number = in_step (not_assignable number (λ k h. constant h))
 no_value_returned : (before : Locals) → StatementBreaksAt world (Some (BasicType basic.Int) ∷ []) before (tree.Return 7 []) 7
 no_value_returned before = no_return nothing_given (wrong_return (λ e. cc) all_given)
 
--- behind a declaration of x whose type is not known, `x++` breaks no rule
+-- after a declaration of x whose type is not known, `x++` breaks no rule
 abbrev nothing : Option PlainType
 nothing = None
 

@@ -1,4 +1,4 @@
--- Right sides as they are found, and which values are refused.
+-- Right sides as the check finds them, and the values that are refused.
 use Rattle.std.proofs.Common.{ℕ, ◌≡◌, ◌==◌, Bool, true, false, ◌&&◌, if◌then◌else◌, ◌⊎◌, inl, inr, List, [], ◌∷◌, ◌++◌, map, length, Option, Some, None}
 use Rattle.std.proofs.Common.{refl, sym, ap, ◌∙◌, subst, suc, true≢false, eq-eqb, eqb-true}
 use Rattle.go_ast.specs.Tree.{Item, ExprTree}

@@ -1,4 +1,4 @@
--- Functions: a fault just where a rule is broken, and the locals behind them.
+-- Functions: the check finds a fault at exactly the tokens where a rule is broken, and the locals that the function declares.
 use Rattle.std.proofs.Common.{ℕ, ◌≡◌, Bool, true, false, ◌&&◌, if◌then◌else◌, ◌⊎◌, inl, inr, List, [], ◌∷◌, ◌++◌, Option, Some, None, is_none, option_map}
 use Rattle.std.proofs.Common.{refl, sym, ap, ◌∙◌, subst, true≢false}
 use Rattle.go_ast.specs.Tree.{Item, TypeTree, ReceiverTree, ParamTree, ResultTree, FuncTree}
@@ -35,7 +35,7 @@ use Rattle.law_typing.proofs.PlacedStatements.{told_by, block_leads, block_only,
 
 -- receivers
 
--- what the name of a receiver's type is found to be
+-- the judgement j of the type that a receiver names: a definition that may have methods; a broken type; a fault
 data Base (w : World) (place : ℕ) (j : TypeJudged) : Type 0 where
   good_base : {s : Symbol} → MayReceive w place s → j ≡ good_type (Defined s) → Base w place j
   broken_base : w.bound place ≡ BrokenType → j ≡ record { type_of = None; faults = [] } → Base w place j
@@ -44,7 +44,7 @@ data Base (w : World) (place : ℕ) (j : TypeJudged) : Type 0 where
 abbrev NoneReceives : World → ℕ → Type 0
 NoneReceives w place = (s : Symbol) → MayReceive w place s → ⊥
 
--- what else a name is bound to
+-- the bindings of a name that is no definition
 abbrev IsDefined : Bound → Type 0
 IsDefined (Means (TypeName (Defined s))) = Unit {0}
 IsDefined b = ⊥
@@ -102,7 +102,7 @@ base_of : (w : World) (place : ℕ) → Base w place (receiver_base w place)
 unfolding receiver_base
 base_of w place = base_by w place (w.bound place) refl
 
--- one definition receives at most
+-- a name denotes at most one definition that may have methods
 one_receiver : {w : World} {place : ℕ} {s t : Symbol} → MayReceive w place s → MayReceive w place t → s ≡ t
 one_receiver (receives_by e n) (receives_by f m) = symbol_same (sym e ∙ f)
 
@@ -354,7 +354,7 @@ function_leads w b s f = let o = optional_receiver_told w in
     (judge_results w f.result).wanted (check_signature w b s f) f.body).locals) (signature_locals w b s f) (block_leads w (judge_results w f.result).wanted
     (check_signature w b s f) f.body))
 
--- the locals at which a function is entered
+-- the locals before the body of a function
 entered_only : (w : World) (s : Checked) (f : FuncTree) {received entered : Locals} → IfPresent ReceiverTree (ReceiverLeads w) s.locals f.receiver received →
     InTurn ParamTree (ParamLeads w) received f.params entered → (entered_at w s f).locals ≡ entered
 entered_only w s f {received} {entered} r q = let o = optional_receiver_told w in

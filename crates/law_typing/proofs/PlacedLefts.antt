@@ -1,4 +1,4 @@
--- Left sides as they are found: what they take, and where they have faults.
+-- Left sides as the check finds them: their targets, and the tokens where they have faults.
 use Rattle.std.proofs.Common.{ℕ, ◌≡◌, Bool, true, false, if◌then◌else◌, ◌⊎◌, inl, inr, List, [], ◌∷◌, ◌++◌, map, Option, Some, None, refl, sym, ap, ◌∙◌, subst}
 use Rattle.go_ast.specs.Tree.{Item, ExprTree}
 use Rattle.go_ast.specs.Tree as tree
@@ -27,13 +27,13 @@ use Rattle.law_typing.proofs.PlacedValues.{meaning_is}
 use Rattle.law_typing.proofs.Expressions.{value_told, operand_told}
 use Rattle.law_typing.proofs.PlacedGiving.{any_told, no_expression, aim_of}
 
--- a left side that is found to take what the rules tell
+-- the left side e is judged to be the target that the rules give
 pub record IsTaking (R : ExprTree → Option Taker → Type 0) (e : ExprTree) (targets : List Target) : Type 0 where
   pub taker : Option Taker
   pub takes : R e taker
   pub found : targets ≡ aim_of taker ∷ []
 
--- several
+-- the left sides xs are judged to be the targets that the rules give
 pub record AreTaking (R : ExprTree → Option Taker → Type 0) (xs : List (Item ExprTree)) (targets : List Target) : Type 0 where
   pub takers : List (Option Taker)
   pub take : EachTakes R xs takers
@@ -250,7 +250,7 @@ unfolding defined
 defined_take w locals [] = record { takers = []; take = no_side; found = refl }
 defined_take w locals (i ∷ is) = taking_then (DefinedTakes w locals) i is (defined_taking w locals i.value) (defined_take w locals is)
 
--- the other way
+-- from the judgement to the rules
 name_targets : (w : World) (locals : Locals) (p : ℕ) {b : Bool} {o : Option PlainType} → declares w p ≡ b →
     own_type (judge_value w locals (tree.Name p)).meaning ≡ o →
     (defined_one w locals (tree.Name p)).targets ≡ (if b then sides.Takes ∷ [] else (Wants o ∷ []))

@@ -1,4 +1,4 @@
--- Declarations of locals: a fault just where a rule is broken, and the locals behind them.
+-- Declarations of locals: the check finds a fault at exactly the tokens where a rule is broken, and the locals that they declare.
 use Rattle.std.proofs.Common.{ℕ, ◌≡◌, ◌⊎◌, inl, inr, List, [], ◌∷◌, ◌++◌, map, Option, Some, None, refl, sym, ap, ◌∙◌, subst}
 use Rattle.go_ast.specs.Tree.{Item, IdentTree, TypeTree, ExprTree, LocalTree}
 use Rattle.types_expr.specs.Types.{PlainType}

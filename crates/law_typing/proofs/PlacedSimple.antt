@@ -1,4 +1,4 @@
--- Conditions and simple statements: a fault just where a rule is broken.
+-- Conditions and simple statements: the check finds a fault at exactly the tokens where a rule is broken.
 use Rattle.std.proofs.Common.{ℕ, ◌≡◌, Bool, true, false, ◌⊎◌, inl, inr, List, ◌++◌, map, Option, Some, None, refl, sym, ap, ◌∙◌, subst, true≢false}
 use Rattle.go_ast.specs.declared.syntax.BinaryOp.{BinaryOp}
 use Rattle.go_ast.specs.declared.syntax.StepOp.{StepOp}
@@ -72,7 +72,7 @@ condition_places w locals e = both_told (judge_value w locals e).faults (conditi
     (λ c. (c.kind, kind_is w locals c.means, c.is_none))) (λ p b. in_condition b) (at_place (ConditionBreaksAt w locals e) (λ c. no_bool c.means c.is_none))
     (λ p b. condition_cases b)
 
--- a condition leads to the locals before it
+-- a condition leaves the locals as they are
 pub data Keeps : Locals → ExprTree → Locals → Type 0 where
   keeps : {locals : Locals} {e : ExprTree} → Keeps locals e locals
 
@@ -173,7 +173,7 @@ step_places w locals e o q = both_told (judge_operand w locals e).faults (step_f
     (λ k h n. record { kind = k; means = operand_kind_means w locals e k h; is_none = n }) (λ c. (c.kind, operand_kind_is w locals c.means, c.is_none)))
     (λ p b. in_step b) (at_place (SimpleBreaksAt w locals (tree.Step e o q)) (λ c. no_step c.means c.is_none)) (λ p b. step_cases b)
 
--- `+=` and its kin
+-- `x op= y`
 
 abbrev CannotOperate : World → BinaryOp → Option Kind → Option Kind → Type 0
 CannotOperate w b x y = (j : Kind) × (k : Kind) × (x ≡ Some j) × (y ≡ Some k) × ((l : Kind) → Operates w b j k l → ⊥)
@@ -240,7 +240,7 @@ update_places w locals x y o q = let f = update_faults w (first_token x) (binary
           (λ c. no_update (is_update o) c.left_means c.right_means c.is_none) p a
     ]) (λ p b. update_cases b)
 
--- values that are given
+-- values given to targets
 
 pub record IsMisgivenBy (w : World) (locals : Locals) (ys : List (Item ExprTree)) (place : ℕ) (T : List (Option Taker) → Type 0) (p : ℕ) : Type 0 where
   pub values : List Argued

@@ -1,4 +1,4 @@
--- Statements and blocks: a fault just where a rule is broken, and the locals behind them.
+-- Statements and blocks: the check finds a fault at exactly the tokens where a rule is broken, and the locals that they declare.
 use Rattle.std.proofs.Common.{ℕ, ◌≡◌, ◌⊎◌, inl, inr, List, [], ◌∷◌, ◌++◌, map, Option, Some, None, refl, sym, ap, ◌∙◌, subst}
 use Rattle.go_ast.specs.Tree.{Item, ExprTree, SimpleTree, InitTree, ForTree, StatementTree, BlockTree, StatementTrees, IfTree, ElseTree}
 use Rattle.go_ast.specs.Tree as tree
@@ -27,7 +27,7 @@ use Rattle.law_typing.proofs.Turns.{IsTold, added_found, added_stands, check_pre
 use Rattle.law_typing.proofs.PlacedSimple.{Keeps, keeps, condition_told, simple_told}
 use Rattle.law_typing.proofs.PlacedLocals.{aim_of_type, local_told}
 
--- a check that is the same as another
+-- a check that is equal to another
 pub told_by : {X : Type 0} {R : Rule X} {B : Breaks X} {d : Checked → X → Checked} (c : Checked → X → Checked) → ((s : Checked) (x : X) → c s x ≡ d s x) →
     IsTold X R B d →
     IsTold X R B c
@@ -61,7 +61,7 @@ test_keeps : (w : World) (s : Checked) (o : Option ExprTree) → (check_optional
 test_keeps w s None = refl
 test_keeps w s (Some e) = condition_keeps w s e
 
--- what stands before the condition of an `if`
+-- the statement before the condition of an `if`
 
 check_one_init : World → Checked → InitTree → Checked
 check_one_init w s i = check_optional w s i.simple
@@ -184,7 +184,7 @@ return_places : (w : World) (results : List (Option PlainType)) (locals : Locals
 return_places w results locals q es = both_told (rights w locals es).faults (returned w q (rights w locals es).values (wants results)) (sides_told w locals es)
     (return_part w locals results q es) (λ p b. in_return b) (λ p b. no_return b.give b.misreturned) (λ p b. return_cases b)
 
--- statements: the locals behind them
+-- statements: the locals after them
 
 mutual
   unfolding check_statement check_return
@@ -262,7 +262,7 @@ mutual
   else_only w targets s (tree.else_if p i) after (behind_else_if r) = if_only w targets s i after r
   else_only w targets s (tree.else_block p b) after (behind_else r) = block_only w targets s b after r
 
--- the faults before them stay
+-- the faults before a statement stay
 
 mutual
   unfolding check_statement check_return
@@ -301,7 +301,7 @@ mutual
   else_stays w targets s (tree.else_if q i) p h = if_stays w targets s i p h
   else_stays w targets s (tree.else_block q b) p h = block_stays w targets s b p h
 
--- each fault stands where a rule is broken
+-- each fault is at a token where a rule is broken
 
 mutual
   unfolding check_statement check_return
@@ -362,7 +362,7 @@ mutual
   else_found w results s (tree.else_if q i) p h = elim (if_found w results s i p h) [ inl a ↦ inl a | inr b ↦ inr (in_else_if b) ]
   else_found w results s (tree.else_block q x) p h = elim (block_found w results s x p h) [ inl a ↦ inl a | inr b ↦ inr (in_else b) ]
 
--- and each such place has its fault
+-- each token where a rule is broken has its fault
 
 mutual
   unfolding check_statement check_return

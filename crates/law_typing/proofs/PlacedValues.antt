@@ -1,4 +1,4 @@
--- Values and operands: what they give, and where they are found to be none.
+-- Values and operands: their kinds, and the tokens where an expression is none.
 use Rattle.std.proofs.Common.{ℕ, ◌≡◌, Bool, true, false, ◌⊎◌, inl, inr, Option, Some, None, refl, sym, ap, ◌∙◌, subst, true≢false}
 use Rattle.go_ast.specs.Tree.{ExprTree}
 use Rattle.types_expr.specs.Places.{place_of}

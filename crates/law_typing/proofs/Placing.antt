@@ -1,4 +1,4 @@
--- Each fault that a rule finds stands where the rule is broken.
+-- Each fault that a rule of the judgement finds is where the rule is broken.
 use Rattle.std.proofs.Common.{ℕ, ◌≡◌, ◌==◌, Bool, true, false, inl, inr, List, [], ◌∷◌, ◌++◌, length, Option, Some, None, refl, sym, ap, ◌∙◌, subst}
 use Rattle.std.proofs.Common.{true≢false, if◌then◌else◌, All, eqb-true, eq-eqb}
 use Rattle.std.proofs.lemmas.List.Elements.{All-nil, All-cons}
@@ -31,7 +31,7 @@ use Rattle.law_typing.proofs.Operating.{operates_true, prefixes_true}
 use Rattle.law_typing.proofs.Selecting.{selects_true, true_selects}
 use Rattle.law_typing.proofs.Refusing.{whole_or_broken}
 
--- P holds of each
+-- P holds of each number of the list
 abbrev pub Each : (ℕ → Type 0) → List ℕ → Type 0
 Each P [] = Unit {0}
 Each P (x ∷ xs) = P x × Each P xs
@@ -44,7 +44,7 @@ pub each_append : (P : ℕ → Type 0) (xs ys : List ℕ) → Each P xs → Each
 each_append P [] ys h k = k
 each_append P (x ∷ xs) ys h k = (h.0, each_append P xs ys h.1 k)
 
--- what an operand means for the rules behind it
+-- the meaning of an operand, none where it is broken
 abbrev pub status : Meaning → Option Meaning
 status (Value k a) = Some (Value k a)
 status (TypeName t) = Some (TypeName t)

@@ -1,4 +1,4 @@
--- What is found behind parts that stand one behind another.
+-- The outcome of the checks of parts in sequence.
 use Rattle.std.proofs.Common.{ℕ, ◌≡◌, ◌⊎◌, inl, inr, List, [], ◌∷◌, refl, sym, subst}
 use Rattle.go_ast.specs.Tree.{Item, Group, single, several}
 use Rattle.types_expr.specs.World.{Locals}
@@ -8,7 +8,7 @@ use Rattle.law_typing.proofs.Steps.{empty_both}
 use Rattle.law_typing.specs.Turns.{Rule, InTurn, no_item, then_item, InGroup, alone, together, Excuse, ExcusedInTurn, this_item, later_item}
 use Rattle.law_typing.specs.Turns.{ExcusedInGroup, excused_alone, excused_together}
 
--- no fault so far, and those locals
+-- the check s has found no fault, and its locals are `locals`
 pub record IsAt (s : Checked) (locals : Locals) : Type 0 where
   pub locals_are : s.locals ≡ locals
   pub faultless : s.faults ≡ []
@@ -20,11 +20,11 @@ pub reached : (s : Checked) {locals after : Locals} (faults : List ℕ) (uses : 
     IsAt (reaching s locals faults uses) after
 reached s faults uses h f e = record { locals_are = e; faultless = empty_both s.faults faults h f }
 
--- a rule holds where the locals that were found are those that it tells
+-- a rule of the locals `before` is one of those of the check
 pub held : {X : Type 0} (R : Rule X) {x : X} {s : Checked} {before after : Locals} → IsAt s before → R before x after → R s.locals x after
 held R {x} {s} {before} {after} a r = subst (λ z. R z x after) (sym a.locals_are) r
 
--- behind a part without a fault: it is typed, or excused
+-- a part after which no fault is found: nor was there one before it, and the part is typed or excused
 abbrev pub IsSettled : {X : Type 0} → Rule X → Excuse X → Checked → X → Checked → Type 0
 IsSettled R E s x after = (s.faults ≡ []) × (R s.locals x after.locals ⊎ E s.locals x)
 

@@ -1,4 +1,4 @@
--- Each rule that is broken by whole parts is a fault.
+-- Each rule that whole parts break is a fault.
 use Rattle.std.proofs.Common.{ℕ, ◌≡◌, ◌==◌, Bool, true, false, ◌&&◌, ◌||◌, ◌⊎◌, inl, inr, List, [], ◌∷◌, ◌++◌, length, Option, Some, None, option_map, refl}
 use Rattle.std.proofs.Common.{sym, ap, ◌∙◌, subst, true≢false, if◌then◌else◌}
 use Rattle.go_ast.specs.declared.syntax.BinaryOp.{BinaryOp}
@@ -282,7 +282,7 @@ key_or_broken (Plain b) seen m place h = no_fault h
 key_or_broken (PointerTo t) seen m place h = no_fault h
 key_or_broken (SliceOf t) seen m place h = no_fault h
 
--- the parts of an element have no fault where it has none
+-- the parts of an element without a fault have none
 pub record IsFaultless (w : World) (k : JudgedKey) (place : ℕ) (j : Judged) (rest : JudgedElements) : Type 0 where
   pub key : k.faults ≡ []
   pub value : j.faults ≡ []

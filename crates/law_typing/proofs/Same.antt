@@ -1,4 +1,4 @@
--- The tests of types and of underlying types say which are identical.
+-- The functions that compare types and underlying types find exactly the identical ones.
 use Rattle.std.proofs.Common.{◌≡◌, ◌==◌, true, refl, sym, ap, true≢false, eqb-true, eq-eqb}
 use Rattle.std.specs.Cmp.Lexicographic.{bytes_decides}
 use Rattle.types_expr.specs.declared.types.Basic.{Basic}

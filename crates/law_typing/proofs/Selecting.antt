@@ -1,4 +1,4 @@
--- What selectors and indexes select, as it is found.
+-- The judgement of selectors and index expressions agrees with the rules.
 use Rattle.std.proofs.Common.{ℕ, ◌≡◌, Bool, true, false, ◌||◌, List, [], ◌∷◌, Option, Some, None, refl, sym, ap, ◌∙◌, if◌then◌else◌, option_map}
 use Rattle.types_expr.specs.declared.types.Basic.TheVariants as basic
 use Rattle.types_expr.specs.declared.symbol.Symbol.{Symbol}
@@ -134,7 +134,7 @@ unfolding indexed
 by_int w start place s k a true e n = value_indexed w start s k a (is_of_int w k e) n
 by_int w start place s k a false e n = absurd (n refl)
 
--- an index that means i, of an operand that means m where a value is wanted
+-- an index that means i, of an operand that means m
 pub true_indexes : (w : World) (start here place : ℕ) (m i : Meaning) → IsWhole (index_of w start place (as_value here m).meaning i).meaning →
     (k : Kind) × (a : Bool) × (i ≡ Value k a) × Indexes w m k (index_of w start place (as_value here m).meaning i).meaning
 unfolding index_of bad_index value_kind as_value indexed

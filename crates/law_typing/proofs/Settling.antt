@@ -1,4 +1,4 @@
--- An expression without a fault means something, or it uses what is broken.
+-- An expression without a fault has a meaning, or it uses something broken.
 use Rattle.std.proofs.Common.{ℕ, ◌≡◌, Bool, true, false, ◌⊎◌, inl, inr, List, [], ◌∷◌, ◌++◌, Option, Some, None, refl, sym, ap, ◌∙◌, subst, true≢false}
 use Rattle.go_ast.specs.declared.syntax.BinaryOp.{BinaryOp}
 use Rattle.go_ast.specs.declared.syntax.PrefixOp.{PrefixOp}
@@ -25,7 +25,7 @@ use Rattle.law_typing.proofs.Refusing.{whole_or_broken, no_name, value_or_fault,
 use Rattle.law_typing.proofs.Refusing.{call_or_fault, type_or_broken, key_or_broken, faultless_parts, all_parts_whole, ends_or_fault}
 use Rattle.law_typing.proofs.Completeness.{complete, complete_arguments, complete_literal, value_was, has_value, whole_as}
 
--- faults that were found stay
+-- faults found before links, operands and elements stay
 
 links_first : (w : World) (locals : Locals) (links : LinkTrees) (start place : ℕ) (j : Judged) → (judge_links w locals start place j links).faults ≡ [] →
     j.faults ≡ []

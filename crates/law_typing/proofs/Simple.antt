@@ -1,4 +1,4 @@
--- Conditions and simple statements: no fault is found in what is typed, and what has no fault is typed or excused.
+-- Conditions and simple statements: a typed one has no fault, and one without a fault is typed or excused.
 use Rattle.std.proofs.Common.{ℕ, ◌≡◌, Bool, true, false, if◌then◌else◌, ◌⊎◌, inl, inr, List, [], ◌∷◌, ◌++◌, map, Option, Some, None, refl, sym, ap, ◌∙◌, subst}
 use Rattle.go_ast.specs.declared.syntax.BinaryOp.{BinaryOp}
 use Rattle.go_ast.specs.declared.syntax.StepOp.{StepOp}
@@ -139,7 +139,7 @@ unfolding check_step
 step_settled w s e o p h = let f = (judge_operand w s.locals e).faults ++ step_faults w (place_of e) (value_kind (judge_operand w s.locals e).meaning) in
     (empty_first s.faults f h, step_parts w s.locals e o p (empty_second s.faults f h))
 
--- `+=` and its kin
+-- `x op= y`
 
 update_silent : (w : World) (start : ℕ) (b : BinaryOp) {x y : Option Kind} {j k l : Kind} → x ≡ Some j → y ≡ Some k → Operates w b j k l →
     update_faults w start b x y ≡ []
@@ -203,7 +203,7 @@ update_settled w s x y o p h = let f = (judge_operand w s.locals x).faults ++ ((
     ++ update_faults w (first_token x) (binary_of o) (value_kind (judge_operand w s.locals x).meaning) (value_kind (judge_value w s.locals y).meaning)) in
     (empty_first s.faults f h, update_parts w s.locals x y o p (empty_second s.faults f h))
 
--- values that are given
+-- values given to targets
 
 pub giving_at : (w : World) (s : Checked) (place : ℕ) (locals : Locals) (l : Lefts) (r : JudgedList) {after : Locals} {ks : List Kind} {ts : List Taker} →
     s.faults ≡ [] → AreLefts l ts → AreGiven r ks → TakenInTurn w ks ts →
@@ -212,7 +212,7 @@ giving_at w s place locals l r {ts = ts} h a g t e = reached s (l.faults ++ (r.f
     (empty_both l.faults (r.faults ++ given_to w place r.values l.targets) a.faultless (empty_both r.faults (given_to w place r.values l.targets) g.faultless
     (ap (given_to w place r.values) a.targets ∙ given_silent w place r.values g.kinds t))) e
 
--- no fault in what is given
+-- values given to targets without a fault
 pub record IsGiving (w : World) (s : Checked) (place : ℕ) (l : Lefts) (r : JudgedList) : Type 0 where
   pub before : s.faults ≡ []
   pub lefts : l.faults ≡ []

@@ -1,4 +1,4 @@
--- What means something by the rules is found to mean that, without a fault.
+-- An expression with a meaning by the rules is judged to have this meaning, without a fault.
 use Rattle.std.proofs.Common.{ℕ, ◌≡◌, Bool, false, List, [], Some, refl, sym, ap, ◌∙◌, subst}
 use Rattle.go_ast.specs.declared.syntax.BinaryOp.{BinaryOp}
 use Rattle.go_ast.specs.declared.syntax.PrefixOp.{PrefixOp}
@@ -40,7 +40,7 @@ index_agrees w start place e {a = a} {i} (slice_element {t} {a = b} h j) v =
     followed_agrees (λ s. followed i (index_of w start (place_of e) s)) (value_agrees place)
     (followed_agrees (index_of w start (place_of e) (Value (Typed t) b)) v (indexes_true w start (place_of e) a (slice_element h j)))
 
--- arguments as they are found
+-- arguments as the judgement finds them
 pub record AreFound (js : JudgedList) (ks : List Kind) : Type 0 where
   pub values : AreOf js.values ks
   pub faultless : js.faults ≡ []

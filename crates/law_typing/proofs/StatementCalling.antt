@@ -1,4 +1,4 @@
--- Which expressions stand as statements, and which operators update.
+-- Expression statements, and the operators of assignments `op=`.
 use Rattle.std.proofs.Common.{ℕ, ◌≡◌, Bool, true, false, if◌then◌else◌, [], refl, sym, ap, ◌∙◌, subst, true≢false}
 use Rattle.go_ast.specs.declared.syntax.BinaryOp.{BinaryOp}
 use Rattle.go_ast.specs.declared.syntax.UpdateOp.{UpdateOp}
@@ -64,7 +64,7 @@ true_end (tree.call o xs c (tree.selector d n rest)) h = behind_call (true_end (
 true_end (tree.call o xs c (tree.index p e q rest)) h = behind_call (true_end (tree.index p e q rest) h)
 true_end (tree.call o xs c (tree.call p ys q rest)) h = behind_call (true_end (tree.call p ys q rest) h)
 
--- what may stand
+-- operands whose calls may be statements
 
 stand_true : {m : Meaning} → MayStand m → may_stand m ≡ true
 unfolding may_stand
@@ -96,7 +96,7 @@ unfolding is_statement
 statement_true w locals {e} {links} {front} {f} c h s = ap (λ z. stands_by w locals e z (without_last links)) (end_true c)
     ∙ (ap (λ z. stands_by w locals e true z) (front_is c) ∙ (ap may_stand (sound w locals h).meaning ∙ stand_true s))
 
--- a call that stands as a statement
+-- a call that is a statement
 pub record IsCallFound (w : World) (locals : Locals) (e : ExprTree) : Type 0 where
   pub operand : ExprTree
   pub links : LinkTrees
@@ -141,7 +141,7 @@ silent_stands place false Package n h = no_fault h
 silent_stands place false (Results ts) n h = no_fault h
 silent_stands place false Broken n h = absurd (n refl)
 
--- operators that update
+-- the operators of assignments `op=`
 
 pub update_is : {o : UpdateOp} {b : BinaryOp} → Updates o b → binary_of o ≡ b
 update_is by_sum = refl

@@ -1,4 +1,4 @@
--- The laws of typed statements and declarations.
+-- The laws of typing of statements and declarations.
 use Rattle.std.proofs.Common.{ℕ, ◌≡◌, ◌↔◌, ◌⊎◌, inl, inr, Bool, List, []}
 use Rattle.go_ast.specs.Tree.{SimpleTree, StatementTree, BlockTree, FuncTree, DeclTree, FileTree}
 use Rattle.types_expr.specs.Types.{PlainType}

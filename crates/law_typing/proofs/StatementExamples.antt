@@ -15,7 +15,7 @@ use Rattle.law_typing.specs.Giving.{new_local}
 use Rattle.law_typing.specs.Simple.{SimpleIsTyped, no_definition, a_new_name, a_definition, a_step}
 use Rattle.law_typing.specs.Statements.{StatementIsTyped, a_simple, a_return, BlockIsTyped, a_block, no_more, one_more}
 
--- the names at the tokens 0 and 6 are those of a local that is declared at 0
+-- the names at tokens 0 and 6 are those of a local that is declared at token 0
 abbrev world : World
 world = record { bound = λ p. if p == 0 then Local 0 else (if p == 6 then Local 0 else Means Broken); member = λ n t. None; definition = λ s. Struct s }
 
@@ -36,20 +36,20 @@ definition : SimpleIsTyped world no_locals definition_tree with_int
 definition = a_definition (a_new_name refl refl no_definition) (values (also_value number no_expression)) (also_given (fresh by_default) none_given)
     (new_local by_default no_name)
 
--- behind it `x++` is typed
+-- after it, `x++` is typed
 increment : SimpleIsTyped world with_int (tree.Step (tree.Name 6) step.Increment 7) with_int
 increment = a_step (name (a_local refl refl)) (by_type refl)
 
--- and so is `{ x := 1; return x }` in a function with the result int
+-- `{ x := 1; return x }` is typed in a function with the result int
 block : BlockIsTyped world (int ∷ []) no_locals (tree.block 10 (tree.statement (tree.Simple definition_tree) (Some 3) (tree.statement (tree.Return 5 (item
     (tree.Name 6) ∷ [])) None tree.no_statement)) 11) with_int
 block = a_block (one_more (a_simple definition) (one_more (a_return (values (also_value (name (a_local refl refl)) no_expression)) (also_given
     (fitting identical) none_given)) no_more))
 
--- nil declares nothing
+-- `x := nil` is not typed
 no_nil : (t : PlainType) → GivesType Nil t → ⊥
 no_nil t g = elim g [ ]
 
--- a function with a result does not return nothing
+-- `return` without a value is not typed in a function with a result
 no_return : (w : World) (before after : Locals) → StatementIsTyped w (int ∷ []) before (tree.Return 0 []) after → ⊥
 no_return w before after (a_return (values no_expression) t) = elim t [ ]

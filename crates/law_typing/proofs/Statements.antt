@@ -1,4 +1,4 @@
--- Statements and blocks: no fault is found in what is typed, and what has no fault is typed or excused.
+-- Statements and blocks: a typed one has no fault, and one without a fault is typed or excused.
 use Rattle.std.proofs.Common.{ℕ, ◌≡◌, ◌⊎◌, inl, inr, List, [], ◌++◌, map, Option, Some, None, refl, sym, ap, ◌∙◌, subst}
 use Rattle.go_ast.specs.Tree.{Item, ExprTree, SimpleTree, InitTree, ForTree, StatementTree, BlockTree, StatementTrees, IfTree, ElseTree}
 use Rattle.go_ast.specs.Tree as tree
@@ -27,7 +27,7 @@ use Rattle.law_typing.proofs.Reaching.{IsAt, reached, held, group_true, group_se
 use Rattle.law_typing.proofs.Simple.{condition_true, condition_settled, simple_true, simple_settled}
 use Rattle.law_typing.proofs.Locals.{local_true, local_settled}
 
--- the targets of values for such results
+-- the targets are those of results of these types
 abbrev pub AreTargets : List Target → List PlainType → Type 0
 AreTargets targets results = targets ≡ map aim (map OfType results)
 
@@ -242,7 +242,7 @@ mutual
   else_settled w results targets e (tree.else_block p b) s h = let q = block_settled w results targets e b s h in
       (q.0, elim q.1 [ inl r ↦ inl (an_else r) | inr u ↦ inr (in_else u) ])
 
--- faults that were found before a statement stay, whatever the results are
+-- faults found before a statement stay, whatever the results of the function are
 
 return_first : (w : World) (s : Checked) (p : ℕ) (targets : List Target) (es : List (Item ExprTree)) → (check_return w s p targets es).faults ≡ [] →
     s.faults ≡ []

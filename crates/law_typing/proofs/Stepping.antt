@@ -1,4 +1,4 @@
--- Links behind an operand: what each leads to, and where it breaks a rule.
+-- Links after an operand: their meanings, and the tokens where they break a rule.
 use Rattle.std.proofs.Common.{ℕ, ◌≡◌, Bool, true, false, if◌then◌else◌, ◌⊎◌, inl, inr, [], ◌∷◌, ◌++◌, Option, Some, None, refl, sym, ap, ◌∙◌, subst, true≢false}
 use Rattle.go_ast.specs.Tree.{ExprTree}
 use Rattle.types_expr.specs.declared.types.Basic.TheVariants as basic
@@ -28,7 +28,7 @@ use Rattle.law_typing.proofs.Holding.{Holds, Tells, none_told, both_told, At, at
 use Rattle.law_typing.proofs.Types.{each_holds}
 use Rattle.law_typing.proofs.PlacedValues.{as_value_told}
 
--- meanings that are known
+-- meanings that are not broken
 
 pub status_is : (m : Meaning) {n : Meaning} → status m ≡ Some n → m ≡ n
 status_is (Value k a) h = some_same h
@@ -45,7 +45,7 @@ status_whole m h e = none_some (ap status e) h
 pub status_none : (m : Meaning) → status m ≡ None → m ≡ Broken
 status_none m h = elim (whole_or_broken m) [ inl n ↦ absurd (none_some h (whole_status m n)) | inr e ↦ e ]
 
--- a rule that leads from m to r where r is whole, and to nothing else
+-- the rule R relates m to r, where r is not broken, and m to nothing else
 pub record IsRule (R : Meaning → Meaning → Type 0) (m r : Meaning) : Type 0 where
   pub only : (s : Meaning) → R m s → (r ≡ s) × IsWhole s
   pub holds : IsWhole r → IsWhole m × R m r
@@ -79,7 +79,7 @@ selects_rule w locals place n m = record {
   holds = λ x. true_selects w locals place n m x;
 }
 
--- a selector that breaks a rule behind what an operand means
+-- a selector after an operand of a given meaning breaks a rule at this token
 pub data SelectorBreaks (w : World) (locals : Locals) (place n : ℕ) : Option Meaning → ℕ → Type 0 where
   misses : {k : Kind} {a : Bool} → ((s : Meaning) → Selects w locals (Value k a) n s → ⊥) → (SelectsBroken w locals (Value k a) n → ⊥) →
       SelectorBreaks w locals place n (Some (Value k a)) n

@@ -1,4 +1,4 @@
--- What is found of an expression from what is found of its parts.
+-- The judgement of an expression, from those of its parts.
 use Rattle.std.proofs.Common.{ℕ, ◌≡◌, Bool, true, false, List, [], ◌∷◌, ◌++◌, Option, Some, refl, sym, ap, ◌∙◌, subst}
 use Rattle.go_ast.specs.Tree.{ExprTree}
 use Rattle.types_expr.specs.Places.{place_of}
@@ -42,7 +42,7 @@ value_agrees place = means_it value_whole
 pub value_at_agrees : (e : ExprTree) {j : Judged} {k : Kind} {a : Bool} → Agrees j (Value k a) → Agrees (value_at e j) (Value k a)
 value_at_agrees e h = followed_agrees (as_value (place_of e)) h (value_agrees (place_of e))
 
--- only a value is one where a value is wanted
+-- an expression that is judged to be one where a value is required is a value
 pub only_value : (place : ℕ) (m : Meaning) → IsWhole (as_value place m).meaning → (k : Kind) × (a : Bool) × (m ≡ Value k a)
 unfolding as_value
 only_value place (Value k a) n = (k, a, refl)

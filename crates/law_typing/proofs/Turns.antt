@@ -1,4 +1,4 @@
--- Parts behind one another: what is found of all of them from what is found of each.
+-- Parts in sequence: their check finds faults and locals exactly, where the check of each part does.
 use Rattle.std.proofs.Common.{ℕ, ◌≡◌, ◌⊎◌, inl, inr, List, [], ◌∷◌, ◌++◌, Option, Some, None, refl, sym, subst}
 use Rattle.go_ast.specs.Tree.{Item, Group, single, several}
 use Rattle.types_expr.specs.World.{Locals}
@@ -7,8 +7,8 @@ use Rattle.law_typing.specs.Turns.{Rule, InTurn, no_item, then_item, InGroup, al
 use Rattle.law_typing.specs.PlacedTurns.{Breaks, BreaksInTurn, this_item, later_item, BreaksInGroup, in_single, in_several, BreaksIfPresent, in_present}
 use Rattle.law_typing.proofs.Holding.{Holds, Tells, holds_right, holds_cases}
 
--- A check of a part: behind it just those locals are found to which it leads, and to the faults before it are added just those
--- places at which it breaks a rule.
+-- A check of a part is exact. The locals after it are exactly those that the part declares, by R. The faults after it are those before it,
+-- and one at each token where the part breaks a rule, by B.
 pub record IsTold (X : Type 0) (R : Rule X) (B : Breaks X) (check : Checked → X → Checked) : Type 0 where
   pub leads : (s : Checked) (x : X) → R s.locals x (check s x).locals
   pub only : (s : Checked) (x : X) (after : Locals) → R s.locals x after → (check s x).locals ≡ after
@@ -16,7 +16,7 @@ pub record IsTold (X : Type 0) (R : Rule X) (B : Breaks X) (check : Checked → 
   pub found : (s : Checked) (x : X) (p : ℕ) → Holds (check s x).faults p → Holds s.faults p ⊎ B s.locals x p
   pub stands : (s : Checked) (x : X) (p : ℕ) → B s.locals x p → Holds (check s x).faults p
 
--- what adds to the faults
+-- faults that are added to those before
 pub added_found : (before : List ℕ) {added : List ℕ} {B : ℕ → Type 0} → Tells added B → (p : ℕ) → Holds (before ++ added) p → Holds before p ⊎ B p
 added_found before {added} t p h = elim (holds_cases before added p h) [ inl a ↦ inl a | inr b ↦ inr (t.found p b) ]
 

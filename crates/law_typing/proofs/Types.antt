@@ -1,4 +1,4 @@
--- Types as they are found: a fault just where one is none.
+-- Written types: the judgement finds a fault at exactly the tokens where no type is written.
 use Rattle.std.proofs.Common.{ℕ, ◌≡◌, List, [], ◌∷◌, inl, inr, refl, sym, subst}
 use Rattle.go_ast.specs.Tree.{TypeTree}
 use Rattle.types_expr.specs.Types.{Value, TypeName, Function, BuiltinName, Package, Results, Broken}
@@ -15,7 +15,7 @@ each_holds P [] h p q = absurd q
 each_holds P (x ∷ xs) h p (inl e) = subst P e h.0
 each_holds P (x ∷ xs) h p (inr q) = each_holds P xs h.1 p q
 
--- a name that is bound so
+-- a name with the given binding
 no_type_bound : (w : World) (n : ℕ) (b : Bound) → w.bound n ≡ b → NamesNoType w n → Holds (named_type b n).faults n
 unfolding named_type
 no_type_bound w n (Means (TypeName t)) e h = absurd (h.no_type t e)

@@ -1,4 +1,4 @@
--- What has a meaning uses nothing that is broken.
+-- An expression with a meaning uses nothing broken.
 use Rattle.std.proofs.Common.{ℕ, ◌≡◌, Bool, true, List, [], ◌∷◌, Some, refl, sym, ap, ◌∙◌, subst}
 use Rattle.go_ast.specs.Tree.{TypeTree, ExprTree, LinkTrees, OperandTrees, ArgumentTrees, LiteralTree, ElementTrees}
 use Rattle.types_expr.specs.Types.{PlainType, Kind, Typed, Meaning, Value}
@@ -19,7 +19,7 @@ use Rattle.law_typing.proofs.Arguments.{AreOf}
 use Rattle.law_typing.proofs.Calling.{calls_true}
 use Rattle.law_typing.proofs.Conclusions.{one_meaning}
 
--- one outcome
+-- the rules determine the meaning
 
 one_selection : (w : World) (locals : Locals) {m s r : Meaning} {n : ℕ} → Selects w locals m n s → Selects w locals m n r → s ≡ r
 one_selection w locals a b = let x = selects_true w locals 0 a in let y = selects_true w locals 0 b in sym x.meaning ∙ y.meaning

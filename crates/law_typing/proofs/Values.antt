@@ -1,4 +1,4 @@
--- Values where one is wanted, and right sides, as they are found.
+-- Values where they are required, and right sides, as the judgement finds them.
 use Rattle.std.proofs.Common.{ℕ, ◌≡◌, Bool, true, false, ◌⊎◌, inl, inr, List, [], ◌∷◌, map, refl, sym, ap, subst}
 use Rattle.go_ast.specs.Tree.{Item, ExprTree}
 use Rattle.types_expr.specs.Places.{place_of}
@@ -19,7 +19,7 @@ use Rattle.law_typing.proofs.Arguments.{AreOf}
 use Rattle.law_typing.specs.Giving.{AreEach, no_expression, also_value, Give, values, results}
 use Rattle.law_typing.specs.Excused.{AnyUsesBroken, this_one, a_later_one}
 
--- an expression that is found to be a value, and is one by the rules
+-- an expression that is judged to be a value, and is one by the rules
 pub record IsValueFound (w : World) (locals : Locals) (e : ExprTree) (m : Meaning) : Type 0 where
   pub kind : Kind
   pub addressable : Bool
@@ -42,7 +42,7 @@ value_settled w locals e h = elim (settle w locals e (empty_first (judge w local
   | inr u ↦ inr u
 ]
 
--- operands that can be assigned
+-- operands that are assigned
 
 pub record IsOperandFound (w : World) (locals : Locals) (e : ExprTree) (m : Meaning) : Type 0 where
   pub kind : Kind
@@ -119,7 +119,7 @@ rights_given w locals (values (also_value {i} h no_expression)) = one_given (jud
 rights_given w locals (values (also_value h (also_value g more))) = each_given w locals (also_value h (also_value g more))
 rights_given w locals (results {i} h) = call_given (judge w locals i.value) (place_of i.value) (sound w locals h)
 
--- right sides without a fault: what they give
+-- right sides without a fault: the values that they give
 pub record AreGivenBy (R : List Kind → Type 0) (vs : List Argued) : Type 0 where
   pub kinds : List Kind
   pub given : R kinds

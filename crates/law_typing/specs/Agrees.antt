@@ -1,10 +1,10 @@
--- What is found of an expression that means something.
+-- When the judgement of an expression is that it has a meaning.
 use Rattle.std.specs.Prelude.{◌≡◌, []}
 use Rattle.types_expr.specs.Types.{Meaning}
 use Rattle.types_expr.specs.Judge.{Judged}
 use Rattle.law_typing.specs.Names.{IsWhole}
 
--- what was found is that meaning and no fault, and it is not broken
+-- the judgement j has the meaning m, which is not broken, and no fault
 pub record Agrees (j : Judged) (m : Meaning) : Type 0 where
   pub meaning : j.meaning ≡ m
   pub faultless : j.faults ≡ []

@@ -1,4 +1,4 @@
--- The typing rules of functions, of declarations of a package and of files.
+-- The typing rules of functions, of package-level declarations and of files.
 use Rattle.std.specs.Prelude.{◌≡◌, ℕ, Bool, false, List, [], ◌∷◌, Option, Some, None, map}
 use Rattle.go_ast.specs.Tree.{Item, Group, TypeTree, BasicTree, Integer, String, ReceiverTree, ParamTree, ResultTree, FuncTree, GlobalTree, FieldTree}
 use Rattle.go_ast.specs.Tree.{BodyTree, TypeSpecTree, DeclTree, FileTree}
@@ -13,45 +13,50 @@ use Rattle.law_typing.specs.Turns.{InTurn, InGroup, IfPresent}
 use Rattle.law_typing.specs.Giving.{OfType, TakenInTurn, DeclareAs}
 use Rattle.law_typing.specs.Statements.{BlockIsTyped}
 
--- T, and `*T` behind a star
+-- The second type is that of a receiver which names the first: T, or `*T` where a star is written.
 pub data IsBehindStar : Option ℕ → PlainType → PlainType → Type 0 where
   no_star : {t : PlainType} → IsBehindStar None t t
   a_star : {p : ℕ} {t : PlainType} → IsBehindStar (Some p) t (Pointer t)
 
--- a receiver: of T or `*T`, where T is a definition whose underlying type is no pointer
+-- A receiver T or `*T` is typed, where T is a definition whose underlying type is no pointer. It declares its name: the locals before and
+-- after it.
 pub data ReceiverIsTyped (w : World) : Locals → ReceiverTree → Locals → Type 0 where
   a_receiver : {before after : Locals} {r : ReceiverTree} {s : Symbol} {t : PlainType} → w.bound r.type_name ≡ Means (TypeName (Defined s)) →
       ((u : PlainType) → w.definition s ≡ PointerTo u → ⊥) →
       IsBehindStar r.star (Defined s) t → DeclareAs t before (named r.name ∷ []) after → ReceiverIsTyped w before r after
 
+-- parameters of one type are typed; they declare their names
 pub data ParamIsTyped (w : World) : Locals → ParamTree → Locals → Type 0 where
   a_param : {before after : Locals} {p : ParamTree} {t : PlainType} → IsType w p.type_use t → DeclareAs t before (all_named p.names) after →
       ParamIsTyped w before p after
 
+-- the written types denote these types
 pub data AreTypes (w : World) : List (Item TypeTree) → List PlainType → Type 0 where
   no_type_left : AreTypes w [] []
   also_type : {i : Item TypeTree} {is : List (Item TypeTree)} {t : PlainType} {ts : List PlainType} → IsType w i.value t → AreTypes w is ts →
       AreTypes w (i ∷ is) (t ∷ ts)
 
+-- the results of a function have these types
 pub data AreResults (w : World) : ResultTree → List PlainType → Type 0 where
   none_written : AreResults w tree.no_result []
   one_written : {x : TypeTree} {t : PlainType} → IsType w x t → AreResults w (tree.one_result x) (t ∷ [])
   several_written : {o c : ℕ} {is : List (Item TypeTree)} {ts : List PlainType} → AreTypes w is ts → AreResults w (tree.results o is c) ts
 
--- a function that is named `init` and has no receiver has neither parameters nor results
+-- A function whose name is `init` (`true`) has neither parameters nor results, unless it has a receiver. Any other function keeps this
+-- rule.
 pub data KeepsInit : Bool → FuncTree → List PlainType → Type 0 where
   another_name : {f : FuncTree} {ts : List PlainType} → KeepsInit false f ts
   a_method : {is_init : Bool} {f : FuncTree} {ts : List PlainType} {r : ReceiverTree} → f.receiver ≡ Some r → KeepsInit is_init f ts
   a_plain_one : {is_init : Bool} {f : FuncTree} → f.params ≡ [] → KeepsInit is_init f []
 
--- is_init: whether the function's name is `init`
+-- A function is typed: its receiver, parameters, results and body are. is_init: whether its name is `init`.
 pub data FunctionIsTyped (w : World) (is_init : Bool) : Locals → FuncTree → Locals → Type 0 where
   a_function : {before received entered after : Locals} {f : FuncTree} {ts : List PlainType} →
       IfPresent ReceiverTree (ReceiverIsTyped w) before f.receiver received →
       InTurn ParamTree (ParamIsTyped w) received f.params entered → AreResults w f.result ts → KeepsInit is_init f ts →
       BlockIsTyped w ts entered f.body after → FunctionIsTyped w is_init before f after
 
--- literals, with their kinds
+-- literals have these kinds
 pub data AreLiterals : List (Item BasicTree) → List Kind → Type 0 where
   no_literal : AreLiterals [] []
   an_integer : {i : Item BasicTree} {is : List (Item BasicTree)} {p : ℕ} {ks : List Kind} → i.value ≡ Integer p → AreLiterals is ks →
@@ -59,25 +64,28 @@ pub data AreLiterals : List (Item BasicTree) → List Kind → Type 0 where
   a_string : {i : Item BasicTree} {is : List (Item BasicTree)} {p : ℕ} {ks : List Kind} → i.value ≡ String p → AreLiterals is ks →
       AreLiterals (i ∷ is) (Untyped basic.String ∷ ks)
 
--- variables of a package, which declare no local: of a type, without values, or with literals that fit it
+-- Package-level variables of one type are typed: they have no values, or as many literals that fit the type. They declare no local.
 pub data GlobalIsTyped (w : World) : Locals → GlobalTree → Locals → Type 0 where
   without_values : {locals : Locals} {g : GlobalTree} {t : PlainType} → IsType w g.type_use t → g.values ≡ None → GlobalIsTyped w locals g locals
   with_literals : {locals : Locals} {g : GlobalTree} {t : PlainType} {v : ℕ × List (Item BasicTree)} {ks : List Kind} → IsType w g.type_use t →
       g.values ≡ Some v → AreLiterals v.1 ks →
       TakenInTurn w ks (map (λ i. OfType t) g.names) → GlobalIsTyped w locals g locals
 
+-- the types of fields are typed
 pub data FieldsAreTyped (w : World) : List (Item FieldTree) → Type 0 where
   no_field_left : FieldsAreTyped w []
   also_field : {i : Item FieldTree} {is : List (Item FieldTree)} {t : PlainType} → IsType w i.value.type_use t → FieldsAreTyped w is → FieldsAreTyped w (i ∷ is)
 
+-- the type that a definition writes is typed
 pub data BodyIsTyped (w : World) : BodyTree → Type 0 where
   another_type : {x : TypeTree} {t : PlainType} → IsType w x t → BodyIsTyped w (tree.Other x)
   a_struct : {p o c : ℕ} {is : List (Item FieldTree)} → FieldsAreTyped w is → BodyIsTyped w (tree.Struct p o is c)
 
+-- a type definition is typed; it declares no local
 pub data TypeIsTyped (w : World) : Locals → TypeSpecTree → Locals → Type 0 where
   a_definition_of : {locals : Locals} {t : TypeSpecTree} → BodyIsTyped w t.body → TypeIsTyped w locals t locals
 
--- is_init: whether the name at a place is `init`
+-- A declaration is typed. is_init: whether the name at a token is `init`.
 pub data DeclIsTyped (w : World) (is_init : ℕ → Bool) : Locals → DeclTree → Locals → Type 0 where
   variables : {before after : Locals} {p c : ℕ} {g : Group GlobalTree} → InGroup GlobalTree (GlobalIsTyped w) before g after →
       DeclIsTyped w is_init before (tree.VarDecl p g c) after
@@ -86,12 +94,13 @@ pub data DeclIsTyped (w : World) (is_init : ℕ → Bool) : Locals → DeclTree 
   one_function : {before after : Locals} {p c : ℕ} {f : FuncTree} → FunctionIsTyped w (is_init f.name) before f after →
       DeclIsTyped w is_init before (tree.FuncDecl p f c) after
 
+-- declarations are typed in turn
 pub data DeclsAreTyped (w : World) (is_init : ℕ → Bool) : Locals → List DeclTree → Locals → Type 0 where
   no_decl : {locals : Locals} → DeclsAreTyped w is_init locals [] locals
   also_decl : {before inside after : Locals} {d : DeclTree} {ds : List DeclTree} → DeclIsTyped w is_init before d inside →
       DeclsAreTyped w is_init inside ds after →
       DeclsAreTyped w is_init before (d ∷ ds) after
 
--- a file that keeps the typing rules: its declarations do, from the first on
+-- A file keeps the typing rules: all its declarations do, from the first on.
 pub data FileIsTyped (w : World) (is_init : ℕ → Bool) (f : FileTree) : Type 0 where
   a_file : {after : Locals} → DeclsAreTyped w is_init no_locals f.decls after → FileIsTyped w is_init f

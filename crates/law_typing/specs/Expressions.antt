@@ -1,6 +1,6 @@
--- Where a part of an expression breaks a rule though its own parts break none: one constructor for each way to break one, and one
--- for each part in which a fault can lie. What a part means is followed from link to link; where it means nothing, no rule behind
--- it is asked.
+-- The tokens at which an expression breaks a typing rule, though the parts of the broken part break none. There is one constructor for each
+-- way to break a rule, and one for each part in which a fault can be. The meaning of a chain or operation is followed part by part; after a
+-- part without a meaning, no rule on meanings applies.
 use Rattle.std.specs.Prelude.{◌≡◌, ℕ, Bool, List, [], ◌∷◌, Option, Some, None}
 use Rattle.go_ast.specs.declared.syntax.BinaryOp.{BinaryOp}
 use Rattle.go_ast.specs.declared.syntax.PrefixOp.{PrefixOp}
@@ -20,35 +20,39 @@ use Rattle.law_typing.specs.Uses.{SelectsBroken}
 use Rattle.law_typing.specs.Faults.{IsNoValue, IsNoOperand, IsNoCallee, IsNoType, Misfits, IsKey, IsBrokenKey, HasUnkeyed}
 use Rattle.law_typing.specs.PlacedGiving.{GivesKind}
 
--- what an operand means; none where it means nothing
+-- m is the meaning of expression e, none where e has no meaning
 pub data Stands (w : World) (locals : Locals) (e : ExprTree) : Option Meaning → Type 0 where
   meant : {m : Meaning} → HasMeaning w locals e m → Stands w locals e (Some m)
   unmeant : ((m : Meaning) → HasMeaning w locals e m → ⊥) → Stands w locals e None
 
--- the same with one more link behind it, by a rule that leads from one meaning to the next
+-- The meanings of an operand before and after one more link, where R relates the two. There is none after the link where R gives none, or
+-- where there was none before it.
 pub data Next (R : Meaning → Meaning → Type 0) : Option Meaning → Option Meaning → Type 0 where
   leads : {m s : Meaning} → R m s → Next R (Some m) (Some s)
   leads_nowhere : {m : Meaning} → ((s : Meaning) → R m s → ⊥) → Next R (Some m) None
   from_nowhere : Next R None None
 
+-- the selector at token n, after an operand that means m, means s
 abbrev pub SelectsBy : World → Locals → ℕ → Meaning → Meaning → Type 0
 SelectsBy w locals n m s = Selects w locals m n s
 
+-- the index e, after an operand that means m, gives an expression that means s
 pub data IndexedBy (w : World) (locals : Locals) (e : ExprTree) (m s : Meaning) : Type 0 where
   by_index : {k : Kind} {a : Bool} → HasMeaning w locals e (Value k a) → Indexes w m k s → IndexedBy w locals e m s
 
+-- the call of an operand that means m with arguments xs means s
 pub data CalledWith (w : World) (locals : Locals) (xs : ArgumentTrees) (m s : Meaning) : Type 0 where
   by_values : {ks : List Kind} → AreValues w locals xs ks → Calls w m ks s → CalledWith w locals xs m s
 
--- an operation so far and one more operator with its operand, by their kinds
+-- the kinds of an operation before and after one more operator o with its operand e; none where it has no kind
 pub data NextOperated (w : World) (locals : Locals) (o : BinaryOp) (e : ExprTree) : Option Kind → Option Kind → Type 0 where
   operates : {j k l : Kind} {a : Bool} → HasMeaning w locals e (Value k a) → Operates w o j k l → NextOperated w locals o e (Some j) (Some l)
   operates_on_nothing : {j : Kind} → ((k l : Kind) (a : Bool) → HasMeaning w locals e (Value k a) → Operates w o j k l → ⊥) →
       NextOperated w locals o e (Some j) None
   nothing_operated : NextOperated w locals o e None None
 
--- elements of a literal of that type, behind keys of the fields of these ranks, in which nothing is broken: each is a value, and a
--- key is a field that it fits
+-- The elements, in a literal of type t where earlier keys named the fields of ranks `named`, are whole. Each is a value. A key is a field
+-- that no earlier key named, and its value fits it.
 pub data AreWhole (w : World) (locals : Locals) (t : PlainType) : List ℕ → ElementTrees → Type 0 where
   no_element_left : {named : List ℕ} → AreWhole w locals t named tree.no_element
   whole_value : {named : List ℕ} {e : ExprTree} {c : Option ℕ} {rest : ElementTrees} {k : Kind} {a : Bool} → HasMeaning w locals e (Value k a) →
@@ -58,7 +62,7 @@ pub data AreWhole (w : World) (locals : Locals) (t : PlainType) : List ℕ → E
       AreWhole w locals t named (tree.element (Some key) e c rest)
 
 mutual
-  -- a fault in the expression, at that token
+  -- the expression breaks a rule at this token
   pub data BreaksAt (w : World) (locals : Locals) : ExprTree → ℕ → Type 0 where
     in_composite : {l : LiteralTree} {p : ℕ} → LiteralBreaksAt w locals l p → BreaksAt w locals (tree.Composite l) p
     in_address : {q p : ℕ} {l : LiteralTree} → LiteralBreaksAt w locals l p → BreaksAt w locals (tree.Address q l) p
@@ -73,12 +77,13 @@ mutual
     in_operands : {e : ExprTree} {rest : OperandTrees} {k : Option Kind} {p : ℕ} → GivesKind w locals e k →
         OperandsBreakAt w locals (first_token e) k rest p → BreaksAt w locals (tree.Binary e rest) p
 
-  -- an expression where a value is wanted: a fault in it; or it is no value
+  -- the expression, where a value is required, breaks a rule at this token: a part of it does, or it is no value
   pub data ValueBreaksAt (w : World) (locals : Locals) : ExprTree → ℕ → Type 0 where
     in_value : {e : ExprTree} {p : ℕ} → BreaksAt w locals e p → ValueBreaksAt w locals e p
     no_value : {e : ExprTree} {m : Meaning} → HasMeaning w locals e m → IsNoValue m → ValueBreaksAt w locals e (place_of e)
 
-  -- links of a chain that begins at the first place, behind an operand that stands at the second
+  -- Links break a rule at the last token. The chain begins at the first token, and the operand before the links has the given meaning and
+  -- reports its faults at the second.
   pub data LinksBreakAt (w : World) (locals : Locals) : ℕ → ℕ → Option Meaning → LinkTrees → ℕ → Type 0 where
     no_member : {start place d n : ℕ} {rest : LinkTrees} {k : Kind} {a : Bool} → ((s : Meaning) → Selects w locals (Value k a) n s → ⊥) →
         (SelectsBroken w locals (Value k a) n → ⊥) → LinksBreakAt w locals start place (Some (Value k a)) (tree.selector d n rest) n
@@ -108,7 +113,8 @@ mutual
     behind_call : {start place o c p : ℕ} {xs : ArgumentTrees} {rest : LinkTrees} {m s : Option Meaning} → Next (CalledWith w locals xs) m s →
         LinksBreakAt w locals start start s rest p → LinksBreakAt w locals start place m (tree.call o xs c rest) p
 
-  -- operators of an operation that begins at the place, with their operands, behind an operand of that kind
+  -- Operators and operands break a rule at the last token. The operation begins at the first token, and its part before them has the given
+  -- kind.
   pub data OperandsBreakAt (w : World) (locals : Locals) : ℕ → Option Kind → OperandTrees → ℕ → Type 0 where
     in_operand : {start q p : ℕ} {o : BinaryOp} {e : ExprTree} {rest : OperandTrees} {k : Option Kind} → ValueBreaksAt w locals e p →
         OperandsBreakAt w locals start k (tree.operand o q e rest) p
@@ -117,11 +123,13 @@ mutual
     behind_operation : {start q p : ℕ} {o : BinaryOp} {e : ExprTree} {rest : OperandTrees} {k l : Option Kind} → NextOperated w locals o e k l →
         OperandsBreakAt w locals start l rest p → OperandsBreakAt w locals start k (tree.operand o q e rest) p
 
+  -- one of the arguments breaks a rule at this token
   pub data ArgumentsBreakAt (w : World) (locals : Locals) : ArgumentTrees → ℕ → Type 0 where
     in_this : {e : ExprTree} {c : Option ℕ} {rest : ArgumentTrees} {p : ℕ} → ValueBreaksAt w locals e p → ArgumentsBreakAt w locals (tree.argument e c rest) p
     in_other : {e : ExprTree} {c : Option ℕ} {rest : ArgumentTrees} {p : ℕ} → ArgumentsBreakAt w locals rest p →
         ArgumentsBreakAt w locals (tree.argument e c rest) p
 
+  -- the literal breaks a rule at this token
   pub data LiteralBreaksAt (w : World) (locals : Locals) : LiteralTree → ℕ → Type 0 where
     in_type : {x : TypeTree} {o c p : ℕ} {es : ElementTrees} → IsNoType w x p → LiteralBreaksAt w locals (tree.literal x o es c) p
     in_untyped : {x : TypeTree} {o c p : ℕ} {es : ElementTrees} → ((t : PlainType) → IsType w x t → ⊥) → ValuesBreakAt w locals es p →
@@ -134,14 +142,14 @@ mutual
         ((s : Symbol) → underlying w t ≡ Struct s → ⊥) → ((u : PlainType) → underlying w t ≡ SliceOf u → ⊥) →
         LiteralBreaksAt w locals (tree.literal x o es c) (first_of_type x)
 
-  -- the values of elements, in a literal whose type is broken
+  -- the value of an element, in a literal whose type is broken, breaks a rule at this token
   pub data ValuesBreakAt (w : World) (locals : Locals) : ElementTrees → ℕ → Type 0 where
     this_element : {key : Option (ℕ × ℕ)} {e : ExprTree} {c : Option ℕ} {rest : ElementTrees} {p : ℕ} → ValueBreaksAt w locals e p →
         ValuesBreakAt w locals (tree.element key e c rest) p
     other_element : {key : Option (ℕ × ℕ)} {e : ExprTree} {c : Option ℕ} {rest : ElementTrees} {p : ℕ} → ValuesBreakAt w locals rest p →
         ValuesBreakAt w locals (tree.element key e c rest) p
 
-  -- elements of a literal of that type, behind keys of the fields of these ranks
+  -- an element, in a literal of the given type where earlier keys named the fields of the given ranks, breaks a rule at this token
   pub data ElementsBreakAt (w : World) (locals : Locals) : PlainType → List ℕ → ElementTrees → ℕ → Type 0 where
     in_element : {t : PlainType} {named : List ℕ} {key : Option (ℕ × ℕ)} {e : ExprTree} {c : Option ℕ} {rest : ElementTrees} {p : ℕ} →
         ValueBreaksAt w locals e p →

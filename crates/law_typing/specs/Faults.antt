@@ -1,5 +1,6 @@
--- Where a part of an expression breaks a rule though its own parts break none. One constructor for each way to break a rule,
--- and one for each part in which a fault can lie.
+-- Where the judgement of an expression may find a fault: at a part that breaks a rule, though its own parts break none. There is one
+-- constructor for each way to break a rule, and one for each part in which a fault can be. `HasFault` holds at each token that is found,
+-- and at others; `BreaksAt` is exact.
 use Rattle.std.specs.Prelude.{◌≡◌, ℕ, Bool, false, List, [], ◌∷◌, Option, Some, None}
 use Rattle.go_ast.specs.declared.syntax.BinaryOp.{BinaryOp}
 use Rattle.go_ast.specs.declared.syntax.PrefixOp.{PrefixOp}
@@ -18,24 +19,25 @@ use Rattle.law_typing.specs.Links.{Selects, Indexes, Calls}
 use Rattle.law_typing.specs.Meanings.{IsNew, HasMeaning, AreValues}
 use Rattle.law_typing.specs.Uses.{SelectsBroken}
 
--- it is no value: a type, a function, a builtin, a package, or a call without exactly one result
+-- m is not the meaning of a value: it is that of a type, a function, a builtin, a package, or a call without exactly one result
 abbrev pub IsNoValue : Meaning → Type 0
 IsNoValue m = (k : Kind) (a : Bool) → m ≡ Value k a → ⊥
 
 -- Types
 
--- a name in the place of a Type that names no type, broken or not
+-- the name at token `name`, where a type is written, denotes neither a type nor a broken type
 pub record NamesNoType (w : World) (name : ℕ) : Type 0 where
   pub no_type : (t : PlainType) → w.bound name ≡ Means (TypeName t) → ⊥
   pub unbroken : w.bound name ≡ BrokenType → ⊥
 
--- a name before the dot of a Type: of a variable or another value
+-- the name at token `name`, before the dot of a qualified type, denotes a variable or another value
 pub data NamesValue (w : World) (name : ℕ) : Type 0 where
   a_local : {place : ℕ} → w.bound name ≡ Local place → NamesValue w name
   a_value : {k : Kind} {a : Bool} → w.bound name ≡ Means (Value k a) → NamesValue w name
   a_broken_variable : w.bound name ≡ BrokenVariable → NamesValue w name
 
--- a Type that is none: at its name; behind a package at the name there, behind a value there too, behind anything else before the dot
+-- A written type denotes no type, which is a fault at this token. In `p.n` it is n where p is a package or a value, and p where it is
+-- anything else.
 pub data IsNoType (w : World) : TypeTree → ℕ → Type 0 where
   by_name : {n : ℕ} → NamesNoType w n → IsNoType w (tree.Local n) n
   behind_package : {p d n : ℕ} → w.bound p ≡ Means Package → NamesNoType w n → IsNoType w (tree.Imported p d n) n
@@ -44,9 +46,9 @@ pub data IsNoType (w : World) : TypeTree → ℕ → Type 0 where
   in_pointer : {s p : ℕ} {x : TypeTree} → IsNoType w x p → IsNoType w (tree.Pointer s x) p
   in_slice : {o c p : ℕ} {x : TypeTree} → IsNoType w x p → IsNoType w (tree.Slice o c x) p
 
--- Values that do not fit where they stand
+-- Arguments that do not fit
 
--- an argument that is a value and does not fit its parameter's type
+-- an argument that is a value does not fit the type at its position; this is its token
 pub data IsMisfit (w : World) (locals : Locals) : ArgumentTrees → List PlainType → ℕ → Type 0 where
   this_argument : {e : ExprTree} {c : Option ℕ} {rest : ArgumentTrees} {t : PlainType} {ts : List PlainType} {k : Kind} {a : Bool} →
       HasMeaning w locals e (Value k a) → (Fits w k t → ⊥) →
@@ -54,19 +56,20 @@ pub data IsMisfit (w : World) (locals : Locals) : ArgumentTrees → List PlainTy
   other_argument : {e : ExprTree} {c : Option ℕ} {rest : ArgumentTrees} {t : PlainType} {ts : List PlainType} {p : ℕ} → IsMisfit w locals rest ts p →
       IsMisfit w locals (tree.argument e c rest) (t ∷ ts) p
 
--- an argument that is a value and does not fit the type of all
+-- an argument that is a value does not fit type t; this is its token
 pub data IsMisfitOf (w : World) (locals : Locals) (t : PlainType) : ArgumentTrees → ℕ → Type 0 where
   this_value : {e : ExprTree} {c : Option ℕ} {rest : ArgumentTrees} {k : Kind} {a : Bool} → HasMeaning w locals e (Value k a) → (Fits w k t → ⊥) →
       IsMisfitOf w locals t (tree.argument e c rest) (place_of e)
   other_value : {e : ExprTree} {c : Option ℕ} {rest : ArgumentTrees} {p : ℕ} → IsMisfitOf w locals t rest p → IsMisfitOf w locals t (tree.argument e c rest) p
 
--- as many arguments as types
+-- there are as many arguments as types
 pub data AreAsMany : ArgumentTrees → List PlainType → Type 0 where
   no_more : AreAsMany tree.no_argument []
   one_more : {e : ExprTree} {c : Option ℕ} {rest : ArgumentTrees} {t : PlainType} {ts : List PlainType} → AreAsMany rest ts →
       AreAsMany (tree.argument e c rest) (t ∷ ts)
 
--- an argument that does not fit, where there are as many as parameters; a value that does not fit the slice that it is appended to
+-- A call of an operand of this meaning has an argument, at this token, that does not fit: a function's with the right count, or one of
+-- `append` that does not fit the elements of the slice.
 pub data Misfits (w : World) (locals : Locals) : Meaning → ArgumentTrees → ℕ → Type 0 where
   no_fit : {s : Signature} {xs : ArgumentTrees} {p : ℕ} → AreAsMany xs s.parameters → IsMisfit w locals xs s.parameters p → Misfits w locals (Function s) xs p
   no_element : {e : ExprTree} {c : Option ℕ} {xs : ArgumentTrees} {t u : PlainType} {a : Bool} {p : ℕ} → HasMeaning w locals e (Value (Typed t) a) →
@@ -75,43 +78,43 @@ pub data Misfits (w : World) (locals : Locals) : Meaning → ArgumentTrees → �
 
 -- Expressions
 
--- neither a value nor the name of a package: no selector stands behind it
+-- m is the meaning neither of a value nor of a package: no selector may follow it
 abbrev pub IsNoOperand : Meaning → Type 0
 IsNoOperand m = IsNoValue m × (m ≡ Package → ⊥)
 
--- the name of a package, or a call without exactly one result: it cannot be called
+-- the name of a package, or a call without exactly one result: neither may be called
 pub data IsNoCallee : Meaning → Type 0 where
   a_package : IsNoCallee Package
   a_call : {ts : List PlainType} → IsNoCallee (Results ts)
 
--- what an operand means; none where that is not asked, since it means nothing
+-- a meaning of operand e, or none, for an operand whose meaning is left open
 pub data IsOperand (w : World) (locals : Locals) (e : ExprTree) : Option Meaning → Type 0 where
   meant : {m : Meaning} → HasMeaning w locals e m → IsOperand w locals e (Some m)
   unmeant : IsOperand w locals e None
 
--- a key of a struct literal: a field that no earlier key named
+-- the key at token `key` of a struct literal is a field with symbol and type, which no earlier key named
 pub data IsKey (w : World) (t : PlainType) (named : List ℕ) (key : ℕ) : Symbol → PlainType → Type 0 where
   of_field : {owner s : Symbol} {u : PlainType} → underlying w t ≡ Struct owner → w.member key t ≡ Some (AField s u) → IsNew s.rank named →
       IsKey w t named key s u
 
--- a key that is a broken method of a struct
+-- the key at token `key` of a struct literal is a method whose signature is broken
 pub data IsBrokenKey (w : World) (t : PlainType) (key : ℕ) : Type 0 where
   of_method : {owner s : Symbol} → underlying w t ≡ Struct owner → w.member key t ≡ Some (ABrokenMethod s) → IsBrokenKey w t key
 
--- elements, each with a value
+-- each element is a value
 pub data HaveValues (w : World) (locals : Locals) : ElementTrees → Type 0 where
   no_value_left : HaveValues w locals tree.no_element
   one_value_more : {key : Option (ℕ × ℕ)} {e : ExprTree} {c : Option ℕ} {rest : ElementTrees} {k : Kind} {a : Bool} → HasMeaning w locals e (Value k a) →
       HaveValues w locals rest →
       HaveValues w locals (tree.element key e c rest)
 
--- an element without a key
+-- an element has no key
 pub data HasUnkeyed : ElementTrees → Type 0 where
   this_unkeyed : {e : ExprTree} {c : Option ℕ} {rest : ElementTrees} → HasUnkeyed (tree.element None e c rest)
   other_unkeyed : {key : Option (ℕ × ℕ)} {e : ExprTree} {c : Option ℕ} {rest : ElementTrees} → HasUnkeyed rest → HasUnkeyed (tree.element key e c rest)
 
 mutual
-  -- a fault in the expression, at that token
+  -- the expression has a fault at this token
   pub data HasFault (w : World) (locals : Locals) : ExprTree → ℕ → Type 0 where
     in_composite : {l : LiteralTree} {p : ℕ} → LiteralHasFault w locals l p → HasFault w locals (tree.Composite l) p
     in_address : {q p : ℕ} {l : LiteralTree} → LiteralHasFault w locals l p → HasFault w locals (tree.Address q l) p
@@ -126,12 +129,13 @@ mutual
     in_operands : {e : ExprTree} {rest : OperandTrees} {m : Option Meaning} {p : ℕ} → IsOperand w locals e m →
         OperandsHaveFault w locals (first_token e) m rest p → HasFault w locals (tree.Binary e rest) p
 
-  -- an expression that stands where a value is wanted: a fault in it; or it is no value
+  -- the expression, where a value is required, has a fault at this token: a part of it has one, or it is no value
   pub data ValueHasFault (w : World) (locals : Locals) : ExprTree → ℕ → Type 0 where
     in_value : {e : ExprTree} {p : ℕ} → HasFault w locals e p → ValueHasFault w locals e p
     no_value : {e : ExprTree} {m : Meaning} → HasMeaning w locals e m → IsNoValue m → ValueHasFault w locals e (place_of e)
 
-  -- links of a chain that begins at the first place, behind an operand that stands at the second
+  -- Links have a fault at the last token. The chain begins at the first token, and the operand before the links has the given meaning and
+  -- reports its faults at the second.
   pub data LinksHaveFault (w : World) (locals : Locals) : ℕ → ℕ → Option Meaning → LinkTrees → ℕ → Type 0 where
     no_member : {start place d n : ℕ} {rest : LinkTrees} {k : Kind} {a : Bool} → ((s : Meaning) → Selects w locals (Value k a) n s → ⊥) →
         (SelectsBroken w locals (Value k a) n → ⊥) →
@@ -172,7 +176,8 @@ mutual
     behind_no_call : {start place o c p : ℕ} {xs : ArgumentTrees} {rest : LinkTrees} {m : Option Meaning} →
         LinksHaveFault w locals start start None rest p → LinksHaveFault w locals start place m (tree.call o xs c rest) p
 
-  -- operators of an operation that begins at the place, with their operands, behind an operand
+  -- Operators and operands have a fault at the last token. The operation begins at the first token, and its part before them has the given
+  -- meaning.
   pub data OperandsHaveFault (w : World) (locals : Locals) : ℕ → Option Meaning → OperandTrees → ℕ → Type 0 where
     in_operand : {start q p : ℕ} {o : BinaryOp} {e : ExprTree} {rest : OperandTrees} {m : Option Meaning} → ValueHasFault w locals e p →
         OperandsHaveFault w locals start m (tree.operand o q e rest) p
@@ -186,11 +191,13 @@ mutual
         OperandsHaveFault w locals start None rest p →
         OperandsHaveFault w locals start m (tree.operand o q e rest) p
 
+  -- one of the arguments has a fault at this token
   pub data ArgumentsHaveFault (w : World) (locals : Locals) : ArgumentTrees → ℕ → Type 0 where
     in_this : {e : ExprTree} {c : Option ℕ} {rest : ArgumentTrees} {p : ℕ} → ValueHasFault w locals e p → ArgumentsHaveFault w locals (tree.argument e c rest) p
     in_other : {e : ExprTree} {c : Option ℕ} {rest : ArgumentTrees} {p : ℕ} → ArgumentsHaveFault w locals rest p →
         ArgumentsHaveFault w locals (tree.argument e c rest) p
 
+  -- the literal has a fault at this token
   pub data LiteralHasFault (w : World) (locals : Locals) : LiteralTree → ℕ → Type 0 where
     in_type : {x : TypeTree} {o c p : ℕ} {es : ElementTrees} → IsNoType w x p → LiteralHasFault w locals (tree.literal x o es c) p
     in_untyped : {x : TypeTree} {o c p : ℕ} {es : ElementTrees} → ValuesHaveFault w locals es p → LiteralHasFault w locals (tree.literal x o es c) p
@@ -202,14 +209,14 @@ mutual
         ((s : Symbol) → underlying w t ≡ Struct s → ⊥) → ((u : PlainType) → underlying w t ≡ SliceOf u → ⊥) →
         LiteralHasFault w locals (tree.literal x o es c) (first_of_type x)
 
-  -- the values of elements, in a literal whose type is broken
+  -- the value of an element, in a literal whose type is broken, has a fault at this token
   pub data ValuesHaveFault (w : World) (locals : Locals) : ElementTrees → ℕ → Type 0 where
     this_element : {key : Option (ℕ × ℕ)} {e : ExprTree} {c : Option ℕ} {rest : ElementTrees} {p : ℕ} → ValueHasFault w locals e p →
         ValuesHaveFault w locals (tree.element key e c rest) p
     other_element : {key : Option (ℕ × ℕ)} {e : ExprTree} {c : Option ℕ} {rest : ElementTrees} {p : ℕ} → ValuesHaveFault w locals rest p →
         ValuesHaveFault w locals (tree.element key e c rest) p
 
-  -- elements of a literal of that type, behind keys of the fields of these ranks
+  -- an element, in a literal of the given type where earlier keys named the fields of the given ranks, has a fault at this token
   pub data ElementsHaveFault (w : World) (locals : Locals) : PlainType → List ℕ → ElementTrees → ℕ → Type 0 where
     in_element : {t : PlainType} {named : List ℕ} {key : Option (ℕ × ℕ)} {e : ExprTree} {c : Option ℕ} {rest : ElementTrees} {p : ℕ} →
         ValueHasFault w locals e p →

@@ -1,4 +1,4 @@
--- What values are given to: new names, operands, and the results of a function; and the locals that new names declare.
+-- The rules of giving values to targets (new names, variables and results), and the locals that new names declare.
 use Rattle.std.specs.Prelude.{ℕ, Bool, List, [], ◌∷◌, Option, Some, None, map}
 use Rattle.go_ast.specs.Tree.{Item, ExprTree}
 use Rattle.types_expr.specs.declared.types.Basic.{Basic}
@@ -7,39 +7,40 @@ use Rattle.types_expr.specs.World.{World, Locals, declared}
 use Rattle.law_typing.specs.Fits.{Fits}
 use Rattle.law_typing.specs.Meanings.{HasMeaning}
 
--- the type that a name without a written type takes from a value: the value's own, or the default of its kind; nil gives none
+-- a name without a written type takes type t from a value of kind k: the value's own type, or the default type of a constant; nil gives
+-- none
 pub data GivesType : Kind → PlainType → Type 0 where
   own : {t : PlainType} → GivesType (Typed t) t
   by_default : {b : Basic} → GivesType (Untyped b) (BasicType b)
 
--- what takes a value: a new name or `_`, without a type of its own; a variable, a name or a result of that type
+-- A target of a value: `Fresh`, a new name or `_`, has no type of its own. A variable, a name with a written type, or a result has one.
 pub data Taker : Type 0 where
   Fresh : Taker
   OfType : PlainType → Taker
 
--- a value that a new name can have; a value that fits the type
+-- a target takes a value of kind k: a new name can have it, or it fits the target's type
 pub data Takes (w : World) : Kind → Taker → Type 0 where
   fresh : {k : Kind} {t : PlainType} → GivesType k t → Takes w k Fresh
   fitting : {k : Kind} {t : PlainType} → Fits w k t → Takes w k (OfType t)
 
--- as many values as takers, each taken by the one in its place
+-- there are as many values as targets, and each value is taken by the target at its position
 pub data TakenInTurn (w : World) : List Kind → List Taker → Type 0 where
   none_given : TakenInTurn w [] []
   also_given : {k : Kind} {t : Taker} {ks : List Kind} {ts : List Taker} → Takes w k t → TakenInTurn w ks ts → TakenInTurn w (k ∷ ks) (t ∷ ts)
 
--- expressions each of which is a value
+-- each expression is one value, of the kind at its position
 pub data AreEach (w : World) (locals : Locals) : List (Item ExprTree) → List Kind → Type 0 where
   no_expression : AreEach w locals [] []
   also_value : {i : Item ExprTree} {is : List (Item ExprTree)} {k : Kind} {a : Bool} {ks : List Kind} → HasMeaning w locals i.value (Value k a) →
       AreEach w locals is ks → AreEach w locals (i ∷ is) (k ∷ ks)
 
--- right sides, or what is returned: values; or one call without exactly one result, for so many
+-- right sides or returned expressions give values of these kinds: one each; or they are a single call, which gives its results
 pub data Give (w : World) (locals : Locals) : List (Item ExprTree) → List Kind → Type 0 where
   values : {is : List (Item ExprTree)} {ks : List Kind} → AreEach w locals is ks → Give w locals is ks
   results : {i : Item ExprTree} {ts : List PlainType} → HasMeaning w locals i.value (Results ts) → Give w locals (i ∷ []) (map Typed ts)
 
--- Names in turn, where a name that declares a local is told by its place and any other is none: the locals before, the names,
--- the values that they are given, the locals behind.
+-- Names declare locals whose types they take from values: the locals before, the names, the kinds of the values, the locals after. A name
+-- is given by its token, and is none where it declares no local.
 pub data Declare : Locals → List (Option ℕ) → List Kind → Locals → Type 0 where
   no_name : {before : Locals} → Declare before [] [] before
   no_local : {before after : Locals} {k : Kind} {ns : List (Option ℕ)} {ks : List Kind} → Declare before ns ks after → Declare before (None ∷ ns) (k ∷ ks) after
@@ -47,7 +48,7 @@ pub data Declare : Locals → List (Option ℕ) → List Kind → Locals → Typ
       Declare (declared before p (Some t)) ns ks after →
       Declare before (Some p ∷ ns) (k ∷ ks) after
 
--- the same for names of one written type
+-- names declare locals of the written type t: the locals before, the names, the locals after
 pub data DeclareAs (t : PlainType) : Locals → List (Option ℕ) → Locals → Type 0 where
   no_name_left : {before : Locals} → DeclareAs t before [] before
   not_named : {before after : Locals} {ns : List (Option ℕ)} → DeclareAs t before ns after → DeclareAs t before (None ∷ ns) after

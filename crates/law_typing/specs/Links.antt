@@ -1,4 +1,4 @@
--- What stands behind an operand: selectors, indexes and calls.
+-- The rules of links: selectors, index expressions and calls, after an operand.
 use Rattle.std.specs.Prelude.{◌≡◌, ℕ, Bool, false, true, List, [], ◌∷◌, Some}
 use Rattle.types_expr.specs.declared.types.Basic.{Basic}
 use Rattle.types_expr.specs.declared.types.Basic.TheVariants as basic
@@ -11,8 +11,9 @@ use Rattle.law_typing.specs.Fits.{Converts, FitInTurn, EachFits}
 use Rattle.law_typing.specs.Operators.{IsOf}
 use Rattle.law_typing.specs.Names.{NameMeans}
 
--- An operand, the name behind its dot, and what that selects: a field, which is a variable through a pointer and else where the
--- operand is one; a method of T on a T or `*T`; a method of `*T` on a `*T` or on a variable; what a package has by that name.
+-- The selector at this token, after an operand of the first meaning, has the second. A field is addressable where the operand is, and
+-- always through a pointer. A method of T is selected from a T or `*T`; a method of `*T` from a `*T` or an addressable T. After a package
+-- it is a qualified identifier.
 pub data Selects (w : World) (locals : Locals) : Meaning → ℕ → Meaning → Type 0 where
   field : {t u : PlainType} {a : Bool} {name : ℕ} {s : Symbol} → w.member name t ≡ Some (AField s u) →
       ((target : PlainType) → underlying w t ≡ PointerTo target → ⊥) →
@@ -28,28 +29,29 @@ pub data Selects (w : World) (locals : Locals) : Meaning → ℕ → Meaning →
       Selects w locals (Value (Typed t) true) name (Function signature)
   of_package : {name : ℕ} {m : Meaning} → NameMeans w locals name m → Selects w locals Package name m
 
--- an operand, the index behind it, and what that selects: a variable, the element of a slice
+-- An index of this kind, after an operand of the first meaning, gives the second: an int gives the element of a slice, which is
+-- addressable.
 pub data Indexes (w : World) : Meaning → Kind → Meaning → Type 0 where
   element : {t u : PlainType} {a : Bool} {i : Kind} → underlying w t ≡ SliceOf u → IsOf w i basic.Int → Indexes w (Value (Typed t) a) i (Value (Typed u) true)
 
--- what a call of a function with such results is: a value where it has one result
+-- a call of a function with these results has this meaning: a value, where it has exactly one result
 pub data Gives : List PlainType → Meaning → Type 0 where
   nothing : Gives [] (Results [])
   one : {t : PlainType} → Gives (t ∷ []) (Value (Typed t) false)
   several : {t u : PlainType} {ts : List PlainType} → Gives (t ∷ u ∷ ts) (Results (t ∷ u ∷ ts))
 
--- a string or a slice
+-- `len` takes a value of kind k: a string or a slice
 pub data HasLength (w : World) : Kind → Type 0 where
   a_string : {k : Kind} → IsOf w k basic.String → HasLength w k
   a_slice : {t u : PlainType} → underlying w t ≡ SliceOf u → HasLength w (Typed t)
 
--- bools, ints and strings
+-- `print` and `println` take values of these kinds: bools, ints and strings
 pub data ArePrinted (w : World) : List Kind → Type 0 where
   none : ArePrinted w []
   also : {k : Kind} {b : Basic} {ks : List Kind} → IsOf w k b → ArePrinted w ks → ArePrinted w (k ∷ ks)
 
--- An operand, the values that it is called with, and what the call is: functions and methods with as many arguments as
--- parameters, each of which fits; a conversion of one value; the predeclared functions.
+-- A call of an operand of the first meaning, with values of these kinds, has the second meaning. A function or method has as many arguments
+-- as parameters, each of which fits. A conversion has one value. The predeclared functions have rules of their own.
 pub data Calls (w : World) : Meaning → List Kind → Meaning → Type 0 where
   function : {s : Signature} {ks : List Kind} {m : Meaning} → FitInTurn w ks s.parameters → Gives s.results m → Calls w (Function s) ks m
   conversion : {k : Kind} {t : PlainType} → Converts w k t → Calls w (TypeName t) (k ∷ []) (Value (Typed t) false)

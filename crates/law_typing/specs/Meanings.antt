@@ -1,5 +1,5 @@
--- What an expression means: the typing rules of the language, one constructor for each. An expression that breaks a rule, or uses
--- what is broken, means nothing.
+-- The meanings of expressions: the typing rules of the language, one constructor for each. An expression that breaks a rule, or uses
+-- something broken, has no meaning.
 use Rattle.std.specs.Prelude.{◌≡◌, ℕ, Bool, false, List, [], ◌∷◌, Option, Some, None}
 use Rattle.go_ast.specs.declared.syntax.BinaryOp.{BinaryOp}
 use Rattle.go_ast.specs.declared.syntax.PrefixOp.{PrefixOp}
@@ -14,12 +14,13 @@ use Rattle.law_typing.specs.Operators.{Operates, Prefixes}
 use Rattle.law_typing.specs.Names.{NameMeans, IsType}
 use Rattle.law_typing.specs.Links.{Selects, Indexes, Calls}
 
--- a field that no earlier key named, by its rank
+-- no earlier key named the field of this rank: it is not in the list
 pub data IsNew (rank : ℕ) : List ℕ → Type 0 where
   first : IsNew rank []
   after : {other : ℕ} {others : List ℕ} → (rank ≡ other → ⊥) → IsNew rank others → IsNew rank (other ∷ others)
 
 mutual
+  -- expression e has this meaning
   pub data HasMeaning (w : World) (locals : Locals) : ExprTree → Meaning → Type 0 where
     number : {p : ℕ} → HasMeaning w locals (tree.Number p) (Value (Untyped basic.Int) false)
     text : {p : ℕ} → HasMeaning w locals (tree.Text p) (Value (Untyped basic.String) false)
@@ -35,7 +36,7 @@ mutual
         CombinesTo w locals (Value k a) rest r →
         HasMeaning w locals (tree.Binary e rest) r
 
-  -- an operand that means the first, with these links behind it
+  -- an operand of the first meaning, followed by these links, has the second meaning
   pub data LeadsTo (w : World) (locals : Locals) : Meaning → LinkTrees → Meaning → Type 0 where
     no_link : {m : Meaning} → LeadsTo w locals m tree.no_link m
     selector : {d n : ℕ} {rest : LinkTrees} {m s r : Meaning} → Selects w locals m n s → LeadsTo w locals s rest r →
@@ -47,21 +48,21 @@ mutual
         LeadsTo w locals s rest r →
         LeadsTo w locals m (tree.call o arguments c rest) r
 
-  -- a value that is the first, with these operators and operands behind it, from left to right
+  -- a value of the first meaning, followed by these operators and operands, combines from left to right to the second meaning
   pub data CombinesTo (w : World) (locals : Locals) : Meaning → OperandTrees → Meaning → Type 0 where
     no_operand : {m : Meaning} → CombinesTo w locals m tree.no_operand m
     operand : {o : BinaryOp} {p : ℕ} {e : ExprTree} {rest : OperandTrees} {j k l : Kind} {a b : Bool} {r : Meaning} → HasMeaning w locals e (Value k b) →
         Operates w o j k l →
         CombinesTo w locals (Value l false) rest r → CombinesTo w locals (Value j a) (tree.operand o p e rest) r
 
-  -- arguments, each of which is a value
+  -- each argument is a value, of the kind at its position
   pub data AreValues (w : World) (locals : Locals) : ArgumentTrees → List Kind → Type 0 where
     no_argument : AreValues w locals tree.no_argument []
     argument : {e : ExprTree} {c : Option ℕ} {rest : ArgumentTrees} {k : Kind} {a : Bool} {ks : List Kind} → HasMeaning w locals e (Value k a) →
         AreValues w locals rest ks →
         AreValues w locals (tree.argument e c rest) (k ∷ ks)
 
-  -- a literal of a struct, with keys; a literal of a slice, without
+  -- the literal is one of type t: a struct's, with keys, or a slice's, without keys
   pub data IsLiteralOf (w : World) (locals : Locals) : LiteralTree → PlainType → Type 0 where
     struct_literal : {x : TypeTree} {o c : ℕ} {es : ElementTrees} {t : PlainType} {s : Symbol} → IsType w x t → underlying w t ≡ Struct s →
         AreFields w locals t [] es →
@@ -69,7 +70,8 @@ mutual
     slice_literal : {x : TypeTree} {o c : ℕ} {es : ElementTrees} {t u : PlainType} → IsType w x t → underlying w t ≡ SliceOf u → AreElements w locals u es →
         IsLiteralOf w locals (tree.literal x o es c) t
 
-  -- elements of a struct of type t behind keys of the fields of these ranks: different fields, each with a value that fits
+  -- The elements of a literal of struct type t are typed, after keys that named the fields of these ranks. Each has a key that is a new
+  -- field, and a value that fits the field.
   pub data AreFields (w : World) (locals : Locals) : PlainType → List ℕ → ElementTrees → Type 0 where
     no_field : {t : PlainType} {named : List ℕ} → AreFields w locals t named tree.no_element
     field : {t u : PlainType} {named : List ℕ} {key : ℕ × ℕ} {e : ExprTree} {c : Option ℕ} {rest : ElementTrees} {s : Symbol} {k : Kind} {a : Bool} →
@@ -77,7 +79,7 @@ mutual
         AreFields w locals t (s.rank ∷ named) rest →
         AreFields w locals t named (tree.element (Some key) e c rest)
 
-  -- elements of a slice, each a value that fits
+  -- the elements of a slice literal are typed: none has a key, and each is a value that fits the element type
   pub data AreElements (w : World) (locals : Locals) : PlainType → ElementTrees → Type 0 where
     no_element : {u : PlainType} → AreElements w locals u tree.no_element
     element : {u : PlainType} {e : ExprTree} {c : Option ℕ} {rest : ElementTrees} {k : Kind} {a : Bool} → HasMeaning w locals e (Value k a) → Fits w k u →

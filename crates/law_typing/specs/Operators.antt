@@ -1,4 +1,4 @@
--- Which operands an operator takes, and what it makes of them.
+-- The rules of operators: which operands each takes, and the kind or meaning of the result.
 use Rattle.std.specs.Prelude.{◌≡◌, ◌⊎◌, false, true}
 use Rattle.go_ast.specs.declared.syntax.BinaryOp.{BinaryOp}
 use Rattle.go_ast.specs.declared.syntax.BinaryOp.TheVariants as op
@@ -10,50 +10,56 @@ use Rattle.types_expr.specs.Types.{PlainType, Plain, PointerTo, Kind, Typed, Unt
 use Rattle.types_expr.specs.World.{World, underlying}
 use Rattle.law_typing.specs.Fits.{Fits}
 
--- a value of that underlying type, or of that kind where it has no type
+-- a value of kind k has the basic type b: as its underlying type, or as the kind of an untyped constant
 pub data IsOf (w : World) : Kind → Basic → Type 0 where
   by_type : {t : PlainType} {b : Basic} → underlying w t ≡ Plain b → IsOf w (Typed t) b
   by_kind : {b : Basic} → IsOf w (Untyped b) b
 
+-- a value of kind k has no type: an untyped constant or nil
 pub data IsUntyped : Kind → Type 0 where
   a_constant : {b : Basic} → IsUntyped (Untyped b)
   a_nil : IsUntyped Nil
 
--- Two operands that go together, and what they have in common: both of one type; one without a type that fits the other's
--- type; both of one kind without a type.
+-- Two operands, of the first two kinds, have the third in common. Both have one type; or one has no type and fits the type of the other; or
+-- both have one kind and no type.
 pub data GoTogether (w : World) : Kind → Kind → Kind → Type 0 where
   of_one_type : {t : PlainType} → GoTogether w (Typed t) (Typed t) (Typed t)
   right_fits : {t : PlainType} {k : Kind} → IsUntyped k → Fits w k t → GoTogether w (Typed t) k (Typed t)
   left_fits : {t : PlainType} {k : Kind} → IsUntyped k → Fits w k t → GoTogether w k (Typed t) (Typed t)
   of_one_kind : {k : Kind} → IsUntyped k → GoTogether w k k k
 
+-- the operator is `-`, `*`, `/` or `%`
 pub data IsArithmetic : BinaryOp → Type 0 where
   minus : IsArithmetic op.Subtract
   times : IsArithmetic op.Multiply
   divided : IsArithmetic op.Divide
   remainder : IsArithmetic op.Remainder
 
+-- the operator is `<`, `<=`, `>` or `>=`
 pub data IsOrder : BinaryOp → Type 0 where
   less : IsOrder op.Less
   less_or_equal : IsOrder op.LessEqual
   greater : IsOrder op.Greater
   greater_or_equal : IsOrder op.GreaterEqual
 
+-- the operator is `==` or `!=`
 pub data IsEquality : BinaryOp → Type 0 where
   equal : IsEquality op.Equal
   not_equal : IsEquality op.NotEqual
 
+-- the operator is `&&` or `||`
 pub data IsLogic : BinaryOp → Type 0 where
   and : IsLogic op.And
   or : IsLogic op.Or
 
--- bools, ints, strings and pointers
+-- values of kind k are comparable: bools, ints, strings and pointers
 pub data IsComparable (w : World) : Kind → Type 0 where
   a_basic : {k : Kind} {b : Basic} → IsOf w k b → IsComparable w k
   a_pointer : {t target : PlainType} → underlying w t ≡ PointerTo target → IsComparable w (Typed t)
 
--- An operator, its two operands, and the kind of its result: `+` on ints and strings; `- * / %` on ints; `< <= > >=` on ints and
--- strings; `&& ||` on bools; `== !=` on what is comparable, and on a pointer or slice and nil.
+-- A binary operation on operands of the first two kinds has a result of the third. `+` takes ints and strings; `-`, `*`, `/`, `%` take
+-- ints. `<`, `<=`, `>`, `>=` take ints and strings; `&&` and `||` take bools. `==` and `!=` take comparable values, and a pointer or slice
+-- with nil.
 pub data Operates (w : World) : BinaryOp → Kind → Kind → Kind → Type 0 where
   adds : {a b k : Kind} → GoTogether w a b k → IsOf w k basic.Int ⊎ IsOf w k basic.String → Operates w op.Add a b k
   computes : {o : BinaryOp} {a b k : Kind} → IsArithmetic o → GoTogether w a b k → IsOf w k basic.Int → Operates w o a b k
@@ -63,7 +69,8 @@ pub data Operates (w : World) : BinaryOp → Kind → Kind → Kind → Type 0 w
   compares_with_nil : {o : BinaryOp} {t : PlainType} → IsEquality o → Fits w Nil t → Operates w o (Typed t) Nil (Untyped basic.Bool)
   compares_nil_with : {o : BinaryOp} {t : PlainType} → IsEquality o → Fits w Nil t → Operates w o Nil (Typed t) (Untyped basic.Bool)
 
--- A prefix operator, its operand, and what it makes of it: `+ -` on ints, `!` on bools, `*` on pointers, which gives a variable.
+-- A prefix operation on an operand of kind k has this meaning. `+` and `-` take ints, `!` takes bools. `*` takes pointers, and gives an
+-- addressable value.
 pub data Prefixes (w : World) : PrefixOp → Kind → Meaning → Type 0 where
   plus : {k : Kind} → IsOf w k basic.Int → Prefixes w sign.Plus k (Value k false)
   negates : {k : Kind} → IsOf w k basic.Int → Prefixes w sign.Minus k (Value k false)

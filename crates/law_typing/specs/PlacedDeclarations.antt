@@ -1,4 +1,5 @@
--- Where a function, a declaration of a package or a file breaks a rule though its parts break none.
+-- The tokens at which a function, a package-level declaration or a file breaks a typing rule, though the parts of the broken part break
+-- none.
 use Rattle.std.specs.Prelude.{◌≡◌, ℕ, Bool, true, List, [], ◌∷◌, Option, Some, None, length}
 use Rattle.go_ast.specs.Tree.{Item, Group, BasicTree, Integer, String, TypeTree, ReceiverTree, ParamTree, ResultTree, FuncTree, GlobalTree, FieldTree}
 use Rattle.go_ast.specs.Tree.{BodyTree, TypeSpecTree, DeclTree, FileTree}
@@ -18,34 +19,39 @@ use Rattle.law_typing.specs.PlacedStatements.{BlockBreaksAt}
 
 -- Functions
 
--- a name that may be no receiver's, and is not that of a broken type
+-- a receiver breaks a rule, at its type's name: it denotes no type that may have methods, and no broken type
 pub data ReceiverBreaksAt (w : World) : Locals → ReceiverTree → ℕ → Type 0 where
   no_receiver : {before : Locals} {r : ReceiverTree} → ((s : Symbol) → MayReceive w r.type_name s → ⊥) → (w.bound r.type_name ≡ BrokenType → ⊥) →
       ReceiverBreaksAt w before r r.type_name
 
+-- parameters break a rule at this token: no type is written there
 pub data ParamBreaksAt (w : World) : Locals → ParamTree → ℕ → Type 0 where
   in_param : {before : Locals} {x : ParamTree} {p : ℕ} → IsNoType w x.type_use p → ParamBreaksAt w before x p
 
--- the types of results, of which a broken one has none
+-- the types of written types; a broken one has none
 pub data AreWritten (w : World) : List (Item TypeTree) → List (Option PlainType) → Type 0 where
   no_type_left : AreWritten w [] []
   also_written : {i : Item TypeTree} {is : List (Item TypeTree)} {t : Option PlainType} {ts : List (Option PlainType)} → IsWritten w i.value t →
       AreWritten w is ts → AreWritten w (i ∷ is) (t ∷ ts)
 
+-- the types of a function's results; a broken one has none
 pub data ResultsAre (w : World) : ResultTree → List (Option PlainType) → Type 0 where
   none_written : ResultsAre w tree.no_result []
   one_written : {x : TypeTree} {t : Option PlainType} → IsWritten w x t → ResultsAre w (tree.one_result x) (t ∷ [])
   several_written : {o c : ℕ} {is : List (Item TypeTree)} {ts : List (Option PlainType)} → AreWritten w is ts → ResultsAre w (tree.results o is c) ts
 
+-- one of the written types denotes no type, at this token
 pub data AnyIsNoType (w : World) : List (Item TypeTree) → ℕ → Type 0 where
   this_type : {i : Item TypeTree} {is : List (Item TypeTree)} {p : ℕ} → IsNoType w i.value p → AnyIsNoType w (i ∷ is) p
   later_type : {i : Item TypeTree} {is : List (Item TypeTree)} {p : ℕ} → AnyIsNoType w is p → AnyIsNoType w (i ∷ is) p
 
+-- a result breaks a rule at this token: no type is written there
 pub data ResultBreaksAt (w : World) : ResultTree → ℕ → Type 0 where
   in_one_result : {x : TypeTree} {p : ℕ} → IsNoType w x p → ResultBreaksAt w (tree.one_result x) p
   in_results : {o c p : ℕ} {is : List (Item TypeTree)} → AnyIsNoType w is p → ResultBreaksAt w (tree.results o is c) p
 
--- is_init: whether the function's name is `init`; such a one without a receiver has neither parameters nor results
+-- A function breaks a rule at this token. is_init: whether its name is `init`; such a function without a receiver has neither parameters
+-- nor results.
 pub data FunctionBreaksAt (w : World) (is_init : Bool) : Locals → FuncTree → ℕ → Type 0 where
   in_receiver : {before : Locals} {f : FuncTree} {p : ℕ} → BreaksIfPresent ReceiverTree (ReceiverBreaksAt w) before f.receiver p →
       FunctionBreaksAt w is_init before f p
@@ -60,14 +66,14 @@ pub data FunctionBreaksAt (w : World) (is_init : Bool) : Locals → FuncTree →
 
 -- Variables and types of a package
 
--- literals of which one does not fit the type
+-- one of the literals, at this token, does not fit type t
 pub data LiteralMisfits (w : World) (t : PlainType) : List (Item BasicTree) → ℕ → Type 0 where
   no_int : {i : Item BasicTree} {is : List (Item BasicTree)} {n : ℕ} → i.value ≡ Integer n → (Fits w (Untyped basic.Int) t → ⊥) → LiteralMisfits w t (i ∷ is) n
   no_string : {i : Item BasicTree} {is : List (Item BasicTree)} {n : ℕ} → i.value ≡ String n → (Fits w (Untyped basic.String) t → ⊥) →
       LiteralMisfits w t (i ∷ is) n
   later_literal : {i : Item BasicTree} {is : List (Item BasicTree)} {p : ℕ} → LiteralMisfits w t is p → LiteralMisfits w t (i ∷ is) p
 
--- a wrong count of literals is a fault also where the type is broken
+-- Package-level variables break a rule at this token. A wrong count of literals breaks one also where the type is broken.
 pub data GlobalBreaksAt (w : World) : Locals → GlobalTree → ℕ → Type 0 where
   in_global_type : {before : Locals} {g : GlobalTree} {p : ℕ} → IsNoType w g.type_use p → GlobalBreaksAt w before g p
   literal_misfit : {before : Locals} {g : GlobalTree} {t : PlainType} {v : ℕ × List (Item BasicTree)} {p : ℕ} → g.values ≡ Some v → IsType w g.type_use t →
@@ -75,29 +81,33 @@ pub data GlobalBreaksAt (w : World) : Locals → GlobalTree → ℕ → Type 0 w
   wrong_literals : {before : Locals} {g : GlobalTree} {v : ℕ × List (Item BasicTree)} → g.values ≡ Some v → (length v.1 ≡ length g.names → ⊥) →
       GlobalBreaksAt w before g (first_name g.names)
 
+-- the type of one of the fields breaks a rule at this token
 pub data FieldBreaksAt (w : World) : List (Item FieldTree) → ℕ → Type 0 where
   this_field : {i : Item FieldTree} {is : List (Item FieldTree)} {p : ℕ} → IsNoType w i.value.type_use p → FieldBreaksAt w (i ∷ is) p
   later_field : {i : Item FieldTree} {is : List (Item FieldTree)} {p : ℕ} → FieldBreaksAt w is p → FieldBreaksAt w (i ∷ is) p
 
+-- the type that a definition writes breaks a rule at this token
 pub data BodyBreaksAt (w : World) : BodyTree → ℕ → Type 0 where
   in_other : {x : TypeTree} {p : ℕ} → IsNoType w x p → BodyBreaksAt w (tree.Other x) p
   in_struct : {q o c p : ℕ} {is : List (Item FieldTree)} → FieldBreaksAt w is p → BodyBreaksAt w (tree.Struct q o is c) p
 
+-- a type definition breaks a rule at this token
 pub data TypeBreaksAt (w : World) : Locals → TypeSpecTree → ℕ → Type 0 where
   in_type_body : {before : Locals} {t : TypeSpecTree} {p : ℕ} → BodyBreaksAt w t.body p → TypeBreaksAt w before t p
 
 -- Declarations and files
 
--- what declares no local
+-- a part that declares no local: the locals before and after it are equal
 pub data Stays (X : Type 0) : Locals → X → Locals → Type 0 where
   stays : {locals : Locals} {x : X} → Stays X locals x locals
 
+-- a declaration, and the locals before and after it
 pub data DeclLeads (w : World) : Locals → DeclTree → Locals → Type 0 where
   behind_variables : {locals : Locals} {p c : ℕ} {g : Group GlobalTree} → DeclLeads w locals (tree.VarDecl p g c) locals
   behind_types : {locals : Locals} {p c : ℕ} {g : Group TypeSpecTree} → DeclLeads w locals (tree.TypeDecl p g c) locals
   behind_one_function : {before after : Locals} {p c : ℕ} {f : FuncTree} → FunctionLeads w before f after → DeclLeads w before (tree.FuncDecl p f c) after
 
--- is_init: whether the name at a place is `init`
+-- A declaration breaks a rule at this token. is_init: whether the name at a token is `init`.
 pub data DeclBreaksAt (w : World) (is_init : ℕ → Bool) : Locals → DeclTree → ℕ → Type 0 where
   in_variables : {before : Locals} {q c p : ℕ} {g : Group GlobalTree} → BreaksInGroup GlobalTree (Stays GlobalTree) (GlobalBreaksAt w) before g p →
       DeclBreaksAt w is_init before (tree.VarDecl q g c) p
@@ -106,11 +116,12 @@ pub data DeclBreaksAt (w : World) (is_init : ℕ → Bool) : Locals → DeclTree
   in_function : {before : Locals} {q c p : ℕ} {f : FuncTree} → FunctionBreaksAt w (is_init f.name) before f p →
       DeclBreaksAt w is_init before (tree.FuncDecl q f c) p
 
+-- one of the declarations breaks a rule at this token
 pub data DeclsBreakAt (w : World) (is_init : ℕ → Bool) : Locals → List DeclTree → ℕ → Type 0 where
   this_decl : {before : Locals} {d : DeclTree} {ds : List DeclTree} {p : ℕ} → DeclBreaksAt w is_init before d p → DeclsBreakAt w is_init before (d ∷ ds) p
   later_decl : {before inside : Locals} {d : DeclTree} {ds : List DeclTree} {p : ℕ} → DeclLeads w before d inside → DeclsBreakAt w is_init inside ds p →
       DeclsBreakAt w is_init before (d ∷ ds) p
 
--- a fault in a file, at that token: in one of its declarations
+-- a file breaks a rule at this token: one of its declarations does
 pub data FileBreaksAt (w : World) (is_init : ℕ → Bool) (f : FileTree) : ℕ → Type 0 where
   in_file : {p : ℕ} → DeclsBreakAt w is_init no_locals f.decls p → FileBreaksAt w is_init f p

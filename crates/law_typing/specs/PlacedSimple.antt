@@ -1,5 +1,5 @@
--- Where a simple statement, a condition or a declaration of locals breaks a rule though its parts break none: one constructor for
--- each way to break one, and one for each part in which a fault can lie.
+-- The tokens at which a simple statement, condition or local declaration breaks a typing rule, though the parts of the broken part break
+-- none. There is one constructor for each way to break a rule, and one for each part in which a fault can be.
 use Rattle.std.specs.Prelude.{◌≡◌, ℕ, Bool, true, List, [], ◌∷◌, Option, Some, None, map}
 use Rattle.go_ast.specs.declared.syntax.BinaryOp.{BinaryOp}
 use Rattle.go_ast.specs.declared.syntax.StepOp.{StepOp}
@@ -22,38 +22,40 @@ use Rattle.law_typing.specs.Expressions.{BreaksAt, ValueBreaksAt}
 use Rattle.law_typing.specs.PlacedGiving.{SidesGive, AssignedTakes, DefinedTakes, EachTakes, taker_of, IsMisgiven}
 use Rattle.law_typing.specs.Leading.{IsWritten}
 
--- an operand that is to be assigned: a fault in it; or it cannot be assigned
+-- an operand that is assigned breaks a rule at this token: a part of it does, or it is not addressable
 pub data OperandBreaksAt (w : World) (locals : Locals) : ExprTree → ℕ → Type 0 where
   in_operand : {e : ExprTree} {p : ℕ} → BreaksAt w locals e p → OperandBreaksAt w locals e p
   not_assignable : {e : ExprTree} {m : Meaning} → HasMeaning w locals e m → ((k : Kind) → m ≡ Value k true → ⊥) → OperandBreaksAt w locals e (place_of e)
 
+-- a condition breaks a rule at this token: a part of it does, or it is no bool
 pub data ConditionBreaksAt (w : World) (locals : Locals) : ExprTree → ℕ → Type 0 where
   in_condition : {e : ExprTree} {p : ℕ} → ValueBreaksAt w locals e p → ConditionBreaksAt w locals e p
   no_bool : {e : ExprTree} {k : Kind} {a : Bool} → HasMeaning w locals e (Value k a) → (IsOf w k basic.Bool → ⊥) → ConditionBreaksAt w locals e (place_of e)
 
--- a lone right side: a fault in it; or it is neither a value nor a call of several results, or of none
+-- A single right side breaks a rule at this token: a part of it does, or it is neither a value nor a call with several results or none.
 pub data LoneBreaksAt (w : World) (locals : Locals) : ExprTree → ℕ → Type 0 where
   in_lone : {e : ExprTree} {p : ℕ} → BreaksAt w locals e p → LoneBreaksAt w locals e p
   gives_nothing : {e : ExprTree} {m : Meaning} → HasMeaning w locals e m → IsNoValue m → ((ts : List PlainType) → m ≡ Results ts → ⊥) →
       LoneBreaksAt w locals e (place_of e)
 
--- one of several expressions, each of which is to be such
+-- one of the expressions breaks a rule, by B, at this token
 pub data AnyBreaksAt (B : ExprTree → ℕ → Type 0) : List (Item ExprTree) → ℕ → Type 0 where
   this_one : {i : Item ExprTree} {is : List (Item ExprTree)} {p : ℕ} → B i.value p → AnyBreaksAt B (i ∷ is) p
   a_later_one : {i : Item ExprTree} {is : List (Item ExprTree)} {p : ℕ} → AnyBreaksAt B is p → AnyBreaksAt B (i ∷ is) p
 
--- right sides, or what is returned
+-- right sides or returned expressions break a rule at this token
 pub data SidesBreakAt (w : World) (locals : Locals) : List (Item ExprTree) → ℕ → Type 0 where
   alone : {i : Item ExprTree} {p : ℕ} → LoneBreaksAt w locals i.value p → SidesBreakAt w locals (i ∷ []) p
   one_of_several : {i j : Item ExprTree} {is : List (Item ExprTree)} {p : ℕ} → AnyBreaksAt (ValueBreaksAt w locals) (i ∷ j ∷ is) p →
       SidesBreakAt w locals (i ∷ j ∷ is) p
 
--- a left side of `:=` that declares no local: a fault in it; or it is a value, and no name
+-- A left side of `:=` that declares no local breaks a rule at this token: a part of it does, or it is a value but no name.
 pub data DefinedBreaksAt (w : World) (locals : Locals) : ExprTree → ℕ → Type 0 where
   in_old_name : {e : ExprTree} {p : ℕ} → (IsNewName w e → ⊥) → ValueBreaksAt w locals e p → DefinedBreaksAt w locals e p
   defines_no_name : {e : ExprTree} {k : Kind} {a : Bool} → ((p : ℕ) → e ≡ tree.Name p → ⊥) → HasMeaning w locals e (Value k a) →
       DefinedBreaksAt w locals e (place_of e)
 
+-- a simple statement breaks a rule at this token
 pub data SimpleBreaksAt (w : World) (locals : Locals) : SimpleTree → ℕ → Type 0 where
   in_alone : {e : ExprTree} {p : ℕ} → BreaksAt w locals e p → SimpleBreaksAt w locals (tree.Alone e) p
   no_statement : {e : ExprTree} {m : Meaning} → HasMeaning w locals e m → ((after : Locals) → SimpleIsTyped w locals (tree.Alone e) after → ⊥) →
@@ -74,6 +76,7 @@ pub data SimpleBreaksAt (w : World) (locals : Locals) : SimpleTree → ℕ → T
   no_definition : {xs ys : List (Item ExprTree)} {q p : ℕ} {vs : List Argued} {ts : List (Option Taker)} → SidesGive w locals ys vs →
       EachTakes (DefinedTakes w locals) xs ts → IsMisgiven w (first_of_exprs xs) vs ts p → SimpleBreaksAt w locals (tree.Define xs q ys) p
 
+-- a declaration of locals breaks a rule at this token
 pub data LocalBreaksAt (w : World) (locals : Locals) : LocalTree → ℕ → Type 0 where
   in_type : {l : LocalTree} {x : TypeTree} {p : ℕ} → l.type_use ≡ Some x → IsNoType w x p → LocalBreaksAt w locals l p
   in_values : {l : LocalTree} {v : ℕ × List (Item ExprTree)} {p : ℕ} → l.values ≡ Some v → SidesBreakAt w locals v.1 p → LocalBreaksAt w locals l p

@@ -1,5 +1,5 @@
--- Where a statement or a block breaks a rule though its parts break none. The parts before it need keep no rule: the locals are
--- those that they lead to.
+-- The tokens at which a statement or block breaks a typing rule, though the parts of the broken part break none. The statements before it
+-- need not be typed: the locals are those that they declare.
 use Rattle.std.specs.Prelude.{ℕ, List, Option, map}
 use Rattle.go_ast.specs.Tree.{Item, Group, ExprTree, SimpleTree, LocalTree, InitTree, ForTree, StatementTree, BlockTree, StatementTrees, IfTree, ElseTree}
 use Rattle.go_ast.specs.Tree as tree
@@ -12,9 +12,11 @@ use Rattle.law_typing.specs.Leading.{SimpleLeads, LocalLeads, InitLeads, HeaderL
 use Rattle.law_typing.specs.PlacedTurns.{BreaksInGroup, BreaksIfPresent}
 use Rattle.law_typing.specs.PlacedSimple.{ConditionBreaksAt, SidesBreakAt, SimpleBreaksAt, LocalBreaksAt}
 
+-- the statement before the condition of an `if` breaks a rule at this token
 pub data InitBreaksAt (w : World) : Locals → InitTree → ℕ → Type 0 where
   in_init : {before : Locals} {i : InitTree} {p : ℕ} → BreaksIfPresent SimpleTree (SimpleBreaksAt w) before i.simple p → InitBreaksAt w before i p
 
+-- the header of a `for` breaks a rule at this token
 pub data HeaderBreaksAt (w : World) : Locals → ForTree → ℕ → Type 0 where
   in_while : {before : Locals} {e : ExprTree} {p : ℕ} → ConditionBreaksAt w before e p → HeaderBreaksAt w before (tree.while e) p
   in_first : {before : Locals} {init post : Option SimpleTree} {condition : Option ExprTree} {o q p : ℕ} →
@@ -26,8 +28,9 @@ pub data HeaderBreaksAt (w : World) : Locals → ForTree → ℕ → Type 0 wher
       IfPresent SimpleTree (SimpleLeads w) before init entered → BreaksIfPresent SimpleTree (SimpleBreaksAt w) entered post p →
       HeaderBreaksAt w before (tree.clauses init o condition q post) p
 
--- statements of a function with those results, of which a broken one has no type
+-- results: the types of the function's results; a broken one has none
 mutual
+  -- a statement breaks a rule at this token
   pub data StatementBreaksAt (w : World) (results : List (Option PlainType)) : Locals → StatementTree → ℕ → Type 0 where
     in_declaration : {before : Locals} {q p : ℕ} {g : Group LocalTree} → BreaksInGroup LocalTree (LocalLeads w) (LocalBreaksAt w) before g p →
         StatementBreaksAt w results before (tree.Var q g) p
@@ -41,16 +44,19 @@ mutual
     no_return : {before : Locals} {q p : ℕ} {es : List (Item ExprTree)} {vs : List Argued} → SidesGive w before es vs →
         IsMisreturned w q vs (map taker_of results) p → StatementBreaksAt w results before (tree.Return q es) p
 
+  -- a block breaks a rule at this token
   pub data BlockBreaksAt (w : World) (results : List (Option PlainType)) : Locals → BlockTree → ℕ → Type 0 where
     in_block : {before : Locals} {o c p : ℕ} {ss : StatementTrees} → StatementsBreakAt w results before ss p →
         BlockBreaksAt w results before (tree.block o ss c) p
 
+  -- one of the statements breaks a rule at this token
   pub data StatementsBreakAt (w : World) (results : List (Option PlainType)) : Locals → StatementTrees → ℕ → Type 0 where
     this_statement : {before : Locals} {s : StatementTree} {q : Option ℕ} {rest : StatementTrees} {p : ℕ} → StatementBreaksAt w results before s p →
         StatementsBreakAt w results before (tree.statement s q rest) p
     later_statement : {before inside : Locals} {s : StatementTree} {q : Option ℕ} {rest : StatementTrees} {p : ℕ} → StatementLeads w before s inside →
         StatementsBreakAt w results inside rest p → StatementsBreakAt w results before (tree.statement s q rest) p
 
+  -- an `if` breaks a rule at this token
   pub data IfBreaksAt (w : World) (results : List (Option PlainType)) : Locals → IfTree → ℕ → Type 0 where
     before_condition : {before : Locals} {q p : ℕ} {init : Option InitTree} {e : ExprTree} {b : BlockTree} {otherwise : ElseTree} →
         BreaksIfPresent InitTree (InitBreaksAt w) before init p → IfBreaksAt w results before (tree.if_tree q init e b otherwise) p
@@ -64,6 +70,7 @@ mutual
         IfPresent InitTree (InitLeads w) before init entered → BlockLeads w entered b inside → ElseBreaksAt w results inside otherwise p →
         IfBreaksAt w results before (tree.if_tree q init e b otherwise) p
 
+  -- an `else` breaks a rule at this token
   pub data ElseBreaksAt (w : World) (results : List (Option PlainType)) : Locals → ElseTree → ℕ → Type 0 where
     in_else_if : {before : Locals} {q p : ℕ} {i : IfTree} → IfBreaksAt w results before i p → ElseBreaksAt w results before (tree.else_if q i) p
     in_else : {before : Locals} {q p : ℕ} {b : BlockTree} → BlockBreaksAt w results before b p → ElseBreaksAt w results before (tree.else_block q b) p

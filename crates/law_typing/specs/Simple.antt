@@ -18,12 +18,12 @@ use Rattle.law_typing.specs.Meanings.{HasMeaning}
 use Rattle.types_stmt.specs.Sides.{all_named}
 use Rattle.law_typing.specs.Giving.{Taker, Fresh, OfType, TakenInTurn, Give, Declare, DeclareAs}
 
--- a value of underlying bool
+-- a condition is typed: a value whose underlying type is bool
 pub data ConditionIsTyped (w : World) : Locals → ExprTree → Locals → Type 0 where
   a_condition : {locals : Locals} {e : ExprTree} {k : Kind} {a : Bool} → HasMeaning w locals e (Value k a) → IsOf w k basic.Bool →
       ConditionIsTyped w locals e locals
 
--- `+=` computes with `+`, and so its kin
+-- the assignment operator `op=` applies the binary operator op
 pub data Updates : UpdateOp → BinaryOp → Type 0 where
   by_sum : Updates update.Add binary.Add
   by_difference : Updates update.Subtract binary.Subtract
@@ -31,21 +31,21 @@ pub data Updates : UpdateOp → BinaryOp → Type 0 where
   by_quotient : Updates update.Divide binary.Divide
   by_remainder : Updates update.Remainder binary.Remainder
 
--- links that end in a call, and those before it
+-- the first links are the second ones, followed by a call
 pub data EndsInCall : LinkTrees → LinkTrees → Type 0 where
   the_call : {o c : ℕ} {xs : ArgumentTrees} → EndsInCall (tree.call o xs c tree.no_link) tree.no_link
   behind_selector : {d n : ℕ} {rest front : LinkTrees} → EndsInCall rest front → EndsInCall (tree.selector d n rest) (tree.selector d n front)
   behind_index : {o c : ℕ} {e : ExprTree} {rest front : LinkTrees} → EndsInCall rest front → EndsInCall (tree.index o e c rest) (tree.index o e c front)
   behind_call : {o c : ℕ} {xs : ArgumentTrees} {rest front : LinkTrees} → EndsInCall rest front → EndsInCall (tree.call o xs c rest) (tree.call o xs c front)
 
--- what is called in an expression statement: a function, a method, `panic`, `print` or `println`
+-- a call of an operand of this meaning may be a statement: of a function, a method, `panic`, `print` or `println`
 pub data MayStand : Meaning → Type 0 where
   a_function : {s : Signature} → MayStand (Function s)
   a_panic : MayStand (BuiltinName builtin.Panic)
   a_print : MayStand (BuiltinName builtin.Print)
   a_println : MayStand (BuiltinName builtin.Println)
 
--- left sides of `=`: `_`, and operands that can be assigned
+-- left sides of `=` are these targets: `_`, or a variable
 pub data AreAssigned (w : World) (locals : Locals) : List (Item ExprTree) → List Taker → Type 0 where
   no_left : AreAssigned w locals [] []
   a_blank : {i : Item ExprTree} {is : List (Item ExprTree)} {p : ℕ} {ts : List Taker} → i.value ≡ tree.Blank p → AreAssigned w locals is ts →
@@ -54,7 +54,7 @@ pub data AreAssigned (w : World) (locals : Locals) : List (Item ExprTree) → Li
       AreAssigned w locals is ts →
       AreAssigned w locals (i ∷ is) (OfType t ∷ ts)
 
--- left sides of `:=`, with those that declare a local: `_`, new names, which are bound to themselves, and names of variables
+-- Left sides of `:=` are these targets and declare these names: `_`, a new name, which is bound to itself, or the name of a variable.
 pub data AreDefined (w : World) (locals : Locals) : List (Item ExprTree) → List Taker → List (Option ℕ) → Type 0 where
   no_definition : AreDefined w locals [] [] []
   an_underscore : {i : Item ExprTree} {is : List (Item ExprTree)} {p : ℕ} {ts : List Taker} {ns : List (Option ℕ)} → i.value ≡ tree.Blank p →
@@ -67,7 +67,7 @@ pub data AreDefined (w : World) (locals : Locals) : List (Item ExprTree) → Lis
       (w.bound p ≡ Local p → ⊥) →
       HasMeaning w locals (tree.Name p) (Value (Typed t) true) → AreDefined w locals is ts ns → AreDefined w locals (i ∷ is) (OfType t ∷ ts) (None ∷ ns)
 
--- the locals before a simple statement, the statement, and the locals behind it
+-- a simple statement is typed: the locals before it, the statement, and the locals after it
 pub data SimpleIsTyped (w : World) : Locals → SimpleTree → Locals → Type 0 where
   a_call : {locals : Locals} {e : ExprTree} {links front : LinkTrees} {m f : Meaning} → HasMeaning w locals (tree.Chain e links) m → EndsInCall links front →
       HasMeaning w locals (tree.Chain e front) f → MayStand f → SimpleIsTyped w locals (tree.Alone (tree.Chain e links)) locals
@@ -83,7 +83,7 @@ pub data SimpleIsTyped (w : World) : Locals → SimpleTree → Locals → Type 0
       AreDefined w before xs ts ns → Give w before ys ks →
       TakenInTurn w ks ts → Declare before ns ks after → SimpleIsTyped w before (tree.Define xs p ys) after
 
--- a declaration of locals: with a written type, without and with values; with values alone
+-- a declaration of locals is typed: with a written type, with or without values; or with values alone
 pub data LocalIsTyped (w : World) : Locals → LocalTree → Locals → Type 0 where
   of_type : {before after : Locals} {l : LocalTree} {x : TypeTree} {t : PlainType} → l.type_use ≡ Some x → l.values ≡ None → IsType w x t →
       DeclareAs t before (all_named l.names) after →

@@ -1,4 +1,5 @@
--- The typing rules of statements and blocks. The locals of an inner block stay, since a name is bound to one by its place.
+-- The typing rules of statements and blocks. The locals of an inner block stay known after it, since a name is bound to a local by its
+-- token.
 use Rattle.std.specs.Prelude.{ℕ, List, Option, map}
 use Rattle.go_ast.specs.Tree.{Item, Group, ExprTree, SimpleTree, LocalTree, InitTree, ForTree, StatementTree, BlockTree, StatementTrees, IfTree, ElseTree}
 use Rattle.go_ast.specs.Tree as tree
@@ -8,11 +9,11 @@ use Rattle.law_typing.specs.Turns.{InGroup, IfPresent}
 use Rattle.law_typing.specs.Giving.{OfType, TakenInTurn, Give}
 use Rattle.law_typing.specs.Simple.{ConditionIsTyped, SimpleIsTyped, LocalIsTyped}
 
--- what stands before the condition of an `if`
+-- the statement before the condition of an `if` is typed
 pub data InitIsTyped (w : World) : Locals → InitTree → Locals → Type 0 where
   an_init : {before after : Locals} {i : InitTree} → IfPresent SimpleTree (SimpleIsTyped w) before i.simple after → InitIsTyped w before i after
 
--- what stands between `for` and its block
+-- the header of a `for` is typed: the part before its block
 pub data HeaderIsTyped (w : World) : Locals → ForTree → Locals → Type 0 where
   endless : {locals : Locals} → HeaderIsTyped w locals tree.forever locals
   a_while : {before after : Locals} {e : ExprTree} → ConditionIsTyped w before e after → HeaderIsTyped w before (tree.while e) after
@@ -21,8 +22,9 @@ pub data HeaderIsTyped (w : World) : Locals → ForTree → Locals → Type 0 wh
       IfPresent ExprTree (ConditionIsTyped w) entered condition tested → IfPresent SimpleTree (SimpleIsTyped w) tested post after →
       HeaderIsTyped w before (tree.clauses init p condition q post) after
 
--- statements of a function with those results
+-- results: the types of the function's results
 mutual
+  -- a statement is typed: the locals before it, the statement, and the locals after it
   pub data StatementIsTyped (w : World) (results : List PlainType) : Locals → StatementTree → Locals → Type 0 where
     nothing : {locals : Locals} → StatementIsTyped w results locals tree.Empty locals
     a_declaration : {before after : Locals} {p : ℕ} {g : Group LocalTree} → InGroup LocalTree (LocalIsTyped w) before g after →
@@ -37,22 +39,26 @@ mutual
     a_return : {locals : Locals} {p : ℕ} {es : List (Item ExprTree)} {ks : List Kind} → Give w locals es ks → TakenInTurn w ks (map OfType results) →
         StatementIsTyped w results locals (tree.Return p es) locals
 
+  -- a block is typed
   pub data BlockIsTyped (w : World) (results : List PlainType) : Locals → BlockTree → Locals → Type 0 where
     a_block : {before after : Locals} {o c : ℕ} {ss : StatementTrees} → StatementsAreTyped w results before ss after →
         BlockIsTyped w results before (tree.block o ss c) after
 
+  -- statements are typed in turn
   pub data StatementsAreTyped (w : World) (results : List PlainType) : Locals → StatementTrees → Locals → Type 0 where
     no_more : {locals : Locals} → StatementsAreTyped w results locals tree.no_statement locals
     one_more : {before inside after : Locals} {s : StatementTree} {p : Option ℕ} {rest : StatementTrees} → StatementIsTyped w results before s inside →
         StatementsAreTyped w results inside rest after →
         StatementsAreTyped w results before (tree.statement s p rest) after
 
+  -- an `if` is typed
   pub data IfIsTyped (w : World) (results : List PlainType) : Locals → IfTree → Locals → Type 0 where
     an_if : {before entered tested inside after : Locals} {p : ℕ} {init : Option InitTree} {e : ExprTree} {b : BlockTree} {otherwise : ElseTree} →
         IfPresent InitTree (InitIsTyped w) before init entered →
         ConditionIsTyped w entered e tested → BlockIsTyped w results tested b inside → ElseIsTyped w results inside otherwise after →
         IfIsTyped w results before (tree.if_tree p init e b otherwise) after
 
+  -- an `else` is typed
   pub data ElseIsTyped (w : World) (results : List PlainType) : Locals → ElseTree → Locals → Type 0 where
     without_else : {locals : Locals} → ElseIsTyped w results locals tree.no_else locals
     an_else_if : {before after : Locals} {p : ℕ} {i : IfTree} → IfIsTyped w results before i after → ElseIsTyped w results before (tree.else_if p i) after

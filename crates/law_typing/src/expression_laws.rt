@@ -1,4 +1,4 @@
-//! The laws of typing.
+//! The laws of typing of expressions: `judge` finds exactly what the typing rules give.
 
 ghost use Rattle.std.specs.Prelude.{◌≡◌, ◌↔◌, ◌⊎◌, [], All};
 ghost use Rattle.go_ast.specs.Tree.{ExprTree};
@@ -10,27 +10,27 @@ ghost use Rattle.law_typing.specs.Agrees.{Agrees};
 ghost use Rattle.law_typing.specs.Uses.{UsesBroken};
 ghost use Rattle.law_typing.specs.Faults.{HasFault};
 
-/// An expression has a meaning by the typing rules exactly where it is found to mean just that, with no fault in it.
+/// An expression has a meaning by the typing rules exactly where `judge` finds this meaning and no fault.
 pub fn expressions_are_judged_by_the_rules()
     ensures { (w : World) → (locals : Locals) → (e : ExprTree) → (m : Meaning) → HasMeaning w locals e m ↔ Agrees (judge w locals e) m }
 {}
 
-/// An expression has one meaning at most.
+/// An expression has at most one meaning.
 pub fn meanings_are_unique()
     ensures { (w : World) → (locals : Locals) → (e : ExprTree) → (m n : Meaning) → HasMeaning w locals e m → HasMeaning w locals e n → m ≡ n }
 {}
 
-/// An expression in which no fault is found has a meaning, unless it uses what is broken.
+/// An expression in which no fault is found has a meaning, unless it uses something broken.
 pub fn what_has_no_meaning_is_refused()
     ensures { (w : World) → (locals : Locals) → (e : ExprTree) → (judge w locals e).faults ≡ [] → ((m : Meaning) × HasMeaning w locals e m) ⊎ UsesBroken w locals e }
 {}
 
-/// Each fault that is found in an expression stands where a part of it breaks a rule though that part's own parts break none.
+/// Each fault that is found in an expression is at a part that breaks a rule, though its own parts break none.
 pub fn faults_stand_at_broken_rules()
     ensures { (w : World) → (locals : Locals) → (e : ExprTree) → All (λ p. HasFault w locals e p) (judge w locals e).faults }
 {}
 
-/// Where an expression uses nothing that is broken, no fault is found in it exactly where it has a meaning.
+/// Where an expression uses nothing broken, it has a meaning exactly where no fault is found in it.
 pub fn what_has_no_fault_has_a_meaning()
     ensures { (w : World) → (locals : Locals) → (e : ExprTree) → (UsesBroken w locals e → ⊥) → ((judge w locals e).faults ≡ []) ↔ ((m : Meaning) × HasMeaning w locals e m) }
 {}

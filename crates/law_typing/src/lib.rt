@@ -1,4 +1,4 @@
-//! The typing rules of expressions and statements, and that faults of types stand just where one is broken.
+//! The typing rules of expressions, statements and files, and the laws that the checks find faults exactly where a rule is broken.
 #![tactic(auto)]
 
 pub mod expression_laws;

@@ -1,4 +1,4 @@
-//! The laws of the places of faults.
+//! The laws of places: the checks find a fault at a token exactly where a typing rule is broken at it.
 
 ghost use Rattle.std.specs.Prelude.{ℕ, ◌≡◌, ◌↔◌, ◌⊎◌, Bool, List, Option, Contains};
 ghost use Rattle.go_ast.specs.Tree.{ExprTree, SimpleTree, StatementTree, BlockTree, FuncTree, DeclTree, FileTree};
@@ -19,52 +19,53 @@ ghost use Rattle.law_typing.specs.PlacedSimple.{SimpleBreaksAt};
 ghost use Rattle.law_typing.specs.PlacedStatements.{StatementBreaksAt, BlockBreaksAt};
 ghost use Rattle.law_typing.specs.PlacedDeclarations.{FunctionBreaksAt, DeclBreaksAt, FileBreaksAt};
 
-/// In an expression a fault is found just where a rule is broken.
+/// A fault is found in an expression at exactly the tokens where it breaks a rule.
 pub fn faults_of_expressions_stand_at_broken_rules()
     ensures { (w : World) → (locals : Locals) → (e : ExprTree) → (p : ℕ) → Contains (judge w locals e).faults p ↔ BreaksAt w locals e p }
 {}
 
-/// In a simple statement a fault is found just where a rule is broken, and what was found before it stays.
+/// A simple statement adds faults at exactly the tokens where it breaks a rule, and drops none that was found before it.
 pub fn faults_of_simple_statements_stand_at_broken_rules()
     ensures { (w : World) → (s : Checked) → (a : SimpleTree) → (p : ℕ) → Contains (check_simple w s a).faults p ↔ (Contains s.faults p ⊎ SimpleBreaksAt w s.locals a p) }
 {}
 
-/// A simple statement, typed or not, leads to just the locals that are found behind it.
+/// The locals that are found after a simple statement, typed or not, are exactly those that it declares.
 pub fn simple_statements_lead_to_what_is_found()
     ensures { (w : World) → (s : Checked) → (a : SimpleTree) → (after : Locals) → SimpleLeads w s.locals a after ↔ ((check_simple w s a).locals ≡ after) }
 {}
 
-/// In a statement of a function with those results, of which a broken one has no type, a fault is found just where a rule is broken.
+/// A statement adds faults at exactly the tokens where it breaks a rule. `results` are the types of the function's results; a broken one
+/// has none.
 pub fn faults_of_statements_stand_at_broken_rules()
     ensures { (w : World) → (results : List (Option PlainType)) → (s : Checked) → (x : StatementTree) → (p : ℕ) → Contains (check_statement w (wants results) s x).faults p ↔ (Contains s.faults p ⊎ StatementBreaksAt w results s.locals x p) }
 {}
 
-/// A statement, typed or not, leads to just the locals that are found behind it.
+/// The locals that are found after a statement, typed or not, are exactly those that it declares.
 pub fn statements_lead_to_what_is_found()
     ensures { (w : World) → (results : List (Option PlainType)) → (s : Checked) → (x : StatementTree) → (after : Locals) → StatementLeads w s.locals x after ↔ ((check_statement w (wants results) s x).locals ≡ after) }
 {}
 
-/// The same of blocks.
+/// A block adds faults at exactly the tokens where it breaks a rule.
 pub fn faults_of_blocks_stand_at_broken_rules()
     ensures { (w : World) → (results : List (Option PlainType)) → (s : Checked) → (x : BlockTree) → (p : ℕ) → Contains (check_block w (wants results) s x).faults p ↔ (Contains s.faults p ⊎ BlockBreaksAt w results s.locals x p) }
 {}
 
-/// In a function a fault is found just where a rule is broken.
+/// A function adds faults at exactly the tokens where it breaks a rule.
 pub fn faults_of_functions_stand_at_broken_rules()
     ensures { (w : World) → (is_init : Bool) → (s : Checked) → (f : FuncTree) → (p : ℕ) → Contains (check_function w is_init s f).faults p ↔ (Contains s.faults p ⊎ FunctionBreaksAt w is_init s.locals f p) }
 {}
 
-/// A function, typed or not, leads to just the locals that are found behind it.
+/// The locals that are found after a function, typed or not, are exactly those that it declares.
 pub fn functions_lead_to_what_is_found()
     ensures { (w : World) → (is_init : Bool) → (s : Checked) → (f : FuncTree) → (after : Locals) → FunctionLeads w s.locals f after ↔ ((check_function w is_init s f).locals ≡ after) }
 {}
 
-/// In a declaration of a package a fault is found just where a rule is broken.
+/// A package-level declaration adds faults at exactly the tokens where it breaks a rule.
 pub fn faults_of_declarations_stand_at_broken_rules()
     ensures { (w : World) → (is_init : ℕ → Bool) → (s : Checked) → (d : DeclTree) → (p : ℕ) → Contains (check_decl w is_init s d).faults p ↔ (Contains s.faults p ⊎ DeclBreaksAt w is_init s.locals d p) }
 {}
 
-/// In a file a fault of types is found just where a rule is broken.
+/// A type fault is found in a file at exactly the tokens where the file breaks a rule.
 pub fn faults_of_files_stand_at_broken_rules()
     ensures { (w : World) → (is_init : ℕ → Bool) → (f : FileTree) → (p : ℕ) → Contains (check_file w is_init f).faults p ↔ FileBreaksAt w is_init f p }
 {}

@@ -1,4 +1,4 @@
--- What packages are called, one after the other.
+-- The names of packages, one after another.
 use Rattle.std.proofs.Common.{ℕ, ◌≡◌, ◌+◌, ◌<◌, inl, inr, List, [], ◌∷◌, length, drop, ap, sym, subst, refl, ◌∙◌, arith}
 use Rattle.std.specs.Prelude.{Option, Some, None, Contains, slice_get, map}
 use Rattle.std.proofs.lemmas.Bool.{cases_lt}

@@ -71,7 +71,7 @@ pub mapped_in : (Known : Package → Type 0) (path : List ℕ) (P Q : Package �
 mapped_in Known path P Q to h = record { inside = h.inside; is_package = h.is_package; of_path = h.of_path; holds = to h.inside h.is_package h.of_path h.holds }
 
 module _ (w : Workspace) (known : Verdicts) where
-  -- what holds of the package of a path holds of a package that has the path
+  -- A relation that holds of the package at a path holds of each package that has the path.
   pub of_one : (p : Package) → IsPackage w known p → (path : List ℕ) → p.path ≡ path → (P : Package → Type 0) → InPackage (IsPackage w known) path P → P p
   of_one p is path e P h = subst P (one_package w known h.inside p h.is_package is (h.of_path ∙ sym e)) h.holds
 
@@ -240,7 +240,7 @@ method_is_member Known r own name definition t none (Some (Declared path d)) h =
 method_is_member Known r own name definition t none (Some (Field s)) h = absurd h
 method_is_member Known r own name definition t none (Some (Method s)) h = ((λ f k. none (Field f) k), h)
 
--- what counts
+-- Members that count.
 
 pub field_counts : (r : Revision) (p : Package) (m : NewMembers) → AreNewMembers r p m → (rank : ℕ) (b : Bool) →
     IsTrue b ↔ ((d : ℕ) × ((n : List ℕ) × IsFirstNew m.fields.names.items d n rank)) → IsTrue b ↔ FieldCounts r p rank

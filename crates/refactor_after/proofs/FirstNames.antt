@@ -7,7 +7,7 @@ use Rattle.std.proofs.lemmas.Option.{same_Some, none-some}
 use Rattle.refactor_after.specs.declared.new_names.NewName.{NewName}
 use Rattle.refactor_after.specs.NewNames.{HasNewName, IsFirstNew, IsFirstOrNone}
 
--- what has a rank is the first of its name and its definition
+-- A member whose rank is entered is the first of its name and its type definition.
 
 pub is_first_new : (names : List (Option NewName)) (rank : ℕ) (new : NewName) (o : Option ℕ) (b : Bool) → slice_get names rank ≡ Some (Some new) →
     IsFirstOrNone names new.definition new.name.items o →

@@ -1,4 +1,4 @@
--- The declarations of a workspace by the places to which they go.
+-- The declarations of a workspace by the places to which they are moved.
 use Rattle.std.proofs.Common.{ℕ, ◌≡◌, ◌<◌, ◌≤◌, inl, inr, List, length, ap, sym, subst, refl, ◌∙◌, arith}
 use Rattle.std.specs.Prelude.{Option, Some, None, Result, OnOk, slice_get, slice_index_or}
 use Rattle.std.proofs.lemmas.Bool.{cases_lt}
@@ -56,7 +56,7 @@ all_go moved member places count a b le h =
     all_numbers (GoesBy moved member places) (GoFrom moved member places) count a b (λ n x m. (n, m))
     (λ x m. let lt : m.0 < length places = goes_within moved member places m.0 x m.1 in (m.0, omega arith, m.1)) h
 
--- where the declaration of a number stands
+-- The place of the declaration of a number.
 stood : (IsAt : ℕ → Position → Type 0) (p : Package) (places : List (Option Place)) →
     ((n : ℕ) → IsFound (StandsBy (IsAt n) p) (slice_index_or places n None)) → (moved : Place → Place) (member : ℕ → Declaration) (b : BoundSpot) →
     GoFrom moved member places b → (n : ℕ) × ((b.declaration ≡ member n) × ((place : Place) × (StandsBy (IsAt n) p place × (place_at b ≡ moved place))))
@@ -196,7 +196,7 @@ all_gone w known moved count a b le h =
     let lt : k.0 < length (package_paths w) = k.1.0 in
     (k.0, omega arith, record { place = g.place; declared = k.1.1; goes = g.goes })) h
 
--- what goes to a place
+-- The declarations that are moved to a place.
 pub gone_to : (Known : Package → Type 0) (moved : Place → Place) (b : BoundSpot) (d e : Declaration) (place : Place) → HasGone Known moved b →
     place_at b ≡ place → b.declaration ≡ d → e ≡ d → HasGoneTo Known moved e place
 gone_to Known moved b d e place h at same copy =

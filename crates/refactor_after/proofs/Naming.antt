@@ -26,7 +26,7 @@ use Rattle.refactor_after.proofs.Firsts.{keeps, had, is_last}
 abbrev pub AreNamedBelow : List (Option NewName) → (count : ℕ) → ((definition : ℕ) → List ℕ → (rank : ℕ) → Type 0) → Type 0
 AreNamedBelow names count K = (definition : ℕ) (name : List ℕ) (rank : ℕ) → rank < count → HasNewName names definition name rank ↔ K definition name rank
 
--- what is called so
+-- The members of a name.
 
 pub called_nowhere : (r : Revision) (p : Package) (at : Position) → slice_get p.files at.file ≡ None → (name : List ℕ) → IsCalledAfter r p at name → ⊥
 called_nowhere r p at e name k = subst (λ o. TokenBegins o at.index k.place) e k.stands
@@ -57,7 +57,7 @@ called_is : (r : Revision) (p : Package) (at : Position) (o : Option (List ℕ))
 called_is r p at None h name e = absurd (none-some name e)
 called_is r p at (Some other) h name e = subst (IsCalledAfter r p at) (same_Some other name e) h.0
 
--- what has the last rank
+-- The member of the last rank.
 
 of_added : (owner : Option ℕ) (name : Option (List ℕ)) (x : Option NewName) → IsNewNameOf owner name x → (y : NewName) → x ≡ Some y →
     (owner ≡ Some y.definition) × (name ≡ Some y.name.items)

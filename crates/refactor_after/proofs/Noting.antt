@@ -52,7 +52,7 @@ notes_in_row rows definition old new name rank lt is s =
       ];
     }
 
--- what is noted over other rows that have the same ranks
+-- A rank that is entered in maps with equal entries is entered in these.
 pub notes_over : (old rows new : ℕ → List ℕ → Option ℕ) (definition : ℕ) (name : List ℕ) (rank : ℕ) → ((d : ℕ) (n : List ℕ) → rows d n ≡ old d n) →
     NotesFirst rows new definition name rank → NotesFirst old new definition name rank
 notes_over old rows new definition name rank same h = record {

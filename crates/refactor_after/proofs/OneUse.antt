@@ -1,4 +1,4 @@
--- The scopes of a workspace bind what begins at a place to one declaration at most.
+-- The scopes of a workspace bind the identifier at a place to one declaration at most.
 use Rattle.std.proofs.Common.{ℕ, zero, suc, ◌≡◌, ◌<◌, List, [], length, map, refl, ap, sym, subst, ◌∙◌}
 use Rattle.std.specs.Prelude.{Option, Some, None, Contains, slice_get}
 use Rattle.std.proofs.lemmas.Option.{none-some, same_Some}
@@ -42,7 +42,7 @@ entry_of (tree {e = e} {es = es} is rest) (suc i) s at = let r = entry_of rest i
 abbrev Begins : List SourceFile → Layout → List ℕ → ℕ → ℕ → Type 0
 Begins files l path offset u = IsIdentifier l u × NameBegins (slice_get files (l.place u).file) (l.place u).index path offset
 
--- what a package is made of, as its scopes are
+-- The parts of a package that its scopes determine.
 module _ (w : Workspace) (p : Package) (h : IsScopedIn w p) where
   abbrev names_of : ℕ → Option (List ℕ)
   names_of = h.is_package.is_laid.names
@@ -93,7 +93,7 @@ module _ (w : Workspace) (p : Package) (h : IsScopedIn w p) where
   begins_in_folder : (file : List ℕ) (offset u : ℕ) → BeginsAt p file offset u → folder file ≡ p.path
   begins_in_folder file offset u b = by_file (p.layout.place u).file (p.layout.place u).index (file_of p u) file offset refl b.1
 
--- so what begins at a place is one identifier of one package, and is bound once
+-- The identifier at a place is one identifier of one package, and is bound once.
 pub one_scope_use : (w : Workspace) (place : Place) (d e : Declaration) → IsScopeUse w d place → IsScopeUse w e place → d ≡ e
 one_scope_use w place d e a b =
     let p = a.used_in in

@@ -1,4 +1,4 @@
--- What scopes bind, in the package of a number and in all.
+-- The bindings by scopes, in the package of a number and in all packages.
 use Rattle.std.proofs.Common.{ℕ, ◌≡◌, ◌<◌, ◌∙◌, length, sym, ap, subst}
 use Rattle.std.specs.Prelude.{Some, slice_get}
 use Rattle.std.proofs.lemmas.Option.{same_Some, slice_get_within}
@@ -21,7 +21,7 @@ bound_is b place d e f =
     ap (λ (x : Place). record { spot = record { path = x.path; offset = x.offset }; declaration = d }) (sym e)
     ∙ ap (λ (x : Declaration). record { spot = b.spot; declaration = x }) (sym f)
 
--- what scopes bind, in the package of a number and in all
+-- The bindings by scopes, in the package of a number and in all packages.
 pub scoped_here : (w : Workspace) (n : ℕ) (p : Package) → IsScopedIn w p → slice_get (package_paths w) n ≡ Some p.path → (b : BoundSpot) →
     IsBoundIn p b → IsBoundInNumber w n b
 scoped_here w n p is at b h = record { used_in = p; is_package = is; has_number = at; bound = h }

@@ -75,7 +75,7 @@ has_struct : (p : Package) (rank : ℕ) (d : PlacedType) (b : BodyTree) → slic
     HasUnderlying p (Defined (symbol_in p rank)) (StructOf (symbol_in p rank))
 has_struct p rank d _ at e writes = struct at e
 
--- where a field stands, its definition writes the struct
+-- The type definition of a field writes the struct.
 pub field_written : (p : Package) (rank : ℕ) (f : PlacedField) → slice_get (package_fields p) rank ≡ Some f →
     HasUnderlying p (Defined (symbol_in p f.definition)) (StructOf (symbol_in p f.definition))
 field_written p rank f at =
@@ -84,7 +84,7 @@ field_written p rank f at =
     subst (λ n. HasUnderlying p (Defined (symbol_in p n)) (StructOf (symbol_in p n))) same
     (has_struct p w.place w.definition w.definition.spec.body w.stands refl w.writes)
 
--- the struct of a definition, by what is known of a package's own
+-- The struct of a type definition, by the package's own definitions.
 pub struct_found : (p : Package) (own : List Definition) → KnowsOwn p own → (s : Symbol) → p.path ≡ s.package → (o : Option Symbol) →
     o ≡ struct_of (definition_or_none s (slice_get own s.rank)).underlying →
     IsStructFound p s.rank o
@@ -119,7 +119,7 @@ found_struct p w rank o s h k = h.1.1 ∙ ap struct_of (same h.0 h.1.0)
     same u (has is) = one_underlying p w (Defined (symbol_in p rank)) u (StructOf s) is k
     same _ (has_none none) = absurd (none (StructOf s) k)
 
--- what was found is the struct that the definition has, or a struct of its own
+-- The struct that was found is that of the type definition, or is a struct of its own.
 pub struct_had : (p : Package) (rank : ℕ) (s : Symbol) → IsStructFound p rank (Some s) →
     HasUnderlying p (Defined (symbol_in p rank)) (StructOf s) ⊎ (s ≡ symbol_in p rank)
 struct_had p rank s h = by_underlying h.0 h.1.0 h.1.1

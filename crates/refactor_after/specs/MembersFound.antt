@@ -1,4 +1,4 @@
--- The members of types under new names, as they are looked up.
+-- Looking up members of types under their new names.
 use Rattle.std.specs.Prelude.{ℕ, ◌≡◌, List, Option, Contains, MatchOption}
 use Rattle.std.specs.Borrow.{Bor}
 use Rattle.base_files.specs.Packages.{package_paths}
@@ -18,34 +18,35 @@ use Rattle.refactor_after.specs.declared.types_after.TypesAfter.{TypesAfter}
 use Rattle.refactor_after.specs.MembersAfter.{IsFieldOfStruct, IsMethodOfOwner}
 use Rattle.refactor_after.specs.NewMembers.{AreNewMembers, AreAllNewMembers}
 
--- the packages of the workspace before
+-- The packages of the workspace before the change.
 abbrev pub known_types : TypesAfter → Package → Type 0
 known_types t = IsPackage t.graph.now (known_in t.found.now)
 
--- the members are those under the names that a change gives them
+-- The members are known under the names that the change gives them.
 abbrev pub KnowsMembers : Revision → TypesAfter → Type 0
 KnowsMembers r t = AreAllNewMembers t.graph.now (known_in t.found.now) r t.members.now
 
--- the members of the package of a path; none where no package has it
+-- The members of the package at this path, or `None` where there is no such package.
 abbrev pub AreMembersFound : Revision → TypesAfter → List ℕ → Option (Bor NewMembers) → Type 0
 AreMembersFound r t path found = MatchOption found (Contains (package_paths t.graph.now) path → ⊥)
     (λ m. InPackage (known_types t) path (λ p. AreNewMembers r p m.now))
 
--- the rank of which K holds; none where it holds of none
+-- A rank of which `K` holds, or `None` where it holds of none.
 abbrev pub IsRankFound : (ℕ → Type 0) → Option ℕ → Type 0
 IsRankFound K found = MatchOption found ((rank : ℕ) → K rank → ⊥) (λ rank. K rank)
 
--- the struct that the underlying type of a definition is, if it is one
+-- The struct that is the underlying type of the type definition of this rank, or `None` where it is no struct.
 abbrev pub IsStructFound : Package → ℕ → Option Symbol → Type 0
 IsStructFound p rank found = (u : Underlying) × (IsUnderlyingOf p rank u × (found ≡ struct_of u))
 
--- a field, or a method, is what a name is for the type before it
+-- The name, written in the package `own`, selects this field of the struct of the type `t`.
 abbrev pub IsFieldBehind : (Package → Type 0) → Revision → (own name : List ℕ) → (definition : Symbol → Underlying) → PlainType → Declaration → Type 0
 IsFieldBehind Known r own name definition t (Predeclared n) = ⊥
 IsFieldBehind Known r own name definition t (Declared path d) = ⊥
 IsFieldBehind Known r own name definition t (Field s) = IsFieldOfStruct Known r own name (struct_behind definition t) s
 IsFieldBehind Known r own name definition t (Method s) = ⊥
 
+-- The name, written in the package `own`, selects this method of the type definition of the type `t`.
 abbrev pub IsMethodBehind : (Package → Type 0) → Revision → (own name : List ℕ) → PlainType → Declaration → Type 0
 IsMethodBehind Known r own name t (Predeclared n) = ⊥
 IsMethodBehind Known r own name t (Declared path d) = ⊥

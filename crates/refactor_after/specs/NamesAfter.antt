@@ -1,5 +1,5 @@
--- What fields and methods are called under the new names of a change: types and their methods are those of the workspace before, and
--- only the names are new.
+-- The names of fields and methods after a change. Types and their methods are those of the workspace before the change; only the names are
+-- new.
 use Rattle.std.specs.Prelude.{ℕ, ◌≡◌, List, Some, slice_get}
 use Rattle.base_files.specs.declared.place.Place.{Place}
 use Rattle.go_scope.specs.declared.model.Position.{Position}
@@ -10,20 +10,20 @@ use Rattle.refs_binding.specs.Binding.{field_place}
 use Rattle.base_edits.specs.Revisions.{Revision}
 use Rattle.refs_binding.specs.Standing.{TokenAt}
 
--- what the name at a position of a package is called afterwards
+-- The name after the change of the token at the position `at` of the package.
 pub record IsCalledAfter (r : Revision) (p : Package) (at : Position) (name : List ℕ) : Type 0 where
   pub place : Place
   pub stands : TokenAt p at place
   pub called : r.called place (spelled p at.file at.index) ≡ name
 
--- the field of that rank has that name, in the struct that the definition writes
+-- The field of this rank, in the struct that the type definition writes, has this name after the change.
 pub record IsFieldAfter (r : Revision) (p : Package) (definition : ℕ) (name : List ℕ) (rank : ℕ) : Type 0 where
   pub field : PlacedField
   pub has_rank : slice_get (package_fields p) rank ≡ Some field
   pub of_struct : field.definition ≡ definition
   pub called : IsCalledAfter r p (field_place field) name
 
--- the function of that rank is a method of that name of that definition
+-- The function of this rank is a method of the type definition, and has this name after the change.
 pub record IsMethodAfter (r : Revision) (p : Package) (definition : ℕ) (name : List ℕ) (rank : ℕ) : Type 0 where
   pub method : PlacedFunction
   pub has_rank : slice_get (package_functions p) rank ≡ Some method

@@ -1,4 +1,4 @@
--- All that the scopes of a workspace bind, by the places of identifiers.
+-- All bindings by the scopes of a workspace, by the places of identifiers.
 use Rattle.std.specs.Prelude.{ℕ, ◌≡◌, ◌↔◌, List, Some, Contains, slice_get}
 use Rattle.std.specs.List.Sorted.{IsSortedBy}
 use Rattle.std.specs.Ordering.{is_lt}
@@ -14,7 +14,7 @@ use Rattle.refs_binding.specs.Identifiers.{BeginsAt}
 use Rattle.refs_binding.specs.Places.{place_cmp}
 use Rattle.refactor_after.specs.ScopedPackages.{IsScopedIn}
 
--- the scopes of a workspace bind to e what begins at the place
+-- The scopes of the workspace bind the identifier at the place to the declaration `e`.
 pub record IsScopeUse (w : Workspace) (e : Declaration) (place : Place) : Type 0 where
   pub used_in : Package
   pub is_package : IsScopedIn w used_in
@@ -22,22 +22,22 @@ pub record IsScopeUse (w : Workspace) (e : Declaration) (place : Place) : Type 0
   pub begins : BeginsAt used_in place.path place.offset user
   pub bound : BindsByScope used_in user e
 
--- an identifier of a package begins there, and the scopes bind it to the declaration
+-- The scopes of the package bind the identifier at the place of `b` to its declaration.
 abbrev pub IsBoundIn : Package → BoundSpot → Type 0
 IsBoundIn p b = BoundIn p (BindsByScope p) b
 
--- the same in the package of a number
+-- The scopes of the package of this number bind the identifier at the place of `b` to its declaration.
 pub record IsBoundInNumber (w : Workspace) (number : ℕ) (b : BoundSpot) : Type 0 where
   pub used_in : Package
   pub is_package : IsScopedIn w used_in
   pub has_number : slice_get (package_paths w) number ≡ Some used_in.path
   pub bound : IsBoundIn used_in b
 
--- what the scopes of a workspace bind
+-- The scopes of the workspace bind the identifier at the place of `b` to its declaration.
 abbrev pub IsScopeBound : Workspace → BoundSpot → Type 0
 IsScopeBound w b = IsScopeUse w b.declaration (place_at b)
 
--- all that they bind, in the order of the places
+-- All bindings by the scopes of the workspace, sorted by place.
 pub record AreScopeBindings (w : Workspace) (list : List BoundSpot) : Type 0 where
   pub in_order : IsSortedBy (λ a b. is_lt (place_cmp (place_at a) (place_at b))) list
   pub each : (b : BoundSpot) → Contains list b ↔ IsScopeBound w b

@@ -1,5 +1,5 @@
--- The packages of a workspace as their scopes are, whatever faults there are: an import without a name declares the name in
--- the clause of the package that it imports.
+-- The packages of a workspace by their scopes alone, which exist even where packages have faults. An import without a name declares the
+-- name in the package clause of the package that it imports.
 use Rattle.std.specs.Prelude.{ℕ, ◌≡◌, List, [], Option, Some, None, map, Contains}
 use Rattle.base_files.specs.Packages.{package_paths, package_files}
 use Rattle.base_files.specs.Workspace.{Workspace}
@@ -10,13 +10,14 @@ use Rattle.types_declared.specs.Package.{Package}
 use Rattle.types_declared.specs.InterfacesView.{no_interface}
 use Rattle.types_info.specs.PackageOf.{IsPackageOf}
 
--- the name of the package of a path: that in the clause of its first file, where each of its files has a tree
+-- The name of the package at this path: that in the package clause of its first file. `None` where some file has no tree or there is no
+-- such package.
 pub data IsClauseName (w : Workspace) (path : List ℕ) : Option (List ℕ) → Type 0 where
   named : {files : List FileParts} → Contains (package_paths w) path → AreParsed (package_files w path) files [] →
       IsClauseName w path (Some (package_name (map source_of files)))
   unnamed : ((files : List FileParts) → Contains (package_paths w) path → AreParsed (package_files w path) files [] → ⊥) → IsClauseName w path None
 
--- A package each of whose files has a tree. Of what other packages export nothing is known: scopes do not ask for it.
+-- A package of which each file has a tree, with its scopes. It has no export data of other packages, since scopes need none.
 pub record IsScopedIn (w : Workspace) (p : Package) : Type 0 where
   pub of_workspace : Contains (package_paths w) p.path
   pub files : List FileParts
@@ -25,13 +26,13 @@ pub record IsScopedIn (w : Workspace) (p : Package) : Type 0 where
   pub are_names : (path : List ℕ) → IsClauseName w path (name_of path)
   pub is_package : IsPackageOf p.path files name_of no_interface p
 
--- The same, as it is found
+-- The names of packages, as they are collected
 
--- for each path the name of its package
+-- The function gives for each path the name of its package.
 abbrev pub AreClauseNames : Workspace → (List ℕ → Option (List ℕ)) → Type 0
 AreClauseNames w name_of = (path : List ℕ) → IsClauseName w path (name_of path)
 
--- the name of one package was added, if it has one
+-- The name of the package at this path is added, if it has one.
 pub data AddsClauseName (w : Workspace) (path : List ℕ) (old new : List ℕ → Option (List ℕ)) : Type 0 where
   added : {name : List ℕ} → IsClauseName w path (Some name) → new path ≡ Some name → ((other : List ℕ) → (other ≡ path → ⊥) → new other ≡ old other) →
       AddsClauseName w path old new

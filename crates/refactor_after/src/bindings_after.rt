@@ -1,4 +1,4 @@
-//! All that the scopes of a workspace bind, whatever faults there are.
+//! Lists all bindings by the scopes of a workspace, which may have faults.
 ghost use Rattle.std.specs.Prelude.{◌≡◌, ◌<◌, length, IfOk, OnOk};
 ghost use Rattle.base_files.specs.Packages.{package_paths};
 ghost use Rattle.types_declared.specs.PackageView.{package_of};
@@ -18,7 +18,7 @@ use types_declared::{Interfaces, Package};
 use types_expr::symbol::SharedPath;
 use workspace_graph::Graph;
 
-/// Adds a place with a declaration.
+/// Appends a place with a declaration.
 fn add_place(
     bound: &mut Vec<BoundSpot>,
     place: Place,
@@ -32,7 +32,7 @@ fn add_place(
     Ok(())
 }
 
-/// Adds an identifier with the declaration to which it is bound, unless it stands in no file.
+/// Appends the identifier `u` with the declaration to which it is bound, if it has a place.
 fn add_begun(
     bound: &mut Vec<BoundSpot>,
     unit: Package<'_>,
@@ -49,7 +49,7 @@ fn add_begun(
     }
 }
 
-/// Adds an identifier, if the scopes of its package bind it.
+/// Appends the identifier `u`, if the scopes of its package bind it.
 fn add_identifier(bound: &mut Vec<BoundSpot>, unit: Package<'_>, u: usize) -> Result<(), AllocError>
     requires { u < length unit.table.now.sites }
     ensures { let p = package_of unit.entry in
@@ -63,7 +63,7 @@ fn add_identifier(bound: &mut Vec<BoundSpot>, unit: Package<'_>, u: usize) -> Re
     }
 }
 
-/// Adds the identifiers of a package that its scopes bind.
+/// Appends the identifiers of a package that its scopes bind.
 fn add_unit(bound: &mut Vec<BoundSpot>, unit: Package<'_>) -> Result<(), AllocError>
     ensures { OnOk result (AddsAll bound.old.items bound.new.items (IsBoundIn (package_of unit.entry))) }
 {
@@ -73,7 +73,7 @@ fn add_unit(bound: &mut Vec<BoundSpot>, unit: Package<'_>) -> Result<(), AllocEr
     Ok(())
 }
 
-/// The same of the package of a path, by its scopes.
+/// Appends the identifiers of the package at a path that its scopes bind.
 fn add_scopes(
     alloc: Global,
     bound: &mut Vec<BoundSpot>,
@@ -93,7 +93,7 @@ fn add_scopes(
     add_unit(bound, unit)
 }
 
-/// The same of the package of a number, if each of its files has a tree.
+/// Appends the identifiers of the package of a number that its scopes bind, if each of its files has a tree.
 fn add_number(
     alloc: Global,
     bound: &mut Vec<BoundSpot>,
@@ -111,7 +111,7 @@ fn add_number(
     }
 }
 
-/// The same of all packages.
+/// Appends the identifiers of all packages that their scopes bind.
 fn add_all(
     alloc: Global,
     bound: &mut Vec<BoundSpot>,
@@ -127,7 +127,7 @@ fn add_all(
     Ok(())
 }
 
-/// All that the scopes of a workspace bind, in the order of the places.
+/// All bindings by the scopes of a workspace, sorted by place.
 pub fn scope_bindings(
     alloc: Global,
     graph: &Graph,

@@ -1,4 +1,4 @@
-//! Files that stand behind a place.
+//! Files after a place in the order of paths.
 ghost use Rattle.std.specs.Prelude.{◌≡◌, ◌↔◌, All, IsTrue};
 ghost use Rattle.std.specs.Ordering.{is_lt};
 ghost use Rattle.base_files.specs.Workspace.{path_cmp};
@@ -7,14 +7,14 @@ ghost use Rattle.refactor_after.specs.Behind.{LiesBehind};
 use base_files::Place;
 use go_ast::FileTree;
 
-/// Whether a file's path comes behind that of a place.
+/// Whether a file's path comes after the path of a place.
 fn lies_behind(place: &Place, file: &FileTree) -> bool
     ensures { result ≡ is_lt (path_cmp place.now.path file.now.path) }
 {
     place.path.cmp(file.path()).is_lt()
 }
 
-/// Whether the paths of some files all come behind that of a place.
+/// Whether the paths of all these files come after the path of a place.
 pub fn lie_behind(place: &Place, files: &[FileTree]) -> bool
     ensures { IsTrue result ↔ All (LiesBehind place.now) files.now }
 {

@@ -1,4 +1,4 @@
-//! Members, scopes and bindings behind a change, found in the workspace before it.
+//! Finds the members, scopes and bindings of a workspace after a change.
 #![tactic(auto)]
 
 mod bindings_after;

@@ -1,4 +1,4 @@
-//! What the members of types are under the new names of a change.
+//! Looks up members of types under the new names of a change.
 ghost use Rattle.std.specs.Prelude.{◌≡◌, ◌↔◌, IsTrue, option_map, IfOk};
 ghost use Rattle.std.specs.Option.{option_copied};
 ghost use Rattle.types_expr.specs.View.{type_of};
@@ -21,7 +21,7 @@ use types_expr::symbol::{SharedPath, Symbol};
 use types_expr::types::GoType;
 use types_expr::world::{Shape, World};
 
-/// The struct of a type, or the one that a pointer points to.
+/// The struct that is the underlying type of a type or of the type that its pointer points to.
 #[tactic(auto, unfolding(types_expr::specs::View::type_of, types_expr::specs::WorldView::shape_of, types_expr::specs::World::struct_behind))]
 fn struct_behind<'a>(world: &'a World<'_>, of: &'a GoType) -> Option<&'a Symbol>
     ensures { option_copied result ≡ struct_behind (underlying_in world.now) (type_of of.now) }
@@ -36,7 +36,7 @@ fn struct_behind<'a>(world: &'a World<'_>, of: &'a GoType) -> Option<&'a Symbol>
     }
 }
 
-/// The definition whose methods the values of a type have; as where expressions are judged, whose own function is private.
+/// The type definition whose methods the values of a type have. `types_expr` has a private function of its own for this.
 #[tactic(auto, unfolding(types_expr::specs::View::type_of, types_expr::specs::World::owner))]
 fn owner(of: &GoType) -> Option<&Symbol>
     ensures { option_copied result ≡ owner (type_of of.now) }
@@ -51,7 +51,7 @@ fn owner(of: &GoType) -> Option<&Symbol>
     }
 }
 
-/// The member of a package that has a rank.
+/// The symbol of a rank in the package at a path.
 fn symbol(path: &SharedPath, rank: usize) -> Result<Symbol, AllocError>
     ensures { IfOk result (λ s. s ≡ record { «package» = path.now; rank = rank }) }
 {
@@ -59,7 +59,7 @@ fn symbol(path: &SharedPath, rank: usize) -> Result<Symbol, AllocError>
     Ok(Symbol { package, rank })
 }
 
-/// The field of a rank in a struct, or none.
+/// The field of this rank in the package of a struct, if there is a rank.
 fn field_of(of: &Symbol, rank: Option<usize>) -> Result<Option<Declaration>, AllocError>
     ensures { IfOk result (λ found. found ≡ option_map (λ n. Field (record { «package» = of.now.package; rank = n })) rank) }
 {
@@ -69,7 +69,7 @@ fn field_of(of: &Symbol, rank: Option<usize>) -> Result<Option<Declaration>, All
     }
 }
 
-/// The method of a rank of a definition, or none.
+/// The method of this rank in the package of a type definition, if there is a rank.
 fn method_of(of: &Symbol, rank: Option<usize>) -> Result<Option<Declaration>, AllocError>
     ensures { IfOk result (λ found. found ≡ option_map (λ n. Method (record { «package» = of.now.package; rank = n })) rank) }
 {
@@ -79,7 +79,7 @@ fn method_of(of: &Symbol, rank: Option<usize>) -> Result<Option<Declaration>, Al
     }
 }
 
-/// The first method of a name that is written for a definition.
+/// The rank of the first method of a type definition that has this name.
 fn own_method(types: &TypesAfter<'_>, of: &Symbol, name: &[u8]) -> Option<usize>
     ensures { (r : Revision) → KnowsMembers r types.now → IsRankFound (λ rank. InPackage (known_types types.now) of.now.package (λ p. IsFirst (IsMethodAfter r p of.now.rank name.now) rank)) result }
 {
@@ -89,7 +89,7 @@ fn own_method(types: &TypesAfter<'_>, of: &Symbol, name: &[u8]) -> Option<usize>
     }
 }
 
-/// The first method of a definition of a name, where no field has it.
+/// The rank of the first method of a type definition that has this name, if no field has it.
 fn first_method(types: &TypesAfter<'_>, of: &Symbol, name: &[u8]) -> Option<usize>
     requires { IsSound types.now.graph.now types.now.found.now }
     ensures { (r : Revision) → KnowsMembers r types.now → IsRankFound (λ rank. InPackage (known_types types.now) of.now.package (λ p. IsFirstMethod (known_types types.now) r p of.now.rank name.now rank)) result }
@@ -101,7 +101,7 @@ fn first_method(types: &TypesAfter<'_>, of: &Symbol, name: &[u8]) -> Option<usiz
     }
 }
 
-/// The method of a definition that a name is.
+/// The rank of the method of a type definition that a name selects.
 fn method(types: &TypesAfter<'_>, name: Written<'_>, of: &Symbol) -> Option<usize>
     requires { IsSound types.now.graph.now types.now.found.now }
     ensures { (r : Revision) → KnowsMembers r types.now → IsRankFound (IsMethodIn (known_types types.now) r name.entry.own.now name.entry.name.now of.now) result }
@@ -113,7 +113,7 @@ fn method(types: &TypesAfter<'_>, name: Written<'_>, of: &Symbol) -> Option<usiz
     }
 }
 
-/// The field of the struct behind a type that a name is.
+/// The field that a name selects in the struct of a type.
 fn field_behind(
     types: &TypesAfter<'_>,
     name: Written<'_>,
@@ -128,7 +128,7 @@ fn field_behind(
     }
 }
 
-/// The method of the definition of a type that a name is.
+/// The method that a name selects for the type definition of a type.
 fn method_behind(
     types: &TypesAfter<'_>,
     name: Written<'_>,
@@ -143,7 +143,7 @@ fn method_behind(
     }
 }
 
-/// The member that a name is for the type before it: a field of the struct, else a method.
+/// The member that a name selects for a type: a field of its struct, or else a method of its type definition.
 pub fn member(
     types: &TypesAfter<'_>,
     name: Written<'_>,
@@ -159,7 +159,7 @@ pub fn member(
     }
 }
 
-/// Whether the field of a symbol counts.
+/// Whether the field of a symbol is the first of its name in its struct.
 fn field_counts(types: &TypesAfter<'_>, symbol: &Symbol) -> bool
     ensures { (r : Revision) → KnowsMembers r types.now → IsTrue result ↔ InPackage (known_types types.now) symbol.now.package (λ p. FieldCounts r p symbol.now.rank) }
 {
@@ -169,7 +169,7 @@ fn field_counts(types: &TypesAfter<'_>, symbol: &Symbol) -> bool
     }
 }
 
-/// Whether the method of a symbol is the first of a name of a definition, where no field has that.
+/// Whether the method `of` is the first of its new name for its type definition, and no field has that name.
 fn is_first_method(types: &TypesAfter<'_>, of: &Symbol, new: &NewName) -> Result<bool, AllocError>
     requires { IsSound types.now.graph.now types.now.found.now }
     ensures { IfOk result (λ yes. (r : Revision) → KnowsMembers r types.now → IsTrue yes ↔ InPackage (known_types types.now) of.now.package (λ p. IsFirstMethod (known_types types.now) r p new.now.definition new.now.name.items of.now.rank)) }
@@ -178,7 +178,7 @@ fn is_first_method(types: &TypesAfter<'_>, of: &Symbol, new: &NewName) -> Result
     Ok(is_rank(first_method(types, &definition, &new.name), of.rank))
 }
 
-/// Whether the method of a symbol counts.
+/// Whether the method of a symbol counts under its new name.
 fn method_counts(types: &TypesAfter<'_>, of: &Symbol) -> Result<bool, AllocError>
     requires { IsSound types.now.graph.now types.now.found.now }
     ensures { IfOk result (λ yes. (r : Revision) → KnowsMembers r types.now → IsTrue yes ↔ InPackage (known_types types.now) of.now.package (λ p. MethodCounts (known_types types.now) r p of.now.rank)) }
@@ -192,7 +192,7 @@ fn method_counts(types: &TypesAfter<'_>, of: &Symbol) -> Result<bool, AllocError
     }
 }
 
-/// Whether a field or method counts.
+/// Whether a declaration is a field or method that counts under its new name.
 pub fn counts(types: &TypesAfter<'_>, declaration: &Declaration) -> Result<bool, AllocError>
     requires { IsSound types.now.graph.now types.now.found.now }
     ensures { IfOk result (λ yes. (r : Revision) → KnowsMembers r types.now → IsTrue yes ↔ CountsAfter (known_types types.now) r declaration.now) }

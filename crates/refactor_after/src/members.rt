@@ -1,4 +1,4 @@
-//! The fields and the methods of the packages of a workspace under their new names.
+//! Lists the fields and methods of packages under their new names.
 ghost use Rattle.std.specs.Prelude.{◌≡◌, ◌+◌, ◌<◌, length, map, slice_get, IfOk, OnOk};
 ghost use Rattle.std.specs.Option.{option_copied};
 ghost use Rattle.refactor_after.specs.NewNames.{bytes_in};
@@ -23,14 +23,14 @@ use std::alloc::{AllocError, Global};
 use types_declared::{Index, Package};
 use types_members::{fields, owners};
 
-/// The members of a package's types under their new names.
+/// The fields and methods of a package under their new names.
 #[derive(Drop)]
 pub struct NewMembers {
     pub fields: NewNames,
     pub methods: NewNames,
 }
 
-/// What the name at a token of a file is called afterwards.
+/// The name after the change of the token with this number in a file.
 fn called_in(
     alloc: Global,
     moves: &Moves<'_>,
@@ -45,14 +45,14 @@ fn called_in(
     Vec::from_slice(alloc, called)
 }
 
-/// The file of a rank.
+/// The file of a rank, if there is one.
 fn file_at(files: &[FileTree], rank: usize) -> Option<&FileTree>
     ensures { option_copied result ≡ slice_get files.now rank }
 {
     files.get(rank)
 }
 
-/// What the name at a position of some files is called afterwards; none where no file is there.
+/// The name after the change of the token at a position, or `None` where no file is there.
 fn name_after(
     alloc: Global,
     moves: &Moves<'_>,
@@ -70,7 +70,7 @@ fn name_after(
     }
 }
 
-/// Adds the member of the next rank, by the position of its name.
+/// Appends the member of the next rank, whose name is at a position.
 fn add_after(
     alloc: Global,
     names: &mut NewNames,
@@ -139,7 +139,7 @@ fn new_methods(
     Ok(names)
 }
 
-/// The members of the types of a package.
+/// The fields and methods of a package under their new names.
 fn members_of_unit(
     alloc: Global,
     moves: &Moves<'_>,
@@ -153,7 +153,7 @@ fn members_of_unit(
     Ok(NewMembers { fields, methods })
 }
 
-/// The same of the package of a number.
+/// The fields and methods of the package of a number under their new names.
 fn members_at(
     alloc: Global,
     packages: &Packages<'_>,
@@ -168,7 +168,7 @@ fn members_at(
     members_of_unit(alloc, moves, unit)
 }
 
-/// The members of the types of all packages, by the packages' numbers.
+/// The fields and methods of all packages under their new names, by the packages' numbers.
 pub fn new_members(
     alloc: Global,
     packages: &Packages<'_>,

@@ -1,4 +1,4 @@
-//! What the packages of a workspace are called, by their clauses.
+//! The names of the packages of a workspace, from their package clauses.
 ghost use Rattle.std.specs.Prelude.{◌≡◌, ◌<◌, length, map, IfOk, OnOk};
 ghost use Rattle.base_files.specs.Packages.{package_paths};
 ghost use Rattle.workspace_graph.specs.Graphs.{OfPackage};
@@ -13,7 +13,7 @@ use std::collections::BTreeMap;
 use types_declared::{Interface, Interfaces, PackageScope, clause_name};
 use workspace_graph::Graph;
 
-/// The name in the clause of the first of some files.
+/// The name in the package clause of the first file, empty where there is no file.
 fn first_name(files: &[FileTree]) -> &[u8]
     ensures { result.now ≡ package_name (map source_of files.now) }
 {
@@ -23,7 +23,7 @@ fn first_name(files: &[FileTree]) -> &[u8]
     }
 }
 
-/// The interface of a package of which only the name is known.
+/// The export data of a package of which only the name is known.
 fn only_named(alloc: Global, files: &[FileTree]) -> Result<Interface, AllocError>
     ensures { IfOk result (λ i. i.scope.name.items ≡ package_name (map source_of files.now)) }
 {
@@ -55,7 +55,7 @@ fn add_clause_name(
     names.add(alloc, &package.path, interface)
 }
 
-/// What the packages of a workspace are called, by the clauses of their first files. Nothing else is known of them.
+/// The names of the packages of a workspace, from the package clauses of their first files, as export data that has nothing else.
 pub fn clause_names(alloc: Global, graph: &Graph) -> Result<Interfaces, AllocError>
     ensures { IfOk result (λ names. AreClauseNames graph.now (name_in names)) }
 {

@@ -1,4 +1,4 @@
-//! The new names of the fields or the methods of a package, by rank and by definition.
+//! The new names of the fields or methods of a package, by rank and by type definition.
 ghost use Rattle.std.specs.Prelude.{ℕ, ◌≡◌, ◌↔◌, ◌<◌, ◌++◌, ◌∷◌, [], List, Some, None, IsTrue, length, slice_get, OnOk};
 ghost use Rattle.std.specs.Option.{option_copied, option_flatten};
 ghost use Rattle.refs_binding.specs.Exports.{number_named};
@@ -7,21 +7,21 @@ ghost use Rattle.refactor_after.specs.NewNames.{bytes_in, rank_of, NotesRank, No
 use std::alloc::{AllocError, Global};
 use std::collections::BTreeMap;
 
-/// A field or method: the definition that it belongs to, and what it is called afterwards.
+/// The type definition of a field or method, and its new name.
 #[derive(Drop)]
 pub struct NewName {
     pub definition: usize,
     pub name: Vec<u8>,
 }
 
-/// The fields or the methods of a package: by rank what each is called, and by definition the first of each name.
+/// The new names of the fields or methods of a package: by rank, and for each type definition the first rank of each name.
 #[derive(Drop)]
 pub struct NewNames {
     names: Vec<Option<NewName>>,
     firsts: Vec<BTreeMap<Vec<u8>, usize>>,
 }
 
-/// Makes the maps reach to a definition.
+/// Extends the list of maps with empty ones, so that it has one for this type definition.
 fn reach(
     alloc: Global,
     firsts: &mut Vec<BTreeMap<Vec<u8>, usize>>,
@@ -36,7 +36,7 @@ fn reach(
     Ok(())
 }
 
-/// Notes the rank of a name, unless one is noted.
+/// Enters the rank for a name, unless the name has one.
 fn note_name(
     alloc: Global,
     names: &mut BTreeMap<Vec<u8>, usize>,
@@ -53,7 +53,7 @@ fn note_name(
     Ok(())
 }
 
-/// Notes the rank of a member, unless an earlier one of the same definition has its name.
+/// Enters the rank of a member, unless an earlier one of its type definition has its name.
 fn note_first(
     alloc: Global,
     firsts: &mut Vec<BTreeMap<Vec<u8>, usize>>,
@@ -66,7 +66,7 @@ fn note_first(
     note_name(alloc, &mut firsts[new.definition], &new.name, rank)
 }
 
-/// A new name, where there is a definition that has it.
+/// The new name of a member, if it has a type definition and a name.
 fn new_name(definition: Option<usize>, name: Option<Vec<u8>>) -> Option<NewName>
     ensures { IsNewNameOf definition (bytes_in name) result }
 {
@@ -79,7 +79,7 @@ fn new_name(definition: Option<usize>, name: Option<Vec<u8>>) -> Option<NewName>
     }
 }
 
-/// Whether a rank was found.
+/// Whether the rank that was found is this one.
 pub fn is_rank(found: Option<usize>, rank: usize) -> bool
     ensures { IsTrue result ↔ (found ≡ Some rank) }
 {
@@ -90,7 +90,7 @@ pub fn is_rank(found: Option<usize>, rank: usize) -> bool
 }
 
 impl NewNames {
-    /// No rank.
+    /// An empty list.
     pub fn new(alloc: Global) -> NewNames
         ensures none { length result.names.items ≡ 0 }
         ensures names { AreNewNames result }
@@ -100,7 +100,7 @@ impl NewNames {
         NewNames { names, firsts }
     }
 
-    /// Goes over the next rank, which has no member.
+    /// Skips the next rank, which has no member.
     fn skip(&mut self) -> Result<(), AllocError>
         requires { AreNewNames self.old }
         ensures added { OnOk result (self.new.names.items ≡ self.old.names.items ++ (None ∷ [])) }
@@ -110,7 +110,7 @@ impl NewNames {
         Ok(())
     }
 
-    /// Adds the member of the next rank.
+    /// Appends the member of the next rank.
     fn push(&mut self, alloc: Global, new: NewName) -> Result<(), AllocError>
         requires { AreNewNames self.old }
         ensures added { OnOk result (self.new.names.items ≡ self.old.names.items ++ (Some new ∷ [])) }
@@ -121,7 +121,7 @@ impl NewNames {
         Ok(())
     }
 
-    /// Adds what has the next rank.
+    /// Appends the member of the next rank, or skips the rank where there is none.
     fn add_new(&mut self, alloc: Global, new: Option<NewName>) -> Result<(), AllocError>
         requires { AreNewNames self.old }
         ensures added { OnOk result (self.new.names.items ≡ self.old.names.items ++ (new ∷ [])) }
@@ -133,7 +133,7 @@ impl NewNames {
         }
     }
 
-    /// Adds the member of the next rank, where it has a definition and a name.
+    /// Appends the member of the next rank, or skips the rank where it has no type definition or no name.
     pub fn add(
         &mut self,
         alloc: Global,
@@ -148,7 +148,7 @@ impl NewNames {
         self.add_new(alloc, new)
     }
 
-    /// The rank that is noted for a definition and a name.
+    /// The rank that is entered for a name of a type definition.
     fn rank(&self, definition: usize, name: &[u8]) -> Option<usize>
         ensures { result ≡ rank_of self.now.firsts.items definition name.now }
     {
@@ -158,14 +158,14 @@ impl NewNames {
         }
     }
 
-    /// The first member of a definition that has a name.
+    /// The rank of the first member of a type definition that has this name.
     pub fn first(&self, definition: usize, name: &[u8]) -> Option<usize>
         ensures { AreNewNames self.now → IsFirstOrNone self.now.names.items definition name.now result }
     {
         self.rank(definition, name)
     }
 
-    /// Whether the member of a rank is the first of its name and its definition.
+    /// Whether the member of a rank is the first of its name for its type definition.
     pub fn is_first(&self, rank: usize) -> bool
         ensures { AreNewNames self.now → IsTrue result ↔ ((definition : ℕ) × ((name : List ℕ) × IsFirstNew self.now.names.items definition name rank)) }
     {
@@ -175,7 +175,7 @@ impl NewNames {
         }
     }
 
-    /// What the member of a rank is called.
+    /// The new name of the member of a rank, with its type definition.
     pub fn called(&self, rank: usize) -> Option<&NewName>
         ensures { option_copied result ≡ option_flatten (slice_get self.now.names.items rank) }
     {

@@ -1,4 +1,4 @@
-//! The declarations of a workspace by the places to which a change moves them.
+//! Lists the declarations of a workspace by the places to which a change moves them.
 ghost use Rattle.std.specs.Prelude.{◌≡◌, Contains, IfOk, OnOk, MatchOption};
 ghost use Rattle.std.specs.List.Sorted.{IsSortedBy};
 ghost use Rattle.std.specs.Ordering.{is_lt};
@@ -21,7 +21,7 @@ use refs_places::declared_places::DeclaredPlaces;
 use std::alloc::{AllocError, Global};
 use types_expr::symbol::{SharedPath, Symbol};
 
-/// Adds a declaration by the place to which it goes.
+/// Appends a declaration with the place to which it is moved.
 fn add_moved(
     found: &mut Vec<BoundSpot>,
     moves: &Moves<'_>,
@@ -36,7 +36,7 @@ fn add_moved(
     Ok(())
 }
 
-/// The field or method of a rank in a package.
+/// The symbol of the field or method of a rank in the package at a path.
 pub fn symbol(path: &SharedPath, rank: usize) -> Result<Symbol, AllocError>
     ensures { IfOk result (λ s. (s.package ≡ path.now) × (s.rank ≡ rank)) }
 {
@@ -44,7 +44,7 @@ pub fn symbol(path: &SharedPath, rank: usize) -> Result<Symbol, AllocError>
     Ok(Symbol { package, rank })
 }
 
-/// Adds a declaration of a package's scopes, if it stands somewhere.
+/// Appends the declaration `d` of a package's scopes, if it has a place.
 fn add_name(
     found: &mut Vec<BoundSpot>,
     moves: &Moves<'_>,
@@ -63,7 +63,7 @@ fn add_name(
     }
 }
 
-/// Adds the declarations of a package's scopes.
+/// Appends the declarations of a package's scopes that have places.
 fn add_names(
     found: &mut Vec<BoundSpot>,
     moves: &Moves<'_>,
@@ -78,7 +78,7 @@ fn add_names(
     Ok(())
 }
 
-/// Adds a field of a package, if it stands somewhere.
+/// Appends the field of a rank, if it has a place.
 fn add_field(
     found: &mut Vec<BoundSpot>,
     moves: &Moves<'_>,
@@ -97,7 +97,7 @@ fn add_field(
     }
 }
 
-/// Adds the fields of a package.
+/// Appends the fields of a package that have places.
 fn add_fields(
     found: &mut Vec<BoundSpot>,
     moves: &Moves<'_>,
@@ -112,7 +112,7 @@ fn add_fields(
     Ok(())
 }
 
-/// Adds a method of a package, if it stands somewhere.
+/// Appends the method of a rank, if it has a place.
 fn add_method(
     found: &mut Vec<BoundSpot>,
     moves: &Moves<'_>,
@@ -131,7 +131,7 @@ fn add_method(
     }
 }
 
-/// Adds the methods of a package.
+/// Appends the methods of a package that have places.
 fn add_methods(
     found: &mut Vec<BoundSpot>,
     moves: &Moves<'_>,
@@ -146,7 +146,7 @@ fn add_methods(
     Ok(())
 }
 
-/// Adds the declarations of a package.
+/// Appends the declarations of a package that have places.
 fn add_package(
     found: &mut Vec<BoundSpot>,
     moves: &Moves<'_>,
@@ -160,7 +160,7 @@ fn add_package(
     add_methods(found, moves, path, &places.methods)
 }
 
-/// Adds the declarations of all packages.
+/// Appends the declarations of all packages that have places.
 fn add_all(
     old: &mut Vec<BoundSpot>,
     packages: &Packages<'_>,
@@ -178,7 +178,7 @@ fn add_all(
     Ok(())
 }
 
-/// The declarations of a workspace, sorted by the places to which they go.
+/// The declarations of a workspace that have places, sorted by the places to which they are moved.
 pub fn old_places(
     alloc: Global,
     packages: &Packages<'_>,
@@ -195,7 +195,7 @@ pub fn old_places(
     Ok(old)
 }
 
-/// The declaration that has gone to a place.
+/// The declaration that is moved to a place.
 pub fn before_of<'a>(old: &'a [BoundSpot], place: &Place) -> Option<&'a Declaration>
     requires { IsSortedBy (λ a b. is_lt (place_cmp (place_at a) (place_at b))) old.now }
     ensures { MatchOption result ((b : Bound) → Contains old.now b → place_at b ≡ place.now → ⊥) (λ d. (b : Bound) × (Contains old.now b × ((place_at b ≡ place.now) × (b.declaration ≡ d.now)))) }

@@ -1,4 +1,4 @@
-//! The scopes of the packages of a workspace, by the packages' numbers.
+//! The scopes of the packages of a workspace, which may have faults.
 ghost use Rattle.std.specs.Prelude.{◌<◌, None, length, map, IfOk, MatchOption};
 ghost use Rattle.base_files.specs.Packages.{package_paths};
 ghost use Rattle.workspace_graph.specs.Graphs.{OfPackage};
@@ -19,7 +19,7 @@ use types_declared::Interfaces;
 use types_expr::symbol::SharedPath;
 use workspace_graph::Graph;
 
-/// The scopes of a package: its table, and what it exports, by name.
+/// The scopes of a package: its files, its scope table, and its exports by name.
 #[derive(Drop)]
 pub struct PackageScopes<'a> {
     pub files: &'a [FileTree],
@@ -27,7 +27,7 @@ pub struct PackageScopes<'a> {
     pub exports: BTreeMap<Vec<u8>, usize>,
 }
 
-/// What a package exports, by its table.
+/// The exports of a package, by its scope table.
 fn exports_in(
     alloc: Global,
     path: &[u8],
@@ -41,7 +41,7 @@ fn exports_in(
     numbers_by(alloc, &path, files, table, &nothing)
 }
 
-/// The scopes of a package by its table.
+/// The scopes of a package with this scope table.
 fn scopes_by<'a>(
     alloc: Global,
     path: &[u8],
@@ -58,7 +58,7 @@ fn scopes_by<'a>(
     })
 }
 
-/// The scopes of a package by its files, where names are given to its imports.
+/// The scopes of a package with these files. Imports without a name declare the package names that `names` has.
 fn scopes_of<'a>(
     alloc: Global,
     path: &[u8],
@@ -90,7 +90,7 @@ fn package_scopes<'a>(
     Ok(Some(scopes))
 }
 
-/// The scopes of all packages of a workspace, by their numbers; none where a file has no tree.
+/// The scopes of all packages of a workspace, by the packages' numbers, `None` where a file has no tree.
 pub fn scoped_packages<'a>(
     alloc: Global,
     graph: &'a Graph,
@@ -106,7 +106,7 @@ pub fn scoped_packages<'a>(
     Ok(packages)
 }
 
-/// The scopes of the package of a path.
+/// The scopes of the package at a path.
 pub fn scopes_at<'a>(
     graph: &Graph,
     packages: &'a [Option<PackageScopes<'a>>],

@@ -1,4 +1,4 @@
-//! Which fields types have under the new names of a change.
+//! The types of a workspace under the new names of a change, and their fields.
 ghost use Rattle.std.specs.Prelude.{◌≡◌, ◌↔◌, IsTrue, slice_get};
 ghost use Rattle.std.specs.Option.{option_copied};
 ghost use Rattle.types_expr.specs.World.{is_seen, struct_of};
@@ -19,7 +19,7 @@ use types_expr::world::{Definition, Underlying};
 use workspace_check::Findings;
 use workspace_graph::Graph;
 
-/// The types of a workspace before a change, with their members under the new names, by the packages' numbers.
+/// The types of a workspace before a change, with the members of its packages under their new names, by the packages' numbers.
 #[derive(Clone, Copy)]
 pub struct TypesAfter<'a> {
     pub graph: &'a Graph,
@@ -34,7 +34,7 @@ pub struct Written<'a> {
     pub name: &'a [u8],
 }
 
-/// The struct that an underlying type is.
+/// The struct that an underlying type is, if it is one.
 #[tactic(auto, unfolding(types_expr::specs::WorldView::underlying_of))]
 fn struct_in(underlying: &Underlying) -> Option<&Symbol>
     ensures { option_copied result ≡ struct_of (underlying_of underlying.now) }
@@ -45,7 +45,8 @@ fn struct_in(underlying: &Underlying) -> Option<&Symbol>
     }
 }
 
-/// The struct that a definition of a package is, by the package's own definitions; one that is not there is a struct of its own.
+/// The struct that is the underlying type of a type definition, by the package's own definitions. A rank beyond these is that of a struct
+/// itself.
 fn struct_at<'a>(own: &'a [Definition], of: &'a Symbol) -> Option<&'a Symbol>
     ensures { option_copied result ≡ struct_of (definition_or_none of.now (slice_get own.now of.now.rank)).underlying }
 {
@@ -63,7 +64,7 @@ fn members_at(members: &[NewMembers], number: usize) -> Option<&NewMembers>
 }
 
 impl Written<'_> {
-    /// Whether the name is the same where the package of a symbol declares it.
+    /// Whether the name selects members that the package of a symbol declares: it is exported, or written in that package.
     pub fn is_seen_from(&self, symbol: &Symbol) -> bool
         ensures { result ≡ is_seen self.now.own.now symbol.now (is_exported self.now.name.now) }
     {
@@ -72,7 +73,7 @@ impl Written<'_> {
 }
 
 impl TypesAfter<'_> {
-    /// The members of the types of the package of a symbol.
+    /// The members of the package of a symbol.
     pub fn members_beside(&self, of: &Symbol) -> Option<&NewMembers>
         ensures { (r : Revision) → KnowsMembers r self.now → AreMembersFound r self.now of.now.package result }
     {
@@ -82,7 +83,7 @@ impl TypesAfter<'_> {
         }
     }
 
-    /// The first field of a name that a struct has.
+    /// The rank of the first field of a struct that has this name.
     fn first_field(&self, of: &Symbol, name: &[u8]) -> Option<usize>
         ensures { (r : Revision) → KnowsMembers r self.now → IsRankFound (λ rank. InPackage (known_types self.now) of.now.package (λ p. IsFirstField r p of.now.rank name.now rank)) result }
     {
@@ -92,7 +93,7 @@ impl TypesAfter<'_> {
         }
     }
 
-    /// The field of a struct that a name is.
+    /// The rank of the field of a struct that a name selects.
     pub fn field(&self, name: Written<'_>, of: &Symbol) -> Option<usize>
         ensures { (r : Revision) → KnowsMembers r self.now → IsRankFound (IsFieldIn (known_types self.now) r name.entry.own.now name.entry.name.now of.now) result }
     {
@@ -103,7 +104,7 @@ impl TypesAfter<'_> {
         }
     }
 
-    /// The struct that has the fields of a definition's values.
+    /// The struct that is the underlying type of a type definition.
     fn struct_of<'b>(&'b self, of: &'b Symbol) -> Option<&'b Symbol>
         requires { IsSound self.now.graph.now self.now.found.now }
         ensures { (p : Checked) → known_types self.now p → p.path ≡ of.now.package → IsStructFound p of.now.rank (option_copied result) }
@@ -114,7 +115,7 @@ impl TypesAfter<'_> {
         }
     }
 
-    /// Whether the values of a definition have a field of a name.
+    /// Whether the values of a type definition have a field of a name.
     pub fn has_field(&self, of: &Symbol, name: &[u8]) -> bool
         requires { IsSound self.now.graph.now self.now.found.now }
         ensures { (r : Revision) → KnowsMembers r self.now → (p : Checked) → known_types self.now p → p.path ≡ of.now.package → IsTrue result ↔ HasFieldAfter (known_types self.now) r p of.now.rank name.now }

@@ -1,4 +1,4 @@
--- Where declarations stand afterwards, and which have become which.
+-- The places of declarations after a change, and which declarations have become which.
 use Rattle.std.proofs.Common.{ℕ, ◌≡◌, ◌<◌, Bool, true, false, inl, inr, List, length, refl, sym, subst, ◌∙◌}
 use Rattle.std.specs.Prelude.{Option, Some, IsTrue, ◌↔◌}
 use Rattle.std.proofs.lemmas.Bool.{false≢true}
@@ -34,7 +34,7 @@ use Rattle.refactor_after.specs.OldPlaces.{HasGoneTo}
 use Rattle.refactor_after.proofs.OneScoped.{one_scoped}
 use Rattle.refactor_conflict.proofs.OneStanding.{one_standing}
 
--- where a declaration of a package's own stands
+-- The place of a package's own declaration.
 module _ (w : Workspace) (path : List ℕ) (d : ℕ) where
   pub predeclared_nowhere : IsPredeclared d → (place : Place) → IsDeclaredAt (IsScopedIn w) (Declared path d) place → ⊥
   predeclared_nowhere known place h = h.holds.is_at.own known
@@ -77,7 +77,7 @@ module _ (w : Workspace) (path : List ℕ) (d : ℕ) where
     own_standing not counts o h =
         found_as (IsOwnToken s d) (IsDeclaredAt (IsScopedIn w) (Declared path d)) o (to_standing not counts) from_standing h
 
--- whether a declaration stands where a place goes
+-- Whether a declaration is at the place to which another place is moved.
 pub stands_not : (w : Workspace) (e : Declaration) (to : Place) → ((place : Place) → IsDeclaredAt (IsScopedIn w) e place → ⊥) →
     IsTrue false ↔ IsDeclaredAt (IsScopedIn w) e to
 stands_not w e to none = ((λ t. absurd (false≢true t)), (λ h. absurd (none to h)))
@@ -113,7 +113,7 @@ module _ (w : Workspace) (known : Verdicts) (r : Revision) (old e : Declaration)
         is.1 (subst (λ x. IsDeclaredAt (IsScopedIn r.after) e (r.moved x)) (one_place w known old s.place place s.old at) s.new)),
   )
 
--- what is declared is not predeclared
+-- A declaration of a package is not predeclared.
 abbrev pub IsNotPredeclared : Declaration → Type 0
 IsNotPredeclared (Predeclared n) = ⊥
 IsNotPredeclared (Declared path n) = Unit {0}
@@ -123,7 +123,7 @@ IsNotPredeclared (Method s) = Unit {0}
 pub not_predeclared : (e d : Declaration) → e ≡ d → IsNotPredeclared d → (n : ℕ) → e ≡ Predeclared n → ⊥
 not_predeclared e d is other n so = subst IsNotPredeclared (sym is ∙ so) other
 
--- what goes to where a declaration stands has become that, and nothing else has that is not predeclared
+-- A declaration that is moved to the place of another has become that one, and no other one that is not predeclared has.
 module _ (w : Workspace) (known : Verdicts) (r : Revision) (e : Declaration) where
   abbrev pub Goes : Declaration → Type 0
   Goes c = GoesWhere (IsPackage w known) (IsScopedIn r.after) r.moved c e

@@ -1,4 +1,4 @@
--- Packages whose files all stand behind the conflict that was found first.
+-- Packages whose files all come after the first conflict found so far.
 use Rattle.std.proofs.Common.{ℕ, ◌≡◌, List, ap, subst, ◌∙◌}
 use Rattle.std.specs.Prelude.{Option, Contains, map}
 use Rattle.std.specs.declared.cmp.Ordering.{Ordering}
@@ -22,7 +22,7 @@ use Rattle.refactor_conflict.specs.Staying.{StaysIn}
 use Rattle.refactor_conflict.specs.declared.conflict.Conflict.{Conflict}
 use Rattle.refactor_conflict.proofs.Firsts.{behind, less_of}
 
--- what begins in a file stands behind a place, where the file's path comes behind that
+-- An identifier of a file comes after a place, if the path of the file comes after the path of the place.
 later : (place used : Place) → path_cmp used.path place.path ≡ Less → place_cmp place used ≡ Less → ⊥
 later place used less = behind used place (ap (λ (o : Ordering). ordering_then o (nat_cmp used.offset place.offset)) less)
 

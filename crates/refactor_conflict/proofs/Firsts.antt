@@ -25,11 +25,11 @@ greater_less e = true≢false (sym (ap is_lt e))
 pub itself : (x : Place) → IsNotBefore x x
 itself x less = equal_less (sym (tied_itself place_cmp_total x) ∙ less)
 
--- what stands behind another stands not before it
+-- A place that comes after another does not come before it.
 pub behind : (x y : Place) → place_cmp x y ≡ Less → IsNotBefore y x
 behind x y less back = greater_less (sym (place_cmp_total.antisymm y x ∙ ap ordering_reverse less) ∙ back)
 
--- one behind another that is behind a third
+-- The order of places is transitive.
 pub not_before : (z y x : Place) → IsNotBefore z y → IsNotBefore y x → IsNotBefore z x
 not_before z y x h k less = by_answer (place_cmp x y) refl
   where

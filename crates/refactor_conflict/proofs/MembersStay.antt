@@ -1,4 +1,4 @@
--- Members that stay what they were, and the names by which they are declared.
+-- Members that stay bound, and their declaring identifiers.
 use Rattle.std.proofs.Common.{ℕ, ◌≡◌, ◌<◌, ◌≤◌, ◌+◌, inl, inr, List, length, map, sym, ap, subst, refl, ◌∙◌, arith}
 use Rattle.std.specs.Prelude.{Option, Some, None, Result, OnOk, Contains, MatchOption, option_map, slice_get}
 use Rattle.std.specs.Global.{Vec}
@@ -41,7 +41,7 @@ use Rattle.refactor_conflict.specs.Staying.{StaysByMember, MembersStayIn, Fields
 use Rattle.refactor_conflict.specs.declared.conflict.Conflict.{Conflict}
 use Rattle.refactor_conflict.proofs.Used.{in_world, definitions_in}
 
--- what holds of one number after another
+-- A relation that holds of the numbers below a count, one after another.
 abbrev pub Below : (ℕ → Place → Type 0) → ℕ → Place → Type 0
 Below K count place = (k : ℕ) → k < count → K k place
 

@@ -1,4 +1,4 @@
--- What identifiers are bound to afterwards.
+-- What identifiers are bound to after a change.
 use Rattle.std.proofs.Common.{ℕ, ◌≡◌, ◌∙◌, List, [], sym, ap, subst, refl}
 use Rattle.std.specs.Prelude.{Option, Some, None, Contains, MatchOption, slice_get}
 use Rattle.std.proofs.lemmas.Option.{same_Some, none-some}
@@ -28,7 +28,7 @@ use Rattle.refactor_after.proofs.OneUse.{scoped_formed}
 use Rattle.refactor_conflict.specs.Afterwards.{IsExportAfter}
 use Rattle.refactor_conflict.specs.Now.{IsCounted, IsExportIn, IsExportOf}
 
--- what is bound counts
+-- A declaration that scopes bind to counts.
 counts_of : (l : Layout) (names : Names) (u d : ℕ) → IsBoundTo l names u d → Counts l names d
 counts_of l names u d (use_bound used b) = b.counts
 counts_of l names u d (own e c) = c
@@ -50,7 +50,7 @@ pub all_counted : (w : Workspace) (E : Declaration → Type 0) (o : Option Decla
 all_counted w E None to h = tt
 all_counted w E (Some e) to h = to e h
 
--- what begins at a place
+-- The identifier that begins at a place.
 pub unbound_here : (w : Workspace) (bs : List BoundSpot) (place : Place) → AreScopeBindings w bs →
     ((b : BoundSpot) → Contains bs b → place_at b ≡ place → ⊥) → (e : Declaration) →
     IsScopeUse w e place → ⊥

@@ -1,4 +1,4 @@
--- A declaration of a workspace stands once, as its scopes see it.
+-- A declaration of a workspace has one place, by its scopes.
 use Rattle.std.proofs.Common.{ℕ, ◌≡◌, List, sym, subst, ◌∙◌}
 use Rattle.std.specs.Prelude.{slice_get}
 use Rattle.base_files.specs.Workspace.{Workspace}
@@ -13,7 +13,7 @@ use Rattle.refs_places.proofs.Starts.{token_once}
 use Rattle.refactor_after.proofs.OneScoped.{one_scoped}
 use Rattle.refactor_conflict.specs.Now.{IsCounted}
 
--- a declaration stands at one place
+-- A declaration has one place.
 one_under : (w : Workspace) (path : List ℕ) (d : ℕ) (a b : Place) → InPackage (IsScopedIn w) path (λ p. StandsIn p (Declared path d) a) →
     InPackage (IsScopedIn w) path (λ p. StandsIn p (Declared path d) b) → a ≡ b
 one_under w path d a b h k =

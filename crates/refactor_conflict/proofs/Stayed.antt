@@ -21,19 +21,19 @@ use Rattle.refactor_conflict.specs.Staying.{NamesStayIn, MembersStayIn, Declarin
 use Rattle.refactor_conflict.specs.declared.conflict.Conflict.{Conflict}
 use Rattle.refactor_conflict.proofs.Telling.{found_so}
 
--- the same with other words for what it is bound to
+-- An identifier stays bound also by a weaker relation to what it is bound to.
 pub stays_as : (Becomes : Declaration → Declaration → Type 0) (K L : Declaration → Type 0) (old : Declaration) → ((d : Declaration) → K d → L d) →
     StaysBound Becomes K old → StaysBound Becomes L old
 stays_as Becomes K L old to h = record { declaration = h.declaration; bound = to h.declaration h.bound; become = h.become }
 
--- what stays bound to what was found stays bound to what that is
+-- An identifier that stays bound to the declaration found stays bound to the one that this is.
 pub call_stays : {E : Type 0} (Becomes : Declaration → Declaration → Type 0) (K : Declaration → Type 0) (old : Declaration) (now : Option Declaration)
     (first : Option Conflict) (place : Place) (r : Result (Unit {0}) E) → IsDeclarationFound K now →
     OnOk r (IsAhead first place → StaysBound Becomes (λ e. now ≡ Some e) old) → OnOk r (IsAhead first place → StaysBound Becomes K old)
 call_stays Becomes K old now first place r found h =
     on_ok_weaker r (λ k ahead. stays_as Becomes (λ e. now ≡ Some e) K old (λ e is. found_so K now found e is) (k ahead)) h
 
--- of what begins nowhere, and at one place
+-- Identifiers without a place, and identifiers at one place.
 pub begins_nowhere : (p : Package) (u : ℕ) (K : Place → Type 0) (first : Option Conflict) →
     ((place : Place) → BeginsAt p place.path place.offset u → ⊥) → HoldsAhead (IfBegins p u K) first
 begins_nowhere p u K first none = λ place ahead begins. absurd (none place begins)
@@ -45,7 +45,7 @@ begins_here p u K first place r begins h =
     let same : place ≡ x = begins_once p u place x begins at in
     subst K same (k (subst (IsAhead first) (sym same) ahead))) h
 
--- of what was bound to none, and to one declaration
+-- Identifiers that were bound to nothing, and identifiers that were bound to one declaration.
 pub all_of_none : (p : Package) (u : ℕ) (K : Place → Declaration → Type 0) (Was : Declaration → Type 0) (first : Option Conflict) →
     ((d : Declaration) → Was d → ⊥) → HoldsAhead (IfBegins p u (λ place. (d : Declaration) → Was d → K place d)) first
 all_of_none p u K Was first none = λ place ahead begins d was. absurd (none d was)

@@ -1,4 +1,4 @@
--- What is kept, one step after another.
+-- The first conflict found so far, one step after another.
 use Rattle.std.proofs.Common.{◌≡◌, Bool, true, inl, inr, sym, ap, subst, refl, ◌∙◌}
 use Rattle.std.specs.Prelude.{◌↔◌, IsTrue, Option, Some, None, Result, Ok, Err, OnOk}
 use Rattle.std.specs.declared.cmp.Ordering.TheVariants.{Less}
@@ -12,7 +12,7 @@ use Rattle.refactor_conflict.specs.Conflicts.{Takes, IsAhead, HoldsAhead}
 use Rattle.refactor_conflict.specs.declared.conflict.Conflict.{Conflict}
 use Rattle.refactor_conflict.proofs.Firsts.{less_of}
 
--- which places stand before what was found
+-- The places before the first conflict found so far.
 pub ahead_of_none : (first : Option Conflict) (place : Place) → first ≡ None → IsTrue true ↔ IsAhead first place
 ahead_of_none first place none = ((λ t. subst (λ o. IsAhead o place) (sym none) tt), (λ h. refl))
 
@@ -27,7 +27,7 @@ ahead_before : (first : Option Conflict) (used : Place) → IsAhead first used �
 ahead_before None used h place less = tt
 ahead_before (Some c) used h place less = place_cmp_total.trans place used c.used less h
 
--- what stands before what is found later stood before what was found earlier
+-- A place before the conflict that is first after a step was before the one that was first before it.
 pub ahead_of : (P : Conflict → Type 0) (a b : Option Conflict) → Takes P a b → (place : Place) → IsAhead b place → IsAhead a place
 ahead_of P a b (inl e) place h = subst (λ o. IsAhead o place) e h
 ahead_of P a b (inr x) place h = ahead_before a x.0.used x.1.1.1 place (subst (λ o. IsAhead o place) x.1.0 h)
@@ -35,7 +35,7 @@ ahead_of P a b (inr x) place h = ahead_before a x.0.used x.1.1.1 place (subst (�
 pub takes_none : (P : Conflict → Type 0) (a : Option Conflict) → Takes P a a
 takes_none P a = inl refl
 
--- the same told otherwise
+-- A step that takes conflicts of which `P` holds takes conflicts of which a weaker `Q` holds.
 pub takes_as : (P Q : Conflict → Type 0) (a b : Option Conflict) → ((x : Conflict) → P x → Q x) → Takes P a b → Takes Q a b
 takes_as P Q a b to (inl e) = inl e
 takes_as P Q a b to (inr x) = inr (x.0, (x.1.0, (to x.0 x.1.1.0, x.1.1.1)))
@@ -53,12 +53,12 @@ pub call_then : {E : Type 0} (P : Conflict → Type 0) (a b c : Option Conflict)
     OnOk r (Takes P a c)
 call_then P a b c r h k = on_ok_weaker r (λ t. takes_then P a b c h t) k
 
--- what is kept at the end, where nothing was at the beginning
+-- The first conflict at the end, where none was found at the beginning.
 pub taken : (P : Conflict → Type 0) (c : Conflict) → Takes P None (Some c) → P c
 taken P c (inl e) = absurd (none-some c (sym e))
 taken P c (inr x) = subst P (sym (same_Some c x.0 x.1.0)) x.1.1.0
 
--- what holds before what was found holds before what is found later
+-- A relation that holds of the places before the first conflict still holds of them after a step.
 pub still_holds : (P : Conflict → Type 0) (K : Place → Type 0) (a b : Option Conflict) → Takes P a b → HoldsAhead K a → HoldsAhead K b
 still_holds P K a b t h = λ place ahead. h place (ahead_of P a b t place ahead)
 
@@ -66,7 +66,7 @@ pub call_still : {E : Type 0} (P : Conflict → Type 0) (K : Place → Type 0) (
     OnOk r (Takes P a b) → OnOk r (HoldsAhead K b)
 call_still P K a b r h t = on_ok_weaker r (λ x. still_holds P K a b x h) t
 
--- the same told otherwise
+-- A relation that holds of the places before the first conflict may be replaced by a weaker one.
 pub holds_as : (K L : Place → Type 0) (a : Option Conflict) → ((place : Place) → K place → L place) → HoldsAhead K a → HoldsAhead L a
 holds_as K L a to h = λ place ahead. to place (h place ahead)
 
@@ -74,7 +74,7 @@ pub call_holds : {E : Type 0} (K L : Place → Type 0) (a : Option Conflict) (r 
     OnOk r (HoldsAhead K a) → OnOk r (HoldsAhead L a)
 call_holds K L a r to h = on_ok_weaker r (λ x. holds_as K L a to x) h
 
--- what two clauses tell of a call
+-- Two clauses about a call, as one.
 pub call_both : {E P Q R : Type 0} (r : Result (Unit {0}) E) → (P → Q → R) → OnOk r P → OnOk r Q → OnOk r R
 call_both (Ok u) to p q = to p q
 call_both (Err e) to p q = tt

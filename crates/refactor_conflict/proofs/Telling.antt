@@ -39,7 +39,7 @@ use Rattle.refactor_conflict.specs.Conflicts.{an_identifier, by_scope, by_packag
 use Rattle.refactor_after.specs.OldPlaces.{field_at, method_at}
 use Rattle.refactor_conflict.proofs.Used.{IsUsedAs, used_at}
 
--- of what was found K tells
+-- `K` holds of the declaration that was found.
 pub found_so : (K : Declaration → Type 0) (o : Option Declaration) → IsDeclarationFound K o → (x : Declaration) → o ≡ Some x → K x
 found_so K o h x e = subst (IsDeclarationFound K) e h
 
@@ -48,7 +48,7 @@ found_only : (K : Declaration → Type 0) → ((d e : Declaration) → K d → K
 found_only K one None found x k = absurd (found x k)
 found_only K one (Some y) found x k = ap Some (one y x found k)
 
--- the same with other words for what it is bound to
+-- An identifier is lost or captured also by an equivalent relation to what it is bound to.
 tells_as : (Becomes : Declaration → Declaration → Type 0) (Known : Package → Type 0) (K L : Declaration → Type 0) (old : Declaration) →
     ((d : Declaration) → K d → L d) → ((d : Declaration) → L d → K d) → (by : Option Capturer) →
     TellsOf Becomes Known K old by → TellsOf Becomes Known L old by
@@ -60,14 +60,14 @@ pub noted_as : (Becomes : Declaration → Declaration → Type 0) (Known : Packa
     IsNoted Becomes Known K used old c → IsNoted Becomes Known L used old c
 noted_as Becomes Known K L used old to from c h = (h.0, tells_as Becomes Known K L old to from c.by h.1)
 
--- what is told by what was found is told by what that is
+-- A conflict by the declaration that was found is a conflict by the relation that this declaration fulfils.
 pub noted_found : (Becomes : Declaration → Declaration → Type 0) (Known : Package → Type 0) (K : Declaration → Type 0) (used : Place) (old : Declaration)
     (now : Option Declaration) → IsDeclarationFound K now → ((d e : Declaration) → K d → K e → d ≡ e) → (c : Conflict) →
     IsNoted Becomes Known (λ e. now ≡ Some e) used old c → IsNoted Becomes Known K used old c
 noted_found Becomes Known K used old now found one c h =
     noted_as Becomes Known (λ e. now ≡ Some e) K used old (found_so K now found) (found_only K one now found) c h
 
--- what is told of an identifier that is bound to none
+-- The conflict of an identifier that is bound to nothing after the change.
 pub lost : (Becomes : Declaration → Declaration → Type 0) (Known : Package → Type 0) (used : Place) (old : Declaration) (now : Option Declaration) →
     now ≡ None → (c : Conflict) → (c.used ≡ used) × (c.by ≡ None) →
     IsNoted Becomes Known (λ e. now ≡ Some e) used old c
@@ -89,7 +89,7 @@ pub told_of : (Becomes : Declaration → Declaration → Type 0) (Known : Packag
 told_of Becomes Known used old e not by h c is =
     (is.0, subst (TellsOf Becomes Known (λ d. d ≡ e) old) (sym is.1) (told_by_capturer Becomes Known old e not by h))
 
--- what is told of one that was bound to a field or method
+-- The conflict of an identifier that was bound to a field or method.
 pub other_lost : (Known : Package → Type 0) (used : Place) (old : Declaration) (now : Option Declaration) → now ≡ None → (c : Conflict) →
     (c.used ≡ used) × (c.by ≡ None) → IsOtherNoted Known (λ e. now ≡ Some e) used old c
 other_lost Known used old now none c h =
@@ -102,7 +102,7 @@ other_told Known used old now by other is c h =
     let told : TellsMember Known (λ e. e ≡ now) old (Some by) = record { declaration = now; bound = refl; other = other; told = is } in
     (h.0, subst (TellsMember Known (λ e. e ≡ now) old) (sym h.1) told)
 
--- the same with other words for what it is
+-- A use of a member is lost or captured also by an equivalent relation to what it selects.
 member_as : (Known : Package → Type 0) (K L : Declaration → Type 0) (old : Declaration) → ((d : Declaration) → K d → L d) → ((d : Declaration) → L d → K d) →
     (by : Option Capturer) → TellsMember Known K old by → TellsMember Known L old by
 member_as Known K L old to from None h = λ e l. h e (from e l)
@@ -133,7 +133,7 @@ scope_turned w known r p u old was place begins c n = record {
   turned = by_scope old was (subst (λ (x : Place). TellsOf (HasBecome w known r) (IsPackage w known) (IsBoundByScopes r x) old c.by) (sym n.0) n.1);
 }
 
--- behind the name of a package
+-- Selectors of qualified identifiers.
 pub exported_binds : (w : Workspace) (known : Verdicts) (p : Package) (u : ℕ) (path : List ℕ) → IsBehindPackage p u path → (d : Declaration) →
     ExportsAs w known path (p.names u) d →
     BindsByPackage (IsPackage w known) p u d
@@ -156,7 +156,7 @@ exported_there w known path name (Declared other n) h = subst (Contains (package
 exported_there w known path name (Field s) h = absurd h
 exported_there w known path name (Method s) h = absurd h
 
--- it stands behind one package's name
+-- The selector belongs to one qualified identifier.
 pub bound_behind : (w : Workspace) (r : Revision) (p : Package) (u : ℕ) (path : List ℕ) → IsBehindPackage p u path → (place : Place) → (e : Declaration) →
     IsExportAfter w r path (r.called place (p.names u)) e → IsBoundByPackage w r place p u e
 bound_behind w r p u path behind place e h = record { path = path; behind = behind; exports = h }

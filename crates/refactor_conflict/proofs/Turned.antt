@@ -1,4 +1,4 @@
--- What is told as a conflict does not stay bound.
+-- An identifier that is in conflict does not stay bound.
 use Rattle.std.proofs.Common.{ℕ}
 use Rattle.std.specs.Prelude.{Option, Some, None}
 use Rattle.base_files.specs.Workspace.{Workspace}

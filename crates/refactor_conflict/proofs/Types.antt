@@ -26,7 +26,7 @@ use Rattle.refactor_after.specs.NewMembers.{AreAllNewMembers}
 use Rattle.refactor_conflict.specs.Judging.{KnowsChange, workspace_in, known_verdicts, known_packages, change_in}
 use Rattle.refactor_conflict.specs.declared.judge.Judge.{Judge}
 
--- what holds by the members of these types holds of the packages that are known
+-- A relation that the members of these types fulfil holds of the packages that are known.
 pub by_types : (j : Judge) (t : TypesAfter) → t.graph.now ≡ j.packages.now.graph.now → t.found.now ≡ j.packages.now.found.now →
     t.members.now ≡ j.members.now → KnowsChange j → (Q : Workspace → Verdicts → Type 0) →
     (KnowsMembers (change_in j) t → Q t.graph.now (known_in t.found.now)) → Q (workspace_in j) (known_verdicts j)
@@ -47,7 +47,7 @@ unfolding definition_in definition_at
 seen_underlying w unit own path same imported =
     ap (λ q. seen_by q w.own.now w.imported.now) path ∙ ap (λ l. seen_by unit.path.now l w.imported.now) same ∙ ap (λ d. seen_by unit.path.now own d) imported
 
--- what does not count by these types does not count
+-- A member that does not count by these types does not count under its new name.
 pub not_counted : (j : Judge) (t : TypesAfter) → t.graph.now ≡ j.packages.now.graph.now → t.found.now ≡ j.packages.now.found.now →
     t.members.now ≡ j.members.now → KnowsChange j → (old : Declaration) {yes : Bool} → yes ≡ false →
     ((r : Revision) → KnowsMembers r t → IsTrue yes ↔ CountsAfter (known_types t) r old) → CountsAfter (known_packages j) (change_in j) old → ⊥
@@ -56,7 +56,7 @@ not_counted j t graph found members knows old {yes} e h k =
     by_types j t graph found members knows (λ w known. IsTrue yes ↔ CountsAfter (IsPackage w known) (change_in j) old) (h (change_in j)) in
     false≢true (sym e ∙ counts.1 k)
 
--- and what counts counts
+-- A member that counts by these types counts under its new name.
 pub counted : (j : Judge) (t : TypesAfter) → t.graph.now ≡ j.packages.now.graph.now → t.found.now ≡ j.packages.now.found.now →
     t.members.now ≡ j.members.now → KnowsChange j → (old : Declaration) {yes : Bool} → yes ≡ true →
     ((r : Revision) → KnowsMembers r t → IsTrue yes ↔ CountsAfter (known_types t) r old) → CountsAfter (known_packages j) (change_in j) old

@@ -1,4 +1,4 @@
--- What each identifier is bound to after a change, judged alone, as the scopes of the workspace afterwards see it.
+-- What an identifier is bound to after a change, by the scopes of the workspace after it. Each identifier is judged for itself.
 use Rattle.std.specs.Prelude.{ℕ, ◌≡◌, List}
 use Rattle.base_files.specs.Workspace.{Workspace}
 use Rattle.base_files.specs.declared.place.Place.{Place}
@@ -20,15 +20,15 @@ use Rattle.refactor_after.specs.ScopedPackages.{IsScopedIn}
 use Rattle.refs_index.specs.Corresponding.{Corresponds}
 use Rattle.refactor_after.specs.ScopeBindings.{IsScopeUse}
 
--- c of the workspace before has become e, as scopes see it
+-- The declaration `c` of the workspace before the change has become the declaration `e` of the scopes after it.
 abbrev pub HasBecome : Workspace → Verdicts → Revision → Declaration → Declaration → Type 0
 HasBecome w before r c e = Corresponds (IsPackage w before) (IsScopedIn r.after) r.moved c e
 
--- an identifier that scopes bind: what stands where it has gone is bound to e
+-- The scopes after the change bind to `e` the identifier at the place to which `place` is moved.
 abbrev pub IsBoundByScopes : Revision → Place → Declaration → Type 0
 IsBoundByScopes r place e = IsScopeUse r.after e (r.moved place)
 
--- where the package of a path has gone, a package exports e under a name
+-- The package that had this path before the change exports `e` as `name` after it, at the path to which the package has moved.
 pub record IsExportAfter (w : Workspace) (r : Revision) (path name : List ℕ) (e : Declaration) : Type 0 where
   pub other : Package
   pub is_package : IsScopedIn r.after other
@@ -38,19 +38,20 @@ pub record IsExportAfter (w : Workspace) (r : Revision) (path name : List ℕ) (
   pub named : other.names declaration ≡ name
   pub exported : e ≡ Declared other.path declaration
 
--- a name behind a package's: the package of the import that it has stood behind, where that has gone, exports e under its new name
+-- The identifier `u` is the selector of a qualified identifier. After the change the package of that import exports `e` under the new name
+-- of `u`.
 pub record IsBoundByPackage (w : Workspace) (r : Revision) (place : Place) (p : Package) (u : ℕ) (e : Declaration) : Type 0 where
   pub path : List ℕ
   pub behind : IsBehindPackage p u path
   pub exports : IsExportAfter w r path (r.called place (p.names u)) e
 
--- The member that the name at a position is for a type before it, by definitions: one of the fields and methods that this type has
--- in the workspace before, under their new names.
+-- The identifier at the position `at` selects the member `e` of the type `before` after the change. The type keeps its fields and methods
+-- from before the change, and they have their new names. `definitions`: the type definitions by symbol.
 abbrev pub IsMemberNow : (Known : Package → Type 0) → Revision → (Symbol → Definition) → Package → Position → PlainType → Place → Declaration → Type 0
 IsMemberNow Known r definitions p at before place e =
     IsMemberAfter Known r p.path (r.called place (spelled p at.file at.index)) (λ s. (definitions s).underlying) before e
 
--- a member use: e is what its new name is for the type that was found before it
+-- The new name of the identifier `u` selects the member `e` after the change. The type is the one of which `u` selected a member before.
 abbrev pub IsBoundByMember : (Known : Package → Type 0) → Revision → Place → (p : Package) (u : ℕ) (old : Declaration) → BindsByMember p u old →
     Declaration → Type 0
 IsBoundByMember Known r place p u old was e =

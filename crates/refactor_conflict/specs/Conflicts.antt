@@ -1,4 +1,4 @@
--- Identifiers that a change loses or captures, and what is told of them. Known: the packages of the workspace before.
+-- Identifiers that a change loses or captures, and the first of them. Known: the packages of the workspace before the change.
 use Rattle.std.specs.Prelude.{ℕ, ◌≡◌, ◌⊎◌, ⊤, All, List, Option, Some, None, MatchOption, slice_get}
 use Rattle.std.specs.declared.cmp.Ordering.TheVariants.{Less}
 use Rattle.base_files.specs.Workspace.{Workspace}
@@ -30,33 +30,59 @@ use Rattle.refactor_conflict.specs.declared.conflict.Capturer.{Capturer}
 use Rattle.refactor_conflict.specs.declared.conflict.Capturer.TheVariants.{Universe, At}
 use Rattle.refactor_conflict.specs.declared.conflict.Conflict.{Conflict}
 
--- what is told of a declaration that captures: the place where it stands, or that it stands nowhere, as one that is predeclared
+-- How a conflict names the declaration that captures: by its place, or as `Universe` where it is predeclared and has no place.
 abbrev pub IsCapturer : (Package → Type 0) → Declaration → Capturer → Type 0
 IsCapturer Known d Universe = (place : Place) → IsDeclaredAt Known d place → ⊥
 IsCapturer Known d (At place) = IsDeclaredAt Known d place
 
--- What is told of an identifier that was bound to old, and is bound afterwards to that of which E tells. It is lost where no
--- declaration has become that, and where that is none; what captures it has become what it is bound to, and old has not.
+-- The conflict of an identifier that was bound to `old` and that, after the change, is bound to the declaration of which `E` holds.
+--
+-- Lost, with no capturer: no declaration of the workspace before has become the one that the identifier is bound to.
+--
+--   // package b: renaming F to f loses the selector of a.F, since package a doesn't export f
+--   import "a"
+--   func g() int { return a.F() }
+--
+-- Captured: another declaration `c` than `old` has become the one that the identifier is bound to.
+--
+--   // renaming n to total captures the n in the body: the parameter total shadows it
+--   var n int
+--   func f(total int) int { return n + total }
 pub data TellsOf (Becomes : Declaration → Declaration → Type 0) (Known : Package → Type 0) (E : Declaration → Type 0) (old : Declaration) : Option
     Capturer → Type 0 where
   is_lost : ((e c : Declaration) → E e → Becomes c e → ⊥) → TellsOf Becomes Known E old None
   is_captured : {by : Capturer} (e c : Declaration) → E e → Becomes c e → IsCapturer Known c by → ((d : Declaration) → E d → Becomes old d → ⊥) →
       TellsOf Becomes Known E old (Some by)
 
--- The same of what was bound to a field or method: it is lost only where the type has no member of its new name, and what captures it
--- is the member that has this, and is not the old one.
+-- After the change the identifier, which was bound to the field or method `old`, selects another member, which `by` names.
 pub record IsOther (Known : Package → Type 0) (E : Declaration → Type 0) (old : Declaration) (by : Capturer) : Type 0 where
   pub declaration : Declaration
   pub bound : E declaration
   pub other : E old → ⊥
   pub told : IsCapturer Known declaration by
 
+-- The conflict of an identifier that was bound to the field or method `old`. After the change it selects the member of which `E` holds.
+--
+-- Lost, with no capturer: the type has no member of the new name that the package sees.
+--
+--   // package b: renaming the field X of package a's struct T to x loses the X of t.X
+--   func g(t a.T) int { return t.X }
+--
+-- Captured: the type has another member of the new name.
+--
+--   // renaming y to x captures the y of t.y: of two fields of one name the first counts
+--   type T struct { x int; y int }
+--   func f(t T) int { return t.y }
 abbrev pub TellsMember : (Known : Package → Type 0) → (Declaration → Type 0) → Declaration → Option Capturer → Type 0
 TellsMember Known E old None = (e : Declaration) → E e → ⊥
 TellsMember Known E old (Some by) = IsOther Known E old by
 
--- An identifier of the package was bound to a declaration in some way, and in this way it is afterwards bound to none, or to
--- another. The name by which a member is declared is lost where this does not count under its new name, and never captured.
+-- The change alters what the identifier `u` of the package `p` is bound to: by scopes, as a qualified identifier, as a member that is used,
+-- or as the declaring identifier of a member. A declaring identifier is lost where its field or method does not count under its new name.
+-- It is never captured.
+--
+--   // renaming y to x loses the declaring identifier y: of two fields of one name the first counts
+--   type T struct { x int; y int }
 pub data IsTurned (w : Workspace) (known : Verdicts) (r : Revision) (p : Package) (u : ℕ) (c : Conflict) : Type 0 where
   by_scope : (old : Declaration) → BindsByScope p u old → TellsOf (HasBecome w known r) (IsPackage w known) (IsBoundByScopes r c.used) old c.by →
       IsTurned w known r p u c
@@ -66,123 +92,128 @@ pub data IsTurned (w : Workspace) (known : Verdicts) (r : Revision) (p : Package
       TellsMember (IsPackage w known) (IsBoundByMember (IsPackage w known) r c.used p u old was) old c.by → IsTurned w known r p u c
   by_name : (old : Declaration) → BindsByName p u old → (CountsAfter (IsPackage w known) r old → ⊥) → c.by ≡ None → IsTurned w known r p u c
 
+-- An identifier of the package `p` begins at the place of the conflict, and the change alters what it is bound to.
 pub record IsConflictIn (w : Workspace) (known : Verdicts) (r : Revision) (p : Package) (c : Conflict) : Type 0 where
   pub user : ℕ
   pub begins : BeginsAt p c.used.path c.used.offset user
   pub turned : IsTurned w known r p user c
 
--- the same in some package of a workspace
+-- An identifier of some package of the workspace begins at the place of the conflict, and the change alters what it is bound to.
 pub record IsConflict (w : Workspace) (known : Verdicts) (r : Revision) (c : Conflict) : Type 0 where
   pub used_in : Package
   pub is_package : IsPackage w known used_in
   pub conflict : IsConflictIn w known r used_in c
 
--- the identifier is the first of the workspace, and is told as lost
+-- The conflict names the first identifier of the workspace, as lost.
 pub record IsFirstOfAll (w : Workspace) (known : Verdicts) (c : Conflict) : Type 0 where
   pub lost : c.by ≡ None
   pub is_identifier : IsIdentifierAt w known c.used
   pub first : (place : Place) → IsIdentifierAt w known place → IsNotBefore place c.used
 
--- What is told of a change: an identifier that is afterwards bound to none, or to another declaration, which captures it, where none
--- before it is lost or captured; or, only where none at all is, the first identifier of the workspace, and nothing that captures it.
+-- The conflict that a refusal reports: the first identifier that the change loses or captures. Where it loses and captures none, the first
+-- identifier of the workspace is reported as lost.
 pub data IsTold (w : Workspace) (known : Verdicts) (r : Revision) (c : Conflict) : Type 0 where
   a_conflict : IsConflict w known r c → NoneIsLostBefore w known r c.used → IsTold w known r c
   an_identifier : IsFirstOfAll w known c → NoneIsLost w known r → IsTold w known r c
 
--- no identifier is there
+-- The workspace has no identifier.
 abbrev pub HasNone : Workspace → Verdicts → Type 0
 HasNone w known = (place : Place) → IsIdentifierAt w known place → ⊥
 
--- the first identifier of all; none where there is none
+-- The first identifier of the workspace, as lost, or `None` where the workspace has no identifier.
 abbrev pub IsToldFirst : Workspace → Verdicts → Option Conflict → Type 0
 IsToldFirst w known told = MatchOption told (HasNone w known) (IsFirstOfAll w known)
 
--- what is told of a change; nothing where no identifier is there
+-- The conflict that a refusal reports, or `None` where the workspace has no identifier.
 abbrev pub TellsFirst : Workspace → Verdicts → Revision → Option Conflict → Type 0
 TellsFirst w known r told = MatchOption told (HasNone w known) (IsTold w known r)
 
--- a place stands before the conflict that was found first, if there is one
+-- The place comes before the place of the first conflict found so far. Every place does where none is found.
 abbrev pub IsAhead : Option Conflict → Place → Type 0
 IsAhead None place = ⊤
 IsAhead (Some c) place = place_cmp place c.used ≡ Less
 
--- what is kept is what was, or a conflict that stands before it, of which P holds
+-- The first conflict found so far stays `old`, or becomes an earlier conflict of which `P` holds.
 abbrev pub Takes : (Conflict → Type 0) → Option Conflict → Option Conflict → Type 0
 Takes P old new = (new ≡ old) ⊎ ((c : Conflict) × ((new ≡ Some c) × (P c × IsAhead old c.used)))
 
--- K holds of each place that stands before the conflict that was found first, and of all where there is none
+-- `K` holds of each place before the first conflict found so far, and of every place where none is found.
 abbrev pub HoldsAhead : (Place → Type 0) → Option Conflict → Type 0
 HoldsAhead K first = (place : Place) → IsAhead first place → K place
 
--- files that stand behind the conflict that was found first
+-- A conflict is found, and all these files come after its file in the order of paths.
 abbrev pub AreBehind : Option Conflict → List FileParts → Type 0
 AreBehind first files = (c : Conflict) × ((first ≡ Some c) × All (LiesBehind c.used) files)
 
--- the conflict of that place, by that capturer
+-- The conflict has this place and this capturer.
 abbrev pub IsKept : Place → Option Capturer → Conflict → Type 0
 IsKept used by c = (c.used ≡ used) × (c.by ≡ by)
 
--- a conflict of what begins at a place, was bound to a declaration and is afterwards bound to that of which E tells
+-- The conflict of the identifier at `used`, which was bound to `old` and is bound to the declaration of which `E` holds after the change.
 abbrev pub IsNoted : (Becomes : Declaration → Declaration → Type 0) → (Package → Type 0) → (Declaration → Type 0) → Place → Declaration → Conflict → Type 0
 IsNoted Becomes Known E used old c = (c.used ≡ used) × TellsOf Becomes Known E old c.by
 
--- a conflict of what begins at a place, was bound to a field or method and is afterwards that of which E tells
+-- The conflict of the identifier at `used`, which was bound to the field or method `old`. After the change it selects the member of which
+-- `E` holds.
 abbrev pub IsOtherNoted : (Known : Package → Type 0) → (Declaration → Type 0) → Place → Declaration → Conflict → Type 0
 IsOtherNoted Known E used old c = (c.used ≡ used) × TellsMember Known E old c.by
 
--- an identifier stands behind the name of the package of that path, and of no other
+-- The identifier `u` is the selector of a qualified identifier of the package with this path, and of no other package.
 abbrev pub IsOnlyBehind : Package → ℕ → List ℕ → Type 0
 IsOnlyBehind p u path = IsBehindPackage p u path × ((other : List ℕ) → IsBehindPackage p u other → other ≡ path)
 
--- K holds of the place at which the identifier at a token begins, or at one that was found, where that stands before the conflict
+-- `K` holds of the place at which the identifier at the token `at` begins, if that place is before the first conflict found so far.
 abbrev pub HoldsAtToken : Package → Position → (Place → Type 0) → Option Conflict → Type 0
 HoldsAtToken p at K first = HoldsAhead (λ place. AtToken p at place → K place) first
 
+-- If a token was found and its identifier begins before the first conflict found so far, `K` holds of the place at which it begins.
 abbrev pub HoldsAtFound : Package → Option Position → (Place → Type 0) → Option Conflict → Type 0
 HoldsAtFound p at K first = HoldsAhead (λ place. AtFound p at place → K place) first
 
--- a conflict of the member use at a token, by what it is at the place where that begins
+-- The conflict of the member use at the token `at`, which was bound to `old`. `E` gives the member after the change for the place where the
+-- token begins.
 abbrev pub IsOtherAt : (Known : Package → Type 0) → (Place → Declaration → Type 0) → Package → Position → Declaration → Conflict → Type 0
 IsOtherAt Known E p at old c = AtToken p at c.used × TellsMember Known (E c.used) old c.by
 
--- what a member use of a file is, by the definitions that the package sees
+-- The member that a member use of a file selects after the change, by the type definitions that the package sees.
 abbrev pub IsUsedNow : (Known : Package → Type 0) → Revision → (Symbol → Definition) → Package → (file : ℕ) → MemberUse → Place → Declaration → Type 0
 IsUsedNow Known r definitions p file found = IsMemberNow Known r definitions p (record { file = file; index = found.place }) found.before
 
--- what is used as a member stays the member that it was
+-- The member use at the place selects the same field or method before and after the change.
 abbrev pub UseStays : (Known : Package → Type 0) → Revision → (Symbol → Definition) → Package → (file : ℕ) → MemberUse → Place → Type 0
 UseStays Known r definitions p file found place = (old : Declaration) → IsMemberUseOf definitions p file old found place →
     IsUsedNow Known r definitions p file found place old
 
--- the same of each member use of a file
+-- Each member use of a file that is at the place selects the same field or method before and after the change.
 abbrev pub UsesStay : (Known : Package → Type 0) → Revision → (Symbol → Definition) → Package → (file : ℕ) → List MemberUse → Place → Type 0
 UsesStay Known r definitions p file uses place = (k : ℕ) (found : MemberUse) → slice_get uses k ≡ Some found → UseStays Known r definitions p file found place
 
--- a conflict of what is used as a member
+-- The conflict of one member use of a file.
 pub record IsMemberConflict (Known : Package → Type 0) (r : Revision) (definitions : Symbol → Definition) (p : Package) (file : ℕ) (found : MemberUse)
     (c : Conflict) : Type 0 where
   pub old : Declaration
   pub is_use : IsMemberUseOf definitions p file old found c.used
   pub tells : TellsMember Known (IsUsedNow Known r definitions p file found c.used) old c.by
 
--- the same of some member use of a file
+-- The conflict of some member use of a file.
 pub record IsMemberConflictAmong (Known : Package → Type 0) (r : Revision) (definitions : Symbol → Definition) (p : Package) (file : ℕ)
     (uses : List MemberUse) (c : Conflict) : Type 0 where
   pub old : Declaration
   pub is_use : IsMemberUseAmong definitions p file old uses c.used
   pub tells : TellsMember Known (IsUsedNow Known r definitions p file is_use.1.found c.used) old c.by
 
--- the name of a member is lost, which does not count
+-- The declaring identifier of the member `old` is lost, since `old` does not count under its new name.
 abbrev pub IsNameLost : (Known : Package → Type 0) → Revision → Declaration → Conflict → Type 0
 IsNameLost Known r old c = (CountsAfter Known r old → ⊥) × (c.by ≡ None)
 
--- the same of the name that stands at a token, or at one that was found
+-- The declaring identifier of the member `old`, at the token `at`, is lost.
 abbrev pub IsLostAt : (Known : Package → Type 0) → Revision → Package → Position → Declaration → Conflict → Type 0
 IsLostAt Known r p at old c = AtToken p at c.used × IsNameLost Known r old c
 
+-- The declaring identifier of the member `old`, at the token that was found, is lost.
 abbrev pub IsLostAtFound : (Known : Package → Type 0) → Revision → Package → Option Position → Declaration → Conflict → Type 0
 IsLostAtFound Known r p at old c = AtFound p at c.used × IsNameLost Known r old c
 
--- the same of the name at a place
+-- The declaring identifier of the member `old`, at the place `used`, is lost.
 abbrev pub IsLostThere : (Known : Package → Type 0) → Revision → Place → Declaration → Conflict → Type 0
 IsLostThere Known r used old c = (c.used ≡ used) × IsNameLost Known r old c

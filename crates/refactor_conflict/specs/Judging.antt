@@ -1,4 +1,4 @@
--- What is known while identifiers are judged.
+-- What is known of a change while its identifiers are judged.
 use Rattle.std.specs.Prelude.{◌≡◌}
 use Rattle.base_files.specs.Workspace.{Workspace}
 use Rattle.base_files.specs.declared.place.Place.{Place}
@@ -24,18 +24,19 @@ use Rattle.refactor_conflict.specs.Afterwards.{HasBecome}
 use Rattle.refactor_conflict.specs.declared.first.Before.{Before}
 use Rattle.refactor_conflict.specs.declared.judge.Judge.{Judge}
 
--- the change by an edit set that leads to a workspace
+-- The change by the edits `s` that leads to the workspace `after`.
 abbrev pub change_by : Workspace → FileChanges → Revision
 change_by after s = record { after = after; moved = moved s; called = called_by s }
 
--- what is found before a change
+-- `b` has the exports, the places of declarations and the members under new names of the workspace before the change.
 pub record KnowsBefore (p : Packages) (s : FileChanges) (b : Before) : Type 0 where
   pub exports : AreExports (workspace_of p) (verdicts_of p) b.exports.items
   pub places : AreDeclared (workspace_of p) (verdicts_of p) b.places.items
   pub old : AreOldPlaces (IsPackage (workspace_of p) (verdicts_of p)) (moved s) b.old.items
   pub members : AreAllNewMembers (workspace_of p) (verdicts_of p) (revision_of (workspace_of p) s) b.members.items
 
--- the same, and what is found afterwards
+-- The judge has the exports, the places of declarations and the members under new names of the workspace before the change. Of the
+-- workspace after it it has the scopes and their bindings.
 pub record KnowsChange (j : Judge) : Type 0 where
   pub read : ArePackages j.packages.now
   pub exports : AreExports (workspace_of j.packages.now) (verdicts_of j.packages.now) j.exports.now
@@ -46,26 +47,27 @@ pub record KnowsChange (j : Judge) : Type 0 where
   pub bound : AreScopeBindings j.after.now j.bound.now
   pub members : AreAllNewMembers (workspace_of j.packages.now) (verdicts_of j.packages.now) (change_by j.after.now j.moves.now) j.members.now
 
--- the workspace before, and what is known of its packages
+-- The workspace before the change.
 abbrev pub workspace_in : Judge → Workspace
 workspace_in j = workspace_of j.packages.now
 
+-- The findings of the workspace before the change.
 abbrev pub known_verdicts : Judge → Verdicts
 known_verdicts j = verdicts_of j.packages.now
 
--- these packages
+-- The packages of the workspace before the change.
 abbrev pub known_packages : Judge → Package → Type 0
 known_packages j = IsPackage (workspace_in j) (known_verdicts j)
 
--- the change
+-- The change that is judged.
 abbrev pub change_in : Judge → Revision
 change_in j = change_by j.after.now j.moves.now
 
--- which declaration has become which
+-- A declaration of the workspace before the change has become a declaration of the scopes after it.
 abbrev pub becomes_in : Judge → Declaration → Declaration → Type 0
 becomes_in j = HasBecome (workspace_in j) (known_verdicts j) (change_in j)
 
--- a declaration of the workspace before goes to where one of the workspace afterwards stands
+-- The declaration `c` of the workspace before the change moves to the place of the declaration `e` of the workspace after it.
 pub record GoesWhere (Known After : Package → Type 0) (moved : Place → Place) (c e : Declaration) : Type 0 where
   pub to : Place
   pub goes : HasGoneTo Known moved c to

@@ -1,4 +1,4 @@
--- What is found of the workspace afterwards, as its scopes are.
+-- Declarations and exports of the workspace after a change, by its scopes.
 use Rattle.std.specs.Prelude.{ℕ, ◌≡◌, ⊤, List, slice_get, map}
 use Rattle.base_files.specs.Workspace.{Workspace}
 use Rattle.base_files.specs.declared.place.Place.{Place}
@@ -14,19 +14,19 @@ use Rattle.refactor_after.specs.ScopedPackages.{IsScopedIn}
 use Rattle.refactor_after.specs.declared.scopes.PackageScopes.{PackageScopes}
 use Rattle.refs_binding.specs.Standing.{TokenBegins}
 
--- a declaration that counts, as scopes see it: one that is predeclared or a package's own
+-- Scopes can bind to this declaration: it is predeclared, or a declaration of a package of `w` that counts.
 abbrev pub IsCounted : Workspace → Declaration → Type 0
 IsCounted w (Predeclared d) = ⊤
 IsCounted w (Declared path d) = (p : Package) × (IsScopedIn w p × ((p.path ≡ path) × Counts p.layout p.names d))
 IsCounted w (Field s) = ⊥
 IsCounted w (Method s) = ⊥
 
--- the token at which the declaration of a number stands, an import at its path literal, begins at the place
+-- The declaring token of the declaration `d` of a package begins at the place. For an import that token is its string literal.
 abbrev pub IsOwnToken : PackageScopes → ℕ → Place → Type 0
 IsOwnToken s d place = let at = (layout_in s.table).place (literal_of (layout_in s.table) d) in
     TokenBegins (slice_get (map source_of s.files.now) at.file) at.index place
 
--- the package of a path exports e under a name
+-- The package at this path exports `e` as `name`.
 pub record IsExportIn (w : Workspace) (path name : List ℕ) (e : Declaration) : Type 0 where
   pub other : Package
   pub is_package : IsScopedIn w other
@@ -36,6 +36,6 @@ pub record IsExportIn (w : Workspace) (path name : List ℕ) (e : Declaration) :
   pub named : other.names declaration ≡ name
   pub exported : e ≡ Declared path declaration
 
--- one package exports e under a name
+-- The package `p` exports `e` as `name`.
 abbrev pub IsExportOf : Package → List ℕ → Declaration → Type 0
 IsExportOf p name e = (d : ℕ) × ((IsSeen p d × (p.names d ≡ name)) × (e ≡ Declared p.path d))

@@ -1,4 +1,4 @@
--- Which refusal a change gets that does not preserve bindings.
+-- The refusal of a change that does not preserve bindings.
 use Rattle.std.specs.Prelude.{◌≡◌, ◌⊎◌, None}
 use Rattle.base_files.specs.Workspace.{Workspace}
 use Rattle.base_files.specs.declared.place.Place.{Place}
@@ -9,11 +9,12 @@ use Rattle.refactor_conflict.specs.Conflicts.{IsTold, HasNone}
 use Rattle.refactor_conflict.specs.Told.{told_by}
 use Rattle.refactor_conflict.specs.declared.conflict.Conflict.{Conflict}
 
--- an identifier that the change loses or captures, or else the first of all; where no identifier is there, another place
+-- The conflict that a refusal reports. Where the workspace has no identifier, it reports `place` as lost.
 abbrev pub IsToldOr : Workspace → Verdicts → Revision → Place → Conflict → Type 0
 IsToldOr w known r place c = IsTold w known r c ⊎ (HasNone w known × (c ≡ record { used = place; by = None }))
 
--- the refusal that names it
+-- The refusal names the first identifier, by path and offset, that the change loses or captures. Where there is none it names the first
+-- identifier of the workspace, or `place` where the workspace has no identifier.
 pub record TellsConflict (w : Workspace) (known : Verdicts) (r : Revision) (place : Place) (refusal : Refusal) : Type 0 where
   pub conflict : Conflict
   pub is_told : IsToldOr w known r place conflict

@@ -1,5 +1,5 @@
--- Identifiers that stay bound: each is bound afterwards to what its declaration has become, in the way in which it was bound. Known: the
--- packages of the workspace before.
+-- Identifiers that stay bound: after the change each is bound to what its declaration has become, in the way in which it was bound before.
+-- Known: the packages of the workspace before the change.
 use Rattle.std.specs.Prelude.{ℕ, ◌≡◌}
 use Rattle.std.specs.declared.cmp.Ordering.TheVariants.{Less}
 use Rattle.base_files.specs.Workspace.{Workspace}
@@ -18,81 +18,89 @@ use Rattle.refactor_after.specs.MembersAfter.{CountsAfter}
 use Rattle.refactor_after.specs.OldPlaces.{field_at, method_at}
 use Rattle.refactor_conflict.specs.Afterwards.{HasBecome, IsBoundByScopes, IsBoundByPackage, IsBoundByMember}
 
--- what was bound to old is bound afterwards to what that has become; E tells of what it is bound to
+-- The identifier that was bound to `old` is bound after the change to the declaration that `old` has become. `E` holds of what it is bound
+-- to.
 pub record StaysBound (Becomes : Declaration → Declaration → Type 0) (E : Declaration → Type 0) (old : Declaration) : Type 0 where
   pub declaration : Declaration
   pub bound : E declaration
   pub become : Becomes old declaration
 
--- an identifier of the package that begins at the place stays bound by scopes, if the scopes of the package bind it
+-- If scopes bind the identifier `u`, which begins at the place, the scopes after the change bind it to what its declaration has become.
 abbrev pub StaysByScope : Workspace → Verdicts → Revision → Package → ℕ → Place → Type 0
 StaysByScope w known r p u place = (old : Declaration) → BindsByScope p u old → StaysBound (HasBecome w known r) (IsBoundByScopes r place) old
 
--- the same of what stands behind the name of a package
+-- If the identifier `u` is the selector of a qualified identifier, it is bound after the change to what its declaration has become.
 abbrev pub StaysByPackage : Workspace → Verdicts → Revision → Package → ℕ → Place → Type 0
 StaysByPackage w known r p u place =
     (old : Declaration) → BindsByPackage (IsPackage w known) p u old → StaysBound (HasBecome w known r) (IsBoundByPackage w r place p u) old
 
--- the same of a used member: it is still what its new name is for the type that was found before it
+-- If the identifier `u` is a use of a member, its new name selects this member of the same type after the change.
 abbrev pub StaysByMember : Workspace → Verdicts → Revision → Package → ℕ → Place → Type 0
 StaysByMember w known r p u place = (old : Declaration) (was : BindsByMember p u old) → IsBoundByMember (IsPackage w known) r place p u old was old
 
--- the same of the name by which a member is declared: this counts under its new name
+-- If the identifier `u` declares a field or method, this member counts under its new name.
 abbrev pub StaysByName : Workspace → Verdicts → Revision → Package → ℕ → Place → Type 0
 StaysByName w known r p u place = (old : Declaration) → BindsByName p u old → CountsAfter (IsPackage w known) r old
 
--- the same in every way
+-- The identifier `u`, which begins at the place, stays bound in each way in which it was bound.
 pub record Stays (w : Workspace) (known : Verdicts) (r : Revision) (p : Package) (u : ℕ) (place : Place) : Type 0 where
   pub by_scope : StaysByScope w known r p u place
   pub by_package : StaysByPackage w known r p u place
   pub by_member : StaysByMember w known r p u place
   pub by_name : StaysByName w known r p u place
 
--- K holds of each identifier of the package that begins there
+-- `K` holds of each identifier of the package that begins at the place.
 abbrev pub EachThere : Package → (ℕ → Place → Type 0) → Place → Type 0
 EachThere p K place = (u : ℕ) → BeginsAt p place.path place.offset u → K u place
 
--- what begins there in the package stays bound
+-- Each identifier of the package `p` that begins at the place stays bound.
 abbrev pub StaysIn : Workspace → Verdicts → Revision → Package → Place → Type 0
 StaysIn w known r p place = EachThere p (Stays w known r p) place
 
--- the same in the package of a number, and in each
+-- Each identifier that begins at the place in the package of this number stays bound.
 abbrev pub StaysInNumber : Workspace → Verdicts → Revision → ℕ → Place → Type 0
 StaysInNumber w known r number place = (p : Package) → IsPackageAt w known number p → StaysIn w known r p place
 
+-- Each identifier that begins at the place, in any package, stays bound.
 abbrev pub StaysAt : Workspace → Verdicts → Revision → Place → Type 0
 StaysAt w known r place = (p : Package) → IsPackage w known p → StaysIn w known r p place
 
--- no identifier of the workspace is lost or captured
+-- The change loses and captures no identifier of the workspace.
 abbrev pub NoneIsLost : Workspace → Verdicts → Revision → Type 0
 NoneIsLost w known r = (place : Place) → StaysAt w known r place
 
--- none is that stands before a place
+-- The change loses and captures no identifier before the place `end`.
 abbrev pub NoneIsLostBefore : Workspace → Verdicts → Revision → Place → Type 0
 NoneIsLostBefore w known r end = (place : Place) → place_cmp place end ≡ Less → StaysAt w known r place
 
--- The same as it is found: first what scopes and the names of packages bind, then the members that are used, then their names
+-- The parts of `StaysIn` as they are found: first the identifiers that scopes bind and the selectors of qualified identifiers, next the
+-- member uses, last the declaring identifiers of members.
 
+-- The identifier `u`, which begins at the place, stays bound by scopes and as the selector of a qualified identifier.
 pub record NameStays (w : Workspace) (known : Verdicts) (r : Revision) (p : Package) (u : ℕ) (place : Place) : Type 0 where
   pub by_scope : StaysByScope w known r p u place
   pub by_package : StaysByPackage w known r p u place
 
+-- Each identifier of the package `p` that begins at the place stays bound by scopes and as the selector of a qualified identifier.
 abbrev pub NamesStayIn : Workspace → Verdicts → Revision → Package → Place → Type 0
 NamesStayIn w known r p place = EachThere p (NameStays w known r p) place
 
+-- Each member use of the package `p` that begins at the place stays bound.
 abbrev pub MembersStayIn : Workspace → Verdicts → Revision → Package → Place → Type 0
 MembersStayIn w known r p place = EachThere p (StaysByMember w known r p) place
 
--- the names of fields, and of methods, by their ranks
+-- The fields of the package that are declared at the place count under their new names.
 abbrev pub FieldsStayIn : (Known : Package → Type 0) → Revision → Package → Place → Type 0
 FieldsStayIn Known r p place = (rank : ℕ) → UsesIn p (λ u. IsNameOf (IsFieldAt p) p u rank) place → CountsAfter Known r (field_at p.path rank)
 
+-- The methods of the package that are declared at the place count under their new names.
 abbrev pub MethodsStayIn : (Known : Package → Type 0) → Revision → Package → Place → Type 0
 MethodsStayIn Known r p place = (rank : ℕ) → UsesIn p (λ u. IsNameOf (IsMethodAt p) p u rank) place → CountsAfter Known r (method_at p.path rank)
 
+-- Each member of the package `p` that is declared at the place counts under its new name.
 abbrev pub DeclaringNamesStayIn : Workspace → Verdicts → Revision → Package → Place → Type 0
 DeclaringNamesStayIn w known r p place = EachThere p (StaysByName w known r p) place
 
--- K holds of the place where the identifier of the package begins
+-- If the identifier `u` of the package begins at the place, `K` holds of the place.
 abbrev pub IfBegins : Package → ℕ → (Place → Type 0) → Place → Type 0
 IfBegins p u K place = BeginsAt p place.path place.offset u → K place

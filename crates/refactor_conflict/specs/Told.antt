@@ -1,4 +1,4 @@
--- How a conflict is told.
+-- A conflict as a refusal: `Lost` without a capturer, else `Captured` with the place of the capturer, if it has one.
 use Rattle.std.specs.Prelude.{Option, Some, None}
 use Rattle.base_files.specs.declared.place.Place.{Place}
 use Rattle.base_files.specs.declared.refusal.Refusal.{Refusal}

@@ -1,4 +1,4 @@
-//! The identifiers of a package by the tokens at which they stand.
+//! Where the identifier at a token begins.
 ghost use Rattle.std.specs.Prelude.{IfOk};
 ghost use Rattle.types_declared.specs.PackageView.{package_of, IsIndexOf};
 ghost use Rattle.refs_binding.specs.Steps.{AtToken};
@@ -10,8 +10,7 @@ use refs_places::name_beginning;
 use std::alloc::AllocError;
 use types_declared::{Index, Package};
 
-/// The place at which the identifier begins that stands at a token; none where none stands there, and for the literal of an
-/// import.
+/// The place at which the identifier at a token begins, or `None` where the token is no identifier that the index has.
 pub fn token_beginning(
     unit: Package<'_>,
     index: &Index<'_>,

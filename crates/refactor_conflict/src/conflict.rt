@@ -1,25 +1,25 @@
-//! Identifiers that a change would lose or capture.
+//! Conflicts: identifiers that a change would lose or capture.
 ghost use Rattle.std.specs.Prelude.{◌≡◌};
 ghost use Rattle.refactor_conflict.specs.Told.{told_by};
 
 use base_files::{Place, Refusal};
 
-/// The declaration that captures an identifier: by its place before the change, where an import stands at its path literal,
-/// or one that is predeclared.
+/// The declaration that would capture an identifier: a predeclared one, or the one at a place before the change. The place of an import is
+/// that of its string literal.
 #[derive(Drop)]
 pub enum Capturer {
     Universe,
     At(Place),
 }
 
-/// An identifier, by its place before the change, that would be bound to another declaration, or to none.
+/// An identifier, by its place before the change, that the change would lose (`by` is `None`) or bind to another declaration.
 #[derive(Drop)]
 pub struct Conflict {
     pub used: Place,
     pub by: Option<Capturer>,
 }
 
-/// How a conflict is told.
+/// The refusal that reports a conflict.
 pub fn told(conflict: Conflict) -> Refusal
     ensures { result ≡ told_by conflict.by conflict.used }
 {

@@ -29,7 +29,7 @@ use std::collections::BTreeMap;
 use workspace_check::Findings;
 use workspace_graph::Graph;
 
-/// Whether some files all stand behind the conflict that was found first.
+/// Whether a conflict is found and all these files come after its file, so that none of their identifiers can be an earlier one.
 fn are_behind(first: &Option<Conflict>, files: &[FileTree]) -> bool
     ensures { IsTrue result → AreBehind first.now files.now }
 {
@@ -39,7 +39,7 @@ fn are_behind(first: &Option<Conflict>, files: &[FileTree]) -> bool
     }
 }
 
-/// Judges the identifiers of the package of a number, unless they all stand behind the conflict that was found.
+/// Judges the identifiers of the package of a number, unless all its files come after the conflict that was found.
 fn judge_package(
     alloc: Global,
     first: &mut Option<Conflict>,
@@ -58,7 +58,7 @@ fn judge_package(
     judge_unit(alloc, first, judge, unit, number)
 }
 
-/// The first identifier that is lost or captured.
+/// The first identifier that the change loses or captures, or `None`.
 fn first_judged(alloc: Global, judge: &Judge<'_, '_, '_>) -> Result<Option<Conflict>, AllocError>
     requires { KnowsChange judge.now }
     ensures takes { IfOk result (λ first. Takes (IsConflict (workspace_in judge.now) (known_verdicts judge.now) (change_in judge.now)) None first) }
@@ -71,7 +71,7 @@ fn first_judged(alloc: Global, judge: &Judge<'_, '_, '_>) -> Result<Option<Confl
     Ok(first)
 }
 
-/// What is found of a workspace before a change.
+/// What is known of the workspace before a change.
 #[derive(Drop)]
 struct Before {
     exports: Vec<BTreeMap<Vec<u8>, usize>>,
@@ -81,6 +81,7 @@ struct Before {
 }
 
 impl Before {
+    /// Finds the exports, the places of declarations and the members under their new names.
     fn of(alloc: Global, packages: &Packages<'_>, moves: &Moves<'_>) -> Result<Before, AllocError>
         requires { ArePackages packages.now }
         ensures { IfOk result (KnowsBefore packages.now moves.now) }
@@ -98,7 +99,7 @@ impl Before {
     }
 }
 
-/// The first identifier that is lost or captured, by what is found before and afterwards.
+/// The first identifier that the change loses or captures, by what is known of the workspace before it and by the scopes after it.
 fn first_found(
     alloc: Global,
     packages: &Packages<'_>,
@@ -129,7 +130,7 @@ fn first_found(
     first_judged(alloc, &judge)
 }
 
-/// The first identifier that edits lose or capture, by what is found before.
+/// The first identifier that the edits lose or capture, by what is known of the workspace before them.
 fn first_afterwards(
     alloc: Global,
     packages: &Packages<'_>,
@@ -148,7 +149,7 @@ fn first_afterwards(
     first_found(alloc, packages, before, moves, after, &scoped)
 }
 
-/// The first identifier that edits lose or capture, if they do.
+/// The first identifier that the edits lose or capture, or `None`.
 fn judged_first(
     alloc: Global,
     packages: &Packages<'_>,
@@ -165,7 +166,7 @@ fn judged_first(
     first_afterwards(alloc, packages, &before, &moves, after)
 }
 
-/// The first identifier of a workspace without faults, as one that is lost.
+/// The first identifier of a workspace without faults, as a conflict that loses it.
 fn first_lost(alloc: Global, packages: &Packages<'_>) -> Result<Option<Conflict>, AllocError>
     requires { ArePackages packages.now }
     ensures { IfOk result (IsToldFirst (workspace_of packages.now) (verdicts_of packages.now)) }
@@ -176,7 +177,7 @@ fn first_lost(alloc: Global, packages: &Packages<'_>) -> Result<Option<Conflict>
     }
 }
 
-/// The first identifier of packages without faults that edits lose or capture, or else the first of all.
+/// The first identifier that the edits lose or capture, or else the first of the workspace, as lost.
 fn first_read(
     alloc: Global,
     packages: &Packages<'_>,
@@ -193,8 +194,10 @@ fn first_read(
     }
 }
 
-/// The first identifier of a workspace without faults that edits lose or capture, where `after` is the edited workspace. Where
-/// they do none, the first of all counts as lost. None where the workspace has no identifier.
+/// The first identifier of a workspace without faults that the edits lose or capture. Where they lose and capture none, the first
+/// identifier is reported as lost. `None` where the workspace has no identifier.
+///
+/// `after` is the workspace that the edits make of `graph`.
 pub fn first_conflict(
     alloc: Global,
     graph: &Graph,

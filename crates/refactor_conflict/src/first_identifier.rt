@@ -13,7 +13,7 @@ use refs_binding::Packages;
 use refs_index::SoundWorkspace;
 use std::alloc::{AllocError, Global};
 
-/// The first of a place and the one that was found before, if there is one.
+/// The earlier one of a place and the place that was found before, if one was.
 fn earlier<'a>(first: Option<&'a Place>, place: &'a Place) -> &'a Place
     ensures { IsEarlier (option_copied first.entry) place.now result.now }
 {
@@ -29,7 +29,7 @@ fn earlier<'a>(first: Option<&'a Place>, place: &'a Place) -> &'a Place
     }
 }
 
-/// The first of some places.
+/// The first of some places, by path and offset.
 fn first_of(places: &[Place]) -> Option<&Place>
     ensures { IsFirstPlace (λ (place : At). Contains places.now place) (option_copied result) }
 {

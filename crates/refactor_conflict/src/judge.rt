@@ -8,9 +8,9 @@ use refs_places::declared_places::DeclaredPlaces;
 use std::collections::BTreeMap;
 use workspace_graph::Graph;
 
-/// What is known of a change: the packages before, the members of their types under new names, what they export, and their
-/// declarations, by where they stand and by where they go; and the packages of the workspace afterwards, as their scopes are, with
-/// all that these bind.
+/// What is known of a change. Before it: the packages, their exports, the members under their new names, the places of declarations
+/// (`places`), and the places to which these move (`old`). After it: the scopes of the packages (`scoped`) and all bindings by scopes
+/// (`bound`).
 #[derive(Clone, Copy)]
 pub struct Judge<'a, 'm, 's> {
     pub packages: &'a Packages<'a>,
@@ -25,7 +25,7 @@ pub struct Judge<'a, 'm, 's> {
 }
 
 impl<'a> Judge<'a, '_, '_> {
-    /// The types of the workspace before, with their members under the new names.
+    /// The types of the workspace before the change, with their members under the new names.
     pub fn types(&self) -> TypesAfter<'a>
         ensures graph { result.graph.now ≡ self.now.packages.now.graph.now }
         ensures found { result.found.now ≡ self.now.packages.now.found.now }

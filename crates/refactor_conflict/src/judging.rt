@@ -1,4 +1,4 @@
-//! The identifiers of one package, each judged alone by the way in which it was bound.
+//! Judges the identifiers of one package, each by the way in which it was bound before the change.
 ghost use Rattle.std.specs.Prelude.{◌<◌, Contains, length, map, OnOk};
 ghost use Rattle.base_files.specs.Packages.{package_paths};
 ghost use Rattle.types_expr.specs.Found.{use_of};
@@ -35,14 +35,14 @@ use types_expr::found::MemberUse;
 use types_expr::world::Definition;
 use types_info::package_before;
 
-/// A name that is seen in other packages, with the path of its package.
+/// An exported name, with the path of its package.
 #[derive(Clone, Copy)]
 struct OldExport<'a> {
     path: &'a [u8],
     name: &'a [u8],
 }
 
-/// An identifier of a package, behind the name of the package of a path.
+/// The selector `u` of a qualified identifier in the package `unit`; `behind` is the path of the package that it refers to.
 #[derive(Clone, Copy)]
 struct Selected<'a> {
     unit: Package<'a>,
@@ -50,7 +50,7 @@ struct Selected<'a> {
     u: usize,
 }
 
-/// A package with what is found once in it, and its own type definitions.
+/// A package with the index of its identifiers and its own type definitions.
 #[derive(Clone, Copy)]
 struct Owned<'a> {
     unit: Package<'a>,
@@ -58,7 +58,7 @@ struct Owned<'a> {
     own: &'a [Definition],
 }
 
-/// A member that is used at a token of a package, with the package's own type definitions.
+/// A member use at a token of a package, with the package's own type definitions.
 #[derive(Clone, Copy)]
 struct Used<'a> {
     unit: Package<'a>,
@@ -67,7 +67,7 @@ struct Used<'a> {
     found: &'a MemberUse,
 }
 
-/// Judges the identifier at a place that the scopes of its package bind to a declaration.
+/// Judges the identifier at a place that the scopes of its package bind to `old`.
 fn note_by_scope(
     first: &mut Option<Conflict>,
     judge: &Judge<'_, '_, '_>,
@@ -82,7 +82,7 @@ fn note_by_scope(
     note(judge, first, place, old, now)
 }
 
-/// Judges an identifier that the scopes of its package bind to a declaration.
+/// Judges the identifier `u` of a package, which its scopes bind to `old`.
 fn judge_bound(
     first: &mut Option<Conflict>,
     judge: &Judge<'_, '_, '_>,
@@ -103,7 +103,7 @@ fn judge_bound(
     }
 }
 
-/// Judges an identifier, if the scopes of its package bind it.
+/// Judges the identifier `u` of a package, if the scopes of the package bind it.
 fn judge_by_scope(
     first: &mut Option<Conflict>,
     judge: &Judge<'_, '_, '_>,
@@ -124,7 +124,7 @@ fn judge_by_scope(
     }
 }
 
-/// Judges the identifier at a place that is a name which the package of a path exports.
+/// Judges the selector at a place of a qualified identifier that is bound to `old`, an export of a package.
 fn note_by_package(
     alloc: Global,
     first: &mut Option<Conflict>,
@@ -143,7 +143,7 @@ fn note_by_package(
     note(judge, first, place, old, now)
 }
 
-/// Judges an identifier that stands behind the name of the package of a path, which exports a declaration under its name.
+/// Judges the selector of a qualified identifier that is bound to `old`.
 fn judge_exported(
     alloc: Global,
     first: &mut Option<Conflict>,
@@ -172,7 +172,7 @@ fn judge_exported(
     }
 }
 
-/// Judges an identifier that stands behind the name of the package of a path, if that exports its name.
+/// Judges the selector of a qualified identifier, if the package that it refers to exports its name.
 fn judge_behind(
     alloc: Global,
     first: &mut Option<Conflict>,
@@ -199,7 +199,7 @@ fn judge_behind(
     }
 }
 
-/// Judges an identifier, if it stands behind the name of a package.
+/// Judges the identifier `u` of a package, if it is the selector of a qualified identifier.
 fn judge_by_package(
     alloc: Global,
     first: &mut Option<Conflict>,
@@ -224,7 +224,7 @@ fn judge_by_package(
     }
 }
 
-/// Judges the identifiers of a package that are bound to a declaration of a scope.
+/// Judges the identifiers of a package that scopes bind, and the selectors of its qualified identifiers.
 fn judge_numbers(
     alloc: Global,
     first: &mut Option<Conflict>,
@@ -244,7 +244,7 @@ fn judge_numbers(
     Ok(())
 }
 
-/// Judges the name at a place that is used as a member.
+/// Judges the identifier at a place that is a use of the member `old`.
 fn note_by_member(
     first: &mut Option<Conflict>,
     judge: &Judge<'_, '_, '_>,
@@ -262,7 +262,7 @@ fn note_by_member(
     note_member(judge, first, place, old, now)
 }
 
-/// Judges the identifier at a token that is used as a member, if one stands there.
+/// Judges the use of the member `old` at a token, if the token is an identifier.
 fn judge_token(
     first: &mut Option<Conflict>,
     judge: &Judge<'_, '_, '_>,
@@ -283,7 +283,7 @@ fn judge_token(
     }
 }
 
-/// Judges a name behind another dot, or a key.
+/// Judges a member use: the selector of a selection, or a composite literal key.
 fn judge_by_member(
     first: &mut Option<Conflict>,
     judge: &Judge<'_, '_, '_>,
@@ -313,7 +313,7 @@ fn judge_by_member(
     }
 }
 
-/// Judges the members that are used in a file.
+/// Judges the member uses of a file.
 fn judge_file(
     first: &mut Option<Conflict>,
     judge: &Judge<'_, '_, '_>,
@@ -332,7 +332,7 @@ fn judge_file(
     Ok(())
 }
 
-/// Judges the members that are used in the package of a number.
+/// Judges the member uses of the package of a number.
 fn judge_members(
     first: &mut Option<Conflict>,
     judge: &Judge<'_, '_, '_>,
@@ -357,7 +357,7 @@ fn judge_members(
     Ok(())
 }
 
-/// Judges the name at a place by which a field or method is declared.
+/// Judges the declaring identifier, at a place, of the field or method `old`.
 fn note_by_name(
     first: &mut Option<Conflict>,
     judge: &Judge<'_, '_, '_>,
@@ -375,7 +375,7 @@ fn note_by_name(
     Ok(())
 }
 
-/// Judges the name by which a field or method is declared, if an identifier stands there.
+/// Judges the declaring identifier of the field or method `old`, if the token is an identifier.
 fn judge_by_name(
     first: &mut Option<Conflict>,
     judge: &Judge<'_, '_, '_>,
@@ -395,7 +395,7 @@ fn judge_by_name(
     }
 }
 
-/// Judges the name of the field of a rank.
+/// Judges the declaring identifier, at a token, of the field of a rank.
 fn judge_field(
     first: &mut Option<Conflict>,
     judge: &Judge<'_, '_, '_>,
@@ -414,7 +414,7 @@ fn judge_field(
     judge_by_name(first, judge, unit, index, at, &old)
 }
 
-/// The same, if it counts.
+/// Judges the declaring identifier of the field of a rank, if the field has a token.
 fn judge_counting_field(
     first: &mut Option<Conflict>,
     judge: &Judge<'_, '_, '_>,
@@ -434,7 +434,7 @@ fn judge_counting_field(
     }
 }
 
-/// Judges the names by which the fields of a package are declared.
+/// Judges the declaring identifiers of the fields of a package.
 fn judge_fields(
     alloc: Global,
     first: &mut Option<Conflict>,
@@ -454,7 +454,7 @@ fn judge_fields(
     Ok(())
 }
 
-/// Judges the name of the method of a rank.
+/// Judges the declaring identifier, at a token, of the method of a rank.
 fn judge_method(
     first: &mut Option<Conflict>,
     judge: &Judge<'_, '_, '_>,
@@ -473,7 +473,7 @@ fn judge_method(
     judge_by_name(first, judge, unit, index, at, &old)
 }
 
-/// The same, if it counts.
+/// Judges the declaring identifier of the method of a rank, if the method has a token.
 fn judge_counting_method(
     first: &mut Option<Conflict>,
     judge: &Judge<'_, '_, '_>,
@@ -493,7 +493,7 @@ fn judge_counting_method(
     }
 }
 
-/// Judges the names by which the methods of a package are declared.
+/// Judges the declaring identifiers of the methods of a package.
 fn judge_methods(
     alloc: Global,
     first: &mut Option<Conflict>,
@@ -513,7 +513,7 @@ fn judge_methods(
     Ok(())
 }
 
-/// Judges the names by which the fields and methods of a package are declared.
+/// Judges the declaring identifiers of the fields and methods of a package.
 fn judge_names(
     alloc: Global,
     first: &mut Option<Conflict>,

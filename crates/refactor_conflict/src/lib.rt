@@ -1,4 +1,5 @@
-//! The identifiers that a change would lose, since nothing would bind them any more, or capture, since another declaration would.
+//! Finds the conflicts of a change: identifiers that it would lose, since nothing would bind them, or capture, since another declaration
+//! would.
 #![tactic(auto)]
 
 mod beginning;

@@ -1,4 +1,4 @@
-//! The first identifier that is lost or captured of those that were judged.
+//! Keeps the first of the conflicts that are found while identifiers are judged.
 ghost use Rattle.std.specs.Prelude.{◌≡◌, ◌↔◌, Some, IsTrue, IfOk, OnOk, MatchOption};
 ghost use Rattle.refs_binding.specs.declared.declaration.Declaration.{Declaration as Bound};
 ghost use Rattle.refs_binding.specs.declared.declaration.Declaration.TheVariants.{Predeclared, Declared, Field, Method};
@@ -18,7 +18,7 @@ use std::alloc::AllocError;
 use std::cmp::Ordering;
 use types_expr::symbol::{SharedPath, Symbol};
 
-/// Whether a declaration is the predeclared name of a number.
+/// Whether a declaration is the predeclared one of a number.
 fn is_predeclared(declaration: &Declaration, number: usize) -> bool
     ensures { IsTrue result ↔ (Predeclared number ≡ declaration.now) }
 {
@@ -28,7 +28,7 @@ fn is_predeclared(declaration: &Declaration, number: usize) -> bool
     }
 }
 
-/// Whether a declaration is that of a number in the package of a path.
+/// Whether a declaration is the one with this number in the package at a path.
 fn is_declared(declaration: &Declaration, path: &SharedPath, number: usize) -> bool
     ensures { IsTrue result ↔ (Declared path.now number ≡ declaration.now) }
 {
@@ -58,7 +58,7 @@ fn is_method(declaration: &Declaration, symbol: &Symbol) -> bool
     }
 }
 
-/// Whether two declarations of one workspace are the same.
+/// Whether two declarations of one workspace are equal.
 fn is_same(one: &Declaration, other: &Declaration) -> bool
     ensures { IsTrue result ↔ (one.now ≡ other.now) }
 {
@@ -70,7 +70,7 @@ fn is_same(one: &Declaration, other: &Declaration) -> bool
     }
 }
 
-/// How two places compare: by their paths' bytes, then by their offsets.
+/// Compares two places: by the bytes of their paths, then by their offsets.
 pub fn compare(a: &Place, b: &Place) -> Ordering
     ensures { result ≡ place_cmp a.now b.now }
 {
@@ -78,7 +78,7 @@ pub fn compare(a: &Place, b: &Place) -> Ordering
     by_path.then(a.offset.cmp(&b.offset))
 }
 
-/// Whether a place stands before that of the conflict that was found first, if there is one.
+/// Whether a place comes before the first conflict found so far. True where none is found.
 fn is_before(place: &Place, first: &Option<Conflict>) -> bool
     ensures { IsTrue result ↔ IsAhead first.now place.now }
 {
@@ -88,7 +88,7 @@ fn is_before(place: &Place, first: &Option<Conflict>) -> bool
     }
 }
 
-/// Keeps a conflict, if it stands before the one that was found first.
+/// Makes this conflict the first one, if it comes before the first found so far.
 fn keep(first: &mut Option<Conflict>, used: Place, by: Option<Capturer>)
     ensures takes { Takes (IsKept used by) first.old first.new }
     ensures behind { IsAhead first.new used → ⊥ }
@@ -99,7 +99,7 @@ fn keep(first: &mut Option<Conflict>, used: Place, by: Option<Capturer>)
     *first = Some(Conflict { used, by });
 }
 
-/// What is told of a declaration that captures.
+/// The capturer that names a declaration of the workspace before the change.
 fn capturer(judge: &Judge<'_, '_, '_>, declaration: &Declaration) -> Result<Capturer, AllocError>
     requires { KnowsChange judge.now }
     ensures { IfOk result (IsCapturer (known_packages judge.now) declaration.now) }
@@ -113,7 +113,7 @@ fn capturer(judge: &Judge<'_, '_, '_>, declaration: &Declaration) -> Result<Capt
     }
 }
 
-/// What is told of a declaration of the workspace afterwards that captures, if it was there before.
+/// The capturer that names a declaration of the workspace after the change, or `None` where no declaration before has become it.
 fn capturer_after(
     judge: &Judge<'_, '_, '_>,
     e: &Declaration,
@@ -128,8 +128,7 @@ fn capturer_after(
     }
 }
 
-/// Notes the identifier at a place that is afterwards bound to a declaration which the old one has not become, and stands before
-/// the conflict that was found.
+/// Notes the conflict of the identifier at `used`: after the change it is bound to `e`, and `old` has not become `e`.
 fn note_other(
     judge: &Judge<'_, '_, '_>,
     first: &mut Option<Conflict>,
@@ -148,8 +147,7 @@ fn note_other(
     Ok(())
 }
 
-/// Notes the identifier at a place that is afterwards bound to a declaration, if the old one has not become that, and it stands
-/// before the conflict that was found.
+/// Notes a conflict of the identifier at `used`, which is bound to `e` after the change, if `old` has not become `e`.
 fn note_bound(
     judge: &Judge<'_, '_, '_>,
     first: &mut Option<Conflict>,
@@ -169,8 +167,8 @@ fn note_bound(
     }
 }
 
-/// Notes the identifier at a place where it is afterwards bound to a declaration that the old one has not become, or to none, and
-/// stands before the conflict that was found.
+/// Notes a conflict of the identifier at `used`, which was bound to `old`, unless it is bound to what `old` has become. `now`: the
+/// declaration that it is bound to after the change.
 pub fn note(
     judge: &Judge<'_, '_, '_>,
     first: &mut Option<Conflict>,
@@ -192,8 +190,7 @@ pub fn note(
     }
 }
 
-/// Notes the identifier at a place that was bound to a field or method and is afterwards bound to another, and stands before the
-/// conflict that was found.
+/// Notes a conflict of the identifier at `used`, which was bound to the member `old`, if after the change it selects another member.
 fn note_other_member(
     judge: &Judge<'_, '_, '_>,
     first: &mut Option<Conflict>,
@@ -213,8 +210,8 @@ fn note_other_member(
     Ok(())
 }
 
-/// Notes the identifier at a place that was bound to a field or method and is afterwards bound to another, or to none, and stands
-/// before the conflict that was found.
+/// Notes a conflict of the identifier at `used`, which was bound to the member `old`, if after the change it selects another member or
+/// none.
 pub fn note_member(
     judge: &Judge<'_, '_, '_>,
     first: &mut Option<Conflict>,
@@ -235,8 +232,7 @@ pub fn note_member(
     }
 }
 
-/// Notes the name at a place by which a field or method is declared that does not count afterwards, if it stands before the conflict
-/// that was found.
+/// Notes the declaring identifier at `used` of a field or method as lost.
 pub fn note_lost(first: &mut Option<Conflict>, used: Place)
     ensures takes { Takes (IsKept used None) first.old first.new }
     ensures behind { IsAhead first.new used → ⊥ }

@@ -1,4 +1,4 @@
-//! What an identifier is bound to after a change, judged alone.
+//! What an identifier is bound to after a change.
 ghost use Rattle.std.specs.Prelude.{ℕ, ◌≡◌, ◌∷◌, [], List, Contains, IfOk, MatchOption};
 ghost use Rattle.base_files.specs.Packages.{package_paths, package_files};
 ghost use Rattle.base_files.specs.Path.{folder};
@@ -28,7 +28,7 @@ use types_expr::found::MemberUse;
 use types_expr::symbol::SharedPath;
 use types_expr::world::{Definition, World};
 
-/// What the scopes of the workspace afterwards bind to, of what begins at a place there.
+/// The declaration to which the scopes after the change bind the identifier at a place of that workspace.
 fn bound_at(judge: &Judge<'_, '_, '_>, place: &Place) -> Result<Option<Declaration>, AllocError>
     requires { KnowsChange judge.now }
     ensures { IfOk result (IsDeclarationFound (λ e. IsScopeUse judge.now.after.now e place.now)) }
@@ -39,7 +39,7 @@ fn bound_at(judge: &Judge<'_, '_, '_>, place: &Place) -> Result<Option<Declarati
     }
 }
 
-/// What an identifier of scopes is bound to.
+/// The declaration to which the scopes after the change bind an identifier, by its place before the change.
 pub fn now_by_scope(
     judge: &Judge<'_, '_, '_>,
     place: &Place,
@@ -51,7 +51,7 @@ pub fn now_by_scope(
     bound_at(judge, &moved)
 }
 
-/// The first file of the package of a path.
+/// The first file of the package at a path.
 fn first_file<'a>(judge: &Judge<'a, '_, '_>, path: &[u8]) -> Option<&'a FileTree>
     requires knows { KnowsChange judge.now }
     requires there { Contains (package_paths (workspace_in judge.now)) path.now }
@@ -63,7 +63,7 @@ fn first_file<'a>(judge: &Judge<'a, '_, '_>, path: &[u8]) -> Option<&'a FileTree
     }
 }
 
-/// Where the package of a path goes: to the folder to which its first file goes.
+/// The path to which the first file of a package moves. The package moves to the folder of that path.
 fn goes_to<'a>(judge: &Judge<'a, '_, '_>, path: &[u8]) -> Option<&'a Path>
     requires knows { KnowsChange judge.now }
     requires there { Contains (package_paths (workspace_in judge.now)) path.now }
@@ -75,14 +75,14 @@ fn goes_to<'a>(judge: &Judge<'a, '_, '_>, path: &[u8]) -> Option<&'a Path>
     }
 }
 
-/// The declaration that a package exports under a name.
+/// The number of the declaration that a package exports under a name.
 fn export_in(scopes: &PackageScopes<'_>, name: &[u8]) -> Option<usize>
     ensures { result ≡ number_named scopes.now.exports name.now }
 {
     scopes.exports.get(name).copied()
 }
 
-/// What the package of a path exports under a name, by its scopes.
+/// The declaration that the package at a path exports under a name, by the scopes of that package.
 fn exported_in(
     alloc: Global,
     scopes: &PackageScopes<'_>,
@@ -101,7 +101,7 @@ fn exported_in(
     }
 }
 
-/// What the package that a path has afterwards exports under a name.
+/// The declaration that the package at a path exports under a name after the change.
 fn exported_after(
     alloc: Global,
     judge: &Judge<'_, '_, '_>,
@@ -117,7 +117,8 @@ fn exported_after(
     }
 }
 
-/// What a name behind that of the package of a path is bound to: what that exports where it has gone.
+/// The declaration to which the selector of a qualified identifier is bound after the change. `behind` is the path before the change of the
+/// package that it refers to; `place` and `name` are those of the selector before the change.
 pub fn now_by_package(
     alloc: Global,
     judge: &Judge<'_, '_, '_>,
@@ -136,7 +137,7 @@ pub fn now_by_package(
     }
 }
 
-/// The world of the definitions that a package sees, without names.
+/// The world of the type definitions that a package sees, without names.
 #[tactic(auto, unfolding(types_expr::specs::WorldView::definition_in, types_expr::specs::WorldView::definition_at))]
 fn seen_world<'w>(unit: Package<'w>, own: &'w [Definition]) -> World<'w>
     ensures { underlying_in result ≡ (λ s. (definitions_seen unit.entry own.now s).underlying) }
@@ -150,7 +151,7 @@ fn seen_world<'w>(unit: Package<'w>, own: &'w [Definition]) -> World<'w>
     }
 }
 
-/// The member that a name is for the type before a member use, by the definitions that the package sees and under the new names.
+/// The member that the name `called` selects, under the new names of members, for the type of a member use.
 fn member_called(
     judge: &Judge<'_, '_, '_>,
     unit: Package<'_>,
@@ -169,7 +170,7 @@ fn member_called(
     member(&judge.types(), name, &world, &found.before)
 }
 
-/// What a name behind another dot, or a key, is bound to: the member that the type before it has under the new names.
+/// The member that a member use selects after the change: that of its new name, for the type that it had before.
 pub fn now_by_member(
     judge: &Judge<'_, '_, '_>,
     unit: Package<'_>,

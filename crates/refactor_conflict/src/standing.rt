@@ -1,4 +1,4 @@
-//! Where the declarations of the workspace afterwards stand, as its scopes see them, and which those before have become.
+//! Which declarations of the scopes after a change correspond to which declarations before it, by their places.
 ghost use Rattle.std.specs.Prelude.{◌<◌, ◌↔◌, length, IsTrue, IfOk};
 ghost use Rattle.base_edits.specs.Moved.{moved};
 ghost use Rattle.refs_binding.specs.declared.declaration.Declaration.TheVariants.{Declared};
@@ -23,7 +23,7 @@ use types_declared::literal_of;
 /// How many names are predeclared: they have the first numbers in the table of each package.
 const PREDECLARED: usize = 11;
 
-/// Where the token begins at which a package's own declaration stands.
+/// Where the declaring token of a package's own declaration begins.
 fn own_place(scopes: &PackageScopes<'_>, d: usize) -> Result<Option<Place>, AllocError>
     requires { d < length scopes.now.table.sites }
     ensures { IfOk result (IsFound (IsOwnToken scopes.now d)) }
@@ -32,7 +32,7 @@ fn own_place(scopes: &PackageScopes<'_>, d: usize) -> Result<Option<Place>, Allo
     place_of(scopes.files, at)
 }
 
-/// Where the declaration of a number stands in the package of a path.
+/// The place of the declaration of a number in the package at a path, or `None` where it is predeclared.
 fn standing_in(
     judge: &Judge<'_, '_, '_>,
     path: &[u8],
@@ -51,7 +51,7 @@ fn standing_in(
     }
 }
 
-/// Where a declaration stands that counts.
+/// The place of a declaration of the workspace after the change, or `None` where it is predeclared.
 fn standing(judge: &Judge<'_, '_, '_>, e: &Declaration) -> Result<Option<Place>, AllocError>
     requires knows { KnowsChange judge.now }
     requires counts { IsCounted judge.now.after.now e.now }
@@ -63,7 +63,7 @@ fn standing(judge: &Judge<'_, '_, '_>, e: &Declaration) -> Result<Option<Place>,
     }
 }
 
-/// Whether a declaration stands where a place goes.
+/// Whether the declaration `e` of the workspace after the change is at the place to which `place` moves.
 fn stands_where(
     judge: &Judge<'_, '_, '_>,
     place: &Place,
@@ -79,7 +79,7 @@ fn stands_where(
     }
 }
 
-/// Whether a declaration of the workspace before has become one of the workspace afterwards.
+/// Whether a declaration of the workspace before the change has become the declaration `e` of the workspace after it.
 pub fn has_become(
     judge: &Judge<'_, '_, '_>,
     old: &Declaration,
@@ -98,7 +98,7 @@ pub fn has_become(
     }
 }
 
-/// The declaration of the workspace before that goes to a place.
+/// The declaration of the workspace before the change that moves to a place.
 fn before_at(judge: &Judge<'_, '_, '_>, place: &Place) -> Result<Option<Declaration>, AllocError>
     requires { KnowsChange judge.now }
     ensures { IfOk result (IsDeclarationFound (λ c. HasGoneTo (known_packages judge.now) (moved judge.now.moves.now) c place.now)) }
@@ -109,7 +109,7 @@ fn before_at(judge: &Judge<'_, '_, '_>, place: &Place) -> Result<Option<Declarat
     }
 }
 
-/// The declaration of the workspace before that goes to where one of the workspace afterwards stands.
+/// The declaration of the workspace before the change that moves to the place of `e`.
 fn before_standing(
     judge: &Judge<'_, '_, '_>,
     e: &Declaration,
@@ -124,7 +124,7 @@ fn before_standing(
     }
 }
 
-/// The declaration of the workspace before that has become one of the workspace afterwards.
+/// The declaration of the workspace before the change that has become `e`.
 pub fn before(judge: &Judge<'_, '_, '_>, e: &Declaration) -> Result<Option<Declaration>, AllocError>
     requires knows { KnowsChange judge.now }
     requires counts { IsCounted judge.now.after.now e.now }

@@ -1,4 +1,4 @@
--- The edits of files by their paths, and what is added to them.
+-- The edits of files by their paths, and additions to them.
 use Rattle.std.proofs.Common.{ℕ, ◌≡◌, ◌<◌, ◌+◌, ◌⊎◌, inl, inr, Bool, true, false, cond, List, length, Option, Some, is_some, IsSome, refl, sym, ap}
 use Rattle.std.proofs.Common.{subst, ◌∙◌, arith}
 use Rattle.std.specs.Prelude.{slice_get}
@@ -39,7 +39,7 @@ adds_entry old new path edits K F u is one = record {
       (λ tied same. subst (λ p. K p found) (exact_path path q tied) (subst (K path) same is)) (sym (u.0 q) ∙ e);
 }
 
--- nothing, more, and the same told otherwise
+-- Additions to the map: none, two in a row, and an addition by equivalent relations.
 
 pub adds_then : (a b c : EditMap) (K : List ℕ → List Edit → Type 0) (F G H : List ℕ → Type 0) → ((q : List ℕ) → H q → F q ⊎ G q) → AddsEdits a b K F →
     AddsEdits b c K G → AddsEdits a c K H

@@ -29,7 +29,7 @@ use Rattle.refactor_move.proofs.GoFiles.{text_of_file, package_of_file}
 use Rattle.refactor_move.proofs.Changing.{change_from, file_cases, change_is, change_is_none, changes_in_order}
 use Rattle.refactor_move.proofs.Targets.{targets_are_distinct}
 
--- what is found in the map
+-- The edits that are found in the map.
 
 found_go : (edits : EditMap) (path : List ℕ) → is_go path ≡ true → edits_found edits path ≡ edits_or_none (edits_for edits path)
 found_go edits path go = ap (λ b. if b then edits_or_none (edits_for edits path) else []) go

@@ -1,4 +1,4 @@
--- The last element of a path, and what the package of a path is called.
+-- The last element of a path, and the name of the package at a path.
 use Rattle.std.proofs.Common.{ℕ, ◌≡◌, ◌≢◌, ◌<◌, ◌≤◌, ◌+◌, ◌-◌, ◌↔◌, true, false, not, List, [], ◌∷◌, length, drop, get_or, lit<, refl, sym, ap, subst}
 use Rattle.std.proofs.Common.{◌∙◌, arith}
 use Rattle.std.specs.Prelude.{Some, map, slice_get, ◌==◌}
@@ -67,7 +67,7 @@ last_behind path front back h =
     is ∙ last_from path j (omega arith) (λ k a b. behind_mark path j k h.2.0 a (omega arith))
     (λ pos. (let at : j - 1 ≡ h.0 = omega arith in ap (λ i. get_or path i 0) at ∙ slash))
 
--- what a package is called
+-- The name of a package.
 
 pub first_name : (ts : List FileParts) (t : FileParts) → Some t ≡ slice_get ts 0 → package_name (map source_of ts) ≡ clause_name (source_of t)
 first_name [] t e = absurd (none-some t (sym e))

@@ -13,7 +13,7 @@ use Rattle.refactor_move.specs.declared.moved.Moved.{Moved}
 use Rattle.refactor_move.specs.Paths.{IsUnder, HasMoved, HasMovedPackage}
 use Rattle.refactor_move.specs.PathSteps.{IsBehind, ReadsNewPath, TellsNewPath}
 
--- what stands behind other bytes
+-- The rest of a text after other bytes.
 
 pub rest_found : (front text : List ℕ) (o : Option (Bor (List ℕ))) →
     MatchOption o (pointwise ◌==◌ (take (length front) text) front ≡ false)
@@ -25,7 +25,7 @@ rest_found front text (Some x) h =
     sym (take-append-drop (length front) text) ∙ ap (λ l. l ++ drop (length front) text) ((bytes_decides (take (length front) text) front).0 h.0) ∙ ap
     (λ l. front ++ l) (sym h.1)
 
--- what stands behind a folder
+-- The path of a package in the folder that moves: the rest after the folder is empty or begins with a slash, and stays.
 
 pub record MovesBehind (from to old new : List ℕ) : Type 0 where
   pub rest : List ℕ

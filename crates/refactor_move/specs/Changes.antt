@@ -1,4 +1,4 @@
--- What is changed of one file where a package is moved.
+-- The change of one file where a package moves: its edits and its path after the move.
 use Rattle.std.specs.Prelude.{ℕ, ◌≡◌, ◌⊎◌, true, false, List, [], Option, Some, slice_get}
 use Rattle.base_files.specs.Packages.{is_go}
 use Rattle.base_files.specs.Workspace.{Workspace}
@@ -13,7 +13,7 @@ use Rattle.refactor_move.specs.declared.moved.Moved.{Moved}
 use Rattle.refactor_move.specs.Paths.{IsUnder, HasMovedFile}
 use Rattle.refactor_move.specs.FileEdits.{AreFileEdits}
 
--- the edits of the Go file of a path, which is a file of some package
+-- The file at this path belongs to some package, and these are its edits.
 pub record AreGoEdits (w : Workspace) (known : Verdicts) (m : Moved) (path : List ℕ) (edits : List Edit) : Type 0 where
   pub inside : Package
   pub is_package : IsPackage w known inside
@@ -23,16 +23,16 @@ pub record AreGoEdits (w : Workspace) (known : Verdicts) (m : Moved) (path : Lis
   pub of_path : source.path ≡ path
   pub are : AreFileEdits inside rank source m edits
 
--- the edits of the file of a path; none in a file that is no Go file
+-- The edits of the file at this path. A file that is no Go file has none.
 pub record AreEditsOf (w : Workspace) (known : Verdicts) (m : Moved) (path : List ℕ) (edits : List Edit) : Type 0 where
   pub go : is_go path ≡ true → AreGoEdits w known m path edits
   pub other : is_go path ≡ false → edits ≡ []
 
--- where the file of a path is then: elsewhere if it lies in the folder that is moved
+-- The path after the move of the file at `path`: another one if the file lies in the folder that moves.
 abbrev pub IsPathAfter : Moved → (path : List ℕ) → Option (List ℕ) → Type 0
 IsPathAfter m path after = ((new : List ℕ) × (HasMovedFile m.from m.to path new × (after ≡ Some new))) ⊎ ((IsUnder m.from path → ⊥) × (after ≡ Some path))
 
--- a file moves, or is edited and stays
+-- The change moves its file, or edits it and leaves it at its path.
 abbrev pub MovesOrEdits : Moved → FileChange → Type 0
 MovesOrEdits m c = ((new : List ℕ) × (HasMovedFile m.from m.to c.path new × (c.fate ≡ Moves new))) ⊎
     ((IsUnder m.from c.path → ⊥) × ((c.fate ≡ Stays) × (c.edits ≡ [] → ⊥)))

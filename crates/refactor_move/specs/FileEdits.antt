@@ -1,4 +1,4 @@
--- The edits of one file where a package is moved.
+-- The edits of a move in one file: of import paths, and of names that refer to the package.
 use Rattle.std.specs.Prelude.{ℕ, ◌≡◌, ◌↔◌, ◌⊎◌, List, Some, Contains, length, slice_get}
 use Rattle.go_scanner.specs.declared.piece.Piece.{Piece}
 use Rattle.go_scanner.specs.declared.piece.Class.TheVariants.{Name}
@@ -14,7 +14,10 @@ use Rattle.refactor_rename.specs.FileEdits.{EndBy}
 use Rattle.refactor_move.specs.declared.moved.Moved.{Moved}
 use Rattle.refactor_move.specs.Paths.{HasMovedPackage, quoted}
 
--- the token is the literal of an import of a package that moves, and gets the new path
+-- The token `i` is the string literal of an import of a package that moves, and the edit replaces it by the new path.
+--
+--   import "lib/shapes"      // moving lib/shapes to geo/shapes
+--   import "geo/shapes"
 pub record ReplacesPath (f : SourceFile) (m : Moved) (i : ℕ) (e : Edit) : Type 0 where
   pub token : Piece
   pub at : slice_get (tokens_in f.cut) i ≡ Some token
@@ -25,18 +28,21 @@ pub record ReplacesPath (f : SourceFile) (m : Moved) (i : ℕ) (e : Edit) : Type
   pub moves : HasMovedPackage m.from m.to old new
   pub is_edit : e ≡ record { span = token.span; text = quoted new }
 
--- the token is the name in the clause of a file of the package that is moved
+-- The token `i` is the name in the package clause of a file of the package that moves.
 abbrev pub IsClauseName : Package → SourceFile → Moved → ℕ → Type 0
 IsClauseName p f m i = (p.path ≡ m.from) × (f.tree.name ≡ i)
 
--- the token of the file of that rank is bound to an import, without a name, of the package that is moved
+-- The token `i` is bound to an import, without a name, of the package that moves. `rank`: that of the file in its package.
 pub record IsImportUse (p : Package) (rank : ℕ) (m : Moved) (i : ℕ) : Type 0 where
   pub import : ℕ
   pub binds : BindsToken p rank i import
   pub unnamed : literal_of p.layout import ≡ import
   pub imports : ImportsPath p import m.from
 
--- the token is one of these names, and gets the one that follows the path
+-- The token `i` is the name in a package clause or a use of an import without a name. The edit replaces it by the new name of the package.
+--
+--   import "shapes"                        // moving shapes to areas
+--   func f() int { return shapes.Area() }  // becomes areas.Area()
 pub record ReplacesName (p : Package) (rank : ℕ) (f : SourceFile) (m : Moved) (i : ℕ) (e : Edit) : Type 0 where
   pub token : Piece
   pub at : slice_get (tokens_in f.cut) i ≡ Some token
@@ -46,10 +52,11 @@ pub record ReplacesName (p : Package) (rank : ℕ) (f : SourceFile) (m : Moved) 
   pub follows : m.name ≡ Some name
   pub is_edit : e ≡ record { span = token.span; text = name }
 
+-- The edit `e` of a move is that of the token `i`.
 abbrev pub IsEditAt : Package → (rank : ℕ) → SourceFile → Moved → ℕ → Edit → Type 0
 IsEditAt p rank f m i e = ReplacesPath f m i e ⊎ ReplacesName p rank f m i e
 
--- the edits of all tokens of a file, which has that rank in its package
+-- These are the edits of all tokens of a file, in order. `rank`: that of the file in its package.
 pub record AreFileEdits (p : Package) (rank : ℕ) (f : SourceFile) (m : Moved) (edits : List Edit) : Type 0 where
   pub end_by : EndBy edits (length f.cut.text)
   pub each : (e : Edit) → Contains edits e ↔ ((i : ℕ) × IsEditAt p rank f m i e)

@@ -1,4 +1,4 @@
--- The edit set that moves a package with all that its folder holds.
+-- The edit set that moves a package, with all files in its folder.
 use Rattle.std.specs.Prelude.{ℕ, ◌≡◌, List, [], ⊤, Contains, IsSome, Result, Ok, Err}
 use Rattle.std.specs.FinMap as files
 use Rattle.base_files.specs.Path.{IsPath}
@@ -16,14 +16,15 @@ use Rattle.refactor_move.specs.Paths.{IsUnder, HasMoved}
 use Rattle.refactor_move.specs.Following.{IsNameAfter}
 use Rattle.refactor_move.specs.Changes.{AreEditsOf, IsPathAfter, MovesOrEdits}
 
--- what is moved where, and the name that the package has at a third path, where it follows that
+-- The move of the package `from` to the path `to`. Its name is the one that it has at the path `called`, if its name follows its path.
 pub record IsMoveOf (w : Workspace) (known : Verdicts) (from to called : List ℕ) (m : Moved) : Type 0 where
   pub source : m.from ≡ from
   pub target : m.to ≡ to
   pub name : IsNameAfter (IsPackage w known) from called m.name
 
--- In each file just the edits of its tokens; each file in the folder moves, and no other; what is neither edited nor moved is no
--- part of the set, and no file is added. The package gets the name that it has at the path `called`, where it follows that.
+-- The edit set of the move of the package `from` to the path `to`. It has in each file just the edits of its tokens. Just the files in the
+-- folder `from` move. A file that is neither edited nor moved is no part of the set, and no file is added. The package gets the name that
+-- it has at the path `called`, if its name follows its path.
 pub record AreMoveEdits (w : Workspace) (known : Verdicts) (from to called : List ℕ) (s : FileChanges) : Type 0 where
   pub moved : Moved
   pub is_move : IsMoveOf w known from to called moved
@@ -32,7 +33,7 @@ pub record AreMoveEdits (w : Workspace) (known : Verdicts) (from to called : Lis
   pub only : (c : FileChange) → Contains s.changed c → MovesOrEdits moved c
   pub none_added : s.added ≡ []
 
--- a file in the folder for which there is no path in the other, since that would have too many bytes
+-- Some file in the folder `from` would get a path in the folder `to` that has too many bytes.
 pub record HasNoNewPath (w : Workspace) (from to : List ℕ) : Type 0 where
   pub old : List ℕ
   pub is_file : IsSome (files.get w old)
@@ -41,15 +42,15 @@ pub record HasNoNewPath (w : Workspace) (from to : List ℕ) : Type 0 where
   pub moves : HasMoved from to old new
   pub no_path : ¬ (IsPath 1 new)
 
--- no file lies in the folder
+-- No file lies in this folder.
 abbrev pub IsFree : Workspace → (folder : List ℕ) → Type 0
 IsFree w folder = (path : List ℕ) → IsSome (files.get w path) → IsUnder folder path → ⊥
 
--- no file lies in the second folder, but where it moves
+-- Each file in the folder `to` lies in the folder `from`, so that it moves.
 abbrev pub HoldsNoOther : Workspace → (from to : List ℕ) → Type 0
 HoldsNoOther w from to = (path : List ℕ) → IsSome (files.get w path) → IsUnder to path → IsUnder from path
 
--- the edit set, or that a file cannot be moved
+-- The edit set of a move, which fits the workspace, or `TooLarge` where a file would get too long a path.
 abbrev pub PlansMoveEdits : Workspace → Verdicts → (from to called : List ℕ) → Result FileChanges Refusal → Type 0
 PlansMoveEdits w known from to called (Ok s) = AreMoveEdits w known from to called s × Fits s w
 PlansMoveEdits w known from to called (Err TooLarge) = HasNoNewPath w from to

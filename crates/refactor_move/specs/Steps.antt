@@ -1,4 +1,4 @@
--- What the steps answer by which the edits of a move are found.
+-- What the steps of finding the edits of a move answer.
 use Rattle.std.specs.Prelude.{ℕ, ◌≡◌, ◌≢◌, ◌<◌, ◌↔◌, ◌⊎◌, Bool, false, List, [], ◌∷◌, ⊤, Option, Some, None, Result, Ok, Err, IsTrue, IsSome}
 use Rattle.std.specs.Prelude.{Contains, Vec, length, codes, slice_get, slice_index_or, if◌then◌else◌}
 use Rattle.std.specs.BTreeMap.{BTreeMap, get}
@@ -27,14 +27,15 @@ use Rattle.refactor_move.specs.Changes.{AreGoEdits, MovesOrEdits}
 
 -- Names and literals
 
--- a name follows another, if a package is called so
+-- The name of a package that is called `last` can follow its path and become `name`: `name` is legal for a package and differs, and `last`
+-- is not `main`.
 pub record MayFollow (last name : List ℕ) : Type 0 where
   pub no_main : last ≢ codes "main"
   pub other : name ≢ last
   pub form : IsNewName name
   pub free : ¬ (IsReserved name)
 
--- a literal at the token stands for the path of a package that moves, and this is the new one in quotes
+-- The token is a string literal that stands for the path of a package that moves, and `text` is its new path in quotes.
 pub record IsNewLiteral (f : SourceFile) (m : Moved) (token : ℕ) (text : List ℕ) : Type 0 where
   pub old : List ℕ
   pub stands_for : HasLiteral f token old
@@ -42,27 +43,28 @@ pub record IsNewLiteral (f : SourceFile) (m : Moved) (token : ℕ) (text : List 
   pub moves : HasMovedPackage m.from m.to old new
   pub is_text : text ≡ quoted new
 
--- the edit of these bytes, if there is a text for it
+-- The edit that replaces the span by the text, if there is one.
 abbrev pub edits_with : Span → Option (List ℕ) → List Edit
 edits_with span None = []
 edits_with span (Some text) = record { span = span; text = text } ∷ []
 
 -- Marks
 
--- the tokens of which P holds are marked, and the others as before
+-- The new marks are the old ones, and those of the tokens of which `P` holds.
 pub record Marks (old new : List Bool) (P : ℕ → Type 0) : Type 0 where
   pub size : length new ≡ length old
   pub each : (i : ℕ) → i < length old → IsTrue (slice_index_or new i false) ↔ (IsTrue (slice_index_or old i false) ⊎ P i)
 
--- one of the imports has its literal at the token
+-- The token `i` is the string literal of one of the imports.
 abbrev pub IsLiteralAmong : List FileImport → ℕ → Type 0
 IsLiteralAmong imports i = (x : FileImport) × Contains imports x × (x.literal ≡ i)
 
--- the tokens of which P holds are marked, of so many
+-- The list has `count` marks, and the tokens of which `P` holds are marked.
 pub record AreMarks (P : ℕ → Type 0) (count : ℕ) (marks : List Bool) : Type 0 where
   pub size : length marks ≡ count
   pub each : (i : ℕ) → i < length marks → IsTrue (slice_index_or marks i false) ↔ P i
 
+-- The list has a mark for each token of the file, and the string literals of its imports are marked.
 abbrev pub AreImportMarks : SourceFile → List Bool → Type 0
 AreImportMarks f marks = AreMarks (Contains (import_literals f.tree)) (length (tokens_in f.cut)) marks
 
@@ -74,31 +76,32 @@ EditMap = BTreeMap (List ℕ) (List Edit)
 abbrev pub edits_for : EditMap → List ℕ → Option (List Edit)
 edits_for map path = get path_cmp map path
 
--- each path of which F tells has got edits, and all that are new are such as K tells
+-- The edits of each path of which `F` holds are added. `K` holds of each new entry.
 pub record AddsEdits (old new : EditMap) (K : List ℕ → List Edit → Type 0) (F : List ℕ → Type 0) : Type 0 where
   pub keeps : (path : List ℕ) → IsSome (edits_for old path) → IsSome (edits_for new path)
   pub holds : (path : List ℕ) → F path → IsSome (edits_for new path)
   pub only : (path : List ℕ) (edits : List Edit) → edits_for new path ≡ Some edits → (edits_for old path ≡ Some edits) ⊎ K path edits
 
--- the file of that rank in a package
+-- The file of this rank in the package `p` has this path.
 pub record IsFileAt (p : Package) (rank : ℕ) (path : List ℕ) : Type 0 where
   pub source : SourceFile
   pub has_rank : slice_get p.files rank ≡ Some source
   pub of_path : source.path ≡ path
 
--- its edits
+-- The file of this rank in the package `p` has this path, and these edits.
 pub record AreEditsAt (p : Package) (m : Moved) (rank : ℕ) (path : List ℕ) (edits : List Edit) : Type 0 where
   pub file : IsFileAt p rank path
   pub are : AreFileEdits p rank file.source m edits
 
--- the same of some rank
+-- Some file of the package `p` has this path.
 abbrev pub HasFileIn : Package → List ℕ → Type 0
 HasFileIn p path = (rank : ℕ) × IsFileAt p rank path
 
+-- Some file of the package `p` has this path, and these edits.
 abbrev pub AreEditsIn : Package → Moved → List ℕ → List Edit → Type 0
 AreEditsIn p m path edits = (rank : ℕ) × AreEditsAt p m rank path edits
 
--- the edits of the files of the first packages are known, and they are right
+-- The map has the edits of each file of the first `count` packages, and each of its entries is right.
 pub record KnowsEdits (w : Workspace) (known : Verdicts) (m : Moved) (count : ℕ) (map : EditMap) : Type 0 where
   pub right : (path : List ℕ) (edits : List Edit) → edits_for map path ≡ Some edits → AreGoEdits w known m path edits
   pub all : (n : ℕ) (p : Package) (path : List ℕ) → n < count → IsPackageAt w known n p → HasFileIn p path → IsSome (edits_for map path)
@@ -107,23 +110,23 @@ abbrev pub edits_or_none : Option (List Edit) → List Edit
 edits_or_none None = []
 edits_or_none (Some edits) = edits
 
--- the edits of the file of a path; none in a file that is no Go file
+-- The edits that the map has for the file at this path. A file that is no Go file has none.
 abbrev pub edits_found : EditMap → List ℕ → List Edit
 edits_found map path = if is_go path then edits_or_none (edits_for map path) else []
 
 -- Changes
 
--- the change of a file that stays, if it has edits
+-- The change of a file that stays at its path, if it has edits.
 abbrev pub edited_or_none : List ℕ → List Edit → Option FileChange
 edited_or_none path [] = None
 edited_or_none path (e ∷ edits) = Some (record { path = path; edits = e ∷ edits; fate = Stays })
 
--- the change of a file with these edits that gets a path, if it gets one or has edits
+-- The change of a file with these edits and this new path, if it has one of them.
 abbrev pub change_by : List ℕ → List Edit → Option (List ℕ) → Option FileChange
 change_by path edits None = edited_or_none path edits
 change_by path edits (Some new) = Some (record { path = path; edits = edits; fate = Moves new })
 
--- that change, or that the file gets no path
+-- The change of the file at this path, `None` where it is neither moved nor edited, or `TooLarge` where its new path would be none.
 abbrev pub TellsChange : Moved → (path : List ℕ) → List Edit → Result (Option FileChange) Refusal → Type 0
 TellsChange m path edits (Ok None) = (IsUnder m.from path → ⊥) × (edits ≡ [])
 TellsChange m path edits (Ok (Some c)) = (c.path ≡ path) × (c.edits ≡ edits) × MovesOrEdits m c
@@ -131,7 +134,7 @@ TellsChange m path edits (Err TooLarge) = HasNoPathFor m path
 TellsChange m path edits (Err Memory) = ⊤
 TellsChange m path edits (Err refusal) = ⊥
 
--- the changes of those of some files that move or have edits
+-- The changes of the files of this list that move or have edits.
 pub data AreChangesOf (m : Moved) (map : EditMap) : List (List ℕ × List ℕ) → List FileChange → Type 0 where
   none : AreChangesOf m map [] []
   kept : {e : List ℕ × List ℕ} {es : List (List ℕ × List ℕ)} {cs : List FileChange} → (IsUnder m.from e.0 → ⊥) → edits_found map e.0 ≡ [] →
@@ -139,6 +142,7 @@ pub data AreChangesOf (m : Moved) (map : EditMap) : List (List ℕ × List ℕ) 
   changed : {e : List ℕ × List ℕ} {es : List (List ℕ × List ℕ)} {c : FileChange} {cs : List FileChange} → c.path ≡ e.0 → c.edits ≡ edits_found map e.0 →
       MovesOrEdits m c → AreChangesOf m map es cs → AreChangesOf m map (e ∷ es) (c ∷ cs)
 
+-- The changes of the files of this list, or `TooLarge` where the new path of one of them would be none.
 abbrev pub TellsChanges : {Z : Type 0} → Moved → EditMap → List (List ℕ × List ℕ) → Result (Vec FileChange Z) Refusal → Type 0
 TellsChanges m map files (Ok changes) = AreChangesOf m map files changes.items
 TellsChanges m map files (Err TooLarge) = (file : List ℕ × List ℕ) × (Contains files file × HasNoPathFor m file.0)

@@ -1,4 +1,4 @@
-//! What is changed of each file.
+//! The changes of a move, file by file.
 ghost use Rattle.std.specs.Prelude.{◌≡◌, ◌++◌, IfOk, OnOk};
 ghost use Rattle.std.specs.Option.{option_to_list};
 ghost use Rattle.std.specs.FinMap as map;
@@ -11,7 +11,7 @@ use base_files::{Files, Path, Refusal};
 use std::alloc::{AllocError, Global};
 use std::collections::BTreeMap;
 
-/// The same edits. Their texts are shared.
+/// A copy of the edits, whose texts are shared.
 fn copy(alloc: Global, edits: &[Edit]) -> Result<Edits, AllocError>
     ensures { IfOk result (λ copy. copy ≡ edits.now) }
 {
@@ -36,7 +36,7 @@ fn change(alloc: Global, path: &Path, edits: &[Edit], fate: Fate) -> Result<File
     })
 }
 
-/// The change of a file that stays, if it has edits.
+/// The change of a file that stays at its path, if it has edits.
 fn edited(alloc: Global, path: &Path, edits: &[Edit]) -> Result<Option<FileChange>, AllocError>
     ensures { IfOk result (λ change. change ≡ edited_or_none path.now edits.now) }
 {
@@ -47,7 +47,7 @@ fn edited(alloc: Global, path: &Path, edits: &[Edit]) -> Result<Option<FileChang
     }
 }
 
-/// The change of a file that gets a path, if it gets one or has edits.
+/// The change of a file with these edits and this new path, if it has one of them.
 fn change_to(
     alloc: Global,
     path: &Path,
@@ -62,7 +62,7 @@ fn change_to(
     }
 }
 
-/// The change of a file with these edits, if it moves or has some.
+/// The change of a file with these edits, if it moves or has edits. Refused where its new path would be too long.
 fn change_of(
     alloc: Global,
     moved: &Moved,
@@ -77,7 +77,7 @@ fn change_of(
     }
 }
 
-/// The edits of the file of a path; none in a file that is no Go file.
+/// The edits of the file at a path. A file that is no Go file has none.
 fn edits_at<'a>(edits: &'a BTreeMap<Path, Edits>, path: &Path) -> &'a [Edit]
     ensures { result.now ≡ edits_found edits.now path.now }
 {
@@ -90,7 +90,7 @@ fn edits_at<'a>(edits: &'a BTreeMap<Path, Edits>, path: &Path) -> &'a [Edit]
     }
 }
 
-/// Adds a change, if there is one.
+/// Appends a change, if there is one.
 fn push_some(changed: &mut Vec<FileChange>, change: Option<FileChange>) -> Result<(), AllocError>
     ensures { OnOk result (changed.new.items ≡ changed.old.items ++ option_to_list change) }
 {
@@ -103,7 +103,7 @@ fn push_some(changed: &mut Vec<FileChange>, change: Option<FileChange>) -> Resul
     }
 }
 
-/// The changes of the files that move or have edits, in the order of their paths.
+/// The changes of the files that move or have edits, sorted by path. Refused where a new path would be too long.
 pub(crate) fn changes(
     alloc: Global,
     files: &Files,

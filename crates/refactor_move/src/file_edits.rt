@@ -1,4 +1,4 @@
-//! The edits of one file.
+//! The edits of a move in one file.
 ghost use Rattle.std.specs.Prelude.{◌≡◌, ◌≤◌, ◌↔◌, ◌++◌, IfOk, OnOk, IsTrue, Some, Contains, slice_get};
 ghost use Rattle.go_scanner.specs.declared.piece.Class.TheVariants.{Name};
 ghost use Rattle.go_scanner.specs.CutText.{tokens_in};
@@ -21,7 +21,7 @@ use go_scanner::{Class, Piece};
 use std::alloc::{AllocError, Global};
 use types_declared::{Index, Package};
 
-/// Adds an edit, if there is a text for it.
+/// Appends the edit that replaces a span by a text, if there is one.
 fn push_some(edits: &mut Vec<Edit>, span: Span, text: Option<FileText>) -> Result<(), AllocError>
     ensures { OnOk result (edits.new.items ≡ edits.old.items ++ edits_with span text) }
 {
@@ -34,7 +34,7 @@ fn push_some(edits: &mut Vec<Edit>, span: Span, text: Option<FileText>) -> Resul
     }
 }
 
-/// Adds the new path in place of the literal of an import, if the package moves.
+/// Appends the replacement of the string literal of an import, if the imported package moves.
 fn add_path(
     alloc: Global,
     edits: &mut Vec<Edit>,
@@ -54,7 +54,7 @@ fn add_path(
     push_some(edits, token.span, text)
 }
 
-/// A file of a package, and what moves.
+/// A file of a package, with the index of the package's identifiers and the move.
 #[derive(Clone, Copy)]
 struct MovedFile<'a> {
     unit: Package<'a>,
@@ -64,7 +64,7 @@ struct MovedFile<'a> {
     moved: &'a Moved,
 }
 
-/// Adds the name that follows in place of a name, if that is one of the package that is moved.
+/// Appends the replacement of a name by the new name of the package that moves, if it refers to this package.
 fn add_name(
     edits: &mut Vec<Edit>,
     of: &MovedFile<'_>,
@@ -90,7 +90,7 @@ fn add_name(
     Ok(())
 }
 
-/// Adds the edit of a token, if it has one.
+/// Appends the edit of a token, if it has one.
 fn add_edit(
     alloc: Global,
     edits: &mut Vec<Edit>,
@@ -116,7 +116,7 @@ fn add_edit(
     }
 }
 
-/// The edits of a file, in the order of its tokens.
+/// The edits of a move in a file, in the order of its tokens.
 pub(crate) fn edits_of(
     alloc: Global,
     unit: Package<'_>,

@@ -29,21 +29,21 @@ fn last_of(path: &str) -> &str
     }
 }
 
-/// Whether a package may have a name.
+/// Whether a name is legal for a package.
 fn is_package_name(name: &str) -> bool
     ensures { IsTrue result ↔ (IsNewName name.now × ¬ (IsReserved name.now)) }
 {
     name != "init" && name != "main" && is_new_name(name)
 }
 
-/// Whether a name follows another one, if packages are called so.
+/// Whether the name of a package that is called `last` can follow its path and become `name`.
 fn may_follow(last: &str, name: &str) -> bool
     ensures { IsTrue result ↔ MayFollow last.now name.now }
 {
     last != "main" && name != last && is_package_name(name)
 }
 
-/// The name of the package of some files.
+/// The name of the package with these files.
 fn name_of(files: &[FileTree]) -> &[u8]
     ensures { result.now ≡ package_name (map source_of files.now) }
 {
@@ -53,14 +53,14 @@ fn name_of(files: &[FileTree]) -> &[u8]
     }
 }
 
-/// Whether the package of some files has a name.
+/// Whether this is the name of the package with these files.
 fn is_called(files: &[FileTree], name: &str) -> bool
     ensures { IsTrue result ↔ (package_name (map source_of files.now) ≡ name.now) }
 {
     name_of(files) == name.as_bytes()
 }
 
-/// Whether the package of a path is called as its last element.
+/// Whether the name of the package at a path is the last element of that path.
 fn is_called_so(graph: &Graph, found: &Findings, from: &Path) -> bool
     requires { IsSound graph.now found.now }
     ensures { IsTrue result ↔ InPackage (IsPackage graph.now (known_in found.now)) from.now (λ p. package_name p.files ≡ last_of from.now) }
@@ -81,7 +81,7 @@ fn follows(graph: &Graph, found: &Findings, from: &Path, to: &Path) -> bool
     may_follow(last, name) && is_called_so(graph, found, from)
 }
 
-/// The name of a package that follows its path, if it does.
+/// The new name of a package whose path changes, or `None` where it keeps its name.
 pub(crate) fn name_after(
     alloc: Global,
     graph: &Graph,

@@ -1,4 +1,4 @@
-//! What becomes of paths where a package, with all that its folder holds, moves to another folder, and the edits that move it.
+//! The edits that move a package, with all files in its folder, to another folder, and the paths after the move.
 #![tactic(auto)]
 
 mod changes;

@@ -1,4 +1,4 @@
-//! The path literals of imports of packages that move.
+//! The string literals of imports whose packages move.
 ghost use Rattle.std.specs.Prelude.{ℕ, List, IfOk, MatchOption};
 ghost use Rattle.go_ast.specs.SourceFile.{source_of};
 ghost use Rattle.refactor_move.specs.Steps.{IsNewLiteral};
@@ -10,7 +10,7 @@ use go_ast::FileTree;
 use std::alloc::{AllocError, Global};
 use types_declared::literal;
 
-/// The new path in place of a literal, if that is one of a package that moves.
+/// The new path, in quotes, for the string literal at a token, if the literal stands for the path of a package that moves.
 pub(crate) fn new_literal(
     alloc: Global,
     file: &FileTree,

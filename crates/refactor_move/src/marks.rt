@@ -1,4 +1,4 @@
-//! Which tokens of a file are the path literals of its imports.
+//! Marks the tokens of a file that are string literals of imports.
 ghost use Rattle.std.specs.Prelude.{◌≡◌, IfOk};
 ghost use Rattle.go_ast.specs.SourceFile.{source_of};
 ghost use Rattle.refactor_move.specs.Steps.{Marks, IsLiteralAmong, AreMarks, AreImportMarks};
@@ -16,7 +16,7 @@ fn mark(marks: &mut Vec<bool>, token: usize)
     }
 }
 
-/// Marks the path literals of some imports.
+/// Marks the string literals of some imports.
 fn mark_all(marks: &mut Vec<bool>, imports: &[FileImport])
     ensures { Marks marks.old.items marks.new.items (IsLiteralAmong imports.now) }
 {
@@ -25,7 +25,7 @@ fn mark_all(marks: &mut Vec<bool>, imports: &[FileImport])
     }
 }
 
-/// Marks for so many tokens, of which none is marked.
+/// A list of `count` marks, of which none is set.
 fn no_marks(alloc: Global, count: usize) -> Result<Vec<bool>, AllocError>
     ensures { IfOk result (λ marks. AreMarks (λ i. ⊥) count marks.items) }
 {
@@ -33,7 +33,7 @@ fn no_marks(alloc: Global, count: usize) -> Result<Vec<bool>, AllocError>
     Ok(marks)
 }
 
-/// Marks for all tokens of a file: those of the path literals of its imports.
+/// The marks of all tokens of a file: set for the string literals of its imports.
 pub(crate) fn import_marks(alloc: Global, file: &FileTree) -> Result<Vec<bool>, AllocError>
     ensures { IfOk result (λ marks. AreImportMarks (source_of file.now) marks.items) }
 {

@@ -1,7 +1,7 @@
-//! Which package is moved where.
+//! The move of a package.
 use base_files::{FileText, Path};
 
-/// The folder of a package, the folder that it gets, and the name that follows, if the package does not keep its own.
+/// The move of a package: its folder, the new folder, and its new name, if it gets one.
 #[derive(Drop)]
 pub struct Moved {
     pub from: Path,

@@ -14,7 +14,7 @@ use std::alloc::{AllocError, Global};
 use workspace_check::Findings;
 use workspace_graph::Graph;
 
-/// The move of a package, with the name that it has at a third path, where it follows that.
+/// The move of a package. Its new name is the one that it has at the path `called`, if its name follows its path.
 fn move_of(
     alloc: Global,
     graph: &Graph,
@@ -42,8 +42,8 @@ fn set_of(alloc: Global, changed: Vec<FileChange>) -> EditSet
     EditSet::new(changed, Vec::new(alloc))
 }
 
-/// The edit set that moves a package, with all that its folder holds, to a folder in which no other file lies. The package gets
-/// the name that it has at the path `called`, where it follows that. Refused where a file would get a path of too many bytes.
+/// The edit set that moves a package, with all files in its folder, to a folder in which no other file lies. The package gets the name that
+/// it has at the path `called`, if its name follows its path. Refused as `TooLarge` where a file would get too long a path.
 pub fn move_edits(
     alloc: Global,
     graph: &Graph,

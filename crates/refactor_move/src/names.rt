@@ -1,4 +1,4 @@
-//! The names that follow the path of a package.
+//! The names that refer to the package that moves.
 ghost use Rattle.std.specs.Prelude.{◌≡◌, ◌<◌, ◌↔◌, ◌⊎◌, Some, length, IsTrue};
 ghost use Rattle.go_scope.specs.Named.{name_value};
 ghost use Rattle.go_ast.specs.SourceFile.{source_of};
@@ -11,7 +11,7 @@ use crate::moved::Moved;
 use go_ast::FileTree;
 use types_declared::{Index, Package, clause_token, literal_of};
 
-/// Whether a path was found, and is this one.
+/// Whether a path was found and equals this one.
 fn is_path(found: Option<&[u8]>, path: &[u8]) -> bool
     ensures { IsTrue result ↔ (name_value found.entry ≡ Some path.now) }
 {
@@ -21,7 +21,7 @@ fn is_path(found: Option<&[u8]>, path: &[u8]) -> bool
     }
 }
 
-/// Whether a declaration is an import, without a name, of the package that is moved.
+/// Whether a declaration is an import, without a name, of the package that moves.
 fn is_import_of(unit: Package<'_>, index: &Index<'_>, moved: &Moved, d: usize) -> bool
     requires index { IsIndexOf (package_of unit) index.now }
     requires in_range { d < length unit.table.now.sites }
@@ -31,7 +31,7 @@ fn is_import_of(unit: Package<'_>, index: &Index<'_>, moved: &Moved, d: usize) -
     literal_of(unit.table, d) == d && is_path(index.path(unit, d), moved.from.as_str().as_bytes())
 }
 
-/// Whether the name at a token is bound to such an import.
+/// Whether the identifier at a token is bound to an import, without a name, of the package that moves.
 fn is_import_use(
     unit: Package<'_>,
     index: &Index<'_>,
@@ -48,14 +48,14 @@ fn is_import_use(
     }
 }
 
-/// Whether a token is the name in the clause of a file of the package that is moved.
+/// Whether a token is the name in the package clause of a file of the package that moves.
 fn is_clause_name(unit: Package<'_>, file: &FileTree, moved: &Moved, token: usize) -> bool
     ensures { IsTrue result ↔ IsClauseName (package_of unit.entry) (source_of file.now) moved.now token }
 {
     unit.path.path() == moved.from.as_str().as_bytes() && clause_token(file) == token
 }
 
-/// Whether the name at a token is one of the package that is moved.
+/// Whether the name at a token refers to the package that moves: in its package clause, or through an import without a name.
 pub(crate) fn is_package_name(
     unit: Package<'_>,
     index: &Index<'_>,

@@ -1,4 +1,4 @@
-//! The edits of all Go files, by their paths.
+//! The edits of a move in all Go files, by path.
 ghost use Rattle.std.specs.Prelude.{◌<◌, ◌+◌, Some, length, map, IfOk, OnOk};
 ghost use Rattle.std.specs.BTreeMap.{Updates};
 ghost use Rattle.base_files.specs.Packages.{package_paths};
@@ -95,7 +95,7 @@ struct PackageFiles<'p, 'f> {
     files: &'f [FileTree],
 }
 
-/// Adds the edits of the files of the package of a path.
+/// Adds the edits of the files of the package with these parts.
 fn add_package_by(
     alloc: Global,
     edits: &mut BTreeMap<Path, Edits>,

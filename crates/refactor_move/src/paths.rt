@@ -1,4 +1,4 @@
-//! The paths of files in the folder that is moved.
+//! The paths of files in the folder that moves.
 ghost use Rattle.std.specs.Prelude.{◌≡◌, ◌↔◌, ◌++◌, ◌∷◌, IsTrue, IfOk, MatchOption, string_bytes};
 ghost use Rattle.refactor_move.specs.Paths.{IsUnder};
 ghost use Rattle.refactor_move.specs.PathSteps.{ReadsNewPath, TellsNewPath};
@@ -7,7 +7,7 @@ use crate::moved::Moved;
 use base_files::{Path, Refusal};
 use std::alloc::{AllocError, Global};
 
-/// What stands behind a folder and a slash in a path, if the path lies in the folder.
+/// The rest of a path after a folder and a slash, if the path lies in the folder.
 fn rest_under<'a>(folder: &str, path: &'a str) -> Option<&'a str>
     ensures { MatchOption result (IsUnder folder.now path.now → ⊥) (λ rest. path.now ≡ folder.now ++ 47 ∷ rest.now) }
 {
@@ -21,7 +21,7 @@ pub fn is_under(folder: &Path, path: &Path) -> bool
     rest_under(folder.as_str(), path.as_str()).is_some()
 }
 
-/// A path behind a folder and a slash.
+/// The bytes `folder/rest`.
 fn join(alloc: Global, folder: &str, rest: &str) -> Result<String, AllocError>
     ensures { IfOk result (λ path. string_bytes path ≡ folder.now ++ 47 ∷ rest.now) }
 {
@@ -31,7 +31,7 @@ fn join(alloc: Global, folder: &str, rest: &str) -> Result<String, AllocError>
     Ok(path)
 }
 
-/// The path of a file behind a folder and a slash, if that is one.
+/// The path `folder/rest`, refused as `TooLarge` where these bytes are no path.
 fn path_in(alloc: Global, folder: &Path, rest: &str) -> Result<Path, Refusal>
     ensures { ReadsNewPath folder.now rest.now result }
 {
@@ -43,7 +43,8 @@ fn path_in(alloc: Global, folder: &Path, rest: &str) -> Result<Path, Refusal>
     }
 }
 
-/// The path that a file gets which lies in the folder that is moved.
+/// The new path of a file in the folder that moves, or `None` for a file outside it. Refused as `TooLarge` where the new path would be too
+/// long.
 pub fn new_path(alloc: Global, moved: &Moved, path: &Path) -> Result<Option<Path>, Refusal>
     ensures { TellsNewPath moved.now path.now result }
 {

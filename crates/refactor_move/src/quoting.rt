@@ -1,4 +1,4 @@
-//! The new paths of packages that move, in double quotes.
+//! The new import paths of packages that move, in double quotes.
 ghost use Rattle.std.specs.Prelude.{ℕ, List, ◌≡◌, ◌↔◌, ◌++◌, IsTrue, IfOk, MatchOption};
 ghost use Rattle.refactor_move.specs.Paths.{HasMovedPackage, quoted};
 ghost use Rattle.refactor_move.specs.PathSteps.{IsBehind};
@@ -7,7 +7,7 @@ use crate::moved::Moved;
 use base_files::FileText;
 use std::alloc::{AllocError, Global};
 
-/// Whether nothing stands behind a folder, or a slash and more.
+/// Whether the bytes are empty or begin with a slash.
 fn is_behind(rest: &[u8]) -> bool
     ensures { IsTrue result ↔ IsBehind rest.now }
 {
@@ -17,14 +17,14 @@ fn is_behind(rest: &[u8]) -> bool
     }
 }
 
-/// What stands behind other bytes, if a text begins with these.
+/// The rest of a text after these bytes, if the text begins with them.
 fn rest_of<'a>(front: &[u8], text: &'a [u8]) -> Option<&'a [u8]>
     ensures { MatchOption result ((rest : List ℕ) → text.now ≡ front.now ++ rest → ⊥) (λ rest. text.now ≡ front.now ++ rest.now) }
 {
     text.strip_prefix(front)
 }
 
-/// What stands behind a folder in the path of a package there.
+/// The rest of a package's path after a folder, if the package is in the folder: empty, or a slash and more.
 fn package_rest<'a>(folder: &[u8], path: &'a [u8]) -> Option<&'a [u8]>
     ensures { MatchOption result ((rest : List ℕ) → path.now ≡ folder.now ++ rest → IsBehind rest → ⊥) (λ rest. (path.now ≡ folder.now ++ rest.now) × IsBehind rest.now) }
 {
@@ -32,7 +32,7 @@ fn package_rest<'a>(folder: &[u8], path: &'a [u8]) -> Option<&'a [u8]>
     if is_behind(rest) { Some(rest) } else { None }
 }
 
-/// A path of two parts in double quotes.
+/// The path that two parts make, in double quotes.
 fn quote(alloc: Global, folder: &[u8], rest: &[u8]) -> Result<FileText, AllocError>
     ensures { IfOk result (λ text. text ≡ quoted (folder.now ++ rest.now)) }
 {
@@ -43,7 +43,7 @@ fn quote(alloc: Global, folder: &[u8], rest: &[u8]) -> Result<FileText, AllocErr
     FileText::new(alloc, text)
 }
 
-/// The new path of a package in double quotes, if its path changes.
+/// The new path of a package, in double quotes, or `None` where its path doesn't change.
 pub fn quoted_path(
     alloc: Global,
     moved: &Moved,

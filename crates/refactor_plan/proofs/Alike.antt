@@ -1,4 +1,4 @@
--- A state that is current again has the files that it had, so the same is bound to the same.
+-- A state that becomes current again has the files that it had, so its identifiers have the bindings that they had.
 use Rattle.std.proofs.Common.{◌≡◌, ap, sym, subst}
 use Rattle.base_files.specs.Workspace.{Workspace}
 use Rattle.history_machine.proofs.RunLaws.{undo_restores, redo_restores}

@@ -1,4 +1,4 @@
--- What the steps of planning a move answer, in the words of the plan.
+-- The answers of the steps of planning a move, as cases of `PlansMove`.
 use Rattle.std.proofs.Common.{◌≡◌, ℕ, inl, inr, List, [], refl, sym, subst, ◌∙◌}
 use Rattle.std.specs.Prelude.{Option, Some, None, Result, Ok, Err, Contains}
 use Rattle.base_files.specs.Packages.{package_paths}
@@ -29,7 +29,7 @@ use Rattle.refactor_move.specs.MoveEdits.{AreMoveEdits, HasNoNewPath, IsFree, Ho
 use Rattle.refactor_plan.specs.MovePlan.{IsAsked, IsElsewhere, IsBeside, IsMovable, IsMoving, IsNaming, PlansMove}
 use Rattle.refactor_plan.specs.MoveSteps.{moving_by, ArePaths, RefusesTarget, RefusesConflict, RefusesLength, PlansEdits, PlansIn}
 
--- a conflict that is told
+-- The refusal that reports a conflict.
 
 pub told_conflict : (w : Workspace) (from : List ℕ) (known : Verdicts) → AreVerdicts w known → (s : FileChanges) → (Preserves w (revision_of w s) → ⊥) →
     (by : Option Capturer) (used : Place) → IsToldOr w known (revision_of w s) (record { path = from; offset = 0 }) (record { used = used; by = by }) →
@@ -165,7 +165,7 @@ pub in_planned : (snapshot : Snapshot) (from to : List ℕ) → ArePaths from to
 in_planned snapshot from to paths ok (Ok change) h = (record { movable = movable snapshot from to paths ok; sound = h.0 }, h.1)
 in_planned snapshot from to paths ok (Err r) h = in_refused snapshot from to (movable snapshot from to paths ok) r h
 
--- what is no path
+-- A text that is no path.
 
 pub source_refused : (snapshot : Snapshot) (from to : List ℕ) (r : Refusal) → ReadsPath 1 from (Err r) → PlansMove snapshot from to (Err r)
 source_refused snapshot from to BadPath h = λ both. h both.0

@@ -1,4 +1,4 @@
--- What a move that was planned and admitted does to a history.
+-- What a planned and admitted move does to a history.
 use Rattle.std.proofs.Common.{ℕ, List, ◌≡◌, sym, ap, subst, ◌∙◌}
 use Rattle.base_files.specs.Workspace.{Workspace}
 use Rattle.base_edits.specs.EditSet.{edited}
@@ -11,7 +11,7 @@ use Rattle.refactor_preserve.specs.Preserved.{Preserves}
 use Rattle.refactor_plan.specs.MovePlan.{IsMoving, IsMoved}
 use Rattle.refactor_plan.specs.Moves.{HasMovedExactly, MovesKeepBindings, UndoTakesMovesBack}
 
--- the same, from the snapshot of which the change is
+-- The state after a committed move, from the snapshot on which the move was planned.
 exactly : (snapshot : Snapshot) (from to : List ℕ) (change : Change) (old new : Machine) → IsMoved snapshot from to change
     → change.base ≡ old.current.files → new.current.files ≡ change.files → HasMovedExactly from to change old.current new.current
 exactly snapshot from to change old new r base files =

@@ -1,4 +1,4 @@
--- What other packages see of a package is its own.
+-- The export data of a package is its own.
 use Rattle.std.proofs.Common.{ℕ, ◌≡◌, true, List, Option, Some, None, ap, refl, sym, ◌∙◌, subst}
 use Rattle.std.specs.Prelude.{slice_get}
 use Rattle.base_files.specs.Workspace.{Workspace}

@@ -28,7 +28,7 @@ use Rattle.refactor_conflict.specs.Refusals.{IsToldOr}
 use Rattle.refactor_conflict.specs.Told.{told_by}
 use Rattle.refactor_plan.specs.Steps.{renaming_by, PlansEdits, PlansDeclaration, PlansIn}
 
--- a conflict that is told
+-- The refusal that reports a conflict.
 
 pub told_conflict : (snapshot : Snapshot) (known : Verdicts) (asked : Place) (s : FileChanges) → (Preserves snapshot.files (revision_of snapshot.files s) → ⊥) →
     (by : Option Capturer) (used : Place) → IsToldOr snapshot.files known (revision_of snapshot.files s) asked (record { used = used; by = by }) →
@@ -51,7 +51,7 @@ module _ (snapshot : Snapshot) (known : Verdicts) (asked : Place) (s : FileChang
   kept_planned (Ok same) h = (kept, subst (λ (c : Change). FitsLimits snapshot.limits c.files) is h.1, h.0 ∙ is)
   kept_planned (Err r) h = kept_refused r h
 
--- the declaration of what holds the byte
+-- The declaration of the identifier at the byte.
 
 module _ (snapshot : Snapshot) (path : List ℕ) (offset : ℕ) (name : List ℕ) (sound : ListsFaults snapshot.files []) (known : Verdicts)
     (right : AreVerdicts snapshot.files known) where

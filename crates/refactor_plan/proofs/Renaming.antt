@@ -1,4 +1,4 @@
--- What a rename that was planned and admitted does to a history.
+-- What a planned and admitted rename does to a history.
 use Rattle.std.proofs.Common.{ℕ, List, ◌≡◌, sym, ap, subst, ◌∙◌}
 use Rattle.base_files.specs.Workspace.{Workspace}
 use Rattle.base_edits.specs.EditSet.{edited}
@@ -11,7 +11,7 @@ use Rattle.refactor_preserve.specs.Preserved.{Preserves}
 use Rattle.refactor_plan.specs.Plan.{IsRenaming, IsRenamed}
 use Rattle.refactor_plan.specs.Renames.{IsExactly, RenamesKeepBindings, UndoTakesRenamesBack}
 
--- the same, from the snapshot of which the change is
+-- The state after a committed rename, from the snapshot on which the rename was planned.
 exactly : (snapshot : Snapshot) (path : List ℕ) (offset : ℕ) (name : List ℕ) (change : Change) (old new : Machine) → IsRenamed snapshot path offset name change
     → change.base ≡ old.current.files → new.current.files ≡ change.files → IsExactly path offset name change old.current new.current
 exactly snapshot path offset name change old new r base files =

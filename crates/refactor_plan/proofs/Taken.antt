@@ -9,7 +9,7 @@ use Rattle.refactor_move.specs.Paths.{IsUnder}
 use Rattle.refactor_move.specs.MoveEdits.{IsFree}
 use Rattle.refactor_plan.specs.MovePlan.{IsTaken}
 
--- what is left of some files holds all that lie in the folder
+-- The files left in the list have all those that lie in the folder.
 pub record AreLeft (folder : List ℕ) (all left : List (List ℕ × List ℕ)) : Type 0 where
   pub within : (e : List ℕ × List ℕ) → Contains left e → Contains all e
   pub under : (e : List ℕ × List ℕ) → Contains all e → IsUnder folder e.0 → Contains left e

@@ -1,4 +1,4 @@
--- The byte that is asked for.
+-- The place of the byte that a rename names.
 use Rattle.base_files.specs.declared.place.Place.{Place}
 use Rattle.refactor_plan.specs.declared.plan.AskedName.{AskedName}
 

@@ -1,4 +1,4 @@
--- The laws of planned renames.
+-- The law of planned renames: they keep every byte outside their edits.
 use Rattle.std.specs.Prelude.{ℕ, ◌≡◌, ◌+◌, ◌-◌, ◌<◌, ◌≤◌, List, length, Some, Ok}
 use Rattle.std.specs.List.{slice_range}
 use Rattle.std.specs.FinMap as files
@@ -10,18 +10,19 @@ use Rattle.workspace_snapshot.specs.declared.snapshot.Snapshot.{Snapshot}
 use Rattle.workspace_snapshot.specs.declared.change.Change.{Change}
 use Rattle.refactor_plan.specs.Plan.{PlansRename}
 
--- the edits of a file
+-- The edits of a change in the file at this path.
 abbrev pub edits_in : Change → List ℕ → List Edit
 edits_in change file = edits_by (change_of change.edits file)
 
--- the file is there with a new text, in which these bytes of the old one stand where their first is moved to
+-- The change leaves a file at the path `file`. Its new text has the bytes from `start` to `end` of `text`, from the offset to which `start`
+-- is moved.
 pub record KeepsBytes (change : Change) (file text : List ℕ) (start end : ℕ) : Type 0 where
   pub new : List ℕ
   pub there : files.get change.files file ≡ Some new
   pub kept : slice_range new (moved_offset (edits_in change file) start) (moved_offset (edits_in change file) start + (end - start)) ≡ slice_range text
       start end
 
--- Where a rename is planned, each file stays at its path, and its bytes stay that are in no span of an edit.
+-- Where a rename is planned, each file stays at its path. Each byte range of it that no edit touches keeps its bytes.
 abbrev pub RenamesKeepOtherBytes : Type 0
 RenamesKeepOtherBytes = (snapshot : Snapshot) (path : List ℕ) (offset : ℕ) (name : List ℕ) (change : Change) →
     PlansRename snapshot path offset name (Ok change) →

@@ -1,4 +1,4 @@
--- What planning a move answers.
+-- What planning the move of the package `from` to the path `to` answers: a change, or the first reason for which there is none.
 use Rattle.std.specs.Prelude.{ℕ, ◌≡◌, ◌≢◌, ◌⊎◌, List, [], ⊤, Contains, IsSome, Result, Ok, Err}
 use Rattle.std.specs.FinMap as files
 use Rattle.base_files.specs.Packages.{package_paths}
@@ -21,64 +21,66 @@ use Rattle.workspace_snapshot.specs.declared.change.ChangeKind.TheVariants.{Move
 use Rattle.refactor_move.specs.Paths.{IsUnder}
 use Rattle.refactor_move.specs.MoveEdits.{AreMoveEdits, HasNoNewPath, IsFree}
 
--- both are paths, the first that of a package
+-- Both paths have the form of a package's path, and `from` is the path of a package.
 pub record IsAsked (w : Workspace) (from to : List ℕ) : Type 0 where
   pub source : IsPath 1 from
   pub target : IsPath 1 to
   pub is_package : Contains (package_paths w) from
 
--- and the second is another one
+-- Both paths have their form, `from` is a package, and `to` is another path.
 pub record IsElsewhere (w : Workspace) (from to : List ℕ) : Type 0 where
   pub asked : IsAsked w from to
   pub other : to ≢ from
 
--- that does not lie in the folder of the first
+-- In addition, the path `to` does not lie in the folder `from`.
 pub record IsBeside (w : Workspace) (from to : List ℕ) : Type 0 where
   pub elsewhere : IsElsewhere w from to
   pub outside : ¬ (IsUnder from to)
 
--- and in whose folder no file lies
+-- In addition, no file lies in the folder `to`: the paths allow the move.
 pub record IsMovable (w : Workspace) (from to : List ℕ) : Type 0 where
   pub beside : IsBeside w from to
   pub free : IsFree w to
 
--- and the workspace has no fault
+-- The paths allow the move, and the workspace has no fault.
 pub record IsWellAsked (w : Workspace) (from to : List ℕ) : Type 0 where
   pub movable : IsMovable w from to
   pub sound : ListsFaults w []
 
--- some file lies in the folder
+-- Some file lies in this folder.
 pub record IsTaken (w : Workspace) (folder : List ℕ) : Type 0 where
   pub path : List ℕ
   pub is_file : IsSome (files.get w path)
   pub under : IsUnder folder path
 
--- these changes move the package
+-- These are the edits that move the package `from` to the path `to`.
 pub record IsMoving (w : Workspace) (from to : List ℕ) (s : FileChanges) : Type 0 where
   pub known : Verdicts
   pub right : AreVerdicts w known
   pub edits : AreMoveEdits w known from to to s
 
--- these give it the name alone that it has there, and leave each file at its path
+-- These edits give the package `from` only the name that it has at the path `to`. Every file stays at its path.
 pub record IsNaming (w : Workspace) (from to : List ℕ) (s : FileChanges) : Type 0 where
   pub known : Verdicts
   pub right : AreVerdicts w known
   pub edits : AreMoveEdits w known from from to s
 
--- the refusal names the first identifier that is told of these changes; the package where no identifier is there
+-- The refusal names the first identifier that these edits lose or capture. Where there is no such identifier it names the package, at
+-- offset 0.
 pub record IsToldOf (w : Workspace) (from : List ℕ) (s : FileChanges) (refusal : Refusal) : Type 0 where
   pub known : Verdicts
   pub right : AreVerdicts w known
   pub tells : TellsConflict w known (revision_of w s) (record { path = from; offset = 0 }) refusal
 
--- these changes do not preserve bindings
+-- The edits that move the package do not preserve bindings, and the refusal names their first conflict.
 pub record HasConflict (w : Workspace) (from to : List ℕ) (refusal : Refusal) : Type 0 where
   pub changes : FileChanges
   pub moving : IsMoving w from to changes
   pub not_preserved : ¬ (Preserves w (revision_of w changes))
   pub told : IsToldOf w from changes refusal
 
--- a file would get too long a path, and the name alone already does not preserve bindings
+-- The move would give a file too long a path. The edits that only change the package's name do not preserve bindings, and the refusal names
+-- their first conflict.
 pub record HasNameConflict (w : Workspace) (from to : List ℕ) (refusal : Refusal) : Type 0 where
   pub no_path : HasNoNewPath w from to
   pub changes : FileChanges
@@ -86,21 +88,22 @@ pub record HasNameConflict (w : Workspace) (from to : List ℕ) (refusal : Refus
   pub not_preserved : ¬ (Preserves w (revision_of w changes))
   pub told : IsToldOf w from changes refusal
 
--- the name does, but a file would get too long a path
+-- The move would give a file too long a path, but the edits that only change the package's name preserve bindings.
 pub record IsTooLong (w : Workspace) (from to : List ℕ) : Type 0 where
   pub no_path : HasNoNewPath w from to
   pub changes : FileChanges
   pub naming : IsNaming w from to changes
   pub preserves : Preserves w (revision_of w changes)
 
--- bindings are preserved, but the files pass a limit
+-- The edits that move the package preserve bindings, but the files after them exceed a limit of the snapshot.
 pub record IsTooLarge (snapshot : Snapshot) (from to : List ℕ) : Type 0 where
   pub changes : FileChanges
   pub moving : IsMoving snapshot.files from to changes
   pub preserves : Preserves snapshot.files (revision_of snapshot.files changes)
   pub too_large : ¬ (FitsLimits snapshot.limits (edited changes snapshot.files))
 
--- the change of the snapshot's files by edits that move the package and preserve bindings
+-- The change has the edits that move the package and the files that they make of the snapshot's. They preserve bindings and keep within the
+-- limits.
 pub record IsMoved (snapshot : Snapshot) (from to : List ℕ) (change : Change) : Type 0 where
   pub moving : IsMoving snapshot.files from to change.edits
   pub preserves : Preserves snapshot.files (revision_of snapshot.files change.edits)
@@ -108,8 +111,9 @@ pub record IsMoved (snapshot : Snapshot) (from to : List ℕ) (change : Change) 
   pub fit_files : Fits change.edits snapshot.files
   pub is_change : change ≡ record { base = snapshot.files; kind = Move; edits = change.edits; files = edited change.edits snapshot.files }
 
--- Moving a package, or why it is not moved: the first reason that applies. Where a file would get too long a path there are no
--- files to compare, and the name tells whether there is a conflict: bindings do not depend on what a path is.
+-- The change that moves the package `from` to the path `to`, or the first reason for which there is none. Where the move would give a file
+-- too long a path there are no files after it. A conflict is then sought with the edits of the name alone, since bindings do not depend on
+-- the paths of files.
 abbrev pub PlansMove : Snapshot → (from to : List ℕ) → Result Change Refusal → Type 0
 PlansMove snapshot from to (Ok change) = IsWellAsked snapshot.files from to × IsMoved snapshot from to change
 PlansMove snapshot from to (Err BadPath) = ¬ (IsPath 1 from × IsPath 1 to)

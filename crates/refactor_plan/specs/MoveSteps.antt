@@ -20,12 +20,12 @@ use Rattle.refactor_move.specs.Paths.{IsUnder}
 use Rattle.refactor_move.specs.MoveEdits.{IsFree}
 use Rattle.refactor_plan.specs.MovePlan.{IsToldOf, IsTaken, HasConflict, HasNameConflict, IsTooLong, IsTooLarge, IsMoved}
 
--- both are paths
+-- Both texts have the form of a package's path.
 pub record ArePaths (from to : List ℕ) : Type 0 where
   pub source : IsPath 1 from
   pub target : IsPath 1 to
 
--- whether a package can be moved there, or why not
+-- Ok where the package `from` can be moved to the path `to`, or the first reason of the paths against it.
 abbrev pub RefusesTarget : Workspace → (from to : List ℕ) → Result (Unit {0}) Refusal → Type 0
 RefusesTarget w from to (Ok done) = Contains (package_paths w) from × ¬ (to ≡ from) × ¬ (IsUnder from to) × IsFree w to
 RefusesTarget w from to (Err NoPackage) = ¬ (Contains (package_paths w) from)
@@ -35,15 +35,15 @@ RefusesTarget w from to (Err TargetTaken) = Contains (package_paths w) from × �
 RefusesTarget w from to (Err Memory) = ⊤
 RefusesTarget w from to (Err refusal) = ⊥
 
--- the change that these edits make of a snapshot's files
+-- The change of kind `Move` that has these edits of the snapshot's files.
 abbrev pub moving_by : Snapshot → FileChanges → Change
 moving_by snapshot s = record { base = snapshot.files; kind = Move; edits = s; files = edited s snapshot.files }
 
--- bindings are not preserved, and this refusal tells of them
+-- These edits do not preserve bindings, and the refusal names their first conflict.
 abbrev pub IsConflict : Workspace → List ℕ → FileChanges → Refusal → Type 0
 IsConflict w from s refusal = (¬ (Preserves w (revision_of w s))) × IsToldOf w from s refusal
 
--- whether bindings are preserved, with what is known of the edited workspace then, or that they are not
+-- Ok where these edits preserve bindings, with the findings of the workspace after them; else the refusal that names the first conflict.
 abbrev pub RefusesConflict : Workspace → List ℕ → FileChanges → Result Known Refusal → Type 0
 RefusesConflict w from s (Ok known) = Preserves w (revision_of w s) × KnowsVerdicts (edited s w) known
 RefusesConflict w from s (Err (Captured used by)) = IsConflict w from s (Captured used by)
@@ -51,7 +51,7 @@ RefusesConflict w from s (Err (Lost used)) = IsConflict w from s (Lost used)
 RefusesConflict w from s (Err Memory) = ⊤
 RefusesConflict w from s (Err refusal) = ⊥
 
--- the same where the change is of no use, since a file would get too long a path
+-- Why these edits of the name alone are refused where the move would give a file too long a path: their first conflict, or `TooLarge`.
 abbrev pub RefusesLength : Workspace → List ℕ → FileChanges → Result Change Refusal → Type 0
 RefusesLength w from s (Ok change) = ⊥
 RefusesLength w from s (Err TooLarge) = Preserves w (revision_of w s)
@@ -60,7 +60,7 @@ RefusesLength w from s (Err (Lost used)) = IsConflict w from s (Lost used)
 RefusesLength w from s (Err Memory) = ⊤
 RefusesLength w from s (Err refusal) = ⊥
 
--- that change, unless it does not preserve bindings or passes a limit
+-- The change that these edits make of the snapshot, or a refusal where they do not preserve bindings or exceed a limit.
 abbrev pub PlansEdits : Snapshot → List ℕ → FileChanges → Result Change Refusal → Type 0
 PlansEdits snapshot from s (Ok change) =
     Preserves snapshot.files (revision_of snapshot.files s) × FitsLimits snapshot.limits (edited s snapshot.files) × (change ≡ moving_by snapshot s)
@@ -70,7 +70,7 @@ PlansEdits snapshot from s (Err TooLarge) = Preserves snapshot.files (revision_o
 PlansEdits snapshot from s (Err Memory) = ⊤
 PlansEdits snapshot from s (Err refusal) = ⊥
 
--- what planning answers where the package can be moved there
+-- What planning a move answers where the paths allow it: the cases of `PlansMove` without those of the paths.
 abbrev pub PlansIn : Snapshot → (from to : List ℕ) → Result Change Refusal → Type 0
 PlansIn snapshot from to (Ok change) = ListsFaults snapshot.files [] × IsMoved snapshot from to change
 PlansIn snapshot from to (Err (Faulty place kind)) = HasFirstFault snapshot.files place kind

@@ -1,4 +1,4 @@
--- What planning a rename answers.
+-- What planning the rename of the identifier at `path:offset` to `name` answers: a change, or the first reason for which there is none.
 use Rattle.std.specs.Prelude.{ℕ, ◌≡◌, ◌⊎◌, List, [], ⊤, None, Result, Ok, Err}
 use Rattle.std.specs.FinMap as files
 use Rattle.base_files.specs.Path.{IsPath}
@@ -24,52 +24,52 @@ use Rattle.refactor_rename.specs.NewName.{IsNewName}
 use Rattle.refactor_rename.specs.Naming.{IsFixed, IsReservedFor}
 use Rattle.refactor_rename.specs.RenameEdits.{AreRenameEdits}
 
--- the arguments have their forms, the file is there, and the workspace has no fault
+-- The path and the name have their forms, the file exists, and the workspace has no fault.
 pub record IsWellAsked (w : Workspace) (path name : List ℕ) : Type 0 where
   pub file : IsFile w path
   pub form : IsNewName name
   pub sound : ListsFaults w []
 
--- what holds the byte is bound to a declaration
+-- The identifier at the byte is bound to a declaration, `declaration`.
 pub record IsAsked (w : Workspace) (path : List ℕ) (offset : ℕ) : Type 0 where
   pub known : Verdicts
   pub right : AreVerdicts w known
   pub declaration : Declaration
   pub has : HasDeclaration w known path offset declaration
 
--- to one that cannot be renamed
+-- The identifier at the byte is bound to a declaration that cannot be renamed.
 pub record IsAskedFixed (w : Workspace) (path : List ℕ) (offset : ℕ) : Type 0 where
   pub asked : IsAsked w path offset
   pub fixed : IsFixed (IsPackage w asked.known) asked.declaration
 
--- to one that can
+-- The identifier at the byte is bound to a declaration that can be renamed.
 pub record IsRenamable (w : Workspace) (path : List ℕ) (offset : ℕ) : Type 0 where
   pub asked : IsAsked w path offset
   pub not_fixed : ¬ (IsFixed (IsPackage w asked.known) asked.declaration)
 
--- but may not have that name
+-- The identifier at the byte is bound to a declaration that can be renamed, but not to this name, which is reserved for it.
 pub record IsAskedReserved (w : Workspace) (path : List ℕ) (offset : ℕ) (name : List ℕ) : Type 0 where
   pub renamable : IsRenamable w path offset
   pub reserved : IsReservedFor (IsPackage w renamable.asked.known) renamable.asked.declaration name
 
--- to one that may have that name
+-- The identifier at the byte is bound to a declaration that can be renamed, and `name` is a legal name for it.
 pub record MayBeCalled (w : Workspace) (path : List ℕ) (offset : ℕ) (name : List ℕ) : Type 0 where
   pub renamable : IsRenamable w path offset
   pub allowed : ¬ (IsReservedFor (IsPackage w renamable.asked.known) renamable.asked.declaration name)
 
--- but has it already
+-- The identifier at the byte is bound to a declaration that already has this name.
 pub record IsAskedSame (w : Workspace) (path : List ℕ) (offset : ℕ) (name : List ℕ) : Type 0 where
   pub may : MayBeCalled w path offset name
   pub called : IsCalled (IsPackage w may.renamable.asked.known) may.renamable.asked.declaration name
 
--- these changes give it that name
+-- These are the edits that rename the declaration of the identifier at the byte. The name is legal for it and is not its present name.
 pub record IsRenaming (w : Workspace) (path : List ℕ) (offset : ℕ) (name : List ℕ) (s : FileChanges) : Type 0 where
   pub may : MayBeCalled w path offset name
   pub other : ¬ (IsCalled (IsPackage w may.renamable.asked.known) may.renamable.asked.declaration name)
   pub edits : AreRenameEdits w may.renamable.asked.known may.renamable.asked.declaration name s
 
--- these changes do not preserve bindings, and the refusal names the first identifier that is told of them; the byte where no
--- identifier is there
+-- The edits of the rename do not preserve bindings. The refusal names the first identifier that they lose or capture, or the byte where
+-- there is no such identifier.
 pub record HasConflict (w : Workspace) (path : List ℕ) (offset : ℕ) (name : List ℕ) (refusal : Refusal) : Type 0 where
   pub changes : FileChanges
   pub renaming : IsRenaming w path offset name changes
@@ -78,14 +78,14 @@ pub record HasConflict (w : Workspace) (path : List ℕ) (offset : ℕ) (name : 
   pub right : AreVerdicts w known
   pub told : TellsConflict w known (revision_of w changes) (record { path = path; offset = offset }) refusal
 
--- bindings are preserved, but the files pass a limit
+-- The edits of the rename preserve bindings, but the files after them exceed a limit of the snapshot.
 pub record IsTooLarge (snapshot : Snapshot) (path : List ℕ) (offset : ℕ) (name : List ℕ) : Type 0 where
   pub changes : FileChanges
   pub renaming : IsRenaming snapshot.files path offset name changes
   pub preserves : Preserves snapshot.files (revision_of snapshot.files changes)
   pub too_large : ¬ (FitsLimits snapshot.limits (edited changes snapshot.files))
 
--- the change of the snapshot's files by edits that give the name and preserve bindings
+-- The change has the edits of the rename and the files that they make of the snapshot's. They preserve bindings and keep within the limits.
 pub record IsRenamed (snapshot : Snapshot) (path : List ℕ) (offset : ℕ) (name : List ℕ) (change : Change) : Type 0 where
   pub renaming : IsRenaming snapshot.files path offset name change.edits
   pub preserves : Preserves snapshot.files (revision_of snapshot.files change.edits)
@@ -93,7 +93,7 @@ pub record IsRenamed (snapshot : Snapshot) (path : List ℕ) (offset : ℕ) (nam
   pub fit_files : Fits change.edits snapshot.files
   pub is_change : change ≡ record { base = snapshot.files; kind = Rename; edits = change.edits; files = edited change.edits snapshot.files }
 
--- Renaming what holds a byte, or why it is not renamed: the first reason that applies.
+-- The change that renames the identifier at `path:offset` to `name`, or the first reason for which there is none.
 abbrev pub PlansRename : Snapshot → List ℕ → ℕ → List ℕ → Result Change Refusal → Type 0
 PlansRename snapshot path offset name (Ok change) = IsWellAsked snapshot.files path name × IsRenamed snapshot path offset name change
 PlansRename snapshot path offset name (Err BadPath) = ¬ (IsPath 2 path)

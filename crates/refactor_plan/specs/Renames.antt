@@ -1,4 +1,4 @@
--- What a rename that was planned and admitted does to a history.
+-- What a planned and admitted rename does to a history.
 use Rattle.std.specs.Prelude.{ℕ, ◌≡◌, List, Ok}
 use Rattle.base_edits.specs.EditSet.{edited}
 use Rattle.workspace_snapshot.specs.declared.snapshot.Snapshot.{Snapshot}
@@ -15,18 +15,21 @@ use Rattle.history_machine.specs.Machine.{Machine}
 use Rattle.history_machine.specs.Step.{Step}
 use Rattle.history_machine.specs.Run.{Run, IsQuiet, Restores}
 
--- the state behind has the files of edits that rename what holds a byte of the state before, and bindings are preserved
+-- The state after the change has the files that its edits make of the state before. The edits rename the identifier at the byte and
+-- preserve bindings.
 pub record IsExactly (path : List ℕ) (offset : ℕ) (name : List ℕ) (change : Change) (before after : State) : Type 0 where
   pub renaming : IsRenaming before.files path offset name change.edits
   pub files : after.files ≡ edited change.edits before.files
   pub preserves : Preserves before.files (revision_of before.files change.edits)
 
+-- Where a planned rename is committed, the current state after it has exactly the files of the rename, and every binding is preserved.
 abbrev pub RenamesKeepBindings : Type 0
 RenamesKeepBindings = (snapshot : Snapshot) (path : List ℕ) (offset : ℕ) (name : List ℕ) (change : Change) (old new : Machine) (basis number : ℕ)
     → PlansRename snapshot path offset name (Ok change)
     → Step old (Commit basis change) (Done number) new
     → IsExactly path offset name change old.current new.current
 
+-- Where a planned rename is committed and only quiet events follow, undo restores the state before the rename, or changes nothing.
 abbrev pub UndoTakesRenamesBack : Type 0
 UndoTakesRenamesBack = (snapshot : Snapshot) (path : List ℕ) (offset : ℕ) (name : List ℕ) (change : Change) (start changed settled end : Machine)
     (basis number : ℕ)

@@ -1,4 +1,4 @@
--- That undo and redo leave bound what was bound before.
+-- Undo and redo restore bindings.
 use Rattle.std.specs.Prelude.{ℕ, ◌↔◌, List}
 use Rattle.base_files.specs.Workspace.{Workspace}
 use Rattle.base_files.specs.declared.place.Place.{Place}
@@ -14,12 +14,12 @@ use Rattle.history_machine.specs.Machine.{Machine}
 use Rattle.history_machine.specs.Run.{Run, IsQuiet}
 use Rattle.history_machine.specs.Step.{Step}
 
--- in both workspaces identifiers begin at the same places, and are bound to the same declarations
+-- In both workspaces the uses of each declaration are at identical places.
 abbrev pub AreBoundAlike : Workspace → Workspace → Type 0
 AreBoundAlike w x = (known other : Verdicts) → AreVerdicts w known → AreVerdicts x other
     → (d : Declaration) (place : Place) → IsUseOf w known d place ↔ IsUseOf x other d place
 
--- An admitted change followed by undo leaves each identifier bound to what it was bound to before the change.
+-- Where an admitted change is undone, each identifier is bound to what it was bound to before the change.
 abbrev pub UndoRestoresBindings : Type 0
 UndoRestoresBindings = (start changed settled end : Machine) (basis number undone : ℕ) (change : Change) (between : List (Event × Reply))
     → Step start (Commit basis change) (Done number) changed
@@ -27,7 +27,7 @@ UndoRestoresBindings = (start changed settled end : Machine) (basis number undon
     → Step settled (Undo settled.current.number) (Done undone) end
     → AreBoundAlike start.current.files end.current.files
 
--- Redo then leaves each bound to what it was bound to before the undo.
+-- Where an undo is redone, each identifier is bound to what it was bound to before the undo.
 abbrev pub RedoRestoresBindings : Type 0
 RedoRestoresBindings = (start undone settled end : Machine) (basis number redone : ℕ) (between : List (Event × Reply))
     → Step start (Undo basis) (Done number) undone

@@ -19,16 +19,17 @@ use Rattle.workspace_snapshot.specs.declared.change.ChangeKind.TheVariants.{Rena
 use Rattle.refactor_rename.specs.RenameEdits.{AreRenameEdits}
 use Rattle.refactor_plan.specs.Plan.{IsAskedFixed, IsAskedReserved, IsAskedSame, HasConflict, IsTooLarge, IsRenamed}
 
--- the change that these edits make of a snapshot's files
+-- The change of kind `Rename` that has these edits of the snapshot's files.
 abbrev pub renaming_by : Snapshot → FileChanges → Change
 renaming_by snapshot s = record { base = snapshot.files; kind = Rename; edits = s; files = edited s snapshot.files }
 
--- these edits do not preserve bindings, and this refusal tells of them
+-- These edits do not preserve bindings, and the refusal names their first conflict, or the place `asked` where no identifier is in
+-- conflict.
 abbrev pub IsConflict : Snapshot → Verdicts → Place → FileChanges → Refusal → Type 0
 IsConflict snapshot known asked s refusal =
     (¬ (Preserves snapshot.files (revision_of snapshot.files s))) × TellsConflict snapshot.files known (revision_of snapshot.files s) asked refusal
 
--- that change, unless it does not preserve bindings or passes a limit
+-- The change that these edits make of the snapshot, or a refusal where they do not preserve bindings or exceed a limit.
 abbrev pub PlansEdits : Snapshot → Verdicts → Place → FileChanges → Result Change Refusal → Type 0
 PlansEdits snapshot known asked s (Ok change) =
     Preserves snapshot.files (revision_of snapshot.files s) × FitsLimits snapshot.limits (edited s snapshot.files) × (change ≡ renaming_by snapshot s)
@@ -39,13 +40,13 @@ PlansEdits snapshot known asked s (Err TooLarge) = Preserves snapshot.files (rev
 PlansEdits snapshot known asked s (Err Memory) = ⊤
 PlansEdits snapshot known asked s (Err refusal) = ⊥
 
--- the same of the edits that give a declaration a name, unless there was no memory for them
+-- What planning answers for the edits that give the declaration `d` the name `name`, or `Memory` where there was no memory for them.
 abbrev pub PlansDeclaration : Snapshot → Verdicts → Place → Declaration → List ℕ → Result Change Refusal → Type 0
 PlansDeclaration snapshot known asked d name result =
     (result ≡ Err Memory) ⊎ ((s : FileChanges) × (AreRenameEdits snapshot.files known d name s ×
     (Fits s snapshot.files × PlansEdits snapshot known asked s result)))
 
--- what planning answers where the arguments have their forms and the file is there
+-- What planning a rename answers where the arguments have their forms and the file exists.
 abbrev pub PlansIn : Snapshot → List ℕ → ℕ → List ℕ → Result Change Refusal → Type 0
 PlansIn snapshot path offset name (Ok change) = ListsFaults snapshot.files [] × IsRenamed snapshot path offset name change
 PlansIn snapshot path offset name (Err (Faulty place kind)) = HasFirstFault snapshot.files place kind

@@ -1,4 +1,4 @@
-//! The laws of what other packages see of a package.
+//! The laws of export data: a package exports only what it declares.
 ghost use Rattle.std.specs.Prelude.{ℕ, List};
 ghost use Rattle.base_files.specs.Workspace.{Workspace};
 ghost use Rattle.types_declared.specs.Package.{Interface};
@@ -6,13 +6,12 @@ ghost use Rattle.workspace_check.specs.Verdicts.{Verdicts, HasInterface};
 ghost use Rattle.build_unit.specs.Units.{IsUnitValue, Done};
 ghost use Rattle.refactor_plan.specs.Own.{AreOwn};
 
-/// What other packages see of a package is its own: each exported name is one that it declares, and each field and method has
-/// one of its symbols.
+/// The export data of a package is its own: the package declares each exported name, and each field and method has a symbol of the package.
 pub fn interfaces_are_own()
     ensures { (w : Workspace) → (known : Verdicts) → (p : List ℕ) → (i : Interface) → HasInterface w known p i → AreOwn w known p i }
 {}
 
-/// So is the interface of its unit.
+/// The export data in the unit of a package is its own.
 pub fn interfaces_of_units_are_own()
     ensures { (w : Workspace) → (p : List ℕ) → (i : Interface) → (object : List ℕ) → IsUnitValue w p (Done i object) → (known : Verdicts) × AreOwn w known p i }
 {}

@@ -1,5 +1,5 @@
-//! Plans a rename and a move: the edit set, or why there is none; and laws of what these plans and the history promise together: bindings
-//! are kept, undo and redo restore them, and what other packages see of a package is its own.
+//! Plans a rename or a move: the change, or the refusal. Laws of plans and histories: bindings are preserved, undo and redo restore them,
+//! and the export data of a package is its own.
 #![tactic(auto)]
 
 pub mod exact;

@@ -1,4 +1,4 @@
-//! The change that moves a package.
+//! Plans a move: the change that moves a package to another path.
 ghost use Rattle.std.specs.Prelude.{◌≡◌, IfOk};
 ghost use Rattle.base_files.specs.Path.{IsPath};
 ghost use Rattle.base_edits.specs.EditSet.{edited};
@@ -24,7 +24,8 @@ use std::alloc::{AllocError, Global};
 use workspace_check::{Found, Known};
 use workspace_snapshot::{Change, ChangeKind, MadeChange, Snapshot};
 
-/// The first conflict of a change that does not preserve bindings. Where no identifier is there to be named, the package is.
+/// The first conflict of a change that does not preserve bindings. Where there is no identifier to name, the package `from` is lost, at
+/// offset 0.
 fn conflict_of(
     alloc: Global,
     snapshot: &Snapshot,
@@ -54,7 +55,7 @@ fn conflict_of(
     }
 }
 
-/// The refusal that tells of a change that does not preserve bindings.
+/// The refusal that names the first conflict of a change that does not preserve bindings.
 fn refusal_of(
     alloc: Global,
     snapshot: &Snapshot,
@@ -73,7 +74,7 @@ fn refusal_of(
     }
 }
 
-/// The refusal that tells of a change, unless it preserves bindings; then what is known of its files.
+/// The findings of the workspace after a change that preserves bindings, or the refusal that names its first conflict.
 fn refuse_conflict(
     alloc: Global,
     snapshot: &Snapshot,
@@ -93,7 +94,7 @@ fn refuse_conflict(
     }
 }
 
-/// The change, unless it does not preserve bindings or passes a limit.
+/// Plans a given change: refuses it where it does not preserve bindings or exceeds a limit.
 fn judged(
     alloc: Global,
     snapshot: &Snapshot,
@@ -113,7 +114,7 @@ fn judged(
     }
 }
 
-/// The change by some edits, unless it does not preserve bindings or passes a limit.
+/// Plans the change by an edit set: refuses it where it does not preserve bindings or exceeds a limit.
 fn plan_edits(
     alloc: Global,
     snapshot: &Snapshot,
@@ -131,7 +132,8 @@ fn plan_edits(
     judged(alloc, snapshot, found, from, change)
 }
 
-/// Why edits are refused that give the name alone, where a file would get too long a path.
+/// Why a move that would give a file too long a path is refused, by the edits of the package's name alone: their first conflict, or
+/// `TooLarge`.
 fn refuse_length(
     alloc: Global,
     snapshot: &Snapshot,
@@ -152,7 +154,7 @@ fn refuse_length(
     }
 }
 
-/// Why a package is not moved of which a file would get too long a path. A conflict of its name comes first.
+/// Why a move that would give a file too long a path is refused. A conflict of the package's new name comes before `TooLarge`.
 fn refuse_long(
     alloc: Global,
     snapshot: &Snapshot,
@@ -172,7 +174,7 @@ fn refuse_long(
     }
 }
 
-/// The change that moves a package to a folder in which no file lies. The workspace has no fault.
+/// Plans the move of a package in a workspace without faults. No file lies in the folder `to`.
 fn plan_found(
     alloc: Global,
     snapshot: &Snapshot,
@@ -193,7 +195,7 @@ fn plan_found(
     }
 }
 
-/// The change that moves a package to a folder in which no file lies, unless the workspace has a fault.
+/// Plans the move of a package, or refuses it where the workspace has a fault. No file lies in the folder `to`.
 fn plan_in(
     alloc: Global,
     snapshot: &Snapshot,
@@ -212,7 +214,7 @@ fn plan_in(
     }
 }
 
-/// The change that moves a package, by paths.
+/// Plans the move of a package between two paths.
 fn plan_paths(
     alloc: Global,
     snapshot: &Snapshot,
@@ -231,7 +233,7 @@ fn plan_paths(
     }
 }
 
-/// The change that moves the package of a path to that of a text.
+/// Plans the move of the package at a path to the path that a text stands for.
 fn plan_target(
     alloc: Global,
     snapshot: &Snapshot,
@@ -250,8 +252,10 @@ fn plan_target(
     }
 }
 
-/// The change of a snapshot's files that moves a package, with all that its folder holds, to another folder, by what was found in
-/// the packages of these files. Its imports, and where its name follows the names for it, are changed everywhere.
+/// Plans the move of the package `from`, with all files in its folder, to the folder `to`. The edits change its package clauses, the import
+/// paths of its importers and, where the package's name changes, the names that refer to it.
+///
+/// `found` has the findings of the snapshot's packages.
 pub fn plan_move(
     alloc: Global,
     snapshot: &Snapshot,

@@ -1,4 +1,4 @@
-//! The change that renames what holds a byte.
+//! Plans a rename: the change that gives the declaration of the identifier at a byte another name.
 ghost use Rattle.std.specs.Prelude.{◌≡◌, None, IfOk};
 ghost use Rattle.base_edits.specs.EditSet.{edited};
 ghost use Rattle.workspace_check.specs.Found.{IsFound, KnowsVerdicts};
@@ -22,7 +22,7 @@ use std::alloc::{AllocError, Global};
 use workspace_check::Found;
 use workspace_snapshot::{Change, ChangeKind, MadeChange, Snapshot};
 
-/// A byte of a file, and the name for what holds it.
+/// The arguments of a rename: the path of a file, a byte offset in it, and the new name.
 #[derive(Clone, Copy)]
 struct AskedName<'a> {
     path: &'a Path,
@@ -30,7 +30,7 @@ struct AskedName<'a> {
     name: &'a [u8],
 }
 
-/// What holds the byte is lost.
+/// The conflict that names the byte of the rename as lost.
 fn asked_lost(asked: &AskedName<'_>) -> Result<Conflict, AllocError>
     ensures { IfOk result (λ c. c ≡ record { used = asked_place asked.now; by = None }) }
 {
@@ -43,7 +43,7 @@ fn asked_lost(asked: &AskedName<'_>) -> Result<Conflict, AllocError>
     })
 }
 
-/// The first conflict of a change that does not preserve bindings.
+/// The first conflict of a change that does not preserve bindings. Where there is no identifier to name, the byte of the rename is lost.
 fn conflict_of(
     alloc: Global,
     snapshot: &Snapshot,
@@ -67,7 +67,7 @@ fn conflict_of(
     }
 }
 
-/// The refusal that tells of a change that does not preserve bindings.
+/// The refusal that names the first conflict of a change that does not preserve bindings.
 fn refusal_of(
     alloc: Global,
     snapshot: &Snapshot,
@@ -86,7 +86,7 @@ fn refusal_of(
     }
 }
 
-/// The change, unless it does not preserve bindings or passes a limit.
+/// Plans a given change: refuses it where it does not preserve bindings or exceeds a limit.
 fn judged(
     alloc: Global,
     snapshot: &Snapshot,
@@ -106,7 +106,7 @@ fn judged(
     }
 }
 
-/// The change that gives a declaration another name.
+/// Plans the change that gives a declaration the new name.
 fn plan_declaration(
     alloc: Global,
     snapshot: &Snapshot,
@@ -130,7 +130,7 @@ fn plan_declaration(
     judged(alloc, snapshot, found, asked, change)
 }
 
-/// The change that gives a declaration another name, unless it may not have that.
+/// Plans the rename of a declaration, or refuses it where the declaration is fixed or the name is not legal for it.
 fn plan_named(
     alloc: Global,
     snapshot: &Snapshot,
@@ -156,7 +156,7 @@ fn plan_named(
     }
 }
 
-/// The change that renames what holds a byte. The workspace has no fault.
+/// Plans the rename of the identifier at a byte in a workspace without faults.
 fn plan_found(
     alloc: Global,
     snapshot: &Snapshot,
@@ -180,7 +180,7 @@ fn plan_found(
     }
 }
 
-/// The change that renames what holds a byte, unless the workspace has a fault.
+/// Plans the rename of the identifier at a byte, or refuses it where the workspace has a fault.
 fn plan_in(
     alloc: Global,
     snapshot: &Snapshot,
@@ -197,9 +197,11 @@ fn plan_in(
     }
 }
 
-/// The change of a snapshot's files that gives what holds a byte of a file, with all that is bound to it, another name, by what was
-/// found in the packages of these files. The offset is that of any byte of an identifier, or of the path literal of an import,
-/// which stands for that import.
+/// Plans the rename of the identifier at `path:offset` to `name`: the declaration and every identifier that is bound to it get the new
+/// name.
+///
+/// The offset is that of any byte of an identifier, or of an import's string literal, which stands for its import declaration. `found` has
+/// the findings of the snapshot's packages.
 pub fn plan_rename(
     alloc: Global,
     snapshot: &Snapshot,

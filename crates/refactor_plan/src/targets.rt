@@ -1,4 +1,4 @@
-//! Whether a package can be moved to a folder.
+//! Whether a package can be moved to a path.
 ghost use Rattle.std.specs.Prelude.{◌↔◌, Contains, IsTrue, MatchBool};
 ghost use Rattle.base_files.specs.Packages.{package_paths};
 ghost use Rattle.refactor_move.specs.MoveEdits.{IsFree};
@@ -9,7 +9,7 @@ use base_files::{Files, Path, Refusal};
 use refactor_move::is_under;
 use workspace_graph::Graph;
 
-/// Whether a path is that of a package.
+/// Whether a path is that of a package of the workspace.
 fn is_package(graph: &Graph, path: &Path) -> bool
     ensures { IsTrue result ↔ Contains (package_paths graph.now) path.now }
 {
@@ -28,7 +28,7 @@ fn is_taken(files: &Files, folder: &Path) -> bool
     false
 }
 
-/// Why a package cannot be moved to a folder, of these reasons the first.
+/// Refuses a move whose paths do not allow it, with the first reason: `NoPackage`, `Same`, `InsideItself` or `TargetTaken`.
 pub(crate) fn refuse_target(graph: &Graph, from: &Path, to: &Path) -> Result<(), Refusal>
     ensures { RefusesTarget graph.now from.now to.now result }
 {

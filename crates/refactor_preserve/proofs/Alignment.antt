@@ -1,4 +1,4 @@
--- Bound identifiers that go each to one: each stays bound, and none is bound to more.
+-- Where bound identifiers correspond one to one, each stays bound, and none is bound to more.
 use Rattle.std.proofs.Common.{ℕ, ◌≡◌, ◌+◌, ◌<◌, ◌≤◌, inl, inr, List, [], ◌∷◌, length, get_or, refl, sym, ap, subst, ◌∙◌, arith}
 use Rattle.std.specs.Prelude.{None, Some, Contains, slice_get}
 use Rattle.std.specs.List.Sorted.{IsSortedBy}
@@ -72,7 +72,7 @@ pub no_first : {X : Type 0} (xs : List X) → slice_get xs 0 ≡ None → length
 no_first [] e = refl
 no_first (x ∷ xs) e = absurd (none-some x (sym e))
 
--- what a list holds, and what it has at a number
+-- Membership in a list, and the element with a number.
 pub has_at : {X : Type 0} (xs : List X) (n : ℕ) (x : X) → slice_get xs n ≡ Some x → Contains xs x
 has_at xs n x at = (n, slice_get_within xs n x at, get_or_from_slice_get xs n x x at)
 

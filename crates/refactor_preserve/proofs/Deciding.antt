@@ -33,7 +33,7 @@ use Rattle.refs_index.specs.Sound.{SoundView}
 use Rattle.refactor_preserve.specs.Steps.{KeepsAll, AddsNowhere}
 use Rattle.refactor_preserve.proofs.Resolving.{same_package, same_use}
 
--- what stands where does not depend on what is thought of paths that are no packages
+-- Places of declarations do not depend on the findings for paths that are no packages.
 module _ (w : Workspace) (a b : Verdicts) (right : AreVerdicts w a) (also : AreVerdicts w b) where
   same_inside : (path : List ℕ) (d : Declaration) (place : Place) → InPackage (IsPackage w a) path (λ p. StandsIn p d place) →
       InPackage (IsPackage w b) path (λ p. StandsIn p d place)
@@ -67,7 +67,7 @@ pub same_becoming : (B A C D : Package → Type 0) (moved : Place → Place) →
 same_becoming B A C D moved old new d e (predeclared {n = n}) = predeclared
 same_becoming B A C D moved old new d e (stands place h k) = stands place (old d place h) (new e (moved place) k)
 
--- the same of what is kept
+-- Whether bindings are preserved does not depend on the findings for paths that are no packages.
 pub same_kept : (w : Workspace) (r : Revision) (a b c d : Verdicts) → AreVerdicts w a → AreVerdicts w b → AreVerdicts r.after c → AreVerdicts r.after d →
     KeepsBindings w a r c → KeepsBindings w b r d
 same_kept w r a b c d right also right_after also_after h =
@@ -138,7 +138,7 @@ not_preserved w after s same faulty = (
   (λ p. absurd (faulty (subst (λ v. ListsFaults v []) (sym same) p.sound))),
 )
 
--- what is known is told where bindings are preserved
+-- The answer has what is known of the packages where bindings are preserved.
 pub told_preserved : (w after : Workspace) (s : FileChanges) (known : Known) (answer : Bool) (told : Option Known) → after ≡ edited s w →
     KnowsVerdicts after known → IsTrue answer ↔ Preserves w (revision_of w s) → MatchBool answer (told ≡ Some known) (told ≡ None) →
     TellsPreserved w (revision_of w s) told

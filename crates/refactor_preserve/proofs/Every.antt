@@ -35,7 +35,7 @@ one_more P xs k x lt is p h = record {
 pub of_each : {X : Type 0} (P : X → Type 0) (xs : List X) (count : ℕ) → length xs ≤ count → HoldsBelow P xs count → (x : X) → Contains xs x → P x
 of_each P xs count le h x c = h.each c.0 x (let lt : c.0 < length xs = c.1 in omega arith) (slice_get_read xs (length xs) c.0 x refl c.1 (sym c.2))
 
--- what a test of one element says of all
+-- From a test of one element to all elements.
 pub contained : {X : Type 0} (xs : List X) (k : ℕ) (x : X) → k < length xs → x ≡ get_or xs k x → Contains xs x
 contained xs k x lt is = (k, lt, sym is)
 

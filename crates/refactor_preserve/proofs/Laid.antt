@@ -1,4 +1,4 @@
--- A package that is read again, by its table and what it sees.
+-- A package that is read again, by its scope table and the export data that it sees.
 use Rattle.std.proofs.Common.{ℕ, ◌≡◌, ◌<◌, List, length, ap, sym, subst, ◌∙◌}
 use Rattle.std.specs.Prelude.{map, Some}
 use Rattle.base_files.specs.Packages.{package_paths}

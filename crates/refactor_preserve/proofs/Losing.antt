@@ -1,4 +1,4 @@
--- An identifier of the marked packages that is not kept, and what an answer tells.
+-- An identifier of the marked packages that does not stay bound, and the answer about it.
 use Rattle.std.proofs.Common.{◌≡◌, Bool, true, false, List, refl, sym, subst}
 use Rattle.std.specs.Prelude.{◌↔◌, Contains, IsTrue, MatchBool}
 use Rattle.std.proofs.lemmas.Bool.{false≢true}
@@ -29,7 +29,7 @@ use Rattle.refs_index.proofs.Becoming.{old_nowhere, new_nowhere}
 use Rattle.refactor_preserve.proofs.Every.{spot_at}
 use Rattle.refactor_preserve.proofs.Marked.{IsMarkedFolder, among_use, use_among, kept_by_marked}
 
--- a predeclared name stands nowhere, so it becomes no other, and none becomes it
+-- A predeclared declaration has no place, so it becomes no other one, and no other one becomes it.
 stands_nowhere : (B : Package → Type 0) (d : Declaration) → IsSamePredeclared d d → (place : Place) → IsDeclaredAt B d place → ⊥
 stands_nowhere B d h place at = subst (λ x. IsDeclaredAt B x place) h.one at
 
@@ -40,7 +40,7 @@ module _ (before then : SoundView) (moved : Place → Place) (d e : Declaration)
   pub none_becomes : IsSamePredeclared e e → Becomes before then moved d e → ⊥
   none_becomes h b = false≢true ((new_nowhere before then moved d e r same denied (stands_nowhere (packages_of then) e h)).1 b)
 
--- where none of those that begin where an identifier goes is bound to what its declaration has become, it is not kept
+-- If no identifier at the place to which an identifier is moved is bound to what its declaration has become, it does not stay bound.
 pub lost_here : (before then : MarkedPackages) (moved : Place → Place) (b : BoundSpot) (to : Place) (here : List BoundSpot) → to ≡ moved (place_at b) →
     IsMarkedFolder then to → ((x : BoundSpot) → Contains here x ↔ IsBoundThere then to x) →
     (HasBound (λ e. Becomes (view_among before) (view_among then) moved b.declaration e) here → ⊥) →

@@ -68,7 +68,7 @@ use_among s d place n at marked h =
       };
     }
 
--- the same of identifiers
+-- The identifiers of the marked packages.
 identifier_among : (w : Workspace) (known : Verdicts) (marks : List Bool) (place : Place) (n : ℕ) → slice_get (package_paths w) n ≡ Some (folder place.path) →
     IsMarked marks n → IsIdentifierAt w known place → IsIdentifierAmong w known marks place
 identifier_among w known marks place n at marked h =
@@ -84,7 +84,7 @@ identifier_among w known marks place n at marked h =
       };
     }
 
--- what is bound to one of which P holds is bound to one of which Q does
+-- An identifier that is bound to a declaration of which `P` holds is bound to one of which a weaker `Q` holds.
 bound_as : (w : Workspace) (known : Verdicts) (place : Place) (P Q : Declaration → Type 0) →
     ((d : Declaration) → IsUseOf w known d place → P d → Q d) → IsBoundToOne w known place P → IsBoundToOne w known place Q
 bound_as w known place P Q to h = record { declaration = h.declaration; is_use = h.is_use; holds = to h.declaration h.is_use h.holds }
@@ -182,7 +182,7 @@ pub both_ways : (all here : List BoundSpot) (s : MarkedPackages) (place : Place)
     Contains here b ↔ (Contains all b × (place_at b ≡ place)) → Contains here b ↔ IsBoundThere s place b
 both_ways all here s place b are some = ((λ h. let x = some.0 h in (are.0 x.0, x.1)), (λ h. some.1 (are.1 h.0, h.1)))
 
--- what stands in the package of its path is declared there
+-- A declaration at a place in the package of its path is declared there.
 declared_in : (w : Workspace) (known : Verdicts) (n : ℕ) (p : Package) (path : List ℕ) (d : Declaration) (place : Place) → IsPackageAt w known n p →
     slice_get (package_paths w) n ≡ Some path → path_by d ≡ Some path → StandsIn p d place → IsDeclaredAt (IsPackage w known) d place
 declared_in w known n p path (Predeclared m) place is at of h = absurd (none-some path of)
@@ -197,7 +197,7 @@ some_found : {X : Type 0} (P Q : X → Type 0) (o : Option (Bor X)) → ((x : X)
 some_found P Q None to h = tt
 some_found P Q (Some x) to h = to x.now h
 
--- where a declaration of a marked package stands
+-- The place of a declaration of a marked package.
 pub place_among : (w : Workspace) (known : Verdicts) (marks : List Bool) (all : List (Option DeclaredPlaces)) (n : ℕ) (path : List ℕ) (d : Declaration)
     (places : DeclaredPlaces) (o : Option (Bor Place)) → AreHeldOf w known marks all → slice_get (package_paths w) n ≡ Some path → path_by d ≡ Some path →
     slice_get all n ≡ Some (Some places) → ((p : Package) → AreDeclaredIn p places → IsPlaceIn p d o) →

@@ -55,12 +55,12 @@ module _ (w : Workspace) (s : FileChanges) (n : ℕ) (p : List ℕ) (at : slice_
       let c = mapped (λ (f : FileChange). folder f.path) s.changed h.path h.among in
       none_changed s.changed c.0.path c.0 (none c.0.path (subst (IsInClosure w p) (sym c.1.1) h.in_closure)) c.1.0 refl
 
--- what is told of a package that is there before and after
+-- Whether a package is affected that is there before and after the change.
 module _ (w x : Workspace) (s : FileChanges) (n : ℕ) where
   abbrev Tells : Bool → Type 0
   Tells answer = OfPackage w n (λ p. TellsAffected w x s p answer)
 
-  -- what is told of one
+  -- The answer about the package at one path.
   pub tells_one : (p : List ℕ) → slice_get (package_paths w) n ≡ Some p → (answer : Bool) → TellsAffected w x s p answer → Tells answer
   tells_one p at answer told q there = subst (λ r. TellsAffected w x s r answer) (same_Some p q (sym at ∙ there)) told
 

@@ -1,4 +1,4 @@
--- What was read of some packages, and of one more.
+-- The state of reading after some packages, and after one more.
 use Rattle.std.proofs.Common.{ℕ, ◌≡◌, ◌<◌, ◌⊎◌, inl, inr, List, [], ◌++◌, ◌∷◌, length, ap, sym, subst, refl, ◌∙◌}
 use Rattle.std.specs.Prelude.{Contains, IfSome, MatchOption, Option, None, Some, slice_get, IsTrue}
 use Rattle.std.specs.Global.{Vec}
@@ -44,7 +44,7 @@ one_set P count n old new x e lt is h = record {
       ];
 }
 
--- what is told by one of some packages, and by one of them and one more
+-- The entries of some packages, and of these and one more.
 
 pub told_by_none : {X : Type 0} (Q : ℕ → X → Type 0) (list : List X) → list ≡ [] → AddsAll [] list (OfSome [] Q)
 told_by_none Q list e = subst (λ l. AddsAll [] l (OfSome [] Q)) (sym e) (all_none [] (OfSome [] Q) (λ x h. nothing_in h.0 h.1.0))

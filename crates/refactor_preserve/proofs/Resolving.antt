@@ -1,4 +1,4 @@
--- What is bound to what does not depend on what is thought of paths that are no packages.
+-- Bindings do not depend on the findings for paths that are no packages.
 use Rattle.std.proofs.Common.{ℕ}
 use Rattle.base_files.specs.Workspace.{Workspace}
 use Rattle.base_files.specs.declared.place.Place.{Place}

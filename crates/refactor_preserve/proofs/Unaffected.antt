@@ -26,7 +26,7 @@ use Rattle.refs_places.specs.Outside.{path_by}
 use Rattle.refactor_preserve.specs.BoundToOne.{IsBoundToOne}
 use Rattle.refs_places.specs.Identified.{IsIdentifierAt}
 
--- what is declared in a package stands in its folder
+-- A declaration of a package is in a file of its folder.
 pub record StandsInFolder (w : Workspace) (path : List ℕ) (place : Place) : Type 0 where
   pub in_folder : folder place.path ≡ path
   pub of_workspace : Contains (package_paths w) path
@@ -47,7 +47,7 @@ module _ (w : Workspace) (known : Verdicts) (place : Place) where
   declared_folder (Field s) path e h = subst (λ p. StandsInFolder w p place) (same_Some s.package path e) (package_folder s.package (Field s) h)
   declared_folder (Method s) path e h = subst (λ p. StandsInFolder w p place) (same_Some s.package path e) (package_folder s.package (Method s) h)
 
--- a use stands in the folder of its package, and is bound within the closure of that
+-- A use is in a file of its package's folder, and is bound to a declaration in the closure of that package.
 module _ (w : Workspace) (known : Verdicts) (right : AreVerdicts w known) where
   pub of_use : (d : Declaration) (place : Place) → IsUseOf w known d place → Contains (package_paths w) (folder place.path)
   of_use d place h =

@@ -1,4 +1,4 @@
--- What stays where a change does not affect a package.
+-- What stays in a package that a change does not affect.
 use Rattle.std.proofs.Common.{ℕ, ◌≡◌, [], sym, ap, subst, ◌∙◌, List, arith}
 use Rattle.std.specs.Prelude.{Option, None, unwrap_or}
 use Rattle.base_files.specs.Path.{folder}

@@ -1,4 +1,5 @@
--- What is held of the marked packages of a workspace without faults, and what they tell.
+-- The marked packages of a workspace without faults, with the places of their declarations and their bindings, and whether these decide
+-- that bindings are preserved.
 use Rattle.std.specs.Prelude.{ℕ, ◌≡◌, ◌⊎◌, ◌↔◌, ⊤, Bool, List, Option, Some, length, MatchOption, Contains}
 use Rattle.base_files.specs.Packages.{package_paths}
 use Rattle.base_files.specs.Workspace.{Workspace}
@@ -24,80 +25,86 @@ use Rattle.refs_index.specs.Becoming.{Becomes}
 use Rattle.refactor_preserve.specs.declared.answer.Answer.{Answer}
 use Rattle.refactor_preserve.specs.declared.answer.Answer.TheVariants.{Yes, No, Unknown}
 
--- where the declarations of the package of a number stand, if it is marked
+-- The places of the declarations of the package with the number `n`, if it is marked.
 abbrev pub IsHeldOf : Workspace → Verdicts → List Bool → ℕ → Option DeclaredPlaces → Type 0
 IsHeldOf w known marks n held = MatchOption held (IsMarked marks n → ⊥) (λ places. AreDeclaredAt w known n places)
 
+-- For each package, the places of its declarations, if it is marked.
 abbrev pub AreHeldOf : Workspace → Verdicts → List Bool → List (Option DeclaredPlaces) → Type 0
 AreHeldOf w known marks all = HoldsOfEach (IsHeldOf w known marks) (length (package_paths w)) all
 
--- a workspace without faults: where the declarations of the marked packages stand, and what the identifiers of these are bound to
+-- The workspace has no fault. `all` has the places of the declarations of marked packages, and `bound` the bindings of their identifiers.
 pub record HoldsMarked (w : Workspace) (found : Findings) (marks : List Bool) (all : List (Option DeclaredPlaces)) (bound : List BoundSpot) : Type 0 where
   pub sound : IsSound w found
   pub declared : AreHeldOf w (known_in found) marks all
   pub bindings : AreBindingsAmong w (known_in found) (IsMarked marks) bound
 
+-- The marked packages are held with the places of their declarations and the bindings of their identifiers.
 abbrev pub AreHeld : MarkedPackages → Type 0
 AreHeld s = HoldsMarked s.graph.now s.found.now s.marks.now s.places.items s.bindings
 
--- what they are seen as
+-- The workspace of the marked packages, with its findings.
 abbrev pub view_among : MarkedPackages → SoundView
 view_among s = record { workspace = s.graph.now; known = known_in s.found.now }
 
--- an identifier of one of them is bound to that declaration, and begins at that place
+-- An identifier of a marked package is bound to the declaration of `b` and begins at its place.
 abbrev pub IsBoundMarked : MarkedPackages → BoundSpot → Type 0
 IsBoundMarked s b = IsBoundAmong s.graph.now (known_in s.found.now) (IsMarked s.marks.now) b
 
+-- An identifier of a marked package is bound to the declaration of `b` and begins at `place`, which is the place of `b`.
 abbrev pub IsBoundThere : MarkedPackages → Place → BoundSpot → Type 0
 IsBoundThere s place b = IsBoundMarked s b × (place_at b ≡ place)
 
--- an identifier of one of them begins at the place
+-- An identifier of a marked package begins at the place.
 pub record IsIdentifierAmong (w : Workspace) (known : Verdicts) (marks : List Bool) (place : Place) : Type 0 where
   pub number : ℕ
   pub marked : IsMarked marks number
   pub begins : BeginsInNumber w known number place
 
--- the places at which identifiers of the marked packages begin
+-- The places at which identifiers of the marked packages begin.
 abbrev pub AreIdentifiersAmong : Workspace → Verdicts → List Bool → List Place → Type 0
 AreIdentifiersAmong w known marks places = (place : Place) → Contains places place ↔ IsIdentifierAmong w known marks place
 
--- the marked packages before a change, with these places
+-- The marked packages before a change, with the places at which their identifiers begin.
 pub record IsKnownBefore (k : KnownBefore) : Type 0 where
   pub packages : AreHeld k.packages
   pub identifiers : AreIdentifiersAmong k.packages.graph.now (known_in k.packages.found.now) k.packages.marks.now k.identifiers.items
 
--- both places are known, and the one goes to the other
+-- Both places are known, and the first is moved to the second.
 pub record BothGo (moved : Place → Place) (old new : Option Place) : Type 0 where
   pub from : Place
   pub is_old : old ≡ Some from
   pub is_new : new ≡ Some (moved from)
 
--- d has become e; or it is e, and its package is not marked
+-- The declaration `d` has become `e`, or `d` is `e` and its package is not marked.
 abbrev pub BecomesAmong : MarkedPackages → MarkedPackages → (Place → Place) → Declaration → Declaration → Type 0
 BecomesAmong before then moved d e = Becomes (view_among before) (view_among then) moved d e ⊎ ((d ≡ e) × IsOutside before.graph.now before.marks.now d)
 
--- a bound identifier is afterwards bound to what its declaration has so become
+-- The bound identifier is bound after the change to what its declaration has become, as the marked packages show it.
 abbrev pub IsKeptAmong : MarkedPackages → MarkedPackages → (Place → Place) → BoundSpot → Type 0
 IsKeptAmong before then moved b = IsBoundBy (view_among then) (moved (place_at b)) (λ e. BecomesAmong before then moved b.declaration e)
 
+-- The marked packages show that each of the new bound identifiers is bound to what the declaration of an old one has become.
 abbrev pub AllWereAmong : MarkedPackages → MarkedPackages → (Place → Place) → List BoundSpot → List BoundSpot → Type 0
 AllWereAmong before then moved old new = (b : BoundSpot) → Contains new b → HasBound (λ d. BecomesAmong before then moved d b.declaration) old
 
--- what begins at a place is afterwards bound to nothing but what its declarations have so become
+-- After the change, the identifier at the place is bound only to what its declarations have become, as the marked packages show it.
 abbrev pub AddsNoneAmong : MarkedPackages → MarkedPackages → (Place → Place) → Place → Type 0
 AddsNoneAmong before then moved place =
     (e : Declaration) → IsUseOf then.graph.now (known_in then.found.now) e (moved place) →
     IsBoundBy (view_among before) place (λ d. BecomesAmong before then moved d e)
 
+-- Each bound identifier of the marked packages stays bound.
 abbrev pub KeepsMarked : MarkedPackages → MarkedPackages → (Place → Place) → Type 0
 KeepsMarked before then moved = (b : BoundSpot) → IsBoundMarked before b → IsKeptAmong before then moved b
 
+-- After the change, each identifier of the marked packages is bound only to what its declarations have become.
 abbrev pub AddsMarked : MarkedPackages → MarkedPackages → (Place → Place) → Type 0
 AddsMarked before then moved =
     (place : Place) → IsIdentifierAmong before.graph.now (known_in before.found.now) before.marks.now place → AddsNoneAmong before then moved place
 
--- what an answer tells of both: yes, that each identifier of the marked packages is kept, and none is bound to more; no, that one is not
--- kept
+-- The meaning of an answer about the marked packages. Yes: each of their identifiers stays bound, and is bound to nothing more. No: one of
+-- them does not stay bound. Unknown: nothing.
 abbrev pub TellsMarked : MarkedPackages → MarkedPackages → (Place → Place) → Answer → Type 0
 TellsMarked before then moved Yes = KeepsMarked before then moved × AddsMarked before then moved
 TellsMarked before then moved No = (b : BoundSpot) × (IsBoundMarked before b × (IsKept (view_among before) (view_among then) moved b → ⊥))

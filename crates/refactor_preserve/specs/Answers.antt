@@ -1,9 +1,9 @@
--- What is told of a question that may stay open.
+-- The meaning of an answer to a question that can stay open.
 use Rattle.std.specs.Prelude.{⊤}
 use Rattle.refactor_preserve.specs.declared.answer.Answer.{Answer}
 use Rattle.refactor_preserve.specs.declared.answer.Answer.TheVariants.{Yes, No, Unknown}
 
--- what an answer tells of a fact
+-- What an answer says about the fact `P`: yes, that it holds; no, that it does not; unknown, nothing.
 abbrev pub Tells : Answer → Type 0 → Type 0
 Tells Yes P = P
 Tells No P = P → ⊥

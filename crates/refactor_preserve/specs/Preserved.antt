@@ -13,14 +13,15 @@ use Rattle.base_edits.specs.Revisions.{Revision}
 use Rattle.refactor_preserve.specs.BoundToOne.{IsBoundToOne}
 use Rattle.refs_index.specs.Corresponding.{Corresponds}
 
--- Each identifier is bound to a declaration exactly where it is afterwards bound to the one that this has become.
+-- Each identifier stays bound to what its declaration has become, and is bound to nothing more.
 pub record KeepsBindings (w : Workspace) (before : Verdicts) (r : Revision) (after : Verdicts) : Type 0 where
   pub keeps : (place : Place) (d : Declaration) → IsUseOf w before d place →
       IsBoundToOne r.after after (r.moved place) (λ e. Corresponds (IsPackage w before) (IsPackage r.after after) r.moved d e)
   pub adds_none : (place : Place) (e : Declaration) → IsIdentifierAt w before place → IsUseOf r.after after e (r.moved place) →
       IsBoundToOne w before place (λ d. Corresponds (IsPackage w before) (IsPackage r.after after) r.moved d e)
 
--- No fault is there afterwards, and each identifier stays bound to what its declaration has become.
+-- The workspace after the change has no fault. Each identifier stays bound to what its declaration has become, and is bound to nothing
+-- more.
 pub record Preserves (w : Workspace) (r : Revision) : Type 0 where
   pub before : Verdicts
   pub right : AreVerdicts w before
@@ -29,7 +30,7 @@ pub record Preserves (w : Workspace) (r : Revision) : Type 0 where
   pub sound : ListsFaults r.after []
   pub kept : KeepsBindings w before r after
 
--- whether a change preserves all bindings, and then what is known of the changed workspace
+-- Whether a change preserves all bindings. `Some` has what is known of the packages after the change.
 abbrev pub TellsPreserved : Workspace → Revision → Option Known → Type 0
 TellsPreserved w r None = ¬ (Preserves w r)
 TellsPreserved w r (Some known) = Preserves w r × KnowsVerdicts r.after known

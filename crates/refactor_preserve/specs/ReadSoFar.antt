@@ -1,4 +1,4 @@
--- What was read of the marked ones of some packages of a workspace without faults, one after another.
+-- The state of reading the marked packages of a workspace without faults, one after another.
 use Rattle.std.specs.Prelude.{ℕ, ◌≡◌, ◌<◌, ◌⊎◌, ◌↔◌, List, [], Option, Some, length, MatchOption, Contains, IsTrue}
 use Rattle.std.proofs.Math.ListN.{set}
 use Rattle.base_files.specs.Packages.{package_paths}
@@ -14,20 +14,20 @@ use Rattle.refs_places.specs.declared.declared_places.DeclaredPlaces.{DeclaredPl
 use Rattle.refs_places.specs.DeclaredPlaces.{AreDeclaredAt}
 use Rattle.refs_places.specs.Identified.{BeginsInNumber}
 
--- all packages, by their numbers
+-- The list has the numbers of all packages.
 abbrev pub HoldsAllNumbers : Workspace → List ℕ → Type 0
 HoldsAllNumbers w numbers = (n : ℕ) → Contains numbers n ↔ (n < length (package_paths w))
 
--- one of some packages tells it
+-- `Q` holds of one of these numbers and `x`.
 abbrev pub OfSome : {X : Type 0} → List ℕ → (ℕ → X → Type 0) → X → Type 0
 OfSome numbers Q x = (n : ℕ) × (Contains numbers n × Q n x)
 
--- where the declarations of the package of a number stand, if it is marked and one of some
+-- The places of the declarations of the package with the number `n`, if it is marked and among these numbers.
 abbrev pub IsHeldOfSome : Wanted → List ℕ → ℕ → Option DeclaredPlaces → Type 0
 IsHeldOfSome wanted numbers n held =
     MatchOption held (Contains numbers n → IsMarked wanted.marks.now n → ⊥) (λ places. AreDeclaredAt wanted.graph.now (known_in wanted.found.now) n places)
 
--- the marked ones of these packages were read, and what is known of exports is right
+-- The marked packages among these numbers are read, and the exports that are known are right.
 pub record IsReadSoFar (wanted : Wanted) (numbers : List ℕ) (s : SoFar) : Type 0 where
   pub places : HoldsOfEach (IsHeldOfSome wanted numbers) (length (package_paths wanted.graph.now)) s.places.items
   pub exports : AreSomeExports wanted.graph.now (known_in wanted.found.now) s.numbers.items
@@ -37,7 +37,8 @@ pub record IsReadSoFar (wanted : Wanted) (numbers : List ℕ) (s : SoFar) : Type
       AddsAll [] s.gathered.identifiers.items
       (OfSome numbers (λ n place. IsMarked wanted.marks.now n × BeginsInNumber wanted.graph.now (known_in wanted.found.now) n place))
 
--- the package of a number was read
+-- The package with the number `n` is read: the places of its declarations, its bindings and, where they are wanted, the places of its
+-- identifiers.
 pub record ReadsOne (wanted : Wanted) (n : ℕ) (old new : SoFar) : Type 0 where
   pub held : DeclaredPlaces
   pub is_set : new.places.items ≡ set old.places.items n (Some held)
@@ -47,6 +48,6 @@ pub record ReadsOne (wanted : Wanted) (n : ℕ) (old new : SoFar) : Type 0 where
   pub identifiers : IsTrue wanted.identifiers →
       AddsAll old.gathered.identifiers.items new.gathered.identifiers.items (BeginsInNumber wanted.graph.now (known_in wanted.found.now) n)
 
--- the same, if it is marked; else nothing was read
+-- The package with the number `n` is read if it is marked. Otherwise nothing changes.
 abbrev pub MayRead : Wanted → ℕ → (old new : SoFar) → Type 0
 MayRead wanted n old new = (IsMarked wanted.marks.now n × ReadsOne wanted n old new) ⊎ ((IsMarked wanted.marks.now n → ⊥) × (new ≡ old))

@@ -1,4 +1,4 @@
--- What the steps of the decision answer.
+-- The steps of deciding whether bindings are preserved.
 use Rattle.std.specs.Prelude.{List, Contains}
 use Rattle.base_files.specs.declared.place.Place.{Place}
 use Rattle.refs_binding.specs.declared.bound_spot.BoundSpot.{BoundSpot}
@@ -10,32 +10,34 @@ use Rattle.refs_places.specs.Identified.{IsIdentifierAt}
 use Rattle.refs_index.specs.Becoming.{Becomes}
 use Rattle.refs_index.specs.Sound.{SoundView}
 
--- one of some bound identifiers has a declaration of which P holds
+-- `P` holds of the declaration of one of these bound identifiers.
 pub record HasBound (P : Declaration → Type 0) (bound : List BoundSpot) : Type 0 where
   pub one : BoundSpot
   pub listed : Contains bound one
   pub holds : P one.declaration
 
--- what begins at a place is bound to one of which P holds
+-- The identifier at the place is bound to a declaration of which `P` holds.
 abbrev pub IsBoundBy : SoundView → Place → (Declaration → Type 0) → Type 0
 IsBoundBy s place P = IsBoundToOne s.workspace s.known place P
 
--- a bound identifier is afterwards bound to what its declaration has become
+-- The bound identifier is bound after the change to what its declaration has become.
 abbrev pub IsKept : SoundView → SoundView → (Place → Place) → BoundSpot → Type 0
 IsKept before then moved b = IsBoundBy then (moved (place_at b)) (λ e. Becomes before then moved b.declaration e)
 
--- each of the new ones is bound to what has become a declaration to which one of the old is bound
+-- Each of the new bound identifiers is bound to what the declaration of one of the old ones has become.
 abbrev pub AllWere : SoundView → SoundView → (Place → Place) → List BoundSpot → List BoundSpot → Type 0
 AllWere before then moved old new = (b : BoundSpot) → Contains new b → HasBound (λ d. Becomes before then moved d b.declaration) old
 
--- what begins at a place is afterwards bound to nothing but what its declarations have become
+-- After the change, the identifier at the place is bound only to what its declarations have become.
 abbrev pub AddsNone : SoundView → SoundView → (Place → Place) → Place → Type 0
 AddsNone before then moved place =
     (e : Declaration) → IsUseOf then.workspace then.known e (moved place) → IsBoundBy before place (λ d. Becomes before then moved d e)
 
+-- Each identifier that is bound to a declaration is bound after the change to what this has become.
 abbrev pub KeepsAll : SoundView → SoundView → (Place → Place) → Type 0
 KeepsAll before then moved =
     (place : Place) (d : Declaration) → IsUseOf before.workspace before.known d place → IsBoundBy then (moved place) (λ e. Becomes before then moved d e)
 
+-- After the change, no identifier of the workspace is bound to more than what its declarations have become.
 abbrev pub AddsNowhere : SoundView → SoundView → (Place → Place) → Type 0
 AddsNowhere before then moved = (place : Place) → IsIdentifierAt before.workspace before.known place → AddsNone before then moved place

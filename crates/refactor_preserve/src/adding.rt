@@ -1,4 +1,4 @@
-//! Whether identifiers are bound afterwards to nothing but what their declarations become.
+//! Whether identifiers are bound after a change only to what their declarations have become.
 ghost use Rattle.std.specs.Prelude.{◌↔◌, IsTrue, IfOk, Contains};
 ghost use Rattle.base_files.specs.declared.place.Place.{Place as At};
 ghost use Rattle.base_edits.specs.Moved.{moved};
@@ -14,7 +14,7 @@ use refs_binding::{BoundSpot, Declaration};
 use refs_index::{SoundWorkspace, corresponds};
 use std::alloc::{AllocError, Global};
 
-/// Whether one of some bound identifiers is bound to what has become a declaration.
+/// Whether the declaration of one of these bound identifiers has become `e`.
 fn some_was(
     moves: &Moves<'_>,
     before: &SoundWorkspace<'_>,
@@ -34,7 +34,7 @@ fn some_was(
     Ok(false)
 }
 
-/// Whether each of some identifiers that are bound afterwards is bound to what has become one of those before.
+/// Whether each of the new bound identifiers is bound to what the declaration of one of the old ones has become.
 fn all_were(
     moves: &Moves<'_>,
     before: &SoundWorkspace<'_>,
@@ -54,7 +54,7 @@ fn all_were(
     Ok(true)
 }
 
-/// Whether what begins at a place is afterwards bound to nothing but what its declarations have become.
+/// Whether the identifier at a place is bound after the change only to what its declarations have become.
 fn adds_none(
     moves: &Moves<'_>,
     before: &SoundWorkspace<'_>,
@@ -76,7 +76,7 @@ fn adds_none(
     )
 }
 
-/// Whether this is so at each of some places.
+/// Whether the identifiers at all these places are bound after the change only to what their declarations have become.
 fn add_none(
     moves: &Moves<'_>,
     before: &SoundWorkspace<'_>,
@@ -96,7 +96,7 @@ fn add_none(
     Ok(true)
 }
 
-/// Whether this is so of all identifiers.
+/// Whether all identifiers of the workspace are bound after the change only to what their declarations have become.
 pub fn adds_nowhere(
     alloc: Global,
     moves: &Moves<'_>,

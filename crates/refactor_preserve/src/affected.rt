@@ -13,8 +13,7 @@ ghost use Rattle.refs_binding.specs.Standing.{IsDeclaredAt};
 ghost use Rattle.refs_lookup.specs.Within.{StandsWithin};
 ghost use Rattle.refactor_preserve.specs.Affected.{IsUnaffected};
 
-/// Where a change does not affect a package, no place in the files of its closure moves, and each declaration that stands there
-/// stands there afterwards.
+/// The files in the closure of an unaffected package keep their places. Each declaration in them has the same place after the change.
 pub fn unaffected_stays()
     ensures places { (w : Workspace) → (x : Workspace) → (s : FileChanges) → (p : List ℕ) → IsUnaffected w x s p → (place : Place) →
         IsInClosure w p (folder place.path) → moved s place ≡ place }

@@ -1,4 +1,5 @@
-//! Whether the bound identifiers of two workspaces go each to one, mostly one to the next: then each stays bound, and none to more.
+//! Compares the bound identifiers before and after a change in order. Where each goes to one that is bound alike, bindings are preserved
+//! without a search for each.
 ghost use Rattle.std.specs.Prelude.{◌≡◌, ◌<◌, length, Contains, IfOk, IfSome, IsTrue};
 ghost use Rattle.base_files.specs.Packages.{package_paths};
 ghost use Rattle.types_declared.specs.PackageView.{package_of};
@@ -21,7 +22,7 @@ use refs_places::{NameStart, start};
 use std::alloc::AllocError;
 use types_declared::Package;
 
-/// Two workspaces without faults, and where the places of the one go in the other.
+/// Two workspaces without faults, before and after a change, and where the change moves places.
 #[derive(Clone, Copy)]
 pub struct Compared<'a, 'm, 'b, 't> {
     pub moves: &'a Moves<'m>,
@@ -29,7 +30,7 @@ pub struct Compared<'a, 'm, 'b, 't> {
     pub then: &'a SoundWorkspace<'t>,
 }
 
-/// Whether a declaration has become another. The places of the first one's file are moved as those of a file that is often the same.
+/// Whether the declaration `d` has become `e`. `file` are the moves of a file, often that of `d`, in which case they need not be looked up.
 fn became(
     both: &Compared<'_, '_, '_, '_>,
     near: &mut Near,
@@ -56,7 +57,7 @@ fn became(
     }
 }
 
-/// The identifier of the other workspace, if one goes to where it begins. Behind it the next is looked for first.
+/// The bound identifier `one` of the workspace after the change, if `old` is moved to its place. The next search begins behind it.
 fn partner_if<'a>(
     both: &Compared<'_, '_, '_, '_>,
     next: &mut usize,
@@ -81,7 +82,7 @@ fn partner_if<'a>(
     }
 }
 
-/// The identifier that begins where another goes, if it is the one that is looked for first.
+/// The bound identifier at the place to which `old` is moved, if it is the one with the number `next`.
 fn near_partner<'a>(
     both: &Compared<'a, '_, '_, '_>,
     next: &mut usize,
@@ -100,7 +101,7 @@ fn near_partner<'a>(
     }
 }
 
-/// The identifier that begins at a place to which another goes.
+/// A bound identifier at the place `to`, to which `old` is moved.
 fn partner_at<'a>(
     both: &Compared<'a, '_, '_, '_>,
     next: &mut usize,
@@ -117,7 +118,7 @@ fn partner_at<'a>(
     }
 }
 
-/// The identifier that begins where another goes, by a search, as where files of a moved folder end or begin.
+/// A bound identifier at the place to which `old` is moved, by a search. It is needed where the files of a moved folder begin or end.
 fn far_partner<'a>(
     both: &Compared<'a, '_, '_, '_>,
     next: &mut usize,
@@ -130,7 +131,8 @@ fn far_partner<'a>(
     Ok(partner_at(both, next, old, &to))
 }
 
-/// An identifier that begins where another goes: looked for first at a number, which then is that of the one behind it.
+/// A bound identifier at the place to which `old` is moved. The one with the number `next` is tried first; the number is set to that behind
+/// the one found.
 fn partner<'a>(
     both: &Compared<'a, '_, '_, '_>,
     next: &mut usize,
@@ -148,7 +150,7 @@ fn partner<'a>(
     }
 }
 
-/// Whether an identifier goes to where one begins that is bound to what its declaration has become.
+/// Whether `old` is moved to the place of an identifier that is bound to what its declaration has become.
 fn is_aligned(
     both: &Compared<'_, '_, '_, '_>,
     near: &mut Near,
@@ -167,14 +169,14 @@ fn is_aligned(
     }
 }
 
-/// Whether two identifiers begin at two places.
+/// Whether two identifiers begin at different places.
 fn differ(one: &BoundSpot, other: &BoundSpot) -> bool
     ensures { IsTrue result → place_at one.now ≡ place_at other.now → ⊥ }
 {
     one.spot.offset != other.spot.offset || one.spot.path != other.spot.path
 }
 
-/// Whether an identifier and the one behind it, if there is one, begin at two places.
+/// Whether the identifier of a number and the next one, if there is one, begin at different places.
 fn are_apart(new: &[BoundSpot], number: usize) -> bool
     requires { number < length new.now }
     ensures { IsTrue result → AreApart new.now number }
@@ -185,7 +187,7 @@ fn are_apart(new: &[BoundSpot], number: usize) -> bool
     }
 }
 
-/// Whether this is so of each.
+/// Whether any two neighbours in the list begin at different places.
 fn are_all_apart(new: &[BoundSpot]) -> bool
     ensures { IsTrue result → AreApartBelow new.now (length new.now) }
 {
@@ -197,7 +199,7 @@ fn are_all_apart(new: &[BoundSpot]) -> bool
     true
 }
 
-/// Whether all are aligned. The file is that of some place.
+/// Whether each of the old bound identifiers has an aligned one after the change. `file` are the moves of any file.
 fn are_all_aligned<'a>(
     both: &Compared<'a, '_, '_, '_>,
     file: FileMoves<'a>,
@@ -220,8 +222,8 @@ fn are_all_aligned<'a>(
     Ok(true)
 }
 
-/// Whether each bound identifier goes to one that is bound to what its declaration has become. They are looked for in their order, in
-/// which those of a file that stays or moves go one to the next.
+/// Whether each bound identifier has an aligned one after the change. They are compared in order, in which the identifiers of a file follow
+/// one another before and after.
 fn go_in_order(both: &Compared<'_, '_, '_, '_>) -> Result<bool, AllocError>
     requires { AreCompared both.now }
     ensures { IfOk result (λ yes. IsTrue yes → GoInOrder both.now) }
@@ -237,7 +239,7 @@ fn go_in_order(both: &Compared<'_, '_, '_, '_>) -> Result<bool, AllocError>
     }
 }
 
-/// Whether an identifier that begins at a place is bound, or nothing is bound where it goes.
+/// Whether an identifier is bound, or nothing is bound at the place to which it is moved.
 fn is_safe(
     both: &Compared<'_, '_, '_, '_>,
     near: &mut usize,
@@ -256,7 +258,7 @@ fn is_safe(
     }
 }
 
-/// The same of the identifier of a number, if it begins somewhere.
+/// Whether the identifier `u` of a package is bound, or nothing is bound at the place to which it is moved.
 fn is_safe_identifier(
     both: &Compared<'_, '_, '_, '_>,
     near: &mut usize,
@@ -273,7 +275,7 @@ fn is_safe_identifier(
     }
 }
 
-/// The same of all identifiers of a package.
+/// Whether each identifier of a package is bound, or nothing is bound at the place to which it is moved.
 fn is_safe_unit(
     both: &Compared<'_, '_, '_, '_>,
     near: &mut usize,
@@ -290,7 +292,7 @@ fn is_safe_unit(
     Ok(true)
 }
 
-/// The same of the package of a number.
+/// Whether each identifier of the package of a number is bound, or nothing is bound at the place to which it is moved.
 fn is_safe_package(
     both: &Compared<'_, '_, '_, '_>,
     near: &mut usize,
@@ -304,7 +306,7 @@ fn is_safe_package(
     is_safe_unit(both, near, unit)
 }
 
-/// The same of all packages.
+/// Whether each identifier of the workspace is bound, or nothing is bound at the place to which it is moved.
 fn are_safe(both: &Compared<'_, '_, '_, '_>) -> Result<bool, AllocError>
     requires { AreCompared both.now }
     ensures { IfOk result (λ yes. IsTrue yes → AreSafe both.now) }
@@ -318,7 +320,8 @@ fn are_safe(both: &Compared<'_, '_, '_, '_>) -> Result<bool, AllocError>
     Ok(true)
 }
 
-/// Whether the bound identifiers tell by their order alone that each stays bound to what its declaration has become, and none to more.
+/// Whether the order of the bound identifiers shows that each stays bound to what its declaration has become, and to nothing more. False
+/// leaves it open.
 pub fn keep_order(both: &Compared<'_, '_, '_, '_>) -> Result<bool, AllocError>
     requires { AreCompared both.now }
     ensures { IfOk result (λ yes. IsTrue yes → KeepsAll (view_in both.now.before.now) (view_in both.now.then.now) (moved_in both.now) × AddsNowhere (view_in both.now.before.now) (view_in both.now.then.now) (moved_in both.now)) }

@@ -1,5 +1,4 @@
-//! The marked packages of a workspace without faults: where their declarations stand, what their identifiers are bound to, and, of
-//! the workspace before a change, where these begin.
+//! The marked packages of a workspace without faults, with the places of their declarations and the bindings of their identifiers.
 ghost use Rattle.std.specs.Prelude.{ℕ, ◌≡◌, ◌↔◌, Some, slice_get, Contains, IfOk, IfSome, IsTrue};
 ghost use Rattle.base_files.specs.Packages.{package_paths};
 ghost use Rattle.base_files.specs.Path.{folder};
@@ -22,8 +21,8 @@ use types_expr::symbol::SharedPath;
 use workspace_check::{Findings, is_marked};
 use workspace_graph::Graph;
 
-/// A workspace without faults, of whose packages the marked ones are held: where their declarations stand, by the packages'
-/// numbers, and what their identifiers are bound to.
+/// The marked packages of a workspace without faults: the places of their declarations, by the packages' numbers, and the bindings of their
+/// identifiers.
 #[derive(Drop)]
 pub struct MarkedPackages<'a> {
     graph: &'a Graph,
@@ -34,6 +33,7 @@ pub struct MarkedPackages<'a> {
 }
 
 impl<'a> MarkedPackages<'a> {
+    /// Reads the marked packages.
     pub fn of(
         alloc: Global,
         graph: &'a Graph,
@@ -61,7 +61,7 @@ impl<'a> MarkedPackages<'a> {
         })
     }
 
-    /// Where a declaration stands, if its package is marked.
+    /// The place of a declaration, if its package is marked.
     pub fn declared_at(&self, declaration: &Declaration) -> Option<&Place>
         requires { AreHeld self.now }
         ensures { IfSome result (λ place. IsDeclaredAt (packages_of (view_among self.now)) declaration.now place.now) }
@@ -72,7 +72,7 @@ impl<'a> MarkedPackages<'a> {
         }
     }
 
-    /// Where a declaration of the package of a path stands, if this is marked.
+    /// The place of a declaration of the package at a path, if that package is marked.
     fn declared_under(&self, path: &SharedPath, declaration: &Declaration) -> Option<&Place>
         requires held { AreHeld self.now }
         requires path { path_by declaration.now ≡ Some path.now }
@@ -87,14 +87,14 @@ impl<'a> MarkedPackages<'a> {
         }
     }
 
-    /// Whether two declarations are the same one, of a package that is not marked.
+    /// Whether two declarations are equal and belong to a package that is not marked.
     pub fn leaves(&self, d: &Declaration, e: &Declaration) -> bool
         ensures { IsTrue result → ((d.now ≡ e.now) × IsOutside self.now.graph.now self.now.marks.now d.now) }
     {
         is_same(d, e) && is_outside(self.graph, self.marks, d)
     }
 
-    /// Whether the package of a file's folder is marked.
+    /// Whether the package in whose folder the file lies is marked.
     pub fn holds(&self, path: &Path) -> bool
         ensures { IsTrue result → ((n : ℕ) × (slice_get (package_paths self.now.graph.now) n ≡ Some (folder path.now)) × IsMarked self.now.marks.now n) }
     {
@@ -104,7 +104,7 @@ impl<'a> MarkedPackages<'a> {
         }
     }
 
-    /// The bound identifiers, each with its declaration.
+    /// The bound identifiers of the marked packages, each with its declaration.
     pub fn bound(&self) -> &[BoundSpot]
         requires { AreHeld self.now }
         ensures { (b : Bound) → Contains result.now b ↔ IsBoundMarked self.now b }
@@ -112,7 +112,7 @@ impl<'a> MarkedPackages<'a> {
         self.bindings.as_slice()
     }
 
-    /// Those that begin at a place. They are looked for first at the number where those found last end.
+    /// The bound identifiers that begin at a place. The search begins at the number `near`, at which the last one ended.
     pub fn bound_at(&self, near: &mut usize, place: &Place) -> &[BoundSpot]
         requires { AreHeld self.now }
         ensures { (b : Bound) → Contains result.now b ↔ IsBoundThere self.now place.now b }
@@ -121,7 +121,7 @@ impl<'a> MarkedPackages<'a> {
     }
 }
 
-/// The marked packages of a workspace before its change, and the places at which their identifiers begin that are no literals.
+/// The marked packages of a workspace before its change, and the places of their identifiers that are no literals.
 #[derive(Drop)]
 pub struct KnownBefore<'a> {
     pub packages: MarkedPackages<'a>,
@@ -129,6 +129,7 @@ pub struct KnownBefore<'a> {
 }
 
 impl<'a> KnownBefore<'a> {
+    /// Reads the marked packages, with the places of their identifiers.
     pub fn of(
         alloc: Global,
         graph: &'a Graph,
@@ -159,7 +160,7 @@ impl<'a> KnownBefore<'a> {
         })
     }
 
-    /// The places at which identifiers begin that are no literals.
+    /// The places of the identifiers that are no literals.
     pub fn identifier_places(&self) -> &[Place]
         requires { IsKnownBefore self.now }
         ensures { let s = self.now.packages in AreIdentifiersAmong s.graph.now (known_in s.found.now) s.marks.now result.now }
@@ -168,7 +169,7 @@ impl<'a> KnownBefore<'a> {
     }
 }
 
-/// Whether the package of a declaration is there, and not marked.
+/// Whether the package of a declaration is in the workspace and not marked.
 fn is_outside(graph: &Graph, marks: &[bool], declaration: &Declaration) -> bool
     ensures { IsTrue result → IsOutside graph.now marks.now declaration.now }
 {

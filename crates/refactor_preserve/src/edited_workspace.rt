@@ -1,9 +1,9 @@
-//! The files that an edit set makes of a workspace, with the packages in whose closures it changes some.
+//! An edited workspace, with the packages in whose closures the edits change files.
 use base_edits::EditSet;
 use build_carry::Marks;
 use workspace_graph::Graph;
 
-/// An edit set, the edited workspace, and the marks of the packages in whose closures one has other files there.
+/// An edit set, the workspace after it, and the marks of the packages, before and after, whose closures have other texts on the other side.
 #[derive(Clone, Copy)]
 pub struct EditedWorkspace<'a> {
     pub edits: &'a EditSet,

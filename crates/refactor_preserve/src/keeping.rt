@@ -11,7 +11,7 @@ use refs_binding::{BoundSpot, Declaration};
 use refs_index::{SoundWorkspace, corresponds};
 use std::alloc::AllocError;
 
-/// Whether one of some bound identifiers is bound to what a declaration has become.
+/// Whether one of these bound identifiers is bound to what the declaration `d` has become.
 fn some_became(
     moves: &Moves<'_>,
     before: &SoundWorkspace<'_>,
@@ -31,7 +31,7 @@ fn some_became(
     Ok(false)
 }
 
-/// Whether a bound identifier is afterwards bound to what its declaration has become.
+/// Whether a bound identifier is bound after the change to what its declaration has become. The search begins at the number `near`.
 fn is_kept(
     moves: &Moves<'_>,
     before: &SoundWorkspace<'_>,
@@ -53,7 +53,7 @@ fn is_kept(
     )
 }
 
-/// Whether each bound identifier is.
+/// Whether each bound identifier is bound after the change to what its declaration has become.
 pub fn are_kept(
     moves: &Moves<'_>,
     before: &SoundWorkspace<'_>,

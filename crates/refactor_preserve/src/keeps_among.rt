@@ -1,4 +1,4 @@
-//! Whether the affected packages alone tell that an edit set keeps all bindings, or that it does not.
+//! Whether the affected packages alone decide that an edit set preserves all bindings, or that it does not.
 ghost use Rattle.std.specs.Prelude.{◌≡◌, Contains, IfOk, IsTrue, MatchOption, Some};
 ghost use Rattle.std.specs.Option.{option_copied};
 ghost use Rattle.base_files.specs.declared.place.Place.{Place as At};
@@ -27,7 +27,7 @@ use std::alloc::{AllocError, Global};
 use workspace_check::Findings;
 use workspace_graph::Graph;
 
-/// Whether two places are known, and the one goes to the other.
+/// Whether both places are known and the first is moved to the second.
 fn both_go(moves: &Moves<'_>, old: Option<&Place>, new: Option<&Place>) -> Result<bool, AllocError>
     ensures { IfOk result (λ yes. IsTrue yes → BothGo (moved moves.now) (option_copied old.entry) (option_copied new.entry)) }
 {
@@ -40,7 +40,7 @@ fn both_go(moves: &Moves<'_>, old: Option<&Place>, new: Option<&Place>) -> Resul
     }
 }
 
-/// Whether a declaration has become another, or is the same one of a package that is not affected.
+/// Whether the declaration `d` has become `e`, or is `e` and belongs to an unaffected package.
 fn became(
     moves: &Moves<'_>,
     before: &MarkedPackages<'_>,
@@ -61,7 +61,7 @@ fn became(
     both_go(moves, before.declared_at(d), then.declared_at(e))
 }
 
-/// Whether one of some bound identifiers is bound to what a declaration has become.
+/// Whether one of these bound identifiers is bound to what the declaration `d` has become.
 fn some_became(
     moves: &Moves<'_>,
     before: &MarkedPackages<'_>,
@@ -81,7 +81,7 @@ fn some_became(
     Ok(false)
 }
 
-/// Whether one of some bound identifiers is bound to what has become a declaration.
+/// Whether the declaration of one of these bound identifiers has become `e`.
 fn some_was(
     moves: &Moves<'_>,
     before: &MarkedPackages<'_>,
@@ -101,7 +101,7 @@ fn some_was(
     Ok(false)
 }
 
-/// Whether a bound identifier is afterwards bound to what its declaration has become.
+/// Whether a bound identifier is bound after the change to what its declaration has become. False leaves it open.
 fn is_kept(
     moves: &Moves<'_>,
     before: &MarkedPackages<'_>,
@@ -123,7 +123,7 @@ fn is_kept(
     )
 }
 
-/// The first bound identifier of the marked packages of which this is not told.
+/// The first bound identifier of the marked packages that the marked packages do not show to stay bound.
 fn first_unkept<'a>(
     moves: &Moves<'_>,
     before: &'a MarkedPackages<'_>,
@@ -143,7 +143,7 @@ fn first_unkept<'a>(
     Ok(None)
 }
 
-/// Whether each of some identifiers that are bound afterwards is bound to what has become one of those before.
+/// Whether each of the new bound identifiers is bound to what the declaration of one of the old ones has become.
 fn all_were(
     moves: &Moves<'_>,
     before: &MarkedPackages<'_>,
@@ -163,7 +163,7 @@ fn all_were(
     Ok(true)
 }
 
-/// Whether what begins at a place goes to a marked package, and is bound there to nothing but what its declarations have become.
+/// Whether the identifier at a place is moved to a marked package and is bound there only to what its declarations have become.
 fn adds_none(
     moves: &Moves<'_>,
     before: &MarkedPackages<'_>,
@@ -188,7 +188,7 @@ fn adds_none(
     )
 }
 
-/// Whether this is so at each of some places.
+/// Whether each identifier at these places is moved to a marked package and is bound there only to what its declarations have become.
 fn add_none(
     moves: &Moves<'_>,
     before: &MarkedPackages<'_>,
@@ -208,7 +208,8 @@ fn add_none(
     Ok(true)
 }
 
-/// Whether this is so of all identifiers of the marked packages.
+/// Whether each identifier of the marked packages is moved to a marked package and is bound there only to what its declarations have
+/// become.
 fn adds_nowhere(
     moves: &Moves<'_>,
     before: &KnownBefore<'_>,
@@ -221,7 +222,7 @@ fn adds_nowhere(
     add_none(moves, &before.packages, then, before.identifier_places())
 }
 
-/// Whether no identifier of the marked packages is bound to more, where each stays bound.
+/// Decides whether identifiers of the marked packages, which all stay bound, are bound to nothing more.
 fn adds_marked(
     moves: &Moves<'_>,
     before: &KnownBefore<'_>,
@@ -236,7 +237,7 @@ fn adds_marked(
     Ok(yes_or_unknown(adds_none))
 }
 
-/// Whether an identifier of the marked packages that may not stay bound does not.
+/// Decides whether an identifier of the marked packages, which they do not show to stay bound, does not stay bound.
 fn loses_marked(
     moves: &Moves<'_>,
     before: &MarkedPackages<'_>,
@@ -252,7 +253,7 @@ fn loses_marked(
     Ok(no_or_unknown(lost))
 }
 
-/// Whether the marked packages tell that each identifier stays bound to what its declaration becomes, or that one does not.
+/// Decides by the marked packages whether each of their identifiers stays bound and is bound to nothing more.
 fn tell_marked(
     moves: &Moves<'_>,
     before: &KnownBefore<'_>,
@@ -268,7 +269,7 @@ fn tell_marked(
     }
 }
 
-/// What the marked packages tell of all identifiers.
+/// Decides by the marked packages whether the edit set preserves all bindings.
 fn keeps_marked(
     alloc: Global,
     before: &KnownBefore<'_>,
@@ -285,8 +286,8 @@ fn keeps_marked(
     tell_marked(&moves, before, then)
 }
 
-/// Whether the packages that an edit set affects tell that it keeps all bindings, or that it does not. Where they tell neither, or are
-/// all packages, this stays unknown.
+/// Decides by the affected packages whether an edit set preserves all bindings. Unknown where they show neither, or where all packages are
+/// affected.
 pub fn keeps_among(
     alloc: Global,
     graph: &Graph,

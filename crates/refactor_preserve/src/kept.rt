@@ -12,7 +12,7 @@ use base_edits::Moves;
 use refs_index::SoundWorkspace;
 use std::alloc::{AllocError, Global};
 
-/// Whether each identifier of a workspace stays bound to what its declaration becomes in another, by a search for each.
+/// Whether each identifier stays bound to what its declaration becomes and is bound to nothing more, by a search for each.
 fn keeps_each(
     alloc: Global,
     moves: &Moves<'_>,
@@ -31,8 +31,8 @@ fn keeps_each(
     }
 }
 
-/// Whether each identifier of a workspace stays bound to what its declaration becomes in another: first by the order of the bound
-/// identifiers alone, and where that does not tell it by a search for each.
+/// Whether each identifier stays bound to what its declaration becomes and is bound to nothing more. The order of the bound identifiers is
+/// tried first, a search for each is the fallback.
 pub fn keeps(
     alloc: Global,
     moves: &Moves<'_>,

@@ -1,4 +1,4 @@
-//! Whether an edited workspace keeps the binding of each identifier.
+//! Decides whether an edited workspace preserves the binding of each identifier.
 #![tactic(auto)]
 
 mod adding;

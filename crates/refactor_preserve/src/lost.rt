@@ -1,4 +1,4 @@
-//! Whether the affected packages alone tell that an edit set does not keep an identifier's binding.
+//! Whether the affected packages alone show that an identifier does not stay bound.
 ghost use Rattle.std.specs.Prelude.{◌↔◌, IfOk, IsTrue};
 ghost use Rattle.base_edits.specs.Moved.{moved};
 ghost use Rattle.refactor_preserve.specs.Among.{AreHeld, view_among};
@@ -11,15 +11,14 @@ use refs_binding::{BoundSpot, Declaration};
 use refs_index::{are_predeclared, goes_to};
 use std::alloc::AllocError;
 
-/// Whether a declaration is a predeclared name.
+/// Whether a declaration is predeclared.
 fn is_predeclared(d: &Declaration) -> bool
     ensures { IsTrue result ↔ IsSamePredeclared d.now d.now }
 {
     are_predeclared(d, d)
 }
 
-/// Whether a declaration of the marked packages surely has not become another: one that is predeclared becomes no other, and none
-/// becomes it.
+/// Whether the declaration `d` surely has not become `e`. A predeclared declaration becomes no other one, and no other one becomes it.
 fn never_became(
     moves: &Moves<'_>,
     before: &MarkedPackages<'_>,
@@ -49,7 +48,7 @@ fn never_became(
     }
 }
 
-/// Whether none of some bound identifiers is bound to what a declaration of the marked packages has become.
+/// Whether surely none of these bound identifiers is bound to what the declaration `d` has become.
 fn none_became(
     moves: &Moves<'_>,
     before: &MarkedPackages<'_>,
@@ -69,7 +68,7 @@ fn none_became(
     Ok(true)
 }
 
-/// Whether a bound identifier is surely not bound afterwards to what its declaration has become.
+/// Whether a bound identifier surely is not bound after the change to what its declaration has become. False leaves it open.
 pub fn is_lost(
     moves: &Moves<'_>,
     before: &MarkedPackages<'_>,

@@ -1,5 +1,5 @@
-//! The packages that a change affects: all but those whose closure has the same texts before and after, and of whose closure no
-//! file is among the changed ones.
+//! Marks the packages that a change affects. A package is unaffected where its closure has equal texts before and after and the edits name
+//! no file of the closure.
 ghost use Rattle.std.specs.Prelude.{◌≡◌, ◌<◌, IfOk, length, slice_get};
 ghost use Rattle.base_files.specs.Packages.{package_paths};
 ghost use Rattle.workspace_graph.specs.Graphs.{OfPackage};
@@ -13,7 +13,7 @@ use std::alloc::{AllocError, Global};
 use workspace_check::is_marked;
 use workspace_graph::Graph;
 
-/// A mark for each package that holds a file that is among the changed ones.
+/// The marks of the packages that have a changed file.
 fn touched_marks(
     alloc: Global,
     graph: &Graph,
@@ -30,7 +30,7 @@ fn touched_marks(
     Ok(marks)
 }
 
-/// A mark for each package whose closure holds a file that is among the changed ones.
+/// The marks of the packages whose closures have a changed file.
 fn reaching_marks(
     alloc: Global,
     graph: &Graph,
@@ -42,7 +42,7 @@ fn reaching_marks(
     graph.reaching(alloc, &marks)
 }
 
-/// A change of a workspace, with marks for the packages in whose closures it changes files.
+/// A change of a workspace, with the marks of the packages in whose closures it changes files.
 #[derive(Drop)]
 struct MarkedChange<'a> {
     before: &'a Graph,
@@ -53,6 +53,7 @@ struct MarkedChange<'a> {
 }
 
 impl<'a> MarkedChange<'a> {
+    /// Marks the packages whose closures have a file that the edits name.
     fn of(
         alloc: Global,
         before: &'a Graph,
@@ -77,7 +78,7 @@ impl<'a> MarkedChange<'a> {
         })
     }
 
-    /// Whether a package is affected that has those numbers before and after.
+    /// Whether a package is affected that has the number `old` before the change and `new` after it.
     fn affects_both(&self, old: usize, new: usize) -> bool
         requires old { old < length (package_paths self.now.before.now) }
         requires same { slice_get (package_paths self.now.before.now) old ≡ slice_get (package_paths self.now.after.now) new }
@@ -91,7 +92,7 @@ impl<'a> MarkedChange<'a> {
         !keeps_texts(self.marks, old, new)
     }
 
-    /// Whether a package of the workspace before is affected.
+    /// Whether a package of the workspace before the change is affected, by its number there.
     fn affects_old(&self, old: usize) -> bool
         requires old { old < length (package_paths self.now.before.now) }
         requires read { IsRead self.now }
@@ -103,7 +104,7 @@ impl<'a> MarkedChange<'a> {
         }
     }
 
-    /// Whether a package of the workspace afterwards is.
+    /// Whether a package of the workspace after the change is affected, by its number there.
     fn affects_new(&self, new: usize) -> bool
         requires new { new < length (package_paths self.now.after.now) }
         requires read { IsRead self.now }
@@ -115,6 +116,7 @@ impl<'a> MarkedChange<'a> {
         }
     }
 
+    /// The marks of the affected packages of the workspace before the change.
     fn before_marks(&self, alloc: Global) -> Result<Vec<bool>, AllocError>
         requires { IsRead self.now }
         ensures { IfOk result (λ marks. AreAffected self.now.before.now self.now.before.now self.now.after.now self.now.edits.now marks.items) }
@@ -126,6 +128,7 @@ impl<'a> MarkedChange<'a> {
         Ok(marks)
     }
 
+    /// The marks of the affected packages of the workspace after the change.
     fn then_marks(&self, alloc: Global) -> Result<Vec<bool>, AllocError>
         requires { IsRead self.now }
         ensures { IfOk result (λ marks. AreAffected self.now.after.now self.now.before.now self.now.after.now self.now.edits.now marks.items) }
@@ -138,15 +141,15 @@ impl<'a> MarkedChange<'a> {
     }
 }
 
-/// The affected packages of a workspace, and of the one that it becomes, marked by their numbers.
+/// The marks of the affected packages before and after a change, by the packages' numbers.
 #[derive(Drop)]
 pub struct Affected {
     pub before: Vec<bool>,
     pub then: Vec<bool>,
 }
 
-/// Marks the packages that an edit set affects, in a workspace and in the edited one, by the marks of those in whose closures one has
-/// other files then.
+/// Marks the packages that an edit set affects, before and after it. `marks` are those of the packages whose closures have other texts on
+/// the other side.
 pub fn affected_by(
     alloc: Global,
     before: &Graph,

@@ -1,6 +1,6 @@
-//! Where something was found last: the next is looked for there first.
+//! Where the next search in a sorted list begins: at the number where the last one ended.
 
-/// In the workspace before the change, and in that afterwards.
+/// The numbers where the last searches ended, in the workspace before the change and in the one after it.
 #[derive(Drop)]
 pub struct Near {
     pub before: usize,

@@ -1,4 +1,4 @@
-//! Whether a change preserves the bindings of a workspace.
+//! Decides whether a change preserves the bindings of a workspace.
 ghost use Rattle.std.specs.Prelude.{◌≡◌, ◌↔◌, [], IsTrue, IfOk, MatchBool};
 ghost use Rattle.base_edits.specs.EditSet.{edited};
 ghost use Rattle.workspace_check.specs.FaultLists.{ListsFaults};
@@ -23,7 +23,8 @@ use workspace_check::{Findings, Found, Known, verdicts};
 use workspace_graph::Graph;
 use workspace_snapshot::MadeChange;
 
-/// Whether each identifier of packages without faults is bound, in others without faults, to what its declaration has become.
+/// Whether each identifier of the packages before stays bound, in the packages after, to what its declaration has become. All packages have
+/// no fault.
 fn keeps_read(
     alloc: Global,
     before: &Packages<'_>,
@@ -41,7 +42,7 @@ fn keeps_read(
     keeps(alloc, &moves, &before, &then)
 }
 
-/// The same of workspaces, by all their packages.
+/// Whether the edits preserve all bindings between two workspaces without faults, by all their packages.
 fn keeps_all_bindings(
     alloc: Global,
     graph: &Graph,
@@ -62,7 +63,7 @@ fn keeps_all_bindings(
     keeps_read(alloc, &before, edits, &then)
 }
 
-/// The same, by the affected packages alone where these tell it; asked as the function before is, since it falls back on that.
+/// Whether a change preserves all bindings between two workspaces without faults, by the affected packages alone where these decide it.
 fn keeps_bindings(
     alloc: Global,
     graph: &Graph,
@@ -90,7 +91,7 @@ fn keeps_bindings(
     }
 }
 
-/// Whether nothing that was found in a workspace is a fault.
+/// Whether the findings of a workspace have no fault.
 fn is_sound(alloc: Global, graph: &Graph, found: &Findings) -> Result<bool, AllocError>
     requires { AreFindings graph.now found.now }
     ensures { IfOk result (λ sound. MatchBool sound (IsSound graph.now found.now) (ListsFaults graph.now [] → ⊥)) }
@@ -102,7 +103,7 @@ fn is_sound(alloc: Global, graph: &Graph, found: &Findings) -> Result<bool, Allo
     }
 }
 
-/// What is found in a changed workspace. A package whose closure keeps its texts is not checked again.
+/// The findings of the workspace after a change. A package whose closure keeps its texts is not checked again.
 fn found_after(
     alloc: Global,
     graph: &Graph,
@@ -117,8 +118,7 @@ fn found_after(
     verdicts(alloc, change.after, &kept)
 }
 
-/// Whether an edit set leaves a workspace without faults in which each identifier is bound to what its declaration has become, by
-/// what was found in it before and after.
+/// Whether a change preserves all bindings and leaves no fault, by the findings before and after it.
 fn are_preserved(
     alloc: Global,
     graph: &Graph,
@@ -139,7 +139,7 @@ fn are_preserved(
     }
 }
 
-/// What is known of a workspace by what was found in it, where this is wanted.
+/// What is known of the packages of a workspace, where it is wanted.
 fn known_if(wanted: bool, found: Found) -> Option<Known>
     ensures { MatchBool wanted (result ≡ Some found.known) (result ≡ None) }
 {
@@ -148,9 +148,8 @@ fn known_if(wanted: bool, found: Found) -> Option<Known>
     if wanted { Some(known) } else { None }
 }
 
-/// Whether an edit set leaves a workspace without faults in which each identifier is bound to what its declaration has become; where
-/// it does, with what is known of the edited workspace then. What was found before, with the marks of the change, says which packages
-/// need not be checked again.
+/// Whether a change preserves all bindings and leaves no fault. `Some` has what is known of the packages after it. The findings before and
+/// the marks of the change decide which packages need no new check.
 fn preserves_marked(
     alloc: Global,
     graph: &Graph,
@@ -168,7 +167,8 @@ fn preserves_marked(
     Ok(known_if(kept, then))
 }
 
-/// The same of a change of the workspace. Texts are compared only of files in whose folders its edit set names files.
+/// Whether a change preserves all bindings and leaves no fault. `Some` has what is known of the packages after it. Texts are compared only
+/// in folders of which the edit set names files.
 pub fn preserves(
     alloc: Global,
     graph: &Graph,

@@ -1,5 +1,5 @@
-//! What is read of one marked package of a workspace without faults: where its declarations stand, what its identifiers are bound to,
-//! where these begin, if that is wanted, and what the package exports.
+//! Reads one marked package of a workspace without faults: the places of its declarations, its bindings, its exports and, where wanted, the
+//! places of its identifiers.
 ghost use Rattle.std.specs.Prelude.{◌<◌, length, IfOk, IfSome, IsTrue, OnOk};
 ghost use Rattle.base_files.specs.Packages.{package_paths};
 ghost use Rattle.refs_index.specs.KnownExports.{KnowsExports};
@@ -23,8 +23,8 @@ use types_declared::{Interfaces, Package};
 use workspace_check::{Findings, is_marked, seen};
 use workspace_graph::Graph;
 
-/// Which packages are read: the marked ones, over what those export that they import; and whether the places at which their
-/// identifiers begin are wanted.
+/// What to read: the marked packages, by the exports of the packages that they import, and whether the places of their identifiers are
+/// wanted.
 #[derive(Clone, Copy)]
 pub struct Reading<'a> {
     pub exports: &'a KnownExports<'a>,
@@ -32,21 +32,21 @@ pub struct Reading<'a> {
     pub identifiers: bool,
 }
 
-/// What is gathered of packages, one after another: their bound identifiers, and the places at which identifiers begin.
+/// The bound identifiers of the packages that are read so far, and the places of their identifiers.
 #[derive(Drop)]
 pub struct Gathered {
     pub bound: Vec<BoundSpot>,
     pub identifiers: Vec<Place>,
 }
 
-/// What is read of one package: where its declarations stand, and what it exports, if a marked package imports it.
+/// The places of a package's declarations, and its exports, if a marked package imports it.
 #[derive(Drop)]
 pub struct ReadPackage {
     pub places: DeclaredPlaces,
     pub numbers: Option<BTreeMap<Vec<u8>, usize>>,
 }
 
-/// Where the declarations of the package of a number stand, by what this sees and its table.
+/// The places of the declarations of the package of a number, by its scope table and the export data that it sees.
 fn places_laid(
     alloc: Global,
     graph: &Graph,
@@ -71,7 +71,7 @@ fn places_laid(
     unit_places(alloc, unit)
 }
 
-/// Adds the places at which the identifiers of the package of a number begin, by what this sees and its table.
+/// Appends the places of the identifiers of the package of a number, by its scope table and the export data that it sees.
 fn add_laid(
     places: &mut Vec<Place>,
     graph: &Graph,
@@ -96,7 +96,7 @@ fn add_laid(
     add_unit(places, unit)
 }
 
-/// The same, where these places are wanted.
+/// Appends the places of the identifiers of the package of a number, if they are wanted.
 fn add_wanted(
     places: &mut Vec<Place>,
     reading: &Reading<'_>,
@@ -119,7 +119,8 @@ fn add_wanted(
     }
 }
 
-/// Gathers what is wanted of the package of a number, by what this sees and its table, and tells where its declarations stand.
+/// Appends the bindings of the package of a number, and the places of its identifiers where they are wanted. Returns the places of its
+/// declarations.
 fn gather_laid(
     alloc: Global,
     gathered: &mut Gathered,
@@ -143,7 +144,7 @@ fn gather_laid(
     places_laid(alloc, exports.graph, exports.found, seen, table, number)
 }
 
-/// Whether a marked package imports the package of a number. Only speed rests on it.
+/// Whether a marked package imports the package of a number. Only speed depends on it.
 fn is_imported(graph: &Graph, marks: &[bool], number: usize) -> bool
     requires { number < length (package_paths graph.now) }
 {
@@ -155,7 +156,7 @@ fn is_imported(graph: &Graph, marks: &[bool], number: usize) -> bool
     false
 }
 
-/// What the package of a number exports, by what this sees and its table.
+/// The exports of the package of a number, by its scope table and the export data that it sees.
 fn numbers_laid(
     alloc: Global,
     graph: &Graph,
@@ -174,7 +175,7 @@ fn numbers_laid(
     numbers_by(alloc, path, files, table, seen)
 }
 
-/// The same, if a marked package imports that one.
+/// The exports of the package of a number, if a marked package imports it.
 fn imported_numbers(
     alloc: Global,
     reading: &Reading<'_>,
@@ -196,7 +197,7 @@ fn imported_numbers(
     Ok(None)
 }
 
-/// Gathers what is wanted of the package of a number, and tells what is read of it, by what this sees and its table.
+/// Reads the package of a number, by its scope table and the export data that it sees.
 fn read_laid(
     alloc: Global,
     gathered: &mut Gathered,
@@ -220,7 +221,7 @@ fn read_laid(
     Ok(ReadPackage { places, numbers })
 }
 
-/// The same of the package of a number, which is read for it.
+/// Reads the package of a number: appends its bindings and, where they are wanted, the places of its identifiers. Returns the rest.
 pub(crate) fn gather_read(
     alloc: Global,
     gathered: &mut Gathered,

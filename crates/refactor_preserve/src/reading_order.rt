@@ -1,5 +1,5 @@
-//! The marked packages of a workspace without faults, each of which is read once, behind those that it imports: what these export is
-//! known then.
+//! Reads the marked packages of a workspace without faults, each once, after the packages that it imports, whose exports are known by that
+//! point.
 ghost use Rattle.std.specs.Prelude.{◌≡◌, ◌<◌, [], None, length, IfOk, IfSome, IsTrue, OnOk};
 ghost use Rattle.base_files.specs.Packages.{package_paths};
 ghost use Rattle.workspace_graph.specs.Imports.{HoldsBelow};
@@ -23,8 +23,8 @@ use std::collections::BTreeMap;
 use workspace_check::{Findings, is_marked};
 use workspace_graph::Graph;
 
-/// What is held of the marked packages: where their declarations stand, by the packages' numbers, what their identifiers are bound to,
-/// and, where they were wanted, the places at which these begin.
+/// The marked packages: the places of their declarations, by the packages' numbers, the bindings of their identifiers and, where wanted,
+/// the places of these.
 #[derive(Drop)]
 pub struct Held {
     pub places: Vec<Option<DeclaredPlaces>>,
@@ -32,7 +32,7 @@ pub struct Held {
     pub identifiers: Vec<Place>,
 }
 
-/// Of which packages of a workspace it is asked: the marked ones; and whether the places at which their identifiers begin are wanted.
+/// What to read of a workspace: the marked packages, and whether the places of their identifiers are wanted.
 #[derive(Clone, Copy)]
 pub struct Wanted<'a> {
     pub graph: &'a Graph,
@@ -41,8 +41,8 @@ pub struct Wanted<'a> {
     pub identifiers: bool,
 }
 
-/// What was read of packages, one after another: what is gathered of the marked ones, where the declarations of these stand, and what
-/// packages export, as far as it is known, both by the packages' numbers.
+/// The packages read so far: their bindings, the places of their declarations, and the exports that are known, both by the packages'
+/// numbers.
 #[derive(Drop)]
 pub struct SoFar {
     pub gathered: Gathered,
@@ -50,7 +50,7 @@ pub struct SoFar {
     pub numbers: Vec<Option<BTreeMap<Vec<u8>, usize>>>,
 }
 
-/// Nothing, for each of so many packages.
+/// A list of `count` times `None`.
 fn nothing<T: Drop>(alloc: Global, count: usize) -> Result<Vec<Option<T>>, AllocError>
     ensures { IfOk result (λ all. HoldsOfEach (λ n held. held ≡ None) count all.items) }
 {
@@ -62,7 +62,7 @@ fn nothing<T: Drop>(alloc: Global, count: usize) -> Result<Vec<Option<T>>, Alloc
 }
 
 impl SoFar {
-    /// Nothing was read.
+    /// The state before any package is read.
     fn new(alloc: Global, wanted: &Wanted<'_>) -> Result<SoFar, AllocError>
         ensures { IfOk result (IsReadSoFar wanted.now []) }
     {
@@ -80,7 +80,7 @@ impl SoFar {
     }
 }
 
-/// Makes known what the package of a number exports. Where it isn't known, the package is read for it.
+/// Makes the exports of the package of a number known, and reads that package where they are not.
 fn know_one(
     alloc: Global,
     wanted: &Wanted<'_>,
@@ -99,7 +99,7 @@ fn know_one(
     Ok(())
 }
 
-/// Makes known what the packages export that the package of a number imports.
+/// Makes the exports known of each package that the package of a number imports.
 fn know_imports(
     alloc: Global,
     wanted: &Wanted<'_>,
@@ -117,7 +117,7 @@ fn know_imports(
     Ok(())
 }
 
-/// Gathers what is wanted of the package of a number, over what others export, as far as that is known.
+/// Reads the package of a number, by the exports that are known.
 fn read_known(
     alloc: Global,
     wanted: &Wanted<'_>,
@@ -147,7 +147,7 @@ fn read_known(
     gather_read(alloc, gathered, &reading, number)
 }
 
-/// Reads the package of a number.
+/// Reads the package of a number, after the exports of its imports are made known.
 fn read_one(
     alloc: Global,
     wanted: &Wanted<'_>,
@@ -167,7 +167,7 @@ fn read_one(
     Ok(())
 }
 
-/// The same, if the package is marked; of another nothing is read.
+/// Reads the package of a number, if it is marked.
 fn read_if_marked(
     alloc: Global,
     wanted: &Wanted<'_>,
@@ -187,7 +187,7 @@ fn read_if_marked(
     }
 }
 
-/// Reads the marked ones of some packages, in their order.
+/// Reads the marked packages among these numbers, in order.
 fn read_ordered(alloc: Global, wanted: &Wanted<'_>, order: &[usize]) -> Result<SoFar, AllocError>
     requires sound { IsSound wanted.now.graph.now wanted.now.found.now }
     requires order { HoldsAllNumbers wanted.now.graph.now order.now }
@@ -200,7 +200,7 @@ fn read_ordered(alloc: Global, wanted: &Wanted<'_>, order: &[usize]) -> Result<S
     Ok(so_far)
 }
 
-/// The numbers below one.
+/// The numbers from 0 to below `count`.
 fn numbers_below(alloc: Global, count: usize) -> Result<Vec<usize>, AllocError>
     ensures { IfOk result (λ numbers. HoldsBelow (λ n. Unit {0}) count numbers.items) }
 {
@@ -211,7 +211,7 @@ fn numbers_below(alloc: Global, count: usize) -> Result<Vec<usize>, AllocError>
     Ok(numbers)
 }
 
-/// All packages by their numbers, each behind those that it imports, if a search finds such an order.
+/// The numbers of all packages, each after those that it imports, if the search finds such an order.
 fn reading_order(alloc: Global, graph: &Graph) -> Result<Vec<usize>, AllocError>
     ensures { IfOk result (λ order. HoldsAllNumbers graph.now order.items) }
 {
@@ -222,7 +222,7 @@ fn reading_order(alloc: Global, graph: &Graph) -> Result<Vec<usize>, AllocError>
     }
 }
 
-/// What is held of the marked packages, of which all was read.
+/// The marked packages, of which all are read.
 fn held_of(wanted: &Wanted<'_>, order: &[usize], so_far: SoFar) -> Result<Held, AllocError>
     requires sound { IsSound wanted.now.graph.now wanted.now.found.now }
     requires order { HoldsAllNumbers wanted.now.graph.now order.now }
@@ -246,8 +246,8 @@ fn held_of(wanted: &Wanted<'_>, order: &[usize], so_far: SoFar) -> Result<Held, 
     })
 }
 
-/// What is held of the marked packages of a workspace without faults; with the places at which their identifiers begin, where these are
-/// wanted. Only these packages are read, each once, and those that they import and that are not marked.
+/// Reads the marked packages of a workspace without faults, each once, with the places of their identifiers where wanted. Of other packages
+/// it reads only those that marked packages import.
 pub fn read_marked(
     alloc: Global,
     graph: &Graph,

@@ -51,7 +51,7 @@ module _ (F G B C D E : Type 0) (fixed : Agree F G) (reserved : Agree B C) (call
 no_member : (name : List ℕ) → Agree ⊥ (⊥ × IsReserved name)
 no_member name = record { there = λ h. absurd h; back = λ h. h.0 }
 
--- the name of a member is that which stands where it is declared
+-- The name of a member is the spelling of its declaring identifier.
 pub member_refused : (IsAt : (rank : ℕ) → Position → Type 0) (p : Package) (rank : ℕ) (name : List ℕ) →
     ((a b : Position) → IsAt rank a → IsAt rank b → a ≡ b) → (o : Option Position) (r : Result (Unit {0}) Refusal) →
     MatchOption o ((at : Position) → IsAt rank at → ⊥) (λ at. IsAt rank at) →

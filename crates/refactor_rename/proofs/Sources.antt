@@ -163,7 +163,7 @@ source_tree w known n p is ts parsed f s at =
     let t = mapped_from source_of ts f has in
     (t.0, (t.1, ap (λ (x : SourceFile). x.path) t.2))
 
--- what a search among them finds
+-- A search among the files of a package.
 
 pub tree_found : (w : Workspace) (known : Verdicts) (n : ℕ) (p : Package) → IsPackageAt w known n p → (ts : List FileParts) →
     AreParsed (package_files w p.path) ts [] → (path : List ℕ) → folder path ≡ p.path →

@@ -1,4 +1,4 @@
--- The edits of one file that give identifiers in it, and the literal of an import in it, another name.
+-- The edits of a rename in one file: of identifiers, and of the string literal of an import without a name.
 use Rattle.std.specs.Prelude.{ℕ, ◌≡◌, ◌↔◌, ◌⊎◌, List, Option, Some, None, Contains, length, slice_get}
 use Rattle.go_scanner.specs.declared.piece.Piece.{Piece}
 use Rattle.go_scanner.specs.declared.piece.Class.TheVariants.{Name}
@@ -10,12 +10,12 @@ use Rattle.refactor_rename.specs.declared.renamed.Literal.{Literal}
 use Rattle.refactor_rename.specs.declared.renamed.Renamed.{Renamed}
 use Rattle.refactor_rename.specs.Replacements.{IsNameBefore}
 
--- a token of the file of a path is the literal
+-- The literal is the token `token` of the file at this path.
 abbrev pub IsLiteralAt : Option Literal → (path : List ℕ) → (token : ℕ) → Type 0
 IsLiteralAt None path token = ⊥
 IsLiteralAt (Some l) path token = (l.path ≡ path) × (l.token ≡ token)
 
--- the token is an identifier that begins at one of the places, and has the name in its place
+-- The token `i` is an identifier that begins at one of the places, and the edit replaces it by the name.
 pub record ReplacesName (f : SourceFile) (r : Renamed) (i : ℕ) (e : Edit) : Type 0 where
   pub token : Piece
   pub at : slice_get (tokens_in f.cut) i ≡ Some token
@@ -23,7 +23,10 @@ pub record ReplacesName (f : SourceFile) (r : Renamed) (i : ℕ) (e : Edit) : Ty
   pub among : Contains r.places (record { path = f.path; offset = token.span.start })
   pub is_edit : e ≡ record { span = token.span; text = r.name }
 
--- the token is the literal, and gets the name before it
+-- The token `i` is the literal of the import, and the edit inserts the name before it.
+--
+--   import "shapes"      // renaming shapes to s
+--   import s "shapes"
 pub record InsertsName (f : SourceFile) (r : Renamed) (i : ℕ) (e : Edit) : Type 0 where
   pub token : Piece
   pub at : slice_get (tokens_in f.cut) i ≡ Some token
@@ -31,15 +34,16 @@ pub record InsertsName (f : SourceFile) (r : Renamed) (i : ℕ) (e : Edit) : Typ
   pub span : e.span ≡ record { start = token.span.start; end = token.span.start }
   pub text : IsNameBefore f i r.name e.text
 
+-- The edit `e` of a rename is that of the token `i`.
 abbrev pub IsEditAt : SourceFile → Renamed → ℕ → Edit → Type 0
 IsEditAt f r i e = InsertsName f r i e ⊎ ReplacesName f r i e
 
--- edits in order, none of which ends behind an offset
+-- The edits are in order, and each ends at this offset or before it.
 pub record EndBy (edits : List Edit) (offset : ℕ) : Type 0 where
   pub in_order : AreInOrder 0 edits
   pub ends : LieWithin offset edits
 
--- the edits of all tokens of a file
+-- These are the edits of all tokens of a file, in order.
 pub record AreFileEdits (f : SourceFile) (r : Renamed) (edits : List Edit) : Type 0 where
   pub end_by : EndBy edits (length f.cut.text)
   pub each : (e : Edit) → Contains edits e ↔ ((i : ℕ) × IsEditAt f r i e)

@@ -1,4 +1,4 @@
--- The literals of imports without a name, which stand for their declarations. IsPackage: the packages of the workspace.
+-- The string literals of imports without a name: each stands for its import declaration. IsPackage: the packages of the workspace.
 use Rattle.std.specs.Prelude.{ℕ, ◌≡◌, ◌<◌, Option, Some, None, slice_get, MatchOption}
 use Rattle.go_ast.specs.SourceFile.{SourceFile}
 use Rattle.go_scope.specs.Bindings.{IsImport}
@@ -9,26 +9,26 @@ use Rattle.refs_binding.specs.declared.declaration.Declaration.TheVariants.{Pred
 use Rattle.refs_binding.specs.Standing.{InPackage}
 use Rattle.refactor_rename.specs.declared.renamed.Literal.{Literal}
 
--- a token of a file, if there is one
+-- There is a file, and `l` is its token of this number.
 abbrev pub IsTokenOf : Option SourceFile → ℕ → Literal → Type 0
 IsTokenOf None token l = ⊥
 IsTokenOf (Some f) token l = (l.path ≡ f.path) × (l.token ≡ token)
 
--- an import that has no name
+-- The declaration `d` is an import without a name, as in `import "shapes"`.
 abbrev pub IsUnnamed : Package → ℕ → Type 0
 IsUnnamed p d = IsImport p.layout d × (literal_of p.layout d ≡ d)
 
--- the declaration of the package is such an import, and this is its literal
+-- The declaration `d` of the package `p` is an import without a name, and `l` is its string literal.
 abbrev pub IsLiteralIn : Package → ℕ → Literal → Type 0
 IsLiteralIn p d l = (d < p.size) × IsUnnamed p d × IsTokenOf (slice_get p.files (p.layout.place d).file) (p.layout.place d).index l
 
--- the same of a declaration of the workspace
+-- The declaration of the workspace is an import without a name, and `l` is its string literal.
 abbrev pub IsLiteralOf : (Package → Type 0) → Declaration → Literal → Type 0
 IsLiteralOf IsPackage (Predeclared d) l = ⊥
 IsLiteralOf IsPackage (Declared path d) l = InPackage IsPackage path (λ p. IsLiteralIn p d l)
 IsLiteralOf IsPackage (Field s) l = ⊥
 IsLiteralOf IsPackage (Method s) l = ⊥
 
--- the literal of which K holds; none where it holds of none
+-- The literal of which `K` holds, or `None` where it holds of none.
 abbrev pub IsLiteralFound : (Literal → Type 0) → Option Literal → Type 0
 IsLiteralFound K found = MatchOption found ((l : Literal) → K l → ⊥) (λ l. K l)

@@ -1,21 +1,21 @@
--- Which names may be given.
+-- Which texts are names that a rename can give.
 use Rattle.std.specs.Prelude.{ℕ, ◌≡◌, ◌≢◌, ◌≤◌, ◌⊎◌, Bool, false, not, List, [], ◌∷◌, length, codes}
 use Rattle.std.specs.Str.{bytes_eq}
 use Rattle.go_scanner.specs.declared.piece.Class.TheVariants.{Name}
 use Rattle.go_scanner.specs.Characters.{is_letter}
 use Rattle.go_scanner.specs.Pieces.{IsPiece}
 
--- an identifier of at most 255 bytes, no keyword and no `_`
+-- The text is an identifier of at most 255 bytes: no keyword, and not `_`.
 pub record IsNewName (name : List ℕ) : Type 0 where
   pub spelled : IsPiece Name name
   pub short : length name ≤ 255
   pub no_blank : name ≢ codes "_"
 
--- no name for what a package's block or a file's declares
+-- The name is `init` or `main`, which no declaration of a package block and no import can get.
 abbrev pub IsReserved : List ℕ → Type 0
 IsReserved name = (name ≡ codes "init") ⊎ (name ≡ codes "main")
 
--- whether the first of some characters is a letter
+-- Whether the first character of a text is a letter.
 abbrev pub begins_with_letter : List ℕ → Bool
 begins_with_letter [] = false
 begins_with_letter (c ∷ cs) = is_letter c

@@ -15,32 +15,33 @@ use Rattle.refactor_rename.specs.declared.renamed.Renamed.{Renamed}
 use Rattle.refactor_rename.specs.FileEdits.{AreFileEdits}
 use Rattle.refactor_rename.specs.Literals.{IsLiteralOf, IsLiteralFound}
 
--- what gets the name: each identifier that is bound to d, and where d is an import without a name its literal
+-- `r` is what gets the name: the identifiers that are bound to the declaration `d`, and its string literal where it is an import without a
+-- name.
 pub record IsRenamedBy (w : Workspace) (known : Verdicts) (d : Declaration) (name : List ℕ) (r : Renamed) : Type 0 where
   pub uses : ListsFound w known d r.places
   pub literal : IsLiteralFound (IsLiteralOf (IsPackage w known) d) r.literal
   pub named : r.name ≡ name
 
--- a file of some package, with its tree
+-- `f` is a parsed file of some package of the workspace.
 pub record IsSourceIn (w : Workspace) (known : Verdicts) (f : SourceFile) : Type 0 where
   pub inside : Package
   pub is_package : IsPackage w known inside
   pub has : Contains inside.files f
 
--- a file is edited and stays where it is
+-- The change edits a Go file and leaves it at its path.
 pub record EditsSource (w : Workspace) (known : Verdicts) (c : FileChange) : Type 0 where
   pub source : SourceFile
   pub is_source : IsSourceIn w known source
   pub of_path : source.path ≡ c.path
   pub stays : c.fate ≡ Stays
 
--- In each file of a package just the edits of its tokens that get the name; no other file is changed, and none added.
+-- The edit set has in each Go file just the edits of the tokens that get the name. It changes no other file, and adds none.
 pub record AreEditsOf (w : Workspace) (known : Verdicts) (r : Renamed) (s : FileChanges) : Type 0 where
   pub each : (f : SourceFile) → IsSourceIn w known f → AreFileEdits f r (edits_by (change_of s f.path))
   pub only : (c : FileChange) → Contains s.changed c → EditsSource w known c
   pub none_added : s.added ≡ []
 
--- the edits of all that gets the name
+-- The edit set gives the declaration `d` the name `name`, at each identifier that is bound to it.
 pub record AreRenameEdits (w : Workspace) (known : Verdicts) (d : Declaration) (name : List ℕ) (s : FileChanges) : Type 0 where
   pub renamed : Renamed
   pub is_renamed : IsRenamedBy w known d name renamed

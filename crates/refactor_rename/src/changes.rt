@@ -1,4 +1,4 @@
-//! The changes of the files of a workspace.
+//! The changes of a rename: one for each file in which something gets another name.
 ghost use Rattle.std.specs.Prelude.{ℕ, ◌≡◌, ◌↔◌, List, Contains, map, IfOk, OnOk, MatchOption};
 ghost use Rattle.std.specs.List.Sorted.{IsStrictlySortedBy};
 ghost use Rattle.base_files.specs.Workspace.{path_cmp};
@@ -19,7 +19,7 @@ use std::alloc::{AllocError, Global};
 use workspace_check::Findings;
 use workspace_graph::Graph;
 
-/// The tree of the file of a path, if it is among these, which are in the order of their paths.
+/// The tree of the file at a path, if it is among these files, which are sorted by path.
 fn tree_in<'a>(files: &'a [FileTree], path: &Path) -> Option<&'a FileTree>
     requires { IsStrictlySortedBy path_cmp (map (λ t. t.path) files.now) }
     ensures { MatchOption result ((t : FileParts) → Contains files.now t → t.path ≡ path.now → ⊥) (λ file. Contains files.now file.now × (file.now.path ≡ path.now)) }
@@ -30,7 +30,7 @@ fn tree_in<'a>(files: &'a [FileTree], path: &Path) -> Option<&'a FileTree>
     }
 }
 
-/// The tree of the file of a path, if it is a Go file.
+/// The tree of the file at a path, if it is a Go file of the workspace.
 fn tree_of<'a>(graph: &'a Graph, found: &Findings, path: &Path) -> Option<&'a FileTree>
     requires { IsSound graph.now found.now }
     ensures { MatchOption result ((f : SourceFile) → IsSourceIn graph.now (known_in found.now) f → f.path ≡ path.now → ⊥)
@@ -42,7 +42,7 @@ fn tree_of<'a>(graph: &'a Graph, found: &Findings, path: &Path) -> Option<&'a Fi
     }
 }
 
-/// Adds the change of a file, if something is renamed there.
+/// Appends the change of a file, if something gets another name in it.
 fn add_change(
     alloc: Global,
     changed: &mut Vec<FileChange>,
@@ -63,8 +63,7 @@ fn add_change(
     Ok(())
 }
 
-/// The changes of the files of some paths, which are in order, and among which are those of all files in which something is
-/// renamed.
+/// The changes of the files at these paths, which are sorted and are just those of the files in which something gets another name.
 fn changes_in(
     alloc: Global,
     graph: &Graph,
@@ -87,7 +86,7 @@ fn changes_in(
     Ok(changed)
 }
 
-/// The changes of all files in which something is renamed, in the order of their paths.
+/// The changes of all files in which something gets another name, sorted by path.
 pub(crate) fn changes_of(
     alloc: Global,
     graph: &Graph,

@@ -1,4 +1,4 @@
-//! The edits of one file.
+//! The edits of a rename in one file.
 ghost use Rattle.std.specs.Prelude.{◌≡◌, ◌<◌, ◌≤◌, ◌↔◌, ◌++◌, ◌∷◌, [], Contains, IsTrue, IfOk, OnOk, Some, slice_get};
 ghost use Rattle.std.specs.List.Sorted.{IsStrictlySortedBy};
 ghost use Rattle.go_scanner.specs.CutText.{tokens_in};
@@ -16,14 +16,14 @@ use go_scanner::{Class, Piece};
 use std::alloc::{AllocError, Global};
 use std::cmp::Ordering;
 
-/// How a place compares with a byte of a file.
+/// Compares a place with a path and an offset: by path first.
 fn compare_place(place: &Place, path: &Path, offset: usize) -> Ordering
     ensures { result ≡ place_cmp place.now (record { path = path.now; offset = offset }) }
 {
     place.path.cmp(path).then(place.offset.cmp(&offset))
 }
 
-/// Whether one of the places is that byte of the file.
+/// Whether one of the sorted places has this path and offset.
 fn is_among(places: &[Place], path: &Path, offset: usize) -> bool
     requires { IsStrictlySortedBy place_cmp places.now }
     ensures { IsTrue result ↔ Contains places.now (record { path = path.now; offset = offset }) }
@@ -34,7 +34,7 @@ fn is_among(places: &[Place], path: &Path, offset: usize) -> bool
     }
 }
 
-/// Whether a token of a file is the literal.
+/// Whether the literal is the token with this number of the file at this path.
 fn is_literal(literal: &Option<Literal>, path: &Path, number: usize) -> bool
     ensures { IsTrue result ↔ IsLiteralAt literal.now path.now number }
 {
@@ -44,7 +44,7 @@ fn is_literal(literal: &Option<Literal>, path: &Path, number: usize) -> bool
     }
 }
 
-/// Whether a token is the word `import`, and ends at an offset.
+/// Whether a token is the word `import` and ends at an offset.
 fn ends_import(file: &FileTree, before: usize, offset: usize) -> bool
     ensures { IsTrue result ↔ EndsImport (source_of file.now) before offset }
 {
@@ -54,14 +54,14 @@ fn ends_import(file: &FileTree, before: usize, offset: usize) -> bool
         && offset - file.offset(before) == word.len()
 }
 
-/// Whether the word `import` ends where a token of a file begins.
+/// Whether the word `import` ends where a token of the file begins.
 fn is_behind_import(file: &FileTree, number: usize) -> bool
     ensures { IsTrue result ↔ IsRightBehindImport (source_of file.now) number }
 {
     number > 0 && ends_import(file, number - 1, file.offset(number))
 }
 
-/// A name with some bytes before it and a space behind it.
+/// The bytes `before`, the name and a space.
 fn spaced(alloc: Global, before: &[u8], name: &[u8]) -> Result<FileText, AllocError>
     ensures { IfOk result (λ text. text ≡ before.now ++ (name.now ++ 32 ∷ [])) }
 {
@@ -71,7 +71,7 @@ fn spaced(alloc: Global, before: &[u8], name: &[u8]) -> Result<FileText, AllocEr
     FileText::new(alloc, text)
 }
 
-/// The name of an import, with the spaces that part it from what stands round it.
+/// The text that gives an import a name before its literal: the name, with the spaces that separate it from its neighbours.
 fn name_before(
     alloc: Global,
     file: &FileTree,
@@ -87,7 +87,7 @@ fn name_before(
     }
 }
 
-/// Adds the insertion before a token, if that is the literal.
+/// Appends the insertion of the name before a token, if the token is the literal.
 fn add_insertion(
     alloc: Global,
     edits: &mut Vec<Edit>,
@@ -112,7 +112,7 @@ fn add_insertion(
     Ok(())
 }
 
-/// Adds the replacement of a token, if that is one of the identifiers.
+/// Appends the replacement of a token by the name, if the token is one of the identifiers.
 fn add_replacement(
     edits: &mut Vec<Edit>,
     file: &FileTree,
@@ -139,7 +139,7 @@ fn add_replacement(
     Ok(())
 }
 
-/// Adds the edits of a token.
+/// Appends the edits of a token.
 fn add_edits(
     alloc: Global,
     edits: &mut Vec<Edit>,
@@ -159,7 +159,7 @@ fn add_edits(
     add_replacement(edits, file, number, token, renamed)
 }
 
-/// The edits of a file, in the order of its tokens.
+/// The edits of a rename in a file, in the order of its tokens.
 pub fn edits_of(alloc: Global, file: &FileTree, renamed: &Renamed) -> Result<Vec<Edit>, AllocError>
     requires { IsStrictlySortedBy place_cmp renamed.now.places }
     ensures { IfOk result (λ edits. AreFileEdits (source_of file.now) renamed.now edits.items) }

@@ -1,4 +1,4 @@
-//! The new name of a rename, and the edits that it makes.
+//! The edits of a rename, and whether its new name is legal.
 #![tactic(auto)]
 
 mod changes;

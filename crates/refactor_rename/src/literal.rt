@@ -1,4 +1,4 @@
-//! The path literal of an import without a name, which stands for its declaration.
+//! The string literal of an import without a name, which stands for its declaration.
 ghost use Rattle.std.specs.Prelude.{◌<◌, ◌↔◌, length, map, slice_get, IsTrue, IfOk};
 ghost use Rattle.base_files.specs.Packages.{package_paths};
 ghost use Rattle.go_ast.specs.SourceFile.{source_of};
@@ -29,7 +29,7 @@ fn is_unnamed(unit: Package<'_>, d: usize) -> bool
     is_import(unit.table, d) && types_declared::literal_of(unit.table, d) == d
 }
 
-/// A token of a file of some files, if there is one.
+/// The token with this number of a file, or `None` where there is no such file.
 fn token_of(files: &[FileTree], file: usize, token: usize) -> Result<Option<Literal>, AllocError>
     ensures { IfOk result (IsLiteralFound (IsTokenOf (slice_get (map source_of files.now) file) token)) }
 {
@@ -42,7 +42,7 @@ fn token_of(files: &[FileTree], file: usize, token: usize) -> Result<Option<Lite
     }
 }
 
-/// The literal of a declaration of a package that is an import without a name.
+/// The string literal of a declaration of a package, if it is an import without a name.
 fn literal_in(unit: Package<'_>, d: usize) -> Result<Option<Literal>, AllocError>
     ensures { IfOk result (IsLiteralFound (IsLiteralIn (package_of unit.entry) d)) }
 {
@@ -54,7 +54,7 @@ fn literal_in(unit: Package<'_>, d: usize) -> Result<Option<Literal>, AllocError
     }
 }
 
-/// The same of the package of a path.
+/// The string literal of the declaration `d` of the package with these parts, if it is an import without a name.
 fn literal_by(
     path: &SharedPath,
     files: &[FileTree],
@@ -74,7 +74,7 @@ fn literal_by(
     literal_in(unit, d)
 }
 
-/// The same of the package of a number.
+/// The string literal of the declaration `d` of the package of a number, if it is an import without a name.
 fn literal_at(
     alloc: Global,
     graph: &Graph,
@@ -93,7 +93,7 @@ fn literal_at(
     literal_by(path, files, &table, &seen, d)
 }
 
-/// The same of the package of a path, if there is one.
+/// The string literal of the declaration `d` of the package at a path, if there is one and `d` is an import without a name.
 fn literal_under(
     alloc: Global,
     graph: &Graph,
@@ -110,7 +110,7 @@ fn literal_under(
     }
 }
 
-/// The literal of a declaration that is an import without a name.
+/// The string literal of a declaration, if it is an import without a name.
 pub fn literal_of(
     alloc: Global,
     graph: &Graph,

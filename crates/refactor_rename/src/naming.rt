@@ -1,4 +1,4 @@
-//! Whether a declaration may have a name.
+//! Whether a name is legal for a declaration.
 ghost use Rattle.std.specs.Prelude.{ℕ, ◌≡◌, ◌<◌, ◌↔◌, ◌⊎◌, List, length, map, slice_index_or, MatchOption, IsTrue, codes};
 ghost use Rattle.base_files.specs.Packages.{package_paths};
 ghost use Rattle.go_ast.specs.SourceFile.{source_of};
@@ -25,7 +25,7 @@ use types_expr::symbol::{SharedPath, Symbol};
 use workspace_check::{Findings, seen};
 use workspace_graph::Graph;
 
-/// Whether a package's block has a declaration.
+/// Whether a declaration is in the package block.
 fn is_package_level(unit: Package<'_>, d: usize) -> bool
     requires { d < length unit.table.now.sites }
     ensures { IsTrue result ↔ IsPackageLevel (package_of unit.entry).layout d }
@@ -36,7 +36,7 @@ fn is_package_level(unit: Package<'_>, d: usize) -> bool
     }
 }
 
-/// Refuses a name that a declaration has.
+/// Refuses the name that a declaration already has, as `Same`.
 fn refuse_same(own: &[u8], name: &[u8]) -> Result<(), Refusal>
     ensures { RefusesFor ⊥ ⊥ (own.now ≡ name.now) result }
 {
@@ -47,7 +47,7 @@ fn refuse_same(own: &[u8], name: &[u8]) -> Result<(), Refusal>
     }
 }
 
-/// Whether a declaration is `main` of a package's block.
+/// Whether a declaration is `main` in the package block.
 fn is_main(unit: Package<'_>, d: usize) -> bool
     requires { d < length unit.table.now.sites }
     ensures { IsTrue result ↔ (IsPackageLevel (package_of unit.entry).layout d × ((package_of unit.entry).names d ≡ codes "main")) }
@@ -55,7 +55,7 @@ fn is_main(unit: Package<'_>, d: usize) -> bool
     is_package_level(unit, d) && unit.table.name(d) == b"main".as_slice()
 }
 
-/// Whether a package's block has a declaration, or it is an import.
+/// Whether a declaration is in the package block or is an import.
 fn is_top_level(unit: Package<'_>, d: usize) -> bool
     requires { d < length unit.table.now.sites }
     ensures { IsTrue result ↔ (IsPackageLevel (package_of unit.entry).layout d ⊎ IsImport (package_of unit.entry).layout d) }
@@ -63,7 +63,7 @@ fn is_top_level(unit: Package<'_>, d: usize) -> bool
     is_package_level(unit, d) || is_import(unit.table, d)
 }
 
-/// Refuses a name to a declaration of a package's scopes.
+/// Refuses a name for a declaration of a package's scopes.
 fn refuse_in_scopes(unit: Package<'_>, d: usize, name: &[u8]) -> Result<(), Refusal>
     requires { d < length unit.table.now.sites }
     ensures { let p = package_of unit.entry in
@@ -78,7 +78,7 @@ fn refuse_in_scopes(unit: Package<'_>, d: usize, name: &[u8]) -> Result<(), Refu
     refuse_same(unit.table.name(d), name)
 }
 
-/// The same of any number.
+/// Refuses a name for the declaration of a number. Refuses none where the package has no such declaration.
 fn refuse_number(unit: Package<'_>, d: usize, name: &[u8]) -> Result<(), Refusal>
     ensures { (path : List ℕ) → RefusesNameIn (package_of unit.entry) (Declared path d) name.now result }
 {
@@ -89,7 +89,7 @@ fn refuse_number(unit: Package<'_>, d: usize, name: &[u8]) -> Result<(), Refusal
     }
 }
 
-/// Refuses the name that stands at a place of a package.
+/// Refuses the name that is the spelling at a position of a package.
 fn refuse_at(unit: Package<'_>, at: Option<Position>, name: &[u8]) -> Result<(), Refusal>
     ensures { MatchOption at (RefusesFor ⊥ ⊥ ⊥ result) (λ a. RefusesFor ⊥ ⊥ (spelled (package_of unit.entry) a.file a.index ≡ name.now) result) }
 {
@@ -99,14 +99,14 @@ fn refuse_at(unit: Package<'_>, at: Option<Position>, name: &[u8]) -> Result<(),
     }
 }
 
-/// The place that a list has for a rank.
+/// The position that the list has for a rank.
 fn place_at(places: &[Option<Position>], rank: usize) -> Option<Position>
     ensures { result ≡ slice_index_or places.now rank None }
 {
     *places.get(rank)?
 }
 
-/// Refuses a name to a field of a package.
+/// Refuses the name that a field of a package already has.
 fn refuse_field(
     alloc: Global,
     unit: Package<'_>,
@@ -120,7 +120,7 @@ fn refuse_field(
     refuse_at(unit, place_at(&places, symbol.rank), name)
 }
 
-/// Refuses a name to a method of a package.
+/// Refuses the name that a method of a package already has.
 fn refuse_method(
     alloc: Global,
     unit: Package<'_>,
@@ -134,7 +134,7 @@ fn refuse_method(
     refuse_at(unit, place_at(&places, symbol.rank), name)
 }
 
-/// Refuses a name to a declaration of a package.
+/// Refuses a name for a declaration of a package.
 fn refuse_in_unit(
     alloc: Global,
     unit: Package<'_>,
@@ -151,14 +151,14 @@ fn refuse_in_unit(
     }
 }
 
-/// A declaration, and the name that it is to get.
+/// A declaration and the new name for it.
 #[derive(Clone, Copy)]
 struct NamedDeclaration<'d, 'n> {
     declaration: &'d Declaration,
     name: &'n [u8],
 }
 
-/// Refuses a name to a declaration of the package of a path.
+/// Refuses a name for a declaration of the package with these parts.
 fn refuse_by(
     alloc: Global,
     path: &SharedPath,
@@ -179,7 +179,7 @@ fn refuse_by(
     refuse_in_unit(alloc, unit, asked.declaration, asked.name)
 }
 
-/// Refuses a name to a declaration of the package of a number.
+/// Refuses a name for a declaration of the package of a number.
 fn refuse_in_package(
     alloc: Global,
     graph: &Graph,
@@ -200,7 +200,7 @@ fn refuse_in_package(
     refuse_by(alloc, path, files, &table, &seen, &asked)
 }
 
-/// Refuses a name to a declaration of the package of a path, if there is one.
+/// Refuses a name for a declaration of the package at a path, if there is one.
 fn refuse_in_path(
     alloc: Global,
     graph: &Graph,
@@ -218,7 +218,8 @@ fn refuse_in_path(
     }
 }
 
-/// Refuses a name that a declaration may not have, or that it has already.
+/// Refuses a name that is not legal for a declaration, or that the declaration already has. The reasons, in order: `NotRenamable`,
+/// `BadName`, `Same`.
 pub fn refuse_name(
     alloc: Global,
     graph: &Graph,

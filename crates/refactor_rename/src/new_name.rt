@@ -1,4 +1,4 @@
-//! Which names may be given.
+//! Which texts are names that a rename can give.
 ghost use Rattle.std.specs.Prelude.{◌≡◌, ◌↔◌, IsTrue};
 ghost use Rattle.std.specs.List.{list_all};
 ghost use Rattle.std.specs.Str.{chars};
@@ -22,28 +22,28 @@ fn begins_with_letter(name: &str) -> bool
     }
 }
 
-/// Whether each character of a text may stand in a name.
+/// Whether each character of a text is a letter or a decimal digit.
 fn all_continue(name: &str) -> bool
     ensures { result ≡ list_all continues_name (chars name.now) }
 {
     name.chars().all(|c| continues_name(c))
 }
 
-/// Whether a text is a letter and then letters and decimal numbers.
+/// Whether a text is a letter followed by letters and decimal digits.
 fn is_word(name: &str) -> bool
     ensures { IsTrue result ↔ IsWord name.now }
 {
     begins_with_letter(name) && all_continue(name)
 }
 
-/// Whether a text is not that of a keyword.
+/// Whether a text differs from a keyword.
 fn is_other(k: Keyword, name: &str) -> bool
     ensures { result ≡ is_other_text (keyword_spelling k) name.now }
 {
     k.spelling() != name.as_bytes()
 }
 
-/// Whether a text is that of no keyword.
+/// Whether a text is no keyword.
 fn is_no_keyword(name: &str) -> bool
     ensures { result ≡ list_all (λ k. is_other_text (keyword_spelling k) name.now) all_keywords }
 {
@@ -57,14 +57,14 @@ fn is_name(name: &str) -> bool
     is_word(name) && is_no_keyword(name)
 }
 
-/// Whether a name may be given to a declaration, by its form.
+/// Whether a text has the form of a new name: an identifier of at most 255 bytes that is not `_`.
 pub fn is_new_name(name: &str) -> bool
     ensures { IsTrue result ↔ IsNewName name.now }
 {
     name.len() <= 255 && name != "_" && is_name(name)
 }
 
-/// Whether a name is none for what a package's block or a file's declares.
+/// Whether a name is `init` or `main`, which no declaration of a package block and no import can get.
 pub(crate) fn is_reserved(name: &[u8]) -> bool
     ensures { IsTrue result ↔ IsReserved name.now }
 {

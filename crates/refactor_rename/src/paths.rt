@@ -1,4 +1,4 @@
-//! The paths of the files in which something may get another name.
+//! The paths of the files in which something gets another name.
 ghost use Rattle.std.specs.Prelude.{ℕ, ◌≡◌, ◌↔◌, List, Contains, IfOk, OnOk, IsTrue};
 ghost use Rattle.std.specs.List.Sorted.{IsStrictlySortedBy};
 ghost use Rattle.base_files.specs.Workspace.{path_cmp};
@@ -9,7 +9,7 @@ use crate::renamed::{Literal, Renamed};
 use base_files::{Path, Place};
 use std::alloc::{AllocError, Global};
 
-/// Whether a path is the last of some.
+/// Whether a path is the last of a list.
 fn is_last(paths: &[Path], path: &Path) -> bool
     ensures { IsTrue result → Contains paths.now path.now }
 {
@@ -19,7 +19,7 @@ fn is_last(paths: &[Path], path: &Path) -> bool
     }
 }
 
-/// Adds a path, unless it is the last one.
+/// Appends a path, unless it is already the last one.
 fn add_path(paths: &mut Vec<Path>, path: &Path) -> Result<(), AllocError>
     ensures { OnOk result (AddsAll paths.old.items paths.new.items (λ q. path.now ≡ q)) }
 {
@@ -29,7 +29,7 @@ fn add_path(paths: &mut Vec<Path>, path: &Path) -> Result<(), AllocError>
     Ok(())
 }
 
-/// Adds the paths of some places.
+/// Appends the paths of some places.
 fn add_places(paths: &mut Vec<Path>, places: &[Place]) -> Result<(), AllocError>
     ensures { OnOk result (AddsAll paths.old.items paths.new.items (IsPathOfPlace places.now)) }
 {
@@ -39,7 +39,7 @@ fn add_places(paths: &mut Vec<Path>, places: &[Place]) -> Result<(), AllocError>
     Ok(())
 }
 
-/// Adds the path of the literal, if there is one.
+/// Appends the path of the literal, if there is one.
 fn add_literal(paths: &mut Vec<Path>, literal: &Option<Literal>) -> Result<(), AllocError>
     ensures { OnOk result (AddsAll paths.old.items paths.new.items (IsPathOfLiteral literal.now)) }
 {
@@ -49,7 +49,7 @@ fn add_literal(paths: &mut Vec<Path>, literal: &Option<Literal>) -> Result<(), A
     }
 }
 
-/// Sorts paths, and keeps one of each.
+/// Sorts paths and removes duplicates.
 fn sort(paths: &mut Vec<Path>)
     ensures same { (q : List ℕ) → Contains paths.new.items q ↔ Contains paths.old.items q }
     ensures order { IsStrictlySortedBy path_cmp paths.new.items }
@@ -58,7 +58,7 @@ fn sort(paths: &mut Vec<Path>)
     paths.dedup();
 }
 
-/// The paths of the places and of the literal, in order.
+/// The paths of the places and of the literal, sorted, without duplicates.
 pub(crate) fn paths_of(alloc: Global, renamed: &Renamed) -> Result<Vec<Path>, AllocError>
     ensures each { IfOk result (λ paths. (q : List ℕ) → Contains paths.items q ↔ IsPathOf renamed.now q) }
     ensures order { IfOk result (λ paths. IsStrictlySortedBy path_cmp paths.items) }

@@ -17,14 +17,14 @@ use std::alloc::{AllocError, Global};
 use workspace_check::Findings;
 use workspace_graph::Graph;
 
-/// A text of some bytes.
+/// A file text of these bytes.
 fn text_of(alloc: Global, bytes: &[u8]) -> Result<FileText, AllocError>
     ensures { IfOk result (λ text. text ≡ bytes.now) }
 {
     FileText::new(alloc, Vec::from_slice(alloc, bytes)?)
 }
 
-/// What gets the new name of a declaration.
+/// The identifiers that are bound to a declaration, its literal where it is an import without a name, and the new name.
 fn renamed_by(
     alloc: Global,
     graph: &Graph,
@@ -42,7 +42,7 @@ fn renamed_by(
     })
 }
 
-/// The edits of all files.
+/// The edit set of a rename, over all files.
 fn edits_by(
     alloc: Global,
     graph: &Graph,
@@ -60,7 +60,7 @@ fn edits_by(
     Ok(edits)
 }
 
-/// The edits that give a declaration another name, with all that is bound to it. The workspace has no fault.
+/// The edits that give a declaration another name, at each identifier that is bound to it. The workspace has no fault.
 pub fn rename_edits(
     alloc: Global,
     graph: &Graph,

@@ -16,7 +16,7 @@ use Rattle.refs_binding.specs.Steps.{Adds, UsesIn, BindsAs, BindsIn, by_scope, b
 pub adds_none : (a : List Spot) (P : Place → Type 0) → ((place : Place) → P place → ⊥) → Adds a a P
 adds_none a P none = record { keeps = λ s h. h; holds = λ s h. absurd (none (place_of s) h); only = λ s h. inl h }
 
--- the same is added, told otherwise
+-- The added places may be given by an equivalent condition.
 pub adds_as : (a b : List Spot) (P Q : Place → Type 0) → ((place : Place) → P place → Q place) → ((place : Place) → Q place → P place) → Adds a b P → Adds a b Q
 adds_as a b P Q to from h = record {
   keeps = h.keeps;
@@ -48,7 +48,7 @@ adds_one a b s P e p one = record {
   ];
 }
 
--- one of the numbers below n tells the place
+-- Places of the numbers below `n`.
 abbrev pub Below : (ℕ → Place → Type 0) → ℕ → Place → Type 0
 Below Q n place = (u : ℕ) × (u < n) × Q u place
 
@@ -71,7 +71,7 @@ pub below_next : (Q : ℕ → Place → Type 0) (a b c : List Spot) (i : ℕ) �
 below_next Q a b c i h k = adds_as a c (λ place. Below Q i place ⊎ Q i place) (Below Q (i + 1)) (below_to Q i) (below_from Q i)
     (adds_then a b c (Below Q i) (Q i) h k)
 
--- the places of all identifiers of a package of which K holds
+-- The places of all identifiers of a package that satisfy `K`.
 pub all_below : (p : Package) (K : ℕ → Type 0) (n : ℕ) (a b : List Spot) → n ≡ p.size →
     Adds a b (Below (λ u place. BeginsAt p place.path place.offset u × K u) n) → Adds a b (UsesIn p K)
 all_below p K n a b e h =
@@ -79,11 +79,11 @@ all_below p K n a b e h =
     (λ place q. (q.0, q.2))
     (λ place q. (q.0, subst (λ m. q.0 < m) (sym e) q.1.0.0.0, q.1)) h
 
--- nothing is added where K holds of none
+-- Nothing is added if no identifier satisfies `K`.
 pub uses_none : (p : Package) (K : ℕ → Type 0) (a : List Spot) → ((u : ℕ) → K u → ⊥) → Adds a a (UsesIn p K)
 uses_none p K a none = adds_none a (UsesIn p K) (λ place q. none q.0 q.1.1)
 
--- the same uses, told otherwise
+-- The uses may be given by an equivalent condition.
 pub uses_as : {E : Type 0} (p : Package) (K L : ℕ → Type 0) (a b : List Spot) (r : Result (Unit {0}) E) → ((u : ℕ) → K u → L u) → ((u : ℕ) → L u → K u) →
     OnOk r (Adds a b (UsesIn p K)) → OnOk r (Adds a b (UsesIn p L))
 uses_as p K L a b r to from h = call_adds a b (UsesIn p K) (UsesIn p L) r (λ place q. (q.0, (q.1.0, to q.0 q.1.1)))

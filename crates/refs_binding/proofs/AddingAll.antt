@@ -9,7 +9,7 @@ use Rattle.refs_binding.specs.Bindings.{AddsAll}
 pub all_none : {X : Type 0} (a : List X) (P : X → Type 0) → ((x : X) → P x → ⊥) → AddsAll a a P
 all_none a P none = record { keeps = λ x h. h; holds = λ x h. absurd (none x h); only = λ x h. inl h }
 
--- the same is added, told otherwise
+-- The added elements may be given by an equivalent condition.
 pub all_as : {X : Type 0} (a b : List X) (P Q : X → Type 0) → ((x : X) → P x → Q x) → ((x : X) → Q x → P x) → AddsAll a b P → AddsAll a b Q
 all_as a b P Q to from h = record {
   keeps = h.keeps;

@@ -1,4 +1,4 @@
--- What is right of the packages of a workspace is known alike: the same packages, bindings and uses follow from it.
+-- Packages, bindings and uses don't depend on which table of right verdicts they are found with.
 use Rattle.std.proofs.Common.{ℕ, List}
 use Rattle.base_files.specs.Workspace.{Workspace}
 use Rattle.base_files.specs.declared.place.Place.{Place}

@@ -98,7 +98,7 @@ one_by_scope p u one (Declared path d) (Method s) h k = absurd k
 one_by_scope p u one (Field s) e h k = absurd h
 one_by_scope p u one (Method s) e h k = absurd h
 
--- behind the name of a package: to one declaration
+-- in a qualified identifier: to one declaration
 
 seen_once : (p : Package) (d e : ℕ) → IsSeen p d → IsSeen p e → p.names d ≡ p.names e → d < e → ⊥
 seen_once p d e h k same lt = k.counts.first d h.counts.declares same (inl (h.package_level ∙ sym k.package_level, lt))

@@ -1,4 +1,4 @@
--- What is bound to a declaration by scopes.
+-- Identifiers that scopes bind to a declaration.
 use Rattle.std.proofs.Common.{ℕ, ◌≡◌, ◌<◌, ◌≤◌, List, length, sym, ap, subst, refl, arith}
 use Rattle.std.specs.Prelude.{Option, Some, None, MatchOption, ◌↔◌}
 use Rattle.go_scope.specs.Bindings.{Layout, Names, Counts, IsBoundTo, use_bound, own}

@@ -51,7 +51,7 @@ literal_for_the_name = refl
 unnamed_for_itself : named_by imports 2 ≡ 2
 unnamed_for_itself = refl
 
--- of these tokens the name is listed, and the literal is not; nor is what stands at no token
+-- Of these tokens the name is listed, and the literal is not, and neither is a missing token.
 name_is_listed : IsName (Some (record { class = Name; span = record { start = 18; end = 19 } }))
 name_is_listed = refl
 

@@ -1,5 +1,4 @@
--- Of the ways to be bound, by scopes and behind the name of a package: each gives one declaration at most, and they exclude
--- one another.
+-- Scopes and qualified identifiers each bind an identifier to at most one declaration, and never both bind it.
 use Rattle.std.proofs.Common.{ℕ, suc, ◌≡◌, List, ap, sym, subst, refl, ◌∙◌, arith}
 use Rattle.std.proofs.Math.Path.{ap₂}
 use Rattle.base_files.specs.Workspace.{Workspace}
@@ -42,7 +41,7 @@ one_by_scope p w u (Declared path d) (Method s) h k = absurd k
 one_by_scope p w u (Field s) e h k = absurd h
 one_by_scope p w u (Method s) e h k = absurd h
 
--- behind the name of a package
+-- in qualified identifiers
 
 pub exported_as : (I : Package → Type 0) (p : Package) (u : ℕ) (d : Declaration) → BindsByPackage I p u d → (path : List ℕ) ×
     ((n : ℕ) × ((d ≡ Declared path n) × IsExportedUse I p u path n))

@@ -1,4 +1,4 @@
--- Members that are used, from the member uses and the definitions that the program has.
+-- The declarations of used members, from the uses of members and the type definitions that the program has.
 use Rattle.std.proofs.Common.{ℕ, ◌≡◌, ◌<◌, List, [], length, ap, sym, subst, refl, ◌∙◌, arith, Bool, if◌then◌else◌}
 use Rattle.std.specs.Prelude.{Option, Some, None, Contains, option_map, slice_get, map}
 use Rattle.std.specs.Global.{Vec}

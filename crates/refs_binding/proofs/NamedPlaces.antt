@@ -120,7 +120,7 @@ rank_of_name IsAt one p u rank places are h = by_place (slice_index_or places ra
         e ∙ ap Some (one rank at h.at (subst (λ z. MatchOption z ((x : Position) → IsAt rank x → ⊥) (λ x. IsAt rank x)) e (are rank)) h.is_at ∙
         stands_once p u h.at h.stands)
 
--- what stands at the place of a rank is its name
+-- The identifier at the position of a rank is its declaring identifier.
 pub found_to_name : (IsAt : (rank : ℕ) → Position → Type 0) (p : Package) (rank : ℕ) (o : Option Position) →
     MatchOption o ((at : Position) → IsAt rank at → ⊥) (λ at. IsAt rank at) →
     (place : Place) → AtFound p o place → UsesIn p (λ u. IsNameOf IsAt p u rank) place
@@ -203,7 +203,7 @@ pub found_name : (p : Package) (u : ℕ) (o : Option Declaration) → ((d : Decl
 found_name p u None fields h = no_name p u fields h
 found_name p u (Some d) fields h = as_method p u d h
 
--- what stands nowhere is no name
+-- An identifier in no file is no declaring identifier.
 pub unnamed : (p : Package) (u : ℕ) → is_implied (p.layout.role u) ≡ true → (d : Declaration) → BindsByName p u d → ⊥
 unnamed p u implied (Predeclared n) h = h
 unnamed p u implied (Declared path n) h = h

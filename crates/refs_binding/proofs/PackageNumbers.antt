@@ -36,7 +36,7 @@ package_there w found h n lt =
       },
     )
 
--- what holds of the package of a number holds of that of its path
+-- A property of the package of a number is one of the package of its path.
 pub in_package : (w : Workspace) (known : Verdicts) (n : ℕ) (p : Package) (path : List ℕ) (P : Package → Type 0) → IsPackageAt w known n p →
     slice_get (package_paths w) n ≡ Some path → P p → InPackage (IsPackage w known) path P
 in_package w known n p path P is at h = record { inside = p; is_package = is.is_package; of_path = same_Some p.path path (sym is.has_number ∙ at); holds = h }

@@ -1,4 +1,4 @@
--- Refusals of whole workspaces, and of what is asked in one without faults.
+-- Refusals of workspaces with faults, and refusals in workspaces without faults.
 use Rattle.std.proofs.Common.{ℕ, List, []}
 use Rattle.std.specs.Prelude.{Result, Ok, Err}
 use Rattle.base_files.specs.Workspace.{Workspace}

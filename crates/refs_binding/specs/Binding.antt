@@ -1,5 +1,5 @@
--- What the identifiers of a package without faults are bound to: a declaration of its own scopes, a name that another package
--- exports, a field or a method.
+-- The binding relation of packages without faults. An identifier is bound by a scope, in a qualified identifier, as a use of a member, or
+-- as a member's declaring identifier.
 use Rattle.std.specs.Prelude.{ℕ, ◌≡◌, ◌<◌, List, length, Contains, Some}
 use Rattle.go_scope.specs.declared.model.Position.{Position}
 use Rattle.go_scope.specs.Bindings.{IsBoundTo}
@@ -18,11 +18,11 @@ use Rattle.refs_binding.specs.declared.declaration.Declaration.TheVariants.{Pred
 
 -- By scopes
 
--- the predeclared names have the first numbers, in each package the same
+-- `d` is the number of a predeclared name. These come first, with equal numbers in all packages.
 abbrev pub IsPredeclared : ℕ → Type 0
 IsPredeclared d = d < length universe
 
--- the scopes of the package bind u to the declaration, which is predeclared or one of the package's own
+-- The scopes of the package bind `u` to the declaration, which is predeclared or declared in a scope of this package.
 abbrev pub BindsByScope : Package → ℕ → Declaration → Type 0
 BindsByScope p u (Predeclared d) = IsPredeclared d × IsBoundTo p.layout p.names u d
 BindsByScope p u (Declared path d) = (path ≡ p.path) × (IsPredeclared d → ⊥) × IsBoundTo p.layout p.names u d
@@ -31,7 +31,11 @@ BindsByScope p u (Method s) = ⊥
 
 -- Behind the name of a package
 
--- u stands behind the name of another package, which declares and exports d under the name that u has
+-- `u` is `N` in a qualified identifier `q.N`, where `q` names another package, which exports `d` under the name `N`. In this example `u` is
+-- the identifier `Println`:
+--
+--   import "fmt"
+--   func main() { fmt.Println() }
 pub record IsExportedUse (IsPackage : Package → Type 0) (p : Package) (u : ℕ) (path : List ℕ) (d : ℕ) : Type 0 where
   pub behind : IsBehindPackage p u path
   pub other : Package
@@ -40,6 +44,7 @@ pub record IsExportedUse (IsPackage : Package → Type 0) (p : Package) (u : ℕ
   pub seen : IsSeen other d
   pub named : other.names d ≡ p.names u
 
+-- `u` is `N` in a qualified identifier `q.N` and bound to the declaration that the package of `q` exports under the name `N`.
 abbrev pub BindsByPackage : (IsPackage : Package → Type 0) → Package → ℕ → Declaration → Type 0
 BindsByPackage IsPackage p u (Predeclared d) = ⊥
 BindsByPackage IsPackage p u (Declared path d) = IsExportedUse IsPackage p u path d
@@ -48,12 +53,18 @@ BindsByPackage IsPackage p u (Method s) = ⊥
 
 -- As a member
 
+-- The declaration of a member: a field or a method.
 abbrev pub declaration_of : Member → Declaration
 declaration_of (AField s t) = Field s
 declaration_of (AMethod s on_pointer signature) = Method s
 declaration_of (ABrokenMethod s) = Method s
 
--- the name at a token, behind a dot or as a key, is the member of the type that was found before it
+-- The token is a selector or a composite literal key, and names the member `d` of the type of the operand or literal. Here the second and
+-- the third `X` are bound to the field:
+--
+--   type T struct { X int }
+--   var t = T{X: 1}
+--   var x = t.X
 pub record IsMemberAt (p : Package) (file token : ℕ) (d : Declaration) : Type 0 where
   pub uses : List MemberUse
   pub judged : AreUsesIn p file uses
@@ -64,37 +75,40 @@ pub record IsMemberAt (p : Package) (file token : ℕ) (d : Declaration) : Type 
   pub is_member : judged.world.member token found.before ≡ Some member
   pub declares : declaration_of member ≡ d
 
+-- `u` is a selector or a composite literal key that names the member `d`.
 abbrev pub BindsByMember : Package → ℕ → Declaration → Type 0
 BindsByMember p u d = IsMemberAt p (p.layout.place u).file (p.layout.place u).index d
 
 -- As the name by which a member is declared
 
+-- The position of a field's name.
 abbrev pub field_place : PlacedField → Position
 field_place f = record { file = f.file; index = f.name }
 
--- the field of that rank counts, and its name stands at that place
+-- The field of this rank counts, and its name is at this position.
 pub record IsFieldAt (p : Package) (rank : ℕ) (at : Position) : Type 0 where
   pub counts : CountsAsField p rank
   pub named_at : field_place counts.field ≡ at
 
--- the same of a method
+-- The method of this rank counts, and its name is at this position.
 pub record IsMethodAt (p : Package) (rank : ℕ) (at : Position) : Type 0 where
   pub counts : CountsAsMethod p rank
   pub named_at : function_place counts.method ≡ at
 
--- u is the name of the member of that rank
+-- `u` is the declaring identifier of the member of this rank.
 pub record IsNameOf (IsAt : (rank : ℕ) → Position → Type 0) (p : Package) (u : ℕ) (rank : ℕ) : Type 0 where
   pub at : Position
   pub is_at : IsAt rank at
   pub stands : StandsAt p.layout at u
 
+-- `u` is the declaring identifier of this field or method of the package.
 abbrev pub BindsByName : Package → ℕ → Declaration → Type 0
 BindsByName p u (Predeclared d) = ⊥
 BindsByName p u (Declared path d) = ⊥
 BindsByName p u (Field s) = (s.package ≡ p.path) × IsNameOf (IsFieldAt p) p u s.rank
 BindsByName p u (Method s) = (s.package ≡ p.path) × IsNameOf (IsMethodAt p) p u s.rank
 
--- The identifier u of the package p is bound to the declaration. IsPackage: the packages of the workspace, as they are checked.
+-- The identifier `u` of the package `p` is bound to the declaration. `IsPackage`: the packages of the workspace, as they are checked.
 pub data Binds (IsPackage : Package → Type 0) (p : Package) (u : ℕ) (d : Declaration) : Type 0 where
   by_scope : BindsByScope p u d → Binds IsPackage p u d
   by_package : BindsByPackage IsPackage p u d → Binds IsPackage p u d

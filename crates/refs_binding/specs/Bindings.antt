@@ -1,4 +1,4 @@
--- The identifiers of a workspace that are bound, each with its declaration.
+-- The bound identifiers of a workspace, each with its declaration.
 use Rattle.std.specs.Prelude.{ℕ, ◌↔◌, ◌⊎◌, List, Contains}
 use Rattle.std.specs.List.Sorted.{IsSortedBy}
 use Rattle.std.specs.Ordering.{is_lt}
@@ -14,45 +14,46 @@ use Rattle.refs_binding.specs.Steps.{UsesIn, place_of}
 use Rattle.refs_binding.specs.Uses.{IsUseOf, IsBoundTo}
 use Rattle.refs_binding.specs.Workspaces.{IsPackageAt}
 
--- the new list holds what the old one does, and what P tells, and nothing else
+-- `new` holds the elements of `old` and those that satisfy `P`, and no others.
 pub record AddsAll {X : Type 0} (old new : List X) (P : X → Type 0) : Type 0 where
   pub keeps : (x : X) → Contains old x → Contains new x
   pub holds : (x : X) → P x → Contains new x
   pub only : (x : X) → Contains new x → Contains old x ⊎ P x
 
--- a place with a declaration
+-- A bound identifier, made of a declaration and a place.
 abbrev pub bound_to : Declaration → Spot → BoundSpot
 bound_to d s = record { spot = s; declaration = d }
 
+-- The place of a bound identifier.
 abbrev pub place_at : BoundSpot → Place
 place_at b = place_of b.spot
 
--- an identifier of the package begins there, and is bound to the declaration in a way of which K tells
+-- An identifier of the package begins at the place of `b`, and `K` relates it to the declaration of `b`.
 abbrev pub BoundIn : Package → (ℕ → Declaration → Type 0) → BoundSpot → Type 0
 BoundIn p K b = UsesIn p (λ u. K u b.declaration) (place_at b)
 
--- the same in the package of a number
+-- `b` is a bound identifier of the package of this number.
 pub record IsBoundAt (w : Workspace) (known : Verdicts) (number : ℕ) (b : BoundSpot) : Type 0 where
   pub used_in : Package
   pub is_package : IsPackageAt w known number used_in
   pub bound : BoundIn used_in (IsBoundTo w known used_in) b
 
--- the same in some package
+-- `b` is a bound identifier of some package of the workspace.
 abbrev pub IsBound : Workspace → Verdicts → BoundSpot → Type 0
 IsBound w known b = IsUseOf w known b.declaration (place_at b)
 
--- the same in the package of one of some numbers
+-- `b` is a bound identifier of a package whose number satisfies `IsOf`.
 pub record IsBoundAmong (w : Workspace) (known : Verdicts) (IsOf : ℕ → Type 0) (b : BoundSpot) : Type 0 where
   pub number : ℕ
   pub is_of : IsOf number
   pub bound : IsBoundAt w known number b
 
--- all bound identifiers of a workspace, in the order of their places
+-- The list holds just the bound identifiers of the workspace, sorted by place.
 pub record AreBindings (w : Workspace) (known : Verdicts) (list : List BoundSpot) : Type 0 where
   pub in_order : IsSortedBy (λ a b. is_lt (place_cmp (place_at a) (place_at b))) list
   pub each : (b : BoundSpot) → Contains list b ↔ IsBound w known b
 
--- the bound identifiers of the packages of some numbers, in the order of their places
+-- The list holds just the bound identifiers of the packages whose numbers satisfy `IsOf`, sorted by place.
 pub record AreBindingsAmong (w : Workspace) (known : Verdicts) (IsOf : ℕ → Type 0) (list : List BoundSpot) : Type 0 where
   pub in_order : IsSortedBy (λ a b. is_lt (place_cmp (place_at a) (place_at b))) list
   pub each : (b : BoundSpot) → Contains list b ↔ IsBoundAmong w known IsOf b

@@ -1,4 +1,4 @@
--- What the packages of a workspace export, by their numbers and by names.
+-- The declarations that packages export, by package number and by name.
 use Rattle.std.specs.Prelude.{ℕ, ◌≡◌, ◌<◌, List, Option, length, MatchOption}
 use Rattle.std.specs.Global.{Vec}
 use Rattle.std.specs.BTreeMap.{BTreeMap, get_by}
@@ -12,28 +12,28 @@ use Rattle.workspace_check.specs.Verdicts.{Verdicts}
 use Rattle.refs_binding.specs.Workspaces.{IsPackageAt}
 use Rattle.refs_binding.specs.Packages.{HoldsOfEach}
 
--- the number that a map has for a name
+-- The number that a map has for a name.
 abbrev pub number_named : BTreeMap (Vec ℕ) ℕ → List ℕ → Option ℕ
 number_named numbers name = get_by (λ key. slice_cmp nat_cmp name key.items) numbers
 
--- one of the declarations below n is seen in other packages by that name
+-- The package exports `d` under this name, and `d` is below `n`.
 pub record IsExportedBelow (p : Package) (n : ℕ) (name : List ℕ) (d : ℕ) : Type 0 where
   pub below : d < n
   pub seen : IsSeen p d
   pub named : p.names d ≡ name
 
--- for each name such a declaration; none where there is none
+-- `numbers` has for each name a declaration below `n` that the package exports under it, or `None` if there is none.
 abbrev pub AreNumbersBelow : Package → ℕ → (List ℕ → Option ℕ) → Type 0
 AreNumbersBelow p n numbers = (name : List ℕ) → MatchOption (numbers name) ((d : ℕ) → IsExportedBelow p n name d → ⊥) (λ d. IsExportedBelow p n name d)
 
--- for each name the declaration that a package exports so
+-- `numbers` has for each name the declaration that the package exports under it, or `None` if there is none.
 abbrev pub AreNumbers : Package → (List ℕ → Option ℕ) → Type 0
 AreNumbers p numbers = (name : List ℕ) → MatchOption (numbers name) ((d : ℕ) → IsSeen p d → p.names d ≡ name → ⊥) (λ d. IsSeen p d × (p.names d ≡ name))
 
--- the same of the package of a number
+-- `numbers` has for each name the declaration that the package of the number `n` exports under it.
 abbrev pub AreNumbersAt : Workspace → Verdicts → ℕ → BTreeMap (Vec ℕ) ℕ → Type 0
 AreNumbersAt w known n numbers = (p : Package) × (IsPackageAt w known n p × AreNumbers p (number_named numbers))
 
--- the same of all packages
+-- `list` has for each package, by number, the declarations that it exports, by name.
 abbrev pub AreExports : Workspace → Verdicts → List (BTreeMap (Vec ℕ) ℕ) → Type 0
 AreExports w known list = HoldsOfEach (AreNumbersAt w known) (length (package_paths w)) list

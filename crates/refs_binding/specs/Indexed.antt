@@ -1,4 +1,4 @@
--- A package of a number, and what is known of its identifiers.
+-- A package by its number, and a package with its index.
 use Rattle.std.specs.Prelude.{◌<◌, length, map}
 use Rattle.base_files.specs.Packages.{package_paths}
 use Rattle.types_declared.specs.Package.{Package}
@@ -9,16 +9,16 @@ use Rattle.refs_binding.specs.declared.indexed.Indexed.{Indexed}
 use Rattle.refs_binding.specs.Members.{KnowsOwn}
 use Rattle.refs_binding.specs.Workspaces.{IsSound, known_in, IsPackageAt}
 
--- the number is that of a package, in a workspace without faults
+-- The number is that of a package of a workspace without faults.
 pub record IsNumbered (at : Numbered) : Type 0 where
   pub in_range : at.number < length (package_paths at.graph.now)
   pub sound : IsSound at.graph.now at.found.now
 
--- the package is that of the number
+-- `p` is the package of the number.
 abbrev pub IsUnitAt : Numbered → Package → Type 0
 IsUnitAt at p = IsPackageAt at.graph.now (known_in at.found.now) at.number p
 
--- what was found once in a package, its type definitions, and its uses of members
+-- The index, the type definitions and the uses of members are those of the package.
 pub record IsIndexed (of : Indexed) : Type 0 where
   pub index : IsIndexOf (package_of of.unit) of.index.now
   pub own : KnowsOwn (package_of of.unit) of.own.now

@@ -1,4 +1,4 @@
--- The packages of a workspace without faults as they are read: what each sees of others, and its table.
+-- The packages of a workspace without faults as they are read: the table of each, and what it sees of others.
 use Rattle.std.specs.Prelude.{ℕ, ◌≡◌, List, Some, length, map, slice_get}
 use Rattle.base_files.specs.Packages.{package_paths}
 use Rattle.base_files.specs.Workspace.{Workspace}
@@ -13,32 +13,35 @@ use Rattle.workspace_check.specs.Verdicts.{Verdicts, AreSeen}
 use Rattle.refs_binding.specs.declared.packages.Packages.{Packages}
 use Rattle.refs_binding.specs.Workspaces.{IsSound, known_in, IsPackageAt}
 
--- so many things, of each of which P holds with its number
+-- The list has `count` elements, and `P` relates each index to its element.
 pub record HoldsOfEach {X : Type 0} (P : ℕ → X → Type 0) (count : ℕ) (list : List X) : Type 0 where
   pub size : length list ≡ count
   pub each : (n : ℕ) (x : X) → slice_get list n ≡ Some x → P n x
 
--- what the package of a number sees of others
+-- `seen` is the export data that the package of this number sees of others.
 abbrev pub IsSeenBy : Workspace → Verdicts → ℕ → Interfaces → Type 0
 IsSeenBy w known n seen = OfPackage w n (λ p. AreSeen w known p (name_in seen) (interface_in seen))
 
+-- `all` has for each package, by number, the export data that it sees of others.
 abbrev pub AreAllSeen : Workspace → Verdicts → List Interfaces → Type 0
 AreAllSeen w known all = HoldsOfEach (IsSeenBy w known) (length (package_paths w)) all
 
--- the package of a number has this table and sees this, where imports without a name declare the names of the packages that it sees
+-- `table` is the table of the package of this number, which sees `seen` of others. In the table an import without a name declares the name
+-- of the imported package.
 abbrev pub IsTableAs : Workspace → Verdicts → ℕ → ScopedPackage → Interfaces → Type 0
 IsTableAs w known n table seen =
     OfPackage w n (λ path. IsPackageAt w known n (package_in path (map source_of table.files) table (interface_in seen)))
 
--- the table of the package of a number, by what all see
+-- `table` is the table of the package of this number, by what each package sees.
 abbrev pub IsTableOf : Workspace → Verdicts → List Interfaces → ℕ → ScopedPackage → Type 0
 IsTableOf w known all n table = (seen : Interfaces) → slice_get all n ≡ Some seen → IsTableAs w known n table seen
 
--- a workspace without faults, and what its packages see, and their tables
+-- A workspace without faults, what each of its packages sees of others, and the table of each.
 pub record AreRead (w : Workspace) (found : Findings) (all : List Interfaces) (list : List ScopedPackage) : Type 0 where
   pub sound : IsSound w found
   pub seen : AreAllSeen w (known_in found) all
   pub tables : HoldsOfEach (IsTableOf w (known_in found) all) (length (package_paths w)) list
 
+-- The packages of a workspace without faults were read.
 abbrev pub ArePackages : Packages → Type 0
 ArePackages p = AreRead p.graph.now p.found.now p.seen.now p.tables.items

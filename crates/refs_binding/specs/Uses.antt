@@ -1,4 +1,4 @@
--- Which identifiers of a workspace are bound to the same declaration as the one at a place.
+-- Which identifiers of a workspace are bound to the declaration of the identifier at a byte.
 use Rattle.std.specs.Prelude.{ℕ, ◌≡◌, ◌≢◌, ◌↔◌, List, [], ◌∷◌, Contains, ⊤, None, Result, Ok, Err}
 use Rattle.std.specs.List.Sorted.{IsStrictlySortedBy}
 use Rattle.std.specs.FinMap as files
@@ -18,20 +18,20 @@ use Rattle.refs_binding.specs.Identifiers.{BeginsAt, HoldsByte, named_by}
 use Rattle.refs_binding.specs.Places.{place_cmp}
 use Rattle.refs_binding.specs.Binding.{Binds}
 
--- a package of the workspace, as it is checked
+-- `p` is a package of the workspace, as it is checked.
 pub record IsPackage (w : Workspace) (known : Verdicts) (p : Package) : Type 0 where
   pub of_workspace : Contains (package_paths w) p.path
   pub is_checked : IsPackageIn w known p.path p
 
--- the identifier u of the package p is bound to the declaration
+-- The identifier `u` of the package `p` is bound to the declaration.
 abbrev pub IsBoundTo : Workspace → Verdicts → Package → ℕ → Declaration → Type 0
 IsBoundTo w known p u d = Binds (IsPackage w known) p u d
 
--- the same of what u stands for: the literal of an import that has a name stands for the name
+-- The identifier that `u` stands for is bound to the declaration. The path literal of an import with a name stands for that name.
 abbrev pub IsNamedTo : Workspace → Verdicts → Package → ℕ → Declaration → Type 0
 IsNamedTo w known p u d = IsBoundTo w known p (named_by p.layout u) d
 
--- an identifier of some package, and no literal of an import, begins at the place and is bound to the declaration
+-- An identifier of some package begins at the place and is bound to the declaration. It is no import's path literal.
 pub record IsUseOf (w : Workspace) (known : Verdicts) (d : Declaration) (place : Place) : Type 0 where
   pub used_in : Package
   pub is_package : IsPackage w known used_in
@@ -39,12 +39,12 @@ pub record IsUseOf (w : Workspace) (known : Verdicts) (d : Declaration) (place :
   pub begins : BeginsAt used_in place.path place.offset user
   pub bound : IsBoundTo w known used_in user d
 
--- the package of a file's folder, as it is checked
+-- `p` is the package of the folder of a file, as it is checked.
 pub record IsAskedIn (w : Workspace) (known : Verdicts) (path : List ℕ) (p : Package) : Type 0 where
   pub is_package : IsPackage w known p
   pub of_folder : p.path ≡ folder path
 
--- what holds the byte is bound to the declaration
+-- The identifier or path literal at the byte is bound to the declaration.
 pub record HasDeclaration (w : Workspace) (known : Verdicts) (path : List ℕ) (offset : ℕ) (d : Declaration) : Type 0 where
   pub asked_in : Package
   pub is_asked : IsAskedIn w known path asked_in
@@ -52,7 +52,8 @@ pub record HasDeclaration (w : Workspace) (known : Verdicts) (path : List ℕ) (
   pub at : HoldsByte asked_in path offset number
   pub bound : IsNamedTo w known asked_in number d
 
--- The identifier at the byte is bound to a declaration, and these are the places of all that are bound to the same one.
+-- `places` are the places of all identifiers that are bound to the declaration of the identifier at the byte, sorted and without
+-- duplicates.
 pub record ListsUses (w : Workspace) (path : List ℕ) (offset : ℕ) (places : List Place) : Type 0 where
   pub known : Verdicts
   pub right : AreVerdicts w known
@@ -61,13 +62,13 @@ pub record ListsUses (w : Workspace) (path : List ℕ) (offset : ℕ) (places : 
   pub in_order : IsStrictlySortedBy place_cmp places
   pub each : (place : Place) → Contains places place ↔ IsUseOf w known declaration place
 
--- no identifier and no literal of an import holds the byte
+-- The byte is in no identifier and in no import's path literal.
 pub record HasNoIdentifier (w : Workspace) (path : List ℕ) (offset : ℕ) : Type 0 where
   pub known : Verdicts
   pub right : AreVerdicts w known
   pub none : (p : Package) → IsAskedIn w known path p → (u : ℕ) → HoldsByte p path offset u → ⊥
 
--- what holds the byte is bound to no declaration
+-- The identifier at the byte is bound to no declaration.
 pub record HasNoDeclaration (w : Workspace) (path : List ℕ) (offset : ℕ) : Type 0 where
   pub known : Verdicts
   pub right : AreVerdicts w known
@@ -77,15 +78,16 @@ pub record HasNoDeclaration (w : Workspace) (path : List ℕ) (offset : ℕ) : T
   pub at : HoldsByte asked_in path offset number
   pub unbound : (d : Declaration) → IsNamedTo w known asked_in number d → ⊥
 
+-- `path` is a legal path of a file, and the workspace has a file there.
 abbrev pub IsFile : Workspace → List ℕ → Type 0
 IsFile w path = IsPath 2 path × (files.get w path ≢ None)
 
--- the first fault of the workspace's list
+-- The first fault of the workspace's fault list.
 pub record HasFirstFault (w : Workspace) (place : Place) (kind : FaultKind) : Type 0 where
   pub others : List FileFault
   pub listed : ListsFaults w (record { place = place; kind = kind } ∷ others)
 
--- the uses of what holds a byte of a file of a workspace without faults, or why there are none
+-- The answer for a byte of a file of a workspace without faults: the uses of the identifier there, or a refusal.
 abbrev pub TellsUsesAt : Workspace → List ℕ → ℕ → Result (List Place) Refusal → Type 0
 TellsUsesAt w path offset (Ok places) = ListsUses w path offset places
 TellsUsesAt w path offset (Err NoIdentifier) = HasNoIdentifier w path offset
@@ -93,7 +95,8 @@ TellsUsesAt w path offset (Err NotRenamable) = HasNoDeclaration w path offset
 TellsUsesAt w path offset (Err Memory) = ⊤
 TellsUsesAt w path offset (Err refusal) = ⊥
 
--- the places of the identifiers that are bound to the same declaration as the one at that byte, or why there are none
+-- The answer of `uses`: the places of all identifiers bound to the declaration of the identifier at the byte, or a refusal. The refusals
+-- are checked in this order: no legal path, no such file, the first fault, no identifier at the byte, no declaration.
 abbrev pub TellsUses : Workspace → List ℕ → ℕ → Result (List Place) Refusal → Type 0
 TellsUses w path offset (Ok places) = IsFile w path × ListsFaults w [] × ListsUses w path offset places
 TellsUses w path offset (Err BadPath) = ¬ (IsPath 2 path)

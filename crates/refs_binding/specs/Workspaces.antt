@@ -22,33 +22,33 @@ use Rattle.refs_binding.specs.Steps.{UsesIn, BindsIn, IsExportedBy}
 use Rattle.refs_binding.specs.Uses.{IsPackage, IsAskedIn, HasDeclaration, HasNoIdentifier, HasNoDeclaration, IsNamedTo, IsUseOf, ListsUses, HasFirstFault}
 use Rattle.refs_binding.specs.Places.{place_cmp}
 
--- what is found in a workspace without faults
+-- The findings of a workspace, none of which has a fault.
 pub record IsSound (w : Workspace) (found : Findings) : Type 0 where
   pub findings : AreFindings w found
   pub sound : (n : ℕ) (f : Finding) → slice_get found.packages.items n ≡ Some f → f.faults.items ≡ []
 
--- what is known of the packages where that was found
+-- The verdicts on packages that follow from findings.
 abbrev pub known_in : Findings → Verdicts
 known_in found = known_by found.interfaces
 
--- the package of a number, as it is checked
+-- `p` is the package of this number, as it is checked.
 pub record IsPackageAt (w : Workspace) (known : Verdicts) (number : ℕ) (p : Package) : Type 0 where
   pub has_number : slice_get (package_paths w) number ≡ Some p.path
   pub is_package : IsPackage w known p
 
--- the path of the package of a declaration; none where it is predeclared
+-- The path of the package of a declaration, or `None` if it is predeclared.
 abbrev pub home_path : Declaration → Option (List ℕ)
 home_path (Predeclared n) = None
 home_path (Declared path d) = Some path
 home_path (Field s) = Some s.package
 home_path (Method s) = Some s.package
 
--- the number of that package; none where the workspace has no such package
+-- The number of the package of a declaration, or `None` if the workspace has no such package.
 abbrev pub IsHome : Workspace → Declaration → Option ℕ → Type 0
 IsHome w d home = MatchOption home ((path : List ℕ) → home_path d ≡ Some path → Contains (package_paths w) path → ⊥)
     (λ number. slice_get (package_paths w) number ≡ home_path d)
 
--- d is what a package of a path exports under a name
+-- The package of this path exports the declaration under this name.
 abbrev pub ExportsAs : Workspace → Verdicts → (path name : List ℕ) → Declaration → Type 0
 ExportsAs w known path name (Predeclared n) = ⊥
 ExportsAs w known path name (Declared other d) = (other ≡ path) ×
@@ -56,7 +56,7 @@ ExportsAs w known path name (Declared other d) = (other ≡ path) ×
 ExportsAs w known path name (Field s) = ⊥
 ExportsAs w known path name (Method s) = ⊥
 
--- the name under which the package of a declaration exports it; none where it does not
+-- The name under which the package of a declaration exports it, or `None` if it does not.
 abbrev pub IsExportedUnder : Workspace → Verdicts → Declaration → Option (List ℕ) → Type 0
 IsExportedUnder w known (Predeclared n) name = name ≡ None
 IsExportedUnder w known (Declared path d) name =
@@ -65,24 +65,24 @@ IsExportedUnder w known (Declared path d) name =
 IsExportedUnder w known (Field s) name = name ≡ None
 IsExportedUnder w known (Method s) name = name ≡ None
 
--- the bytes of a name
+-- The bytes of a name.
 abbrev pub bytes_of : {Z : Type 0} → Vec ℕ Z → List ℕ
 bytes_of name = name.items
 
--- the number of the declaration that the package of a number exports under a name; none where it exports none
+-- The number of the declaration that the package `number` exports under a name, or `None` if there is none.
 abbrev pub IsExportedNumber : Workspace → Verdicts → (number : ℕ) → (name : List ℕ) → Option ℕ → Type 0
 IsExportedNumber w known number name found =
     (p : Package) × (IsPackageAt w known number p × MatchOption found ((d : ℕ) → IsSeen p d → p.names d ≡ name → ⊥) (λ d. IsSeen p d × (p.names d ≡ name)))
 
--- the name under which the package of a number exports a declaration of its own; none where it does not
+-- The name under which the package `number` exports its declaration `d`, or `None` if it does not.
 abbrev pub IsNameAt : Workspace → Verdicts → (number d : ℕ) → Option (List ℕ) → Type 0
 IsNameAt w known number d name = (p : Package) × (IsPackageAt w known number p × IsExportedBy p d name)
 
--- an identifier is bound to a field or method, where it is used or where it is declared
+-- `u` is a use of a field or method, or the declaring identifier of it.
 abbrev pub BindsMember : Package → ℕ → Declaration → Type 0
 BindsMember p u d = BindsByMember p u d ⊎ BindsByName p u d
 
--- the declaration of what holds a byte, in one package
+-- The answer for a byte of a file of the package `p`: the declaration of the identifier at the byte, or a refusal.
 abbrev pub FindsDeclarationIn : Workspace → Verdicts → Package → List ℕ → ℕ → Result Declaration Refusal → Type 0
 FindsDeclarationIn w known p path offset (Ok d) = (u : ℕ) × (HoldsByte p path offset u × IsNamedTo w known p u d)
 FindsDeclarationIn w known p path offset (Err NoIdentifier) = (u : ℕ) → HoldsByte p path offset u → ⊥
@@ -90,12 +90,12 @@ FindsDeclarationIn w known p path offset (Err NotRenamable) = (u : ℕ) × (Hold
 FindsDeclarationIn w known p path offset (Err Memory) = ⊤
 FindsDeclarationIn w known p path offset (Err refusal) = ⊥
 
--- the same in the package of a number
+-- The answer for a byte of a file of the package `number`: the declaration of the identifier at the byte, or a refusal.
 abbrev pub FindsDeclarationAt : Workspace → Verdicts → ℕ → List ℕ → ℕ → Result Declaration Refusal → Type 0
 FindsDeclarationAt w known number path offset (Err Memory) = ⊤
 FindsDeclarationAt w known number path offset result = (p : Package) × (IsPackageAt w known number p × FindsDeclarationIn w known p path offset result)
 
--- the declaration of what holds a byte
+-- The answer for a byte of a file: the declaration of the identifier at the byte, or a refusal.
 abbrev pub FindsDeclaration : Workspace → Verdicts → List ℕ → ℕ → Result Declaration Refusal → Type 0
 FindsDeclaration w known path offset (Ok d) = HasDeclaration w known path offset d
 FindsDeclaration w known path offset (Err NoIdentifier) = (p : Package) → IsAskedIn w known path p → (u : ℕ) → HoldsByte p path offset u → ⊥
@@ -104,27 +104,28 @@ FindsDeclaration w known path offset (Err NotRenamable) =
 FindsDeclaration w known path offset (Err Memory) = ⊤
 FindsDeclaration w known path offset (Err refusal) = ⊥
 
--- an identifier of the package of a number that begins at the place is bound to the declaration, which has that name abroad
+-- An identifier of the package `number` begins at the place and is bound to the declaration, which other packages see under `name`, if at
+-- all.
 pub record IsUseAt (w : Workspace) (known : Verdicts) (d : Declaration) (name : Option (List ℕ)) (number : ℕ) (place : Place) : Type 0 where
   pub used_in : Package
   pub is_package : IsPackageAt w known number used_in
   pub is_use : UsesIn used_in (BindsIn used_in d name) place
 
--- whether a workspace has no fault, or else its first one
+-- A workspace has no faults, or the refusal has its first one.
 abbrev pub RefusesFirst : Workspace → Result (Unit {0}) Refusal → Type 0
 RefusesFirst w (Ok done) = ListsFaults w []
 RefusesFirst w (Err (Faulty place kind)) = HasFirstFault w place kind
 RefusesFirst w (Err Memory) = ⊤
 RefusesFirst w (Err refusal) = ⊥
 
--- whether nothing found in a workspace has a fault, or else the first one
+-- The findings have no faults, or the refusal has the first fault of the workspace.
 abbrev pub RefusesFaults : Workspace → Findings → Result (Unit {0}) Refusal → Type 0
 RefusesFaults w found (Ok done) = IsSound w found
 RefusesFaults w found (Err (Faulty place kind)) = HasFirstFault w place kind
 RefusesFaults w found (Err Memory) = ⊤
 RefusesFaults w found (Err refusal) = ⊥
 
--- the uses of what holds a byte of a file, or why there are none
+-- The answer for a byte of an existing file: the uses of the identifier there, or a refusal.
 abbrev pub TellsUsesIn : Workspace → List ℕ → ℕ → Result (List Place) Refusal → Type 0
 TellsUsesIn w path offset (Ok places) = ListsFaults w [] × ListsUses w path offset places
 TellsUsesIn w path offset (Err (Faulty place kind)) = HasFirstFault w place kind
@@ -133,7 +134,7 @@ TellsUsesIn w path offset (Err NotRenamable) = ListsFaults w [] × HasNoDeclarat
 TellsUsesIn w path offset (Err Memory) = ⊤
 TellsUsesIn w path offset (Err refusal) = ⊥
 
--- the places of all uses, in order
+-- `places` are the places of all identifiers bound to the declaration, sorted and without duplicates.
 pub record ListsFound (w : Workspace) (known : Verdicts) (d : Declaration) (places : List Place) : Type 0 where
   pub in_order : IsStrictlySortedBy place_cmp places
   pub each : (place : Place) → Contains places place ↔ IsUseOf w known d place

@@ -10,7 +10,7 @@ use crate::bound_spot::BoundSpot;
 use base_files::Place;
 use std::cmp::Ordering;
 
-/// Sorts bound identifiers by their places.
+/// Sorts bound identifiers by place.
 pub fn sort(bound: &mut Vec<BoundSpot>)
     ensures order { IsSortedBy (λ a b. is_lt (place_cmp (place_at a) (place_at b))) bound.new.items }
     ensures same { (b : Bound) → Contains bound.new.items b ↔ Contains bound.old.items b }
@@ -18,7 +18,7 @@ pub fn sort(bound: &mut Vec<BoundSpot>)
     bound.sort_unstable_by(|a, b| a.spot.cmp(&b.spot));
 }
 
-/// How the place of a bound identifier compares with another.
+/// Compares the place of a bound identifier with another place.
 pub fn compare(bound: &BoundSpot, place: &Place) -> Ordering
     ensures { result ≡ place_cmp (place_at bound.now) place.now }
 {
@@ -26,7 +26,7 @@ pub fn compare(bound: &BoundSpot, place: &Place) -> Ordering
     by_path.then(bound.spot.offset.cmp(&place.offset))
 }
 
-/// One of the bound identifiers that begin at a place.
+/// Returns some bound identifier that begins at a place, by a binary search in a list sorted by place.
 pub fn find<'a>(bound: &'a [BoundSpot], place: &Place) -> Option<&'a BoundSpot>
     requires { IsSortedBy (λ a b. is_lt (place_cmp (place_at a) (place_at b))) bound.now }
     ensures { MatchOption result ((b : Bound) → Contains bound.now b → place_at b ≡ place.now → ⊥) (λ b. Contains bound.now b.now × (place_at b.now ≡ place.now)) }

@@ -1,8 +1,8 @@
-//! A place at which a bound identifier begins, with the declaration.
+//! A bound identifier: its place and its declaration.
 use crate::declaration::Declaration;
 use crate::spot::Spot;
 
-/// Where an identifier begins, and what it is bound to.
+/// The place at which an identifier begins, and the declaration that it is bound to.
 #[derive(Drop)]
 pub struct BoundSpot {
     pub spot: Spot,

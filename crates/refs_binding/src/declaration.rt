@@ -8,9 +8,9 @@ use std::alloc::AllocError;
 use types_expr::symbol::{SharedPath, Symbol};
 use types_expr::world::Member;
 
-/// A declaration. A predeclared name has its number, which is the same in each package. Another declaration of a scope has
-/// its package and the number of its identifier there, where imports without a name declare too; a field or a method has
-/// its package and its rank.
+/// A declaration: what an identifier is bound to. `Predeclared` has the name's number, which is equal in all packages. `Declared` is
+/// another declaration of a scope: the path of its package and the number of its identifier there. An import without a name is declared by
+/// its path literal. `Field` and `Method` have the symbol: package and rank.
 #[derive(Drop)]
 pub enum Declaration {
     Predeclared(usize),
@@ -20,7 +20,7 @@ pub enum Declaration {
 }
 
 impl Declaration {
-    /// The same declaration, with the path shared.
+    /// Clones the declaration. The path is shared.
     pub fn copy(&self) -> Result<Declaration, AllocError>
         ensures { IfOk result (λ copy. copy ≡ self.now) }
     {
@@ -32,7 +32,7 @@ impl Declaration {
         }
     }
 
-    /// The declaration of a member.
+    /// Returns the declaration of a member.
     #[tactic(auto, unfolding(types_expr::specs::WorldView::member_of))]
     pub fn of(member: Member<'_>) -> Result<Declaration, AllocError>
         ensures { IfOk result (λ d. d ≡ declaration_of (member_of member.entry)) }
@@ -54,7 +54,7 @@ impl Declaration {
         }
     }
 
-    /// Whether this is the field of a symbol.
+    /// Whether this is the field with this symbol.
     fn is_field(&self, symbol: &Symbol) -> bool
         ensures { IsTrue result ↔ (Field symbol.now ≡ self.now) }
     {
@@ -66,7 +66,7 @@ impl Declaration {
         }
     }
 
-    /// Whether this is the method of a symbol.
+    /// Whether this is the method with this symbol.
     fn is_method(&self, symbol: &Symbol) -> bool
         ensures { IsTrue result ↔ (Method symbol.now ≡ self.now) }
     {

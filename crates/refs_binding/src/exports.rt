@@ -1,4 +1,4 @@
-//! What a package exports, by name.
+//! The declarations that a package exports, by name.
 ghost use Rattle.std.specs.Prelude.{◌<◌, ◌+◌, length, map, IfOk, OnOk};
 ghost use Rattle.go_ast.specs.SourceFile.{source_of};
 ghost use Rattle.types_info.specs.PackageOf.{package_in};
@@ -14,7 +14,7 @@ use types_check::is_seen;
 use types_declared::{Interfaces, Package};
 use types_expr::symbol::SharedPath;
 
-/// Adds a declaration, if it is seen in other packages.
+/// Adds the declaration `d` under its name, if the package exports it.
 fn add_number(
     alloc: Global,
     unit: Package<'_>,
@@ -31,7 +31,7 @@ fn add_number(
     Ok(())
 }
 
-/// The numbers of the declarations that a package exports, by name.
+/// Returns the numbers of the declarations that a package exports, by name.
 pub fn numbers(alloc: Global, unit: Package<'_>) -> Result<BTreeMap<Vec<u8>, usize>, AllocError>
     ensures { IfOk result (λ numbers. AreNumbers (package_of unit.entry) (number_named numbers)) }
 {
@@ -42,7 +42,7 @@ pub fn numbers(alloc: Global, unit: Package<'_>) -> Result<BTreeMap<Vec<u8>, usi
     Ok(numbers)
 }
 
-/// The same of the package of a path.
+/// Returns the numbers of the declarations that the package of a path exports, by name.
 pub fn numbers_by(
     alloc: Global,
     path: &SharedPath,

@@ -1,4 +1,4 @@
-//! The first fault of a workspace.
+//! Refuses a workspace with faults.
 ghost use Rattle.std.specs.Prelude.{ℕ, ◌≡◌, [], slice_get, Some, IsTrue};
 ghost use Rattle.workspace_check.specs.declared.finding.Finding.{Finding as Found};
 ghost use Rattle.workspace_check.specs.Found.{AreFindings};
@@ -9,7 +9,7 @@ use std::alloc::Global;
 use workspace_check::{Findings, SharedFinding, faults};
 use workspace_graph::Graph;
 
-/// Refuses a workspace for the first fault that was found in it.
+/// Refuses a workspace with the first fault of its list, if it has any.
 fn refuse_first(alloc: Global, graph: &Graph, found: &Findings) -> Result<(), Refusal>
     requires { AreFindings graph.now found.now }
     ensures { RefusesFirst graph.now result }
@@ -23,7 +23,7 @@ fn refuse_first(alloc: Global, graph: &Graph, found: &Findings) -> Result<(), Re
     }
 }
 
-/// Whether nothing that was found is a fault.
+/// Whether none of the findings has a fault.
 fn are_sound(packages: &[SharedFinding]) -> bool
     ensures { IsTrue result → (n : ℕ) (f : Found) → slice_get packages.now n ≡ Some f → f.faults.items ≡ [] }
 {
@@ -35,7 +35,7 @@ fn are_sound(packages: &[SharedFinding]) -> bool
     true
 }
 
-/// Refuses a workspace in which a fault was found for the first one.
+/// Refuses a workspace with the first fault of its list, if some finding has one. Without a fault no list is made.
 pub fn refuse_faults(alloc: Global, graph: &Graph, found: &Findings) -> Result<(), Refusal>
     requires { AreFindings graph.now found.now }
     ensures { RefusesFaults graph.now found.now result }

@@ -1,4 +1,4 @@
-//! The places at which the identifiers of a package begin.
+//! Lists the places at which identifiers of a package begin.
 ghost use Rattle.std.specs.Prelude.{◌≡◌, ◌<◌, ◌↔◌, Some, length, slice_get, map, IsTrue, OnOk};
 ghost use Rattle.go_scanner.specs.declared.piece.Class.TheVariants.{Name};
 ghost use Rattle.go_scanner.specs.CutText.{tokens_in};
@@ -14,7 +14,7 @@ use go_scope::model::Position;
 use std::alloc::AllocError;
 use types_declared::{Index, Package};
 
-/// Whether a token is a name, by what it is.
+/// Whether the class of a token is that of an identifier.
 fn is_name_class(class: Class) -> bool
     ensures { IsTrue result ↔ (class ≡ Name) }
 {
@@ -24,7 +24,7 @@ fn is_name_class(class: Class) -> bool
     }
 }
 
-/// Whether a name stands at a number of some tokens.
+/// Whether the token at an index is an identifier.
 fn is_name_at(tokens: &[Piece], token: usize) -> bool
     ensures { IsTrue result ↔ IsName (slice_get tokens.now token) }
 {
@@ -34,14 +34,14 @@ fn is_name_at(tokens: &[Piece], token: usize) -> bool
     }
 }
 
-/// Whether a token of a file is a name.
+/// Whether the token at an index of a file is an identifier.
 pub fn is_name(file: &FileTree, token: usize) -> bool
     ensures { IsTrue result ↔ IsName (slice_get (tokens_in file.now.cut) token) }
 {
     is_name_at(file.pieces().tokens(), token)
 }
 
-/// Adds the place at which a name of a file begins.
+/// Adds the place of a token of a file, if the token is an identifier.
 fn add_name(found: &mut Vec<Spot>, file: &FileTree, token: usize) -> Result<(), AllocError>
     ensures { OnOk result (Adds found.old.items found.new.items (λ place. NameBegins (Some (source_of file.now)) token place.path place.offset)) }
 {
@@ -53,7 +53,7 @@ fn add_name(found: &mut Vec<Spot>, file: &FileTree, token: usize) -> Result<(), 
     Ok(())
 }
 
-/// Adds the place at which a token begins, if it has one and is a name.
+/// Adds the place of the token at a position, if the token is an identifier.
 pub fn add_place(found: &mut Vec<Spot>, files: &[FileTree], at: Position) -> Result<(), AllocError>
     ensures { OnOk result (Adds found.old.items found.new.items (λ place. NameBegins (slice_get (map source_of files.now) at.file) at.index place.path place.offset)) }
 {
@@ -64,7 +64,7 @@ pub fn add_place(found: &mut Vec<Spot>, files: &[FileTree], at: Position) -> Res
     }
 }
 
-/// Adds the place of an identifier, unless it stands in no file. The literal of an import is none.
+/// Adds the place of the identifier `u`. Adds nothing for an import's path literal or a predeclared name.
 pub fn add_identifier(found: &mut Vec<Spot>, unit: Package<'_>, u: usize) -> Result<(), AllocError>
     requires { u < length unit.table.now.sites }
     ensures { OnOk result (Adds found.old.items found.new.items (λ place. BeginsAt (package_of unit.entry) place.path place.offset u)) }
@@ -75,7 +75,7 @@ pub fn add_identifier(found: &mut Vec<Spot>, unit: Package<'_>, u: usize) -> Res
     add_place(found, unit.files, unit.table.place(u))
 }
 
-/// Adds the place of a token, if an identifier stands there.
+/// Adds the place of the token at a position, if the package has an identifier there.
 pub fn add_token(
     found: &mut Vec<Spot>,
     unit: Package<'_>,

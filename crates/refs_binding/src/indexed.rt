@@ -1,4 +1,4 @@
-//! A package of a number, and what is known of its identifiers.
+//! A package by its number, and a package with its index, type definitions and uses of members.
 ghost use Rattle.types_declared.specs.PackageView.{package_of, IsIndexOf};
 ghost use Rattle.refs_binding.specs.Packages.{IsTableAs};
 ghost use Rattle.refs_binding.specs.Workspaces.{known_in};
@@ -12,7 +12,7 @@ use types_expr::world::Definition;
 use workspace_check::Findings;
 use workspace_graph::Graph;
 
-/// A package of a workspace in which nothing is a fault, by its number.
+/// The number of a package in a workspace without faults.
 #[derive(Clone, Copy)]
 pub struct Numbered<'a> {
     pub graph: &'a Graph,
@@ -20,7 +20,7 @@ pub struct Numbered<'a> {
     pub number: usize,
 }
 
-/// A package with what is found once in it, its own type definitions, and the uses of members in its files.
+/// A package with its index, its own type definitions, and the uses of members in its files.
 #[derive(Clone, Copy)]
 pub struct Indexed<'a> {
     pub unit: Package<'a>,
@@ -29,7 +29,7 @@ pub struct Indexed<'a> {
     pub members: &'a [Vec<MemberUse>],
 }
 
-/// The package of a number, by what it sees and by its table.
+/// Returns the package of a number, made of its table and of what it sees of others.
 pub fn unit_of<'a>(at: Numbered<'a>, seen: &'a Interfaces, table: &'a ScopeTable<'a>) -> Package<'a>
     requires numbered { IsNumbered at }
     requires table { IsTableAs at.graph.now (known_in at.found.now) at.number table.now seen.now }
@@ -45,7 +45,7 @@ pub fn unit_of<'a>(at: Numbered<'a>, seen: &'a Interfaces, table: &'a ScopeTable
     }
 }
 
-/// The package of a number with what is known of it.
+/// Returns the package of a number with its index, type definitions and uses of members.
 pub fn known_of<'a>(at: Numbered<'a>, unit: Package<'a>, index: &'a Index<'a>) -> Indexed<'a>
     requires numbered { IsNumbered at }
     requires unit { IsUnitAt at (package_of unit) }

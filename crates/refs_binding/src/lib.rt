@@ -1,5 +1,5 @@
-//! What identifiers of a workspace are bound to, each way to be bound for itself; what its packages export; bound identifiers in the
-//! order of their places; and where declarations stand, and what they are called.
+//! The binding relation: what each identifier of a workspace is bound to. With it come the exports of packages, sorted bound identifiers,
+//! and the places and names of declarations.
 #![tactic(auto)]
 
 pub mod bindings;

@@ -1,4 +1,4 @@
-//! The members that are used: behind a dot, or as a key of a literal.
+//! Finds the members that selectors and composite literal keys are bound to.
 ghost use Rattle.std.specs.Prelude.{◌≡◌, Some, [], option_map, slice_get, IfOk};
 ghost use Rattle.types_expr.specs.View.{type_of};
 ghost use Rattle.types_expr.specs.World.{member_by};
@@ -14,7 +14,7 @@ use types_expr::symbol::SharedPath;
 use types_expr::types::GoType;
 use types_expr::world::{Definition, Definitions, Member, Name, World};
 
-/// The type definitions by which the members of a package's types are found: its own, and those that it sees of other packages.
+/// The type definitions that a package knows: its own, and those that it sees of other packages.
 #[derive(Clone, Copy)]
 pub struct KnownTypes<'w> {
     pub path: &'w SharedPath,
@@ -22,7 +22,7 @@ pub struct KnownTypes<'w> {
     pub imported: &'w Definitions,
 }
 
-/// The member that a name is for a type, by the type definitions that a package knows. The name is the only one of a list.
+/// Returns the member of the type `before` that has the first name of `names`, by known type definitions.
 #[tactic(auto, unfolding(types_expr::specs::WorldView::member_in, types_expr::specs::WorldView::definition_in, types_expr::specs::WorldView::definition_at))]
 pub fn known_member<'w>(
     types: KnownTypes<'w>,
@@ -41,7 +41,7 @@ pub fn known_member<'w>(
     world.member(0, before)
 }
 
-/// The member that a name is for a type. The name is the only one of a list.
+/// Returns the member of the type `before` that has the first name of `names`, as the package `unit` sees it.
 pub fn member<'w>(
     unit: Package<'w>,
     own: &'w [Definition],
@@ -58,7 +58,7 @@ pub fn member<'w>(
     known_member(types, names, before)
 }
 
-/// The declaration of the member that is used, if the type before it has one.
+/// Returns the declaration of a used member, if the type before it has such a member.
 pub fn member_declaration(
     unit: Package<'_>,
     own: &[Definition],

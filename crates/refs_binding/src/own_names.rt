@@ -1,4 +1,4 @@
-//! The places of the names by which a package's own fields and methods are declared.
+//! Finds the positions of the names of fields and methods that a package declares.
 ghost use Rattle.std.specs.Prelude.{◌≡◌, Some, None, slice_index_or, if◌then◌else◌, IfOk};
 ghost use Rattle.types_members.specs.MembersView.{AreCountingMethods};
 ghost use Rattle.types_declared.specs.PackageView.{package_of, IsIndexOf};
@@ -11,14 +11,14 @@ use types_declared::{Index, Package};
 use types_expr::symbol::Symbol;
 use types_members::{counting_fields, counting_methods, fields, owners, underlying_types};
 
-/// A place, where a mark says that it counts.
+/// The position, if the mark is set.
 fn marked(mark: bool, at: Position) -> Option<Position>
     ensures { result ≡ (if mark then Some at else None) }
 {
     if mark { Some(at) } else { None }
 }
 
-/// Where the name of each field of a package stands that counts, by the field's rank.
+/// Returns the position of each field's name, by the field's rank, or `None` for a field that doesn't count.
 pub fn field_places(
     alloc: Global,
     unit: Package<'_>,
@@ -41,7 +41,7 @@ pub fn field_places(
     Ok(places)
 }
 
-/// Which functions of a package are methods that count, by their ranks.
+/// Marks the functions, by rank, that are methods that count.
 fn method_marks(
     alloc: Global,
     unit: Package<'_>,
@@ -56,7 +56,7 @@ fn method_marks(
     counting_methods(alloc, unit, index, &fields, &owners, &underlying)
 }
 
-/// Where the name of each method of a package stands that counts, by the rank of the function.
+/// Returns the position of each method's name, by the function's rank, or `None` for a function that is no method that counts.
 pub fn method_places(
     alloc: Global,
     unit: Package<'_>,
@@ -79,14 +79,14 @@ pub fn method_places(
     Ok(places)
 }
 
-/// The place that a list has for a rank.
+/// Returns the position that a list has for a rank.
 pub fn place_of(places: &[Option<Position>], rank: usize) -> Option<Position>
     ensures { result ≡ slice_index_or places.now rank None }
 {
     *places.get(rank)?
 }
 
-/// A field or method of a package.
+/// Returns the symbol of a field or method of a package.
 pub fn symbol(unit: Package<'_>, rank: usize) -> Result<Symbol, AllocError>
     ensures { IfOk result (λ s. (s.package ≡ unit.entry.path.now) × (s.rank ≡ rank)) }
 {

@@ -1,4 +1,4 @@
-//! The packages of a workspace without faults, each read once: what it sees of others, and its table.
+//! The packages of a workspace without faults: the table of each, and what it sees of others. Each package is read once.
 ghost use Rattle.std.specs.Prelude.{◌≡◌, ◌<◌, length, IfOk};
 ghost use Rattle.base_files.specs.Packages.{package_paths};
 ghost use Rattle.types_declared.specs.PackageView.{package_of};
@@ -12,7 +12,7 @@ use types_declared::{Interfaces, Package};
 use workspace_check::{Findings, seen};
 use workspace_graph::Graph;
 
-/// What each package of a workspace sees of others, by the packages' numbers.
+/// Returns for each package, by number, the export data that it sees of others.
 pub fn all_seen(
     alloc: Global,
     graph: &Graph,
@@ -28,7 +28,7 @@ pub fn all_seen(
     Ok(all)
 }
 
-/// The table of the package of a number, by what this sees.
+/// Returns the table of the package of a number, by what this package sees.
 pub fn read_table<'a>(
     alloc: Global,
     graph: &'a Graph,
@@ -45,7 +45,7 @@ pub fn read_table<'a>(
     laid_table(alloc, files, seen)
 }
 
-/// The table of the package of a number, by what all see.
+/// Returns the table of the package of a number, by what each package sees.
 fn table_of<'a>(
     alloc: Global,
     graph: &'a Graph,
@@ -61,7 +61,7 @@ fn table_of<'a>(
     read_table(alloc, graph, found, &all[number], number)
 }
 
-/// The tables of all packages, by the packages' numbers.
+/// Returns the tables of all packages, by number.
 fn all_tables<'a>(
     alloc: Global,
     graph: &'a Graph,
@@ -79,8 +79,8 @@ fn all_tables<'a>(
     Ok(tables)
 }
 
-/// The packages of a workspace in which nothing is a fault: what each sees of others, and its table, in which imports without a
-/// name declare the names of the packages that it sees.
+/// The packages of a workspace without faults: for each its table, and what it sees of others. In a table an import without a name declares
+/// the name of the imported package.
 #[derive(Drop)]
 pub struct Packages<'a> {
     pub graph: &'a Graph,
@@ -112,7 +112,7 @@ impl<'a> Packages<'a> {
         })
     }
 
-    /// The package of a number.
+    /// Returns the package of a number.
     pub fn unit(&self, number: usize) -> Package<'_>
         requires in_range { number < length (package_paths self.now.graph.now) }
         requires read { ArePackages self.now }

@@ -1,5 +1,4 @@
-//! A package of a workspace without faults, read again: its trees, its table, its type definitions, its uses of members and its qualified
-//! identifiers.
+//! Parts of a package of a workspace without faults: trees, table, type definitions, uses of members and qualified identifiers.
 ghost use Rattle.std.specs.Prelude.{◌≡◌, ◌<◌, [], length, map, IfOk};
 ghost use Rattle.base_files.specs.Packages.{package_paths, package_files};
 ghost use Rattle.workspace_graph.specs.Graphs.{OfPackage};
@@ -27,7 +26,7 @@ use types_info::Qualified;
 use workspace_check::Findings;
 use workspace_graph::Graph;
 
-/// The trees of a package's files, each of which has one.
+/// The trees of the files of the package of a number.
 pub fn trees<'a>(graph: &'a Graph, found: &Findings, number: usize) -> &'a [FileTree]
     requires in_range { number < length (package_paths graph.now) }
     requires sound { IsSound graph.now found.now }
@@ -36,7 +35,7 @@ pub fn trees<'a>(graph: &'a Graph, found: &Findings, number: usize) -> &'a [File
     &graph.package(number).trees
 }
 
-/// The path of a package.
+/// The path of the package of a number.
 pub fn path_of<'a>(graph: &Graph, found: &'a Findings, number: usize) -> &'a SharedPath
     requires in_range { number < length (package_paths graph.now) }
     requires sound { IsSound graph.now found.now }
@@ -45,7 +44,7 @@ pub fn path_of<'a>(graph: &Graph, found: &'a Findings, number: usize) -> &'a Sha
     &found.packages[number].get().path
 }
 
-/// The table of a package in which imports without a name declare the names of the packages that it sees.
+/// Returns a package's table in which each import without a name declares the name of the imported package.
 pub fn laid_table<'a>(
     alloc: Global,
     files: &'a [FileTree],
@@ -57,7 +56,7 @@ pub fn laid_table<'a>(
     lay_names(alloc, &plain, files, seen)
 }
 
-/// The type definitions that are known of the package of a path.
+/// The type definitions that `all` has of the package of a path.
 fn definitions_of<'a>(all: &'a Definitions, path: &[u8]) -> &'a [Definition]
     ensures { result.now ≡ definitions_or_none (definitions_at all.now path.now) }
 {
@@ -67,7 +66,7 @@ fn definitions_of<'a>(all: &'a Definitions, path: &[u8]) -> &'a [Definition]
     }
 }
 
-/// The type definitions of a package.
+/// The type definitions of the package of a number.
 pub fn own_of<'a>(graph: &Graph, found: &'a Findings, number: usize) -> &'a [Definition]
     requires in_range { number < length (package_paths graph.now) }
     requires sound { IsSound graph.now found.now }
@@ -77,7 +76,7 @@ pub fn own_of<'a>(graph: &Graph, found: &'a Findings, number: usize) -> &'a [Def
     definitions_of(found.interfaces.definitions(), path)
 }
 
-/// The uses of members in the files of a package.
+/// The uses of members in the package of a number, in one list for each file.
 pub fn members_of<'a>(graph: &Graph, found: &'a Findings, number: usize) -> &'a [Vec<MemberUse>]
     requires in_range { number < length (package_paths graph.now) }
     requires sound { IsSound graph.now found.now }
@@ -86,7 +85,7 @@ pub fn members_of<'a>(graph: &Graph, found: &'a Findings, number: usize) -> &'a 
     &found.packages[number].get().members
 }
 
-/// The qualified identifiers of a package, by the paths of the packages behind whose names they stand.
+/// The qualified identifiers of the package of a number, listed by the path of the package that each one names.
 pub fn qualified_of<'a>(graph: &Graph, found: &'a Findings, number: usize) -> &'a [Qualified]
     requires in_range { number < length (package_paths graph.now) }
     requires sound { IsSound graph.now found.now }

@@ -1,4 +1,4 @@
-//! What the scopes of a package bind an identifier to.
+//! Finds the declaration that the scopes of a package bind an identifier to.
 ghost use Rattle.std.specs.Prelude.{ℕ, ◌<◌, Some, length, IfOk};
 ghost use Rattle.go_scope.specs.Bindings.{IsBoundTo};
 ghost use Rattle.types_declared.specs.PackageView.{package_of};
@@ -9,10 +9,10 @@ use crate::declaration::Declaration;
 use std::alloc::AllocError;
 use types_declared::Package;
 
-/// How many names are predeclared: they have the first numbers in the table of each package.
+/// The count of predeclared names. They have the first numbers in the table of each package.
 const PREDECLARED: usize = 11;
 
-/// The declaration that has a number in the table of a package.
+/// Returns the declaration with a number in the table of a package.
 fn numbered(unit: Package<'_>, d: usize) -> Result<Declaration, AllocError>
     ensures { let p = package_of unit.entry in
         IfOk result (λ x. (u : ℕ) → IsBoundTo p.layout p.names u d → BindsByScope p u x) }
@@ -24,7 +24,7 @@ fn numbered(unit: Package<'_>, d: usize) -> Result<Declaration, AllocError>
     }
 }
 
-/// What the scopes of a package bind an identifier to.
+/// Returns the declaration that the scopes of a package bind an identifier to, if there is one.
 pub fn declaration_in_scope(unit: Package<'_>, u: usize) -> Result<Option<Declaration>, AllocError>
     requires { u < length unit.table.now.sites }
     ensures { IfOk result (IsDeclarationFound (BindsByScope (package_of unit.entry) u)) }

@@ -1,7 +1,7 @@
-//! Places in the order of their paths' bytes and of their offsets.
+//! Places that are ordered.
 use base_files::Path;
 
-/// A place that is ordered by its path, and then by its offset.
+/// A place, ordered by the bytes of the path, then by offset.
 #[derive(Drop, PartialEq, Eq, PartialOrd, Ord)]
 pub struct Spot {
     pub path: Path,

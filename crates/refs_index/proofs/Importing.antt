@@ -1,4 +1,4 @@
--- Which packages marked ones import.
+-- The packages that marked packages import.
 use Rattle.std.proofs.Common.{ℕ, ◌<◌, List, length, get_or, sym, subst}
 use Rattle.std.proofs.lemmas.List.{get_or_read}
 use Rattle.std.proofs.lemmas.List.Elements.{Contains-get_or}

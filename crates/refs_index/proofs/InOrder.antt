@@ -1,4 +1,4 @@
--- Bound identifiers of one package, which are added in order behind others.
+-- Sorted bound identifiers of one package are added after others.
 use Rattle.std.proofs.Common.{◌≡◌, ◌<◌, ◌⊎◌, ◌++◌, inl, inr, List, [], sym, subst, arith}
 use Rattle.std.specs.Prelude.{Contains, ◌↔◌}
 use Rattle.std.proofs.lemmas.List.Elements.{Contains-append_left, Contains-append_right, Contains-append_cases}

@@ -1,4 +1,4 @@
--- What packages of a workspace export, as far as it is known.
+-- The exports of some packages of a workspace.
 use Rattle.std.specs.Prelude.{ℕ, ◌≡◌, List, Option, Some, length, slice_get, IfSome}
 use Rattle.std.specs.Global.{Vec}
 use Rattle.std.specs.BTreeMap.{BTreeMap}
@@ -11,16 +11,16 @@ use Rattle.refs_binding.specs.Packages.{HoldsOfEach}
 use Rattle.refs_binding.specs.Workspaces.{IsSound, known_in}
 use Rattle.refs_index.specs.declared.known_exports.KnownExports.{KnownExports}
 
--- for each package, by its number, the declarations that it exports, by name, where it is known
+-- The list has a place for each package. Each entry that is not missing has the declarations that the package exports, by name.
 abbrev pub AreSomeExports : Workspace → Verdicts → List (Option (BTreeMap (Vec ℕ) ℕ)) → Type 0
 AreSomeExports w known list = HoldsOfEach (λ n numbers. IfSome numbers (AreNumbersAt w known n)) (length (package_paths w)) list
 
--- a workspace without faults, and what its packages export, as far as it is known
+-- The workspace has no faults, and the exports that are not missing are right.
 pub record KnowsExports (e : KnownExports) : Type 0 where
   pub sound : IsSound e.graph.now e.found.now
   pub numbers : AreSomeExports e.graph.now (known_in e.found.now) e.numbers.now
 
--- the package of one of some numbers imports the package of a path
+-- A package whose number satisfies `IsOf` imports the package of a path.
 pub record IsImportedAmong (w : Workspace) (IsOf : ℕ → Type 0) (path : List ℕ) : Type 0 where
   pub number : ℕ
   pub is_of : IsOf number

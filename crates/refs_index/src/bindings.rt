@@ -1,4 +1,4 @@
-//! Bound identifiers of packages, and of a workspace, by their places.
+//! Makes the list of all bound identifiers of packages, sorted by place.
 ghost use Rattle.std.specs.Prelude.{◌≡◌, ◌<◌, ◌↔◌, Bool, List, [], length, Contains, IfOk, OnOk, MatchOption};
 ghost use Rattle.std.specs.List.Sorted.{IsSortedBy};
 ghost use Rattle.std.specs.Ordering.{is_lt};
@@ -27,7 +27,7 @@ use std::alloc::{AllocError, Global};
 use std::marker::Model;
 use types_declared::{Index, Interfaces, Package};
 
-/// The bound identifiers of a workspace, each by the place at which it begins and with its declaration, in the order of places.
+/// The bound identifiers of a workspace or of some of its packages, sorted by place, each with its declaration.
 #[derive(Drop)]
 pub struct Bindings {
     bound: Vec<BoundSpot>,
@@ -48,7 +48,7 @@ impl Model for Bindings {
     ghost invariant = { λ a. IsSortedBy (λ b c. is_lt (place_cmp (place_at b) (place_at c))) a.bound.items };
 }
 
-/// Adds the bound identifiers of the package of a number, with what was found once in it.
+/// Adds the bound identifiers of the package of a number, by its index, in no order.
 fn bind_indexed(
     alloc: Global,
     bound: &mut Vec<BoundSpot>,
@@ -71,8 +71,7 @@ fn bind_indexed(
     bind_unit(alloc, bound, exports, &of)
 }
 
-/// Sorts bound identifiers by their places. Those of each package come in few runs, and packages in nearly the order of their
-/// files, which this sort makes use of.
+/// Sorts bound identifiers by place. Before, they are in few sorted runs, nearly in order: a stable sort makes use of that.
 fn sort_runs(bound: &mut Vec<BoundSpot>) -> Result<(), AllocError>
     ensures order { OnOk result (IsSortedBy (λ a b. is_lt (place_cmp (place_at a) (place_at b))) bound.new.items) }
     ensures same { (b : Bound) → Contains bound.new.items b ↔ Contains bound.old.items b }
@@ -80,7 +79,7 @@ fn sort_runs(bound: &mut Vec<BoundSpot>) -> Result<(), AllocError>
     bound.sort_by(|a, b| a.spot.cmp(&b.spot))
 }
 
-/// Adds the bound identifiers of one package in the order of their places, so that those of all come in about one run for each package.
+/// Sorts the bound identifiers of one package by place and adds them, so that each package adds about one sorted run.
 fn add_in_order(bound: &mut Vec<BoundSpot>, own: Vec<BoundSpot>) -> Result<(), AllocError>
     ensures { OnOk result (AddsAll bound.old.items bound.new.items (Contains own.items)) }
 {
@@ -90,8 +89,7 @@ fn add_in_order(bound: &mut Vec<BoundSpot>, own: Vec<BoundSpot>) -> Result<(), A
     Ok(())
 }
 
-/// Adds the bound identifiers of a package that has a number, by what was found once in it; asked as `bind_indexed` is, whose
-/// identifiers it puts in order first.
+/// Adds the bound identifiers of the package of a number, by its index, sorted by place.
 pub fn bind_numbered(
     alloc: Global,
     bound: &mut Vec<BoundSpot>,
@@ -110,7 +108,7 @@ pub fn bind_numbered(
     add_in_order(bound, own)
 }
 
-/// Adds the bound identifiers of the package of a number, by what this sees and its table.
+/// Adds the bound identifiers of the package of a number, by its table and by what it sees of others.
 pub fn bind_laid(
     alloc: Global,
     bound: &mut Vec<BoundSpot>,
@@ -135,7 +133,7 @@ pub fn bind_laid(
 }
 
 impl Bindings {
-    /// Bound identifiers, which are put in the order of their places.
+    /// Sorts the bound identifiers of a workspace by place.
     pub fn of(bound: Vec<BoundSpot>) -> Result<Bindings, AllocError>
         ensures { IfOk result (λ all. (w : Workspace) → (known : Verdicts) → AddsAll [] bound.items (IsBound w known) → AreBindings w known all) }
     {
@@ -144,7 +142,7 @@ impl Bindings {
         Ok(Bindings { bound })
     }
 
-    /// Bound identifiers of marked packages, which are put in the same order.
+    /// Sorts the bound identifiers of marked packages by place.
     pub fn among(bound: Vec<BoundSpot>) -> Result<Bindings, AllocError>
         ensures { IfOk result (λ all. (w : Workspace) → (known : Verdicts) → (marks : List Bool) → AddsAll [] bound.items (IsBoundAmong w known (IsMarked marks)) → AreBindingsAmong w known (IsMarked marks) all) }
     {
@@ -153,14 +151,14 @@ impl Bindings {
         Ok(Bindings { bound })
     }
 
-    /// The bound identifiers in the order of their places.
+    /// The bound identifiers, sorted by place.
     pub fn as_slice(&self) -> &[BoundSpot]
         ensures { result.now ≡ self.now }
     {
         self.bound.as_slice()
     }
 
-    /// The declaration to which the identifier that begins at a place is bound.
+    /// Returns the declaration that the identifier at a place is bound to, by a binary search.
     pub fn at(&self, place: &Place) -> Option<&Declaration>
         ensures { (w : Workspace) → (known : Verdicts) → AreBindings w known self.now →
             MatchOption result ((d : Declared) → IsUseOf w known d place.now → ⊥) (λ d. IsUseOf w known d.now place.now) }

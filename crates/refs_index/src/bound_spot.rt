@@ -1,4 +1,4 @@
-//! Places at which bound identifiers begin, each with the declaration.
+//! Adds identifiers of a package as bound identifiers, each with its declaration.
 ghost use Rattle.std.specs.Prelude.{◌≡◌, ◌<◌, ◌++◌, OnOk, length, map};
 ghost use Rattle.types_declared.specs.PackageView.{package_of, IsIndexOf};
 ghost use Rattle.refs_binding.specs.Bindings.{AddsAll, bound_to, place_at};
@@ -11,7 +11,7 @@ use refs_binding::{BoundSpot, Declaration, Spot};
 use std::alloc::{AllocError, Global};
 use types_declared::{Index, Package};
 
-/// Adds places with the declaration to which what begins there is bound.
+/// Adds each place as a bound identifier with this declaration.
 fn attach(
     found: &mut Vec<BoundSpot>,
     spots: Vec<Spot>,
@@ -26,7 +26,7 @@ fn attach(
     Ok(())
 }
 
-/// Adds the place of an identifier with its declaration.
+/// Adds the identifier `u` as bound to a declaration. Adds nothing for an import's path literal.
 pub fn bind_identifier(
     alloc: Global,
     found: &mut Vec<BoundSpot>,
@@ -43,7 +43,7 @@ pub fn bind_identifier(
     attach(found, spots, declaration)
 }
 
-/// Adds the place of a token with its declaration, if an identifier stands there.
+/// Adds the identifier at a position, if there is one, as bound to a declaration.
 pub fn bind_token(
     alloc: Global,
     found: &mut Vec<BoundSpot>,

@@ -1,4 +1,4 @@
-//! The bound identifiers of one package, each with its declaration.
+//! Finds the bound identifiers of one package, each with its declaration.
 ghost use Rattle.std.specs.Prelude.{ℕ, ◌≡◌, ◌<◌, ◌⊎◌, length, map, slice_index_or, None, OnOk};
 ghost use Rattle.types_expr.specs.Found.{use_of};
 ghost use Rattle.types_declared.specs.Package.{symbol_in};
@@ -27,7 +27,7 @@ use types_declared::{Index, Package};
 use types_expr::found::MemberUse;
 use types_info::{one_world, package_before};
 
-/// Adds an identifier, if the scopes of its package bind it.
+/// Adds the identifier `u`, if the scopes of its package bind it.
 fn bind_by_scope(
     alloc: Global,
     bound: &mut Vec<BoundSpot>,
@@ -46,7 +46,7 @@ fn bind_by_scope(
     }
 }
 
-/// Adds an identifier, if it stands behind the name of a package that exports its name.
+/// Adds the identifier `u`, if it is `N` in a qualified identifier `q.N` and the package that `q` names exports `N`.
 fn bind_by_package(
     alloc: Global,
     bound: &mut Vec<BoundSpot>,
@@ -70,7 +70,7 @@ fn bind_by_package(
     }
 }
 
-/// Adds an identifier, if it is bound to a declaration of a scope, of its package or of another.
+/// Adds the identifier `u`, if a scope or a qualified identifier binds it.
 fn bind_number(
     alloc: Global,
     bound: &mut Vec<BoundSpot>,
@@ -90,7 +90,7 @@ fn bind_number(
     bind_by_package(alloc, bound, exports, unit, index, u)
 }
 
-/// Adds the identifiers that are bound to a declaration of a scope.
+/// Adds the identifiers that a scope or a qualified identifier binds.
 fn bind_numbers(
     alloc: Global,
     bound: &mut Vec<BoundSpot>,
@@ -109,7 +109,7 @@ fn bind_numbers(
     Ok(())
 }
 
-/// Adds the place of a member that is used, if the type before it has one.
+/// Adds a use of a member, if the type before it has that member.
 fn bind_member(
     alloc: Global,
     bound: &mut Vec<BoundSpot>,
@@ -134,7 +134,7 @@ fn bind_member(
     }
 }
 
-/// Adds the places of the members that are used in a file.
+/// Adds the uses of members in a file.
 fn bind_file_members(
     alloc: Global,
     bound: &mut Vec<BoundSpot>,
@@ -153,7 +153,7 @@ fn bind_file_members(
     Ok(())
 }
 
-/// Adds the identifiers that are a field or method, behind a dot or as a key.
+/// Adds the selectors and composite literal keys that name a field or method.
 fn bind_members(
     alloc: Global,
     bound: &mut Vec<BoundSpot>,
@@ -171,7 +171,7 @@ fn bind_members(
     Ok(())
 }
 
-/// Adds the name of a field or method, if there is one at its rank.
+/// Adds the declaring identifier of a field or method, if the list has a position for its rank.
 fn bind_name(
     alloc: Global,
     bound: &mut Vec<BoundSpot>,
@@ -190,7 +190,7 @@ fn bind_name(
     }
 }
 
-/// Adds the names of the fields of a package.
+/// Adds the declaring identifiers of the fields of a package.
 fn bind_fields(
     alloc: Global,
     bound: &mut Vec<BoundSpot>,
@@ -209,7 +209,7 @@ fn bind_fields(
     Ok(())
 }
 
-/// Adds the names of the methods of a package.
+/// Adds the declaring identifiers of the methods of a package.
 fn bind_methods(
     alloc: Global,
     bound: &mut Vec<BoundSpot>,
@@ -228,7 +228,7 @@ fn bind_methods(
     Ok(())
 }
 
-/// Adds the names by which a package's own fields and methods are declared.
+/// Adds the declaring identifiers of the fields and methods of a package.
 fn bind_own_names(
     alloc: Global,
     bound: &mut Vec<BoundSpot>,
@@ -244,7 +244,7 @@ fn bind_own_names(
     bind_methods(alloc, bound, of, &methods)
 }
 
-/// Adds the bound identifiers of a package.
+/// Adds all bound identifiers of a package.
 pub fn bind_unit(
     alloc: Global,
     bound: &mut Vec<BoundSpot>,

@@ -1,4 +1,4 @@
-//! Whether a declaration has become another.
+//! Decides which declaration after a change corresponds to a declaration before it.
 ghost use Rattle.std.specs.Prelude.{◌≡◌, ◌↔◌, IsTrue, IfOk};
 ghost use Rattle.base_edits.specs.Moved.{moved};
 ghost use Rattle.refs_binding.specs.declared.declaration.Declaration.TheVariants.{Declared, Field, Method};
@@ -13,7 +13,7 @@ use refs_binding::Declaration;
 use std::alloc::AllocError;
 use types_expr::symbol::{SharedPath, Symbol};
 
-/// Whether two declarations are the same predeclared name.
+/// Whether both declarations are one predeclared name.
 pub fn are_predeclared(d: &Declaration, e: &Declaration) -> bool
     ensures { IsTrue result ↔ IsSamePredeclared d.now e.now }
 {
@@ -26,7 +26,7 @@ pub fn are_predeclared(d: &Declaration, e: &Declaration) -> bool
     }
 }
 
-/// Whether this is the declaration of that number in the scopes of the package of a path.
+/// Whether `e` is the declaration with this number in the scopes of the package of `path`.
 fn is_declared(e: &Declaration, path: &SharedPath, number: usize) -> bool
     ensures { IsTrue result → Declared path.now number ≡ e.now }
 {
@@ -36,7 +36,7 @@ fn is_declared(e: &Declaration, path: &SharedPath, number: usize) -> bool
     }
 }
 
-/// Whether this is the field of a symbol.
+/// Whether `e` is the field with this symbol.
 fn is_field(e: &Declaration, symbol: &Symbol) -> bool
     ensures { IsTrue result → Field symbol.now ≡ e.now }
 {
@@ -46,7 +46,7 @@ fn is_field(e: &Declaration, symbol: &Symbol) -> bool
     }
 }
 
-/// Whether this is the method of a symbol.
+/// Whether `e` is the method with this symbol.
 fn is_method(e: &Declaration, symbol: &Symbol) -> bool
     ensures { IsTrue result → Method symbol.now ≡ e.now }
 {
@@ -56,7 +56,7 @@ fn is_method(e: &Declaration, symbol: &Symbol) -> bool
     }
 }
 
-/// Whether two declarations are the same, and not predeclared.
+/// Whether two declarations are equal, and not predeclared.
 pub fn is_same(d: &Declaration, e: &Declaration) -> bool
     ensures { IsTrue result → d.now ≡ e.now }
 {
@@ -68,7 +68,7 @@ pub fn is_same(d: &Declaration, e: &Declaration) -> bool
     }
 }
 
-/// Whether a place goes to another.
+/// Whether an edit set moves one place to another.
 pub fn goes_to(moves: &Moves<'_>, old: &Place, new: &Place) -> Result<bool, AllocError>
     ensures { IfOk result (λ yes. IsTrue yes ↔ (moved moves.now old.now ≡ new.now)) }
 {
@@ -76,7 +76,8 @@ pub fn goes_to(moves: &Moves<'_>, old: &Place, new: &Place) -> Result<bool, Allo
     moves.goes_to(file, old.offset, &new.path, new.offset)
 }
 
-/// Whether a declaration of the one workspace has become a declaration of the other.
+/// Whether the declaration `d` before a change corresponds to `e` after it: both are one predeclared name, or `e` is declared where the
+/// change moves the place of `d`.
 pub fn corresponds(
     moves: &Moves<'_>,
     before: &SoundWorkspace<'_>,

@@ -1,4 +1,4 @@
-//! What the packages of a workspace export, by their numbers and by name.
+//! Finds the declarations that packages export, by package number and by name.
 ghost use Rattle.std.specs.Prelude.{◌≡◌, ◌<◌, length, IfOk};
 ghost use Rattle.base_files.specs.Packages.{package_paths};
 ghost use Rattle.refs_binding.specs.Exports.{number_named, AreNumbersAt, AreExports};
@@ -13,7 +13,7 @@ use std::collections::BTreeMap;
 use workspace_check::{Findings, seen};
 use workspace_graph::Graph;
 
-/// The numbers of the declarations that the package of a number exports, by name.
+/// Returns the numbers of the declarations that the package of a number exports, by name.
 pub fn numbers_of(
     alloc: Global,
     packages: &Packages<'_>,
@@ -27,7 +27,7 @@ pub fn numbers_of(
     numbers(alloc, unit)
 }
 
-/// The same of the package of a number, which is read for it.
+/// Reads the package of a number, and returns the numbers of the declarations that it exports, by name.
 pub fn numbers_at(
     alloc: Global,
     graph: &Graph,
@@ -45,7 +45,7 @@ pub fn numbers_at(
     numbers_by(alloc, path, files, &table, &seen)
 }
 
-/// What all packages export, by their numbers.
+/// Returns for each package, by number, the declarations that it exports, by name.
 pub fn exports(
     alloc: Global,
     packages: &Packages<'_>,
@@ -60,14 +60,14 @@ pub fn exports(
     Ok(exports)
 }
 
-/// The number that a map has for a name.
+/// Returns the number that a map has for a name.
 pub fn named(numbers: &BTreeMap<Vec<u8>, usize>, name: &[u8]) -> Option<usize>
     ensures { result ≡ number_named numbers.now name.now }
 {
     numbers.get(name).copied()
 }
 
-/// What the package of a path exports under a name.
+/// Returns the declaration that the package of a path exports under a name.
 pub fn exported(
     graph: &Graph,
     found: &Findings,

@@ -1,10 +1,10 @@
-//! A workspace without faults, held with what is asked of it.
+//! A workspace without faults, with the places of its declarations and its bound identifiers.
 
 use crate::Bindings;
 use refs_binding::Packages;
 use refs_places::declared_places::DeclaredPlaces;
 
-/// A workspace without faults: its packages, where their declarations stand, and what its identifiers are bound to.
+/// A workspace without faults: its packages, the places of their declarations, and its bound identifiers.
 #[derive(Drop)]
 pub struct SoundWorkspace<'a> {
     pub packages: &'a Packages<'a>,

@@ -1,4 +1,4 @@
-//! Where the declarations of a workspace without faults stand, and what its identifiers are bound to, from one package to the next.
+//! Collects the places of all declarations and all bound identifiers of a workspace without faults, package by package.
 ghost use Rattle.std.specs.Prelude.{◌<◌, ◌+◌, length, IfOk, OnOk};
 ghost use Rattle.base_files.specs.Packages.{package_paths};
 ghost use Rattle.types_declared.specs.PackageView.{package_of};
@@ -15,7 +15,7 @@ use std::alloc::{AllocError, Global};
 use std::collections::BTreeMap;
 use types_declared::{Index, Package};
 
-/// Adds where the declarations of a package of a number stand, and its bound identifiers.
+/// Adds the places of the declarations of a package and its bound identifiers.
 fn hold_unit(
     alloc: Global,
     places: &mut Vec<DeclaredPlaces>,
@@ -35,7 +35,7 @@ fn hold_unit(
     bind_numbered(alloc, bound, exports, unit, &index, number)
 }
 
-/// The same of the package of a number.
+/// Adds the places of the declarations of the package of a number and its bound identifiers.
 fn hold_package(
     alloc: Global,
     places: &mut Vec<DeclaredPlaces>,
@@ -66,7 +66,7 @@ fn hold_package(
     )
 }
 
-/// Where the declarations of all packages stand, by the packages' numbers; adds their bound identifiers.
+/// Returns for each package, by number, the places of its declarations, and adds its bound identifiers to `bound`.
 pub fn hold_all(
     alloc: Global,
     bound: &mut Vec<BoundSpot>,

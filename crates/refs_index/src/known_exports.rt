@@ -1,4 +1,4 @@
-//! What packages of a workspace export, by name, as far as it is known.
+//! The exports of packages, some of which are read only on demand.
 ghost use Rattle.std.specs.Prelude.{◌<◌, ◌↔◌, length, IsTrue, IfOk, IfSome};
 ghost use Rattle.base_files.specs.Packages.{package_paths};
 ghost use Rattle.workspace_graph.specs.Graphs.{OfPackage};
@@ -29,7 +29,7 @@ fn is_imported(graph: &Graph, marks: &[bool], number: usize) -> bool
     false
 }
 
-/// What the package of a number exports, if a marked package imports it.
+/// Returns the exports of the package of a number, if a marked package imports it.
 fn imported_numbers(
     alloc: Global,
     graph: &Graph,
@@ -48,7 +48,7 @@ fn imported_numbers(
     }
 }
 
-/// What the packages export that marked packages import, by the packages' numbers. Of the others nothing is read.
+/// Returns the exports, by package number, of each package that a marked package imports. Other packages are not read.
 pub fn imported_exports(
     alloc: Global,
     graph: &Graph,
@@ -65,7 +65,7 @@ pub fn imported_exports(
     Ok(all)
 }
 
-/// What all packages export, by their numbers.
+/// Returns the exports of all packages, by number.
 pub fn all_exports(
     alloc: Global,
     packages: &Packages<'_>,
@@ -80,7 +80,7 @@ pub fn all_exports(
     Ok(all)
 }
 
-/// What packages export, by their numbers, as far as it is known. A package of which it is not known is read when it is asked for.
+/// The exports of packages, by number. A package whose exports are missing is read on demand.
 #[derive(Drop)]
 pub struct KnownExports<'a> {
     pub graph: &'a Graph,
@@ -89,7 +89,7 @@ pub struct KnownExports<'a> {
 }
 
 impl KnownExports<'_> {
-    /// The number of the declaration that the package of a number exports under a name.
+    /// Returns the number of the declaration that the package of a number exports under a name.
     fn number(&self, alloc: Global, number: usize, name: &[u8]) -> Result<Option<usize>, AllocError>
         requires in_range { number < length (package_paths self.now.graph.now) }
         requires exports { KnowsExports self.now }
@@ -104,7 +104,7 @@ impl KnownExports<'_> {
         }
     }
 
-    /// What the package of a path exports under a name.
+    /// Returns the declaration that the package of a path exports under a name.
     pub fn exported(
         &self,
         alloc: Global,

@@ -1,4 +1,5 @@
-//! The index of a workspace without faults: its bound identifiers, and which declaration of another one each has become.
+//! The index of a workspace without faults: its bound identifiers, the places of its declarations, and which declarations correspond across
+//! a change.
 #![tactic(auto)]
 
 mod bindings;

@@ -1,4 +1,4 @@
-//! What is asked of a workspace without faults: where its declarations stand, and what its identifiers are bound to.
+//! Queries of a workspace without faults: places of declarations, and bound identifiers at places.
 ghost use Rattle.std.specs.Prelude.{◌≡◌, ◌↔◌, Contains, IfOk};
 ghost use Rattle.base_files.specs.declared.place.Place.{Place as At};
 ghost use Rattle.refs_binding.specs.declared.bound_spot.BoundSpot.{BoundSpot as Bound};
@@ -20,6 +20,7 @@ use refs_places::identifier_places::identifier_places;
 use std::alloc::{AllocError, Global};
 
 impl<'a> SoundWorkspace<'a> {
+    /// Indexes the packages of a workspace without faults.
     pub fn of(alloc: Global, packages: &'a Packages<'a>) -> Result<SoundWorkspace<'a>, AllocError>
         requires { ArePackages packages.now }
         ensures view { IfOk result (λ sound. view_in sound ≡ view_of packages.now) }
@@ -36,7 +37,8 @@ impl<'a> SoundWorkspace<'a> {
         })
     }
 
-    /// Where a declaration stands. A predeclared one stands nowhere. Its package is looked for first where the one before it was found.
+    /// Returns the place of a declaration, or `None` if it is predeclared. The search for its package starts at `near`, where the last one
+    /// was found.
     pub fn declared_near(&self, near: &mut usize, declaration: &Declaration) -> Option<&Place>
         requires { IsHeld self.now }
         ensures { IsFoundIn (IsDeclaredAt (packages_of (view_in self.now)) declaration.now) result }
@@ -44,7 +46,7 @@ impl<'a> SoundWorkspace<'a> {
         declared_near(self.packages.graph, &self.places, near, declaration)
     }
 
-    /// The same of one declaration alone.
+    /// Returns the place of a declaration, or `None` if it is predeclared.
     pub fn declared_at(&self, declaration: &Declaration) -> Option<&Place>
         requires { IsHeld self.now }
         ensures { IsFoundIn (IsDeclaredAt (packages_of (view_in self.now)) declaration.now) result }
@@ -52,7 +54,7 @@ impl<'a> SoundWorkspace<'a> {
         declared_at(self.packages.graph, &self.places, declaration)
     }
 
-    /// The bound identifiers, each with its declaration.
+    /// The bound identifiers, sorted by place.
     pub fn bound(&self) -> &[BoundSpot]
         requires { IsHeld self.now }
         ensures { (b : Bound) → Contains result.now b ↔ IsBoundIn (view_in self.now) b }
@@ -60,7 +62,7 @@ impl<'a> SoundWorkspace<'a> {
         self.bindings.as_slice()
     }
 
-    /// Those that begin at a place. They are looked for first at the number where those found last end.
+    /// Returns the bound identifiers that begin at a place. The search starts at the index `near`, where the last answer ended.
     pub fn bound_at(&self, near: &mut usize, place: &Place) -> &[BoundSpot]
         requires { IsHeld self.now }
         ensures { (b : Bound) → Contains result.now b ↔ IsBoundHere (view_in self.now) place.now b }
@@ -68,7 +70,7 @@ impl<'a> SoundWorkspace<'a> {
         bound_here(self.bindings.as_slice(), near, place)
     }
 
-    /// The places at which identifiers begin that are no literals.
+    /// Returns the places of all identifiers. Path literals of imports are left out.
     pub fn identifier_places(&self, alloc: Global) -> Result<Vec<Place>, AllocError>
         requires { IsHeld self.now }
         ensures { IfOk result (λ places. (place : At) → Contains places.items place ↔ IsIdentifierAt (view_in self.now).workspace (view_in self.now).known place) }

@@ -1,4 +1,4 @@
--- Lists of things that stand at places of their own.
+-- Lists of elements with different positions.
 use Rattle.std.proofs.Common.{ℕ, zero, suc, ◌≡◌, ◌<◌, ◌≤◌, List, [], ◌∷◌, ◌++◌, ◌+◌, ap, sym, ◌∙◌, refl, arith}
 use Rattle.std.specs.Prelude.{Some, slice_get}
 use Rattle.std.specs.List.{AllByRecursion}
@@ -16,7 +16,7 @@ all_of : {X : Type 0} (P : X → Type 0) → ((x : X) → P x) → (xs : List X)
 all_of P f [] = tt
 all_of P f (x ∷ xs) = (f x, all_of P f xs)
 
--- none of the one list stands where one of the other does
+-- The elements of one list have other positions than those of the other.
 
 abbrev pub Disjoint : {X Y : Type 0} → (X → Position) → (Y → Position) → List X → List Y → Type 0
 Disjoint at by xs ys = AllByRecursion (λ x. AllByRecursion (λ y. at x ≡ by y → ⊥) ys) xs
@@ -44,7 +44,7 @@ pub disjoint_got : {X Y : Type 0} (at : X → Position) (by : Y → Position) (x
 disjoint_got at by xs ys h k j x y ex ey e =
     all_got (λ z. at x ≡ by z → ⊥) ys j y (all_got (λ v. AllByRecursion (λ z. at v ≡ by z → ⊥) ys) xs k x h ex) ey e
 
--- each stands at a place of its own
+-- The elements have different positions.
 
 abbrev pub Apart : {X : Type 0} → (X → Position) → List X → Type 0
 Apart at [] = Unit {0}
@@ -64,7 +64,7 @@ one_rank at (z ∷ zs) a (suc k) zero x y ex ey e =
     absurd (all_got (λ v. at z ≡ at v → ⊥) zs k x a.0 ex (ap at (same_Some z y ey) ∙ sym e))
 one_rank at (z ∷ zs) a (suc k) (suc j) x y ex ey e = ap suc (one_rank at zs a.1 k j x y ex ey e)
 
--- In a file: each stands at a later token than the one before it, the first at that token or later, and all before another.
+-- The elements are in one file at rising tokens, from a first token on and all below a bound.
 
 abbrev pub RiseIn : {X : Type 0} → (X → Position) → (file n : ℕ) → List X → ℕ → Type 0
 RiseIn at file n [] m = n ≤ m
@@ -106,7 +106,7 @@ rise_lies at file n (x ∷ xs) m h =
           (rise_lies at file (suc (at x).index) xs m h.2),
     )
 
--- what stands at earlier tokens and what stands at later ones
+-- Elements at earlier tokens, and elements at later ones.
 pub lies_before : {X Y : Type 0} (at : X → Position) (by : Y → Position) (file n k m : ℕ) (xs : List X) (ys : List Y) → AllByRecursion (Lies at file n k) xs →
     AllByRecursion (Lies by file k m) ys → Disjoint at by xs ys
 lies_before at by file n k m xs ys a b =
@@ -132,7 +132,7 @@ rise_apart at file n (x ∷ xs) m h = (
   rise_apart at file (suc (at x).index) xs m h.2,
 )
 
--- what stands in one file and what stands in later ones
+-- Elements in one file, and elements in later files.
 
 abbrev pub InFile : {X : Type 0} → (X → Position) → ℕ → List X → Type 0
 InFile at file xs = AllByRecursion (λ x. (at x).file ≡ file) xs

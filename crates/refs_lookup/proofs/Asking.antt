@@ -1,4 +1,4 @@
--- The declaration of what holds a byte.
+-- The declaration of the identifier at a byte.
 use Rattle.std.proofs.Common.{ℕ, ◌≡◌, ◌<◌, inl, inr, List, [], sym, subst, ◌∙◌, arith}
 use Rattle.std.specs.Prelude.{Some, Contains, Result, Ok, Err, slice_get, ◌↔◌}
 use Rattle.std.specs.List.Sorted.{IsStrictlySortedBy}
@@ -64,7 +64,7 @@ module _ (w : Workspace) (known : Verdicts) (path : List ℕ) (offset : ℕ) (p 
   found (Ok d) h = record { asked_in = p; is_asked = is; number = h.0; at = h.1.0; bound = h.1.1 }
   found (Err r) h = refused r h
 
--- the same in the package of a number
+-- The declaration of the identifier at a byte, in the package of a number.
 
 module _ (w : Workspace) (known : Verdicts) (n : ℕ) (path : List ℕ) (offset : ℕ) (p : Package) (is : IsPackageAt w known n p) where
   refused_in : (r : Refusal) → FindsDeclarationIn w known p path offset (Err r) → FindsDeclarationAt w known n path offset (Err r)
@@ -187,7 +187,7 @@ lists_found w known d places old found e up held added = record {
   );
 }
 
--- the uses of what holds a byte of the package of its folder
+-- The uses of the identifier at a byte, from the package of its file's folder.
 pub tells_uses : (w : Workspace) (known : Verdicts) → AreVerdicts w known → (path : List ℕ) (offset : ℕ) (p : Package) → IsAskedIn w known path p →
     (d : Declaration) (places : List Place) → FindsDeclarationIn w known p path offset (Ok d) → ListsFound w known d places →
     ListsUses w path offset places

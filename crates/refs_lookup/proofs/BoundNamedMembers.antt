@@ -1,4 +1,4 @@
--- The name by which a field or a method is declared is that of one.
+-- A declaring identifier of a member declares at most one.
 use Rattle.std.proofs.Common.{ℕ, ◌≡◌, List, ap, sym, ◌∙◌}
 use Rattle.std.specs.Prelude.{Some, slice_get}
 use Rattle.types_expr.specs.declared.symbol.Symbol.{Symbol}

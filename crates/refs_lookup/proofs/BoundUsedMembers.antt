@@ -1,4 +1,4 @@
--- No use of a member stands behind the name of a package.
+-- A use of a member is not `N` in a qualified identifier `q.N`.
 use Rattle.std.proofs.Common.{ℕ, suc, ◌≡◌, ◌<◌, List, length, ap, sym, subst, refl, ◌∙◌, arith}
 use Rattle.std.specs.Prelude.{Contains, Some, slice_get}
 use Rattle.std.proofs.lemmas.Option.{same_Some}

@@ -1,4 +1,4 @@
--- In a workspace without faults the names by which fields and methods are declared are bound to these.
+-- In a workspace without faults, the declaring identifiers of fields and methods are bound to these.
 use Rattle.std.proofs.Common.{ℕ, ◌≡◌, inl, inr, List, [], refl}
 use Rattle.std.specs.Prelude.{Some, slice_get}
 use Rattle.base_files.specs.Workspace.{Workspace}

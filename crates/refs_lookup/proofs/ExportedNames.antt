@@ -1,4 +1,4 @@
--- In a workspace without faults the names behind the name of a package are bound to what that package exports.
+-- In a workspace without faults, `N` in a qualified identifier `q.N` is bound to what the package of `q` exports.
 use Rattle.std.proofs.Common.{ℕ, suc, ◌≡◌, ◌<◌, inl, inr, Bool, true, false, List, [], length, map, ap, sym, subst, refl, ◌∙◌, arith}
 use Rattle.std.specs.Prelude.{Contains, Option, Some, None, is_some, slice_get}
 use Rattle.std.proofs.lemmas.Bool.{cases_Bool, cases_lt, true≢false}
@@ -135,7 +135,7 @@ module _ (w : Workspace) (known : Verdicts) (path : List ℕ) (p : Package) (h :
         is_import = b.named.imports.is_import;
       }
 
--- what is told of the exports
+-- Faults of qualified identifiers.
 
 no_such : (x y : Bool) → y ≡ false → (k : FaultKind) × (qualified_fault x y ≡ Some k)
 no_such false y e = (fault.Unexported, refl)

@@ -1,4 +1,4 @@
--- A package of a workspace without faults has none.
+-- A package of a workspace without faults has no faults.
 use Rattle.std.proofs.Common.{ℕ, ◌<◌, ◌⊎◌, inl, inr, List, [], ◌∷◌, length, map, refl, subst}
 use Rattle.std.specs.Prelude.{Contains}
 use Rattle.std.proofs.lemmas.Bool.{cases_Bool}
@@ -98,7 +98,7 @@ module _ (w : Workspace) (sound : ListsFaults w []) (p : Package) (has : Contain
       let sound_outside : HasNone (IsOuterFault state sources) = λ g o. no_read_fault state are g (in_outer state sources g o) (inl o) in
       no_read_fault state are f within (inr (sound_outside, record { checked = p; is_package = is; is_fault = later })))
 
--- the same of what is right of the workspace's packages
+-- A package has no later fault by any right verdicts.
 pub no_fault_later : (w : Workspace) → ListsFaults w [] → (known : Verdicts) → AreVerdicts w known → (p : Package) → IsPackage w known p → (f : Fault) →
     IsLaterFault p f → ⊥
 no_fault_later w sound known right p is f later =

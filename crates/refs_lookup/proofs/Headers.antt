@@ -1,4 +1,4 @@
--- What stands before a dot in a file, where an identifier stands there, is a name or `_`, and no literal of an import.
+-- An identifier before a dot in a file is a name or `_`, and no import's path literal.
 use Rattle.std.proofs.Common.{ℕ, suc, ◌≡◌, ◌≤◌, ◌⊎◌, inl, inr, List, [], ◌∷◌, ◌++◌, Option, Some, None, Bool, true, false, ap, sym, ◌∙◌, refl, subst, arith}
 use Rattle.std.specs.Prelude.{cond}
 use Rattle.std.specs.List.{AllByRecursion}

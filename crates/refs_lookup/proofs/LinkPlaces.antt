@@ -1,4 +1,4 @@
--- Where the uses of members stand that are picked from the tokens of a file.
+-- The positions of the uses of members that are picked from the tokens of a file.
 use Rattle.std.proofs.Common.{ℕ, zero, suc, ◌≡◌, ◌<◌, ◌≤◌, ◌⊎◌, inl, inr, List, [], ◌∷◌, Option, Some, None, true, false, length, ap, sym, ◌∙◌, refl, subst}
 use Rattle.std.proofs.Common.{arith}
 use Rattle.std.specs.Prelude.{Contains, slice_index_or, Bool}
@@ -82,7 +82,7 @@ one_use n (u ∷ us) h x y a b at = elim a [
 abbrev Local : (ℕ → Type 0) → Token → Type 0
 Local L t = (L t.place → is_name t.kind ≡ true) × (t.kind ≡ kind.Dot → L (suc t.place) → ⊥)
 
--- what is told to stand before is what does
+-- If the token before `n` is one of `L`, `b` is that token.
 abbrev Faithful : (ℕ → Type 0) → ℕ → Option ℕ → Type 0
 Faithful L n b = (k : ℕ) → suc k ≡ n → L k → b ≡ Some k
 

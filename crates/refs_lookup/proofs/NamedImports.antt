@@ -45,7 +45,7 @@ literal_role (NotLexical purpose.ImportPath) e = refl
 literal_role r e = absurd (true≢false (sym e))
 
 module _ (w : Workspace) (known : Verdicts) (path : List ℕ) (p : Package) (h : IsPackageIn w known path p) where
-  -- what stands where the literal of an import does that stands in that file
+  -- An identifier or path literal of this file, with the number `n`.
   record IsLiteralIn (file n : ℕ) : Type 0 where
     within : n < p.size
     is_identifier : IsIdentifier p.layout n

@@ -1,4 +1,4 @@
--- The names by which fields and methods are declared: no scope binds them, and they stand behind no package's name.
+-- The declaring identifiers of fields and methods: no scope binds them, and none is `N` in a qualified identifier `q.N`.
 use Rattle.std.proofs.Common.{ℕ, zero, suc, ◌≡◌, ◌+◌, ◌<◌, inl, inr, List, [], ◌∷◌, map, ap, sym, subst, refl, ◌∙◌, arith}
 use Rattle.std.specs.Prelude.{Contains, Some, slice_get}
 use Rattle.std.proofs.lemmas.List.Elements.{Contains-append_right}

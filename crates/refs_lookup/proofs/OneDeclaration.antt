@@ -1,4 +1,4 @@
--- An identifier that stands in a file is bound to one declaration at most, and so is what stands at a place.
+-- An identifier is bound to at most one declaration, and so is the identifier at a place.
 use Rattle.std.proofs.Common.{ℕ, ◌≡◌, List, sym, subst, ◌∙◌}
 use Rattle.base_files.specs.Workspace.{Workspace}
 use Rattle.base_files.specs.declared.place.Place.{Place}

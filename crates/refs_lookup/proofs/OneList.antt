@@ -1,4 +1,4 @@
--- The uses that are told of a byte of a workspace are one list, and there is one answer that is not for want of memory.
+-- There is at most one list of uses for a byte, and at most one right answer besides running out of memory.
 use Rattle.std.proofs.Common.{ℕ, ◌≡◌, List, [], ◌∷◌, ap, sym, subst, refl}
 use Rattle.std.specs.Prelude.{None, Result, Ok, Err}
 use Rattle.std.specs.FinMap as files
@@ -44,7 +44,7 @@ module _ (w : Workspace) (path : List ℕ) (offset : ℕ) where
       subst (λ (p : Package). IsNamedTo w n.known p x.number h.declaration) same.0 x.bound in
       n.unbound h.declaration (subst (λ u. IsNamedTo w n.known n.asked_in u h.declaration) same.1 bound)
 
--- what an answer tells that is not for want of memory
+-- An answer other than running out of memory.
 data Told (w : Workspace) (path : List ℕ) (offset : ℕ) : Result (List Place) Refusal → Type 0 where
   lists : {xs : List Place} → IsFile w path → ListsFaults w [] → ListsUses w path offset xs → Told w path offset (Ok xs)
   no_path : (IsPath 2 path → ⊥) → Told w path offset (Err refusal.BadPath)

@@ -1,4 +1,4 @@
--- A place of a package, and a byte of its files, is that of one identifier.
+-- At most one identifier of a package begins at a place, and at most one holds a byte.
 use Rattle.std.proofs.Common.{ℕ, ◌≡◌, ◌<◌, List, length, ap, sym, subst, ◌∙◌}
 use Rattle.std.specs.Prelude.{Option, map, slice_get}
 use Rattle.base_files.specs.Workspace.{Workspace}

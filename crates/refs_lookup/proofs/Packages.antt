@@ -1,4 +1,4 @@
--- Where the closure of a package has the same texts in two workspaces, the package is the same in both.
+-- If the closure of a package has the same texts in two workspaces, it is checked as one `Package` in both.
 use Rattle.std.proofs.Common.{ℕ, List}
 use Rattle.std.specs.Prelude.{Contains}
 use Rattle.base_files.specs.Packages.{package_paths}

@@ -12,13 +12,13 @@ use Rattle.types_expr.specs.Judge.{MemberUse}
 abbrev pub IsPackage : World → ℕ → Type 0
 IsPackage w k = w.bound k ≡ Means Package
 
--- what stands before is no name of a package; it is told by its token where it may be one
+-- The token before, if it may be the name of a package, is none.
 abbrev pub MayUse : World → Option ℕ → Type 0
 MayUse w None = Unit {0}
 MayUse w (Some k) = IsPackage w k → ⊥
 
--- The uses stand at names among the tokens, in their order, each behind a dot or before a colon, and behind no name of a
--- package. before and after: the token that stands there, where it may be a name that no dot precedes.
+-- The uses are at names among the tokens, in order. Each comes after a dot or before a colon, and not after the name of a package. `before`
+-- and `after`: the token there, if it may be a name that no dot precedes.
 pub data Picked (w : World) : (before : Option ℕ) → List MemberUse → List Token → (after : Option ℕ) → Type 0 where
   stops : {b : Option ℕ} → Picked w b [] [] b
   passes : {b e : Option ℕ} {us : List MemberUse} {t : Token} {ts : List Token} → Picked w (Some t.place) us ts e → Picked w b us (t ∷ ts) e
@@ -56,7 +56,7 @@ pass_behind w us ts rs p = subst (λ xs. Passes w xs (ts ++ rs)) (append-nil us)
 pub pass_before : (w : World) (us : List MemberUse) (ts rs : List Token) → Passes w us rs → Passes w us (ts ++ rs)
 pass_before w us ts rs p = pass_append w [] us ts rs (pass_none w ts) p
 
--- What stands before a selector means no value where it ends in the name of a package.
+-- The operand before a selector has no value if it ends in the name of a package.
 
 abbrev pub IsNoValue : Meaning → Type 0
 IsNoValue Package = Unit {0}
@@ -101,7 +101,7 @@ pub fits_still : (w : World) (m n : Meaning) (o : Option ℕ) → (IsNoValue m �
 fits_still w m n None f h = tt
 fits_still w m n (Some k) f h = λ p. f (h p)
 
--- the same uses, and a meaning that is no value where the one before is none
+-- An equal list of uses, with a meaning that is no value if the first one is none.
 pub walk_same : (w : World) (us vs : List MemberUse) (ts : List Token) (m n : Meaning) → vs ≡ us → (IsNoValue m → IsNoValue n) → Walks w us ts m →
     Walks w vs ts n
 walk_same w us vs ts m n e f h b = let r = h b in (r.0, (subst (λ xs. Picked w b xs ts r.0) (sym e) r.1.0, fits_still w m n r.0 f r.1.1))

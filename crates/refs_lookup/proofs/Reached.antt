@@ -1,4 +1,4 @@
--- Where what is reached from a package keeps its files, the closure of the package keeps its texts.
+-- If the paths reached from a package have the same files in both workspaces, its closure has the same texts.
 use Rattle.std.proofs.Common.{ℕ, List}
 use Rattle.std.specs.Prelude.{Contains}
 use Rattle.base_files.specs.Packages.{package_paths}
@@ -10,7 +10,7 @@ use Rattle.workspace_check.proofs.Closed.{in_closure_then}
 use Rattle.workspace_check.proofs.PackageFiles.{package_file}
 use Rattle.refs_lookup.specs.Reached.{IsReached, start, imported, KeepsReached}
 
--- what lies in the closure is reached, and what is reached and is a package lies in it
+-- Each path of the closure is reached, and each reached path of a package is in the closure.
 
 one_more : (w : Workspace) (p m a : List ℕ) → PackageImports w p m → IsReached w m a → IsReached w p a
 one_more w p _ a i start = imported (itself (has_file w p i.entry i.of_package)) i

@@ -1,4 +1,4 @@
--- What a package is bound to stands in its closure.
+-- The declarations that identifiers of a package are bound to are declared in its closure.
 use Rattle.std.proofs.Common.{ℕ, ◌≡◌, ◌<◌, List, length, map, ap, sym, subst, refl, ◌∙◌}
 use Rattle.std.specs.Prelude.{Contains, Option, Some, None, slice_get}
 use Rattle.base_files.specs.Path.{folder}

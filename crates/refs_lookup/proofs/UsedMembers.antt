@@ -1,4 +1,4 @@
--- The members that are used at a token: one declaration at most, and no other way binds the name but one behind a package's name.
+-- A use of a member is bound to at most one declaration as such. No scope binds it, and it is no declaring identifier of a member.
 use Rattle.std.proofs.Common.{ℕ, ◌≡◌, ◌<◌, ◌⊎◌, inl, inr, List, ap, sym, subst, ◌∙◌}
 use Rattle.std.specs.Prelude.{Contains, Some, slice_get}
 use Rattle.std.proofs.lemmas.Option.{same_Some}

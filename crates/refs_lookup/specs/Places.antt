@@ -1,4 +1,4 @@
--- The places at which members are used.
+-- The tokens at which members are used.
 use Rattle.std.specs.Prelude.{ℕ, suc, ◌≡◌, true}
 use Rattle.go_scanner.specs.CutText.{CutText}
 use Rattle.go_ast.specs.declared.syntax.Kind.{Kind}
@@ -8,7 +8,7 @@ use Rattle.types_expr.specs.World.{World, Means}
 use Rattle.law_tokens.specs.Roles.{IsOfKind, IsBehindDot}
 use Rattle.law_tokens.specs.Tokens.{is_name}
 
--- the token is a name or `_` that is bound to a package, and stands behind no dot
+-- The token is an identifier or `_` that is bound to a package, and no dot is before it.
 pub record IsPackageName (w : World) (c : CutText) (token : ℕ) : Type 0 where
   pub kind : Kind
   pub of_kind : IsOfKind c token kind
@@ -16,7 +16,7 @@ pub record IsPackageName (w : World) (c : CutText) (token : ℕ) : Type 0 where
   pub undotted : IsBehindDot c token → ⊥
   pub names : w.bound token ≡ Means Package
 
--- the token stands before a colon; or it stands behind a dot, and not behind the name of a package
+-- A colon follows the token, or a dot precedes it that does not come after the name of a package.
 pub data StandsAtLink (w : World) (c : CutText) (place : ℕ) : Type 0 where
   as_key : IsOfKind c (suc place) Colon → StandsAtLink w c place
   as_selected : IsBehindDot c place → ((token : ℕ) → suc (suc token) ≡ place → IsPackageName w c token → ⊥) → StandsAtLink w c place

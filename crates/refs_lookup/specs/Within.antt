@@ -1,4 +1,4 @@
--- Where the declarations stand that a package can be bound to.
+-- The declarations that identifiers of a package can be bound to.
 use Rattle.std.specs.Prelude.{ℕ, List}
 use Rattle.base_files.specs.Path.{folder}
 use Rattle.base_files.specs.Workspace.{Workspace}
@@ -11,12 +11,12 @@ use Rattle.refs_binding.specs.Binding.{IsPredeclared}
 use Rattle.refs_binding.specs.Uses.{IsPackage}
 use Rattle.refs_binding.specs.Standing.{IsDeclaredAt}
 
--- a declaration stands at a place in a file of a package in the closure of p
+-- The declaration is declared at this place, in a file of a package in the closure of `p`.
 pub record StandsWithin (w : Workspace) (known : Verdicts) (p : List ℕ) (d : Declaration) (place : Place) : Type 0 where
   pub declared : IsDeclaredAt (IsPackage w known) d place
   pub in_closure : IsInClosure w p (folder place.path)
 
--- a predeclared name, or a declaration that stands in a package in the closure of p
+-- The declaration is predeclared, or is declared in a package in the closure of `p`.
 pub data IsDeclaredWithin (w : Workspace) (known : Verdicts) (p : List ℕ) : Declaration → Type 0 where
   predeclared : {n : ℕ} → IsPredeclared n → IsDeclaredWithin w known p (Predeclared n)
   stands : {d : Declaration} (place : Place) → StandsWithin w known p d place → IsDeclaredWithin w known p d

@@ -1,4 +1,4 @@
-//! The declaration to which an identifier of a workspace is bound.
+//! Finds the declaration that the identifier at a byte of a file is bound to.
 ghost use Rattle.std.specs.Prelude.{◌<◌, length, IfOk};
 ghost use Rattle.types_declared.specs.PackageView.{package_of, IsIndexOf};
 ghost use Rattle.refs_binding.specs.declared.declaration.Declaration.{Declaration as Bound};
@@ -23,7 +23,7 @@ use types_info::package_before;
 use workspace_check::{Findings, seen};
 use workspace_graph::Graph;
 
-/// The number of the declaration that the package of a number exports under a name, by what it sees and by its table.
+/// Returns the number of the declaration that a package exports under a name, by its table and by what it sees of others.
 fn exported_by(
     at: Numbered<'_>,
     seen: &Interfaces,
@@ -37,7 +37,7 @@ fn exported_by(
     exported_as(unit_of(at, seen, table), name)
 }
 
-/// The number of the declaration that the package of a number exports under a name.
+/// Reads the package of a number, and returns the number of the declaration that it exports under a name.
 fn exported_number(
     alloc: Global,
     at: Numbered<'_>,
@@ -51,7 +51,7 @@ fn exported_number(
     Ok(exported_by(at, &seen, &table, name))
 }
 
-/// What the package of a path exports under a name.
+/// Returns the declaration that the package of a path exports under a name.
 fn exported_declaration(
     alloc: Global,
     graph: &Graph,
@@ -81,7 +81,7 @@ fn exported_declaration(
     }
 }
 
-/// What another package exports, behind whose name an identifier stands.
+/// Returns the declaration of `u` as `N` in a qualified identifier `q.N`: what the package that `q` names exports under the name `N`.
 fn declaration_by_package(
     alloc: Global,
     graph: &Graph,
@@ -101,7 +101,7 @@ fn declaration_by_package(
     }
 }
 
-/// The field or method that an identifier is, where it is used or where it is declared.
+/// Returns the field or method that `u` uses or declares.
 fn member_declaration(
     alloc: Global,
     of: &Indexed<'_>,
@@ -117,7 +117,7 @@ fn member_declaration(
     }
 }
 
-/// The declaration to which an identifier is bound that no scope binds: one of another package, or a field or method.
+/// Returns the declaration of an identifier that no scope binds: a declaration that another package exports, or a field or method.
 fn declaration_beyond(
     alloc: Global,
     graph: &Graph,
@@ -137,7 +137,7 @@ fn declaration_beyond(
     }
 }
 
-/// The declaration to which an identifier of a package is bound.
+/// Returns the declaration that an identifier of a package is bound to.
 fn declaration_of(
     alloc: Global,
     graph: &Graph,
@@ -156,7 +156,10 @@ fn declaration_of(
     }
 }
 
-/// The declaration of what holds a byte of a file of a package.
+/// Returns the declaration of the identifier at a byte of a file of a package.
+///
+/// Refuses with `NoIdentifier` if the byte is in no identifier and no import's path literal. Refuses with `NotRenamable` if the identifier
+/// is bound to no declaration.
 pub fn declaration_in_unit(
     alloc: Global,
     graph: &Graph,
@@ -181,7 +184,7 @@ pub fn declaration_in_unit(
     }
 }
 
-/// The declaration of what holds a byte of a file of the package of a number, with what was found once in it.
+/// Returns the declaration of the identifier at a byte of a file of the package of a number, by its index.
 fn declaration_found(
     alloc: Global,
     at: Numbered<'_>,
@@ -199,7 +202,7 @@ fn declaration_found(
     declaration_in_unit(alloc, at.graph, at.found, &of, file, offset)
 }
 
-/// The declaration of what holds a byte of a file of the package of a number, by what it sees and by its table.
+/// Returns the declaration of the identifier at a byte of a file of a numbered package, by the package's table and by what it sees.
 fn declaration_by(
     alloc: Global,
     at: Numbered<'_>,
@@ -217,7 +220,7 @@ fn declaration_by(
     declaration_found(alloc, at, unit, &index, file, offset)
 }
 
-/// The declaration of what holds a byte of a file of the package of a number.
+/// Reads the package of a number, and returns the declaration of the identifier at a byte of one of its files.
 fn declaration_in(
     alloc: Global,
     at: Numbered<'_>,
@@ -232,7 +235,10 @@ fn declaration_in(
     declaration_by(alloc, at, &seen, &table, file, offset)
 }
 
-/// The declaration of what holds a byte of a file.
+/// Returns the declaration of the identifier at a byte of a file, or a refusal. The offset is in bytes, from 0.
+///
+/// Refuses with `NoIdentifier` if the byte is in no identifier and no import's path literal. Refuses with `NotRenamable` if the identifier
+/// is bound to no declaration.
 pub fn declaration_at(
     alloc: Global,
     graph: &Graph,

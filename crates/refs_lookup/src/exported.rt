@@ -1,4 +1,4 @@
-//! What a package exports under a name.
+//! Finds the declaration that a package exports under a name.
 ghost use Rattle.std.specs.Prelude.{ℕ, ◌≡◌, ◌<◌, ◌↔◌, Some, length, IsTrue, MatchOption};
 ghost use Rattle.types_check.specs.Interfaces.{IsSeen};
 ghost use Rattle.types_declared.specs.PackageView.{package_of};
@@ -6,7 +6,7 @@ ghost use Rattle.types_declared.specs.PackageView.{package_of};
 use types_check::is_seen;
 use types_declared::Package;
 
-/// Whether an identifier has a name.
+/// Whether the identifier `u` has this name.
 pub fn has_name(unit: Package<'_>, u: usize, name: &[u8]) -> bool
     requires { u < length unit.table.now.sites }
     ensures { IsTrue result ↔ ((package_of unit.entry).names u ≡ name.now) }
@@ -14,7 +14,7 @@ pub fn has_name(unit: Package<'_>, u: usize, name: &[u8]) -> bool
     unit.table.name(u) == name
 }
 
-/// Whether a declaration is exported under a name.
+/// Whether the package exports its declaration `d` under this name.
 fn is_exported_as(unit: Package<'_>, d: usize, name: &[u8]) -> bool
     requires { d < length unit.table.now.sites }
     ensures { let p = package_of unit.entry in
@@ -23,7 +23,7 @@ fn is_exported_as(unit: Package<'_>, d: usize, name: &[u8]) -> bool
     has_name(unit, d, name) && is_seen(unit, d)
 }
 
-/// The declaration that a package exports under a name.
+/// Returns the number of the declaration that a package exports under a name.
 pub fn exported_as(unit: Package<'_>, name: &[u8]) -> Option<usize>
     ensures { let p = package_of unit.entry in
         MatchOption result ((d : ℕ) → IsSeen p d → p.names d ≡ name.now → ⊥) (λ d. IsSeen p d × (p.names d ≡ name.now)) }

@@ -1,4 +1,4 @@
-//! The identifier of a package that holds a byte, and the one that it stands for.
+//! Finds the identifier of a package at a byte, and the identifier that a path literal stands for.
 ghost use Rattle.std.specs.Prelude.{ℕ, ◌≡◌, ◌<◌, ◌↔◌, Some, length, slice_get, map, IsTrue, MatchOption};
 ghost use Rattle.go_ast.specs.SourceFile.{source_of};
 ghost use Rattle.types_declared.specs.PackageView.{package_of};
@@ -10,7 +10,7 @@ use go_ast::FileTree;
 use go_scope::model::{Position, Purpose, Role};
 use types_declared::Package;
 
-/// Whether a token of a file holds a byte.
+/// Whether the token of a file holds the byte at a path and offset.
 fn token_holds(file: &FileTree, token: usize, path: &Path, offset: usize) -> bool
     ensures { IsTrue result ↔ TokenHolds (Some (source_of file.now)) token path.now offset }
 {
@@ -20,7 +20,7 @@ fn token_holds(file: &FileTree, token: usize, path: &Path, offset: usize) -> boo
         && file.path().as_str().as_bytes() == path.as_str().as_bytes()
 }
 
-/// Whether a token at a place of a package's files holds a byte.
+/// Whether the token at a position holds the byte at a path and offset.
 fn place_holds(files: &[FileTree], at: Position, path: &Path, offset: usize) -> bool
     ensures { IsTrue result ↔ TokenHolds (slice_get (map source_of files.now) at.file) at.index path.now offset }
 {
@@ -31,7 +31,7 @@ fn place_holds(files: &[FileTree], at: Position, path: &Path, offset: usize) -> 
     }
 }
 
-/// Whether an identifier, or the literal of an import, holds a byte.
+/// Whether the identifier or path literal `u` holds the byte at a path and offset.
 fn holds_byte(unit: Package<'_>, u: usize, path: &Path, offset: usize) -> bool
     requires { u < length unit.table.now.sites }
     ensures { IsTrue result ↔ HoldsByte (package_of unit.entry) path.now offset u }
@@ -39,7 +39,7 @@ fn holds_byte(unit: Package<'_>, u: usize, path: &Path, offset: usize) -> bool
     !unit.table.role(u).is_implied() && place_holds(unit.files, unit.table.place(u), path, offset)
 }
 
-/// The identifier, or the literal of an import, that holds a byte.
+/// Returns the identifier, or the import's path literal, that holds the byte at a path and offset.
 pub fn identifier_at(unit: Package<'_>, path: &Path, offset: usize) -> Option<usize>
     ensures { MatchOption result ((u : ℕ) → HoldsByte (package_of unit.entry) path.now offset u → ⊥) (λ u. HoldsByte (package_of unit.entry) path.now offset u) }
 {
@@ -51,7 +51,7 @@ pub fn identifier_at(unit: Package<'_>, path: &Path, offset: usize) -> Option<us
     None
 }
 
-/// Whether a role is that of the literal of an import with a name.
+/// Whether a role is that of the path literal of an import with a name.
 fn is_named_literal(role: Role) -> bool
     ensures { result ≡ is_named_literal role }
 {
@@ -61,7 +61,7 @@ fn is_named_literal(role: Role) -> bool
     }
 }
 
-/// The identifier that another stands for: the name of an import for its literal.
+/// Returns the identifier that `u` stands for: the name of an import for its path literal, else `u`.
 pub fn named_by(unit: Package<'_>, u: usize) -> usize
     requires { u < length unit.table.now.sites }
     ensures named { result ≡ named_by (package_of unit.entry).layout u }

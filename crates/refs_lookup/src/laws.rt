@@ -1,4 +1,4 @@
-//! The laws of the places and bytes of identifiers, and of the ways to be bound.
+//! Laws of the identifiers at places and bytes, and of the ways in which an identifier is bound.
 ghost use Rattle.std.specs.Prelude.{ℕ, ◌≡◌, ◌<◌, List};
 ghost use Rattle.base_files.specs.Workspace.{Workspace};
 ghost use Rattle.types_declared.specs.Package.{Package};
@@ -8,39 +8,39 @@ ghost use Rattle.refs_binding.specs.Binding.{BindsByScope, BindsByPackage, Binds
 ghost use Rattle.refs_binding.specs.Identifiers.{Stands, BeginsAt, HoldsByte};
 ghost use Rattle.refs_binding.specs.Uses.{IsPackage, IsAskedIn};
 
-/// One identifier of a package, at most, begins at a place.
+/// At most one identifier of a package begins at a place.
 pub fn one_identifier_begins()
     ensures { (w : Workspace) → (known : Verdicts) → (p : Package) → IsPackage w known p → (path : List ℕ) → (offset u v : ℕ) → BeginsAt p path offset u → BeginsAt p path offset v → u ≡ v }
 {}
 
-/// One identifier of a package, at most, holds a byte.
+/// At most one identifier of a package holds a byte.
 pub fn one_identifier_holds()
     ensures { (w : Workspace) → (known : Verdicts) → (p : Package) → IsPackage w known p → (path : List ℕ) → (offset u v : ℕ) → HoldsByte p path offset u → HoldsByte p path offset v → u ≡ v }
 {}
 
-/// One identifier of one package, at most, is asked for at a byte of a file.
+/// At most one identifier of one package holds a byte of a file.
 pub fn one_identifier_is_asked()
     ensures { (w : Workspace) → (known : Verdicts) → (path : List ℕ) → (offset : ℕ) → (p q : Package) → (u v : ℕ) → IsAskedIn w known path p → IsAskedIn w known path q →
         HoldsByte p path offset u → HoldsByte q path offset v → (p ≡ q) × (u ≡ v) }
 {}
 
-/// By scopes an identifier is bound to one declaration at most.
+/// Scopes bind an identifier to at most one declaration.
 pub fn one_declaration_by_scope()
     ensures { (w : Workspace) → (known : Verdicts) → (p : Package) → IsPackage w known p → (u : ℕ) → (d e : Declaration) → BindsByScope p u d → BindsByScope p u e → d ≡ e }
 {}
 
-/// Behind the name of a package an identifier is bound to one declaration at most.
+/// A qualified identifier is bound to at most one declaration.
 pub fn one_declaration_by_package()
     ensures { (w : Workspace) → (known : Verdicts) → (p : Package) → IsPackage w known p → (u : ℕ) → (d e : Declaration) →
         BindsByPackage (IsPackage w known) p u d → BindsByPackage (IsPackage w known) p u e → d ≡ e }
 {}
 
-/// What is bound by scopes does not stand behind the name of a package.
+/// An identifier that scopes bind is not bound as `N` in a qualified identifier `q.N`.
 pub fn scopes_exclude_packages()
     ensures { (w : Workspace) → (known : Verdicts) → (p : Package) → (u : ℕ) → (d e : Declaration) → BindsByScope p u d → BindsByPackage (IsPackage w known) p u e → ⊥ }
 {}
 
-/// The name by which a field or a method is declared is bound by no scope, and does not stand behind the name of a package.
+/// The declaring identifier of a field or method is bound by no scope, and is not `N` in a qualified identifier `q.N`.
 pub fn member_names_exclude_other_ways()
     ensures scopes { (w : Workspace) → (known : Verdicts) → (p : Package) → IsPackage w known p → (u : ℕ) → (d e : Declaration) → u < p.size →
         BindsByName p u d → BindsByScope p u e → ⊥ }
@@ -48,12 +48,12 @@ pub fn member_names_exclude_other_ways()
         BindsByName p u d → BindsByPackage (IsPackage w known) p u e → ⊥ }
 {}
 
-/// As a member that is used an identifier is bound to one declaration at most.
+/// As a use of a member, an identifier is bound to at most one declaration.
 pub fn one_declaration_by_member()
     ensures { (w : Workspace) → (known : Verdicts) → (p : Package) → IsPackage w known p → (u : ℕ) → (d e : Declaration) → BindsByMember p u d → BindsByMember p u e → d ≡ e }
 {}
 
-/// A member that is used is bound by no scope, and is not the name by which a field or a method is declared.
+/// A use of a member is bound by no scope, and is not the declaring identifier of a field or method.
 pub fn used_members_exclude_other_ways()
     ensures scopes { (w : Workspace) → (known : Verdicts) → (p : Package) → IsPackage w known p → (u : ℕ) → (d e : Declaration) → Stands p u →
         BindsByMember p u d → BindsByScope p u e → ⊥ }

@@ -1,5 +1,5 @@
-//! The declaration to which the identifier at a byte of a file is bound, and that there is one at most; and laws of what members stand
-//! for, and of what stays of a package where the texts of its closure stay.
+//! Finds the declaration of the identifier at a byte of a file. Laws: each identifier has at most one declaration, and the closure of a
+//! package determines its bindings.
 #![tactic(auto)]
 
 mod asked;

@@ -1,4 +1,4 @@
-//! The field or method of the package itself that an identifier declares.
+//! Finds the field or method whose declaring identifier an identifier is.
 ghost use Rattle.std.specs.Prelude.{ℕ, ◌≡◌, ◌<◌, ◌↔◌, Some, None, length, slice_index_or, IsTrue, IfOk, MatchOption};
 ghost use Rattle.go_scope.specs.Bindings.{IsIdentifier};
 ghost use Rattle.types_declared.specs.PackageView.{package_of, IsIndexOf};
@@ -11,7 +11,7 @@ use refs_binding::{Declaration, field_places, method_places};
 use std::alloc::{AllocError, Global};
 use types_declared::{Index, Package};
 
-/// Whether a place was found, and is this one.
+/// Whether `found` is this position.
 fn is_place(found: Option<Position>, at: Position) -> bool
     ensures { IsTrue result ↔ (found ≡ Some at) }
 {
@@ -21,7 +21,7 @@ fn is_place(found: Option<Position>, at: Position) -> bool
     }
 }
 
-/// The rank for which a list has a place.
+/// Returns the rank for which a list has this position.
 fn rank_at(places: &[Option<Position>], at: Position) -> Option<usize>
     ensures { MatchOption result ((rank : ℕ) → slice_index_or places.now rank None ≡ Some at → ⊥) (λ rank. slice_index_or places.now rank None ≡ Some at) }
 {
@@ -33,7 +33,7 @@ fn rank_at(places: &[Option<Position>], at: Position) -> Option<usize>
     None
 }
 
-/// The field that an identifier declares.
+/// Returns the field whose declaring identifier `u` is.
 fn own_field(
     alloc: Global,
     unit: Package<'_>,
@@ -52,7 +52,7 @@ fn own_field(
     }
 }
 
-/// The method that an identifier declares.
+/// Returns the method whose declaring identifier `u` is.
 fn own_method(
     alloc: Global,
     unit: Package<'_>,
@@ -71,7 +71,7 @@ fn own_method(
     }
 }
 
-/// The field or method that an identifier declares.
+/// Returns the field or method whose declaring identifier `u` is.
 pub fn declaration_by_name(
     alloc: Global,
     unit: Package<'_>,

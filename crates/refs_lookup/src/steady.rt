@@ -1,4 +1,4 @@
-//! The laws of packages whose closures have the same texts in two workspaces, and of the imports that make a closure.
+//! Laws of a package whose closure has the same texts in two workspaces, and of the imports that make a closure.
 ghost use Rattle.std.specs.Prelude.{ℕ, ◌≡◌, ◌↔◌, List, Contains, map};
 ghost use Rattle.base_files.specs.Packages.{package_paths};
 ghost use Rattle.base_files.specs.Path.{folder};
@@ -16,14 +16,14 @@ ghost use Rattle.refs_binding.specs.Uses.{IsPackage, IsBoundTo, IsUseOf, HasDecl
 ghost use Rattle.refs_lookup.specs.Reached.{KeepsReached};
 ghost use Rattle.refs_lookup.specs.Within.{StandsWithin, IsDeclaredWithin};
 
-/// Where a package, and each path that its closure imports, has the same files in two workspaces, its closure has the same
-/// texts in both: so only what is reached in the one of them is to be looked at.
+/// If a package and each path that its closure imports have the same files in two workspaces, the closure has the same texts in both. So it
+/// suffices to search one of the two workspaces.
 pub fn closures_stay()
     ensures { (w : Workspace) → (x : Workspace) → (p : List ℕ) → KeepsReached w x p → HasSameClosure w x p }
 {}
 
-/// Where the closure of a package has the same texts in two workspaces, the package is checked as the same one in both, with
-/// the same identifiers, declarations and types, and the same is known of it: whether it has faults, and what others see of it.
+/// If the closure of a package has the same texts in two workspaces, it is checked as one `Package` in both: with equal identifiers,
+/// declarations and types. Its verdict is equal in both, too.
 pub fn packages_stay()
     ensures checked { (w : Workspace) → (x : Workspace) → (before : Verdicts) → (after : Verdicts) → AreVerdicts w before → AreVerdicts x after →
         (p : Package) → HasSameClosure w x p.path → IsPackage w before p ↔ IsPackage x after p }
@@ -31,14 +31,14 @@ pub fn packages_stay()
         (path : List ℕ) → Contains (package_paths w) path → HasSameClosure w x path → IsSameVerdict (before path) (after path) }
 {}
 
-/// In such a package the same identifiers are bound to the same declarations.
+/// If the closure of a package has the same texts in two workspaces, its identifiers are bound to the same declarations in both.
 pub fn bindings_stay()
     ensures { (w : Workspace) → (x : Workspace) → (before : Verdicts) → (after : Verdicts) → AreVerdicts w before → AreVerdicts x after →
         (p : Package) → HasSameClosure w x p.path → IsPackage w before p → (u : ℕ) → (d : Declaration) → IsBoundTo w before p u d ↔ IsBoundTo x after p u d }
 {}
 
-/// So the uses of a declaration in the files of such a package are the same in both workspaces, and what holds a byte of such
-/// a file is bound to the same declaration.
+/// If the closure of a file's package has the same texts in two workspaces, a declaration has the same uses in the file. The identifier at
+/// a byte of the file is bound to the same declaration in both.
 pub fn uses_stay()
     ensures begins { (w : Workspace) → (x : Workspace) → (before : Verdicts) → (after : Verdicts) → AreVerdicts w before → AreVerdicts x after →
         (place : Place) → HasSameClosure w x (folder place.path) → (d : Declaration) → IsUseOf w before d place ↔ IsUseOf x after d place }
@@ -47,8 +47,8 @@ pub fn uses_stay()
         HasDeclaration w before path offset d ↔ HasDeclaration x after path offset d }
 {}
 
-/// What an identifier of a package is bound to is a predeclared name, or stands in a package in the closure; where the closure
-/// has the same texts in two workspaces, it stands at the same place in both.
+/// An identifier of a package is bound to a predeclared name or to a declaration in the package's closure. If the closure has the same
+/// texts in two workspaces, the declaration has the same place in both.
 pub fn declarations_stand()
     ensures within { (w : Workspace) → (known : Verdicts) → AreVerdicts w known → (p : Package) → IsPackage w known p → (u : ℕ) → (d : Declaration) →
         IsBoundTo w known p u d → IsDeclaredWithin w known p.path d }
@@ -57,7 +57,7 @@ pub fn declarations_stand()
         StandsWithin w before path d place ↔ StandsWithin x after path d place }
 {}
 
-/// The literals by which a package is linked to others are those of the imports whose names its files see.
+/// The path literals that link a file to other packages are those of the imports that its scopes know.
 pub fn imports_agree()
     ensures { (t : FileTree) → import_literals t ≡ map (λ (i : ImportTree). i.path) (imports_in t) }
 {}

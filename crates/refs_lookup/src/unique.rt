@@ -1,4 +1,4 @@
-//! The laws of what identifiers are bound to.
+//! Laws of bindings: each identifier has at most one declaration, and identifiers of a workspace without faults have one.
 ghost use Rattle.std.specs.Prelude.{ℕ, ◌≡◌, ◌⊎◌, true, List, [], Some, Result, Err, slice_get};
 ghost use Rattle.base_files.specs.Workspace.{Workspace};
 ghost use Rattle.base_files.specs.declared.place.Place.{Place};
@@ -17,32 +17,32 @@ ghost use Rattle.refs_binding.specs.Binding.{BindsByPackage, BindsByMember, Bind
 ghost use Rattle.refs_binding.specs.Identifiers.{Stands};
 ghost use Rattle.refs_binding.specs.Uses.{IsPackage, IsBoundTo, IsUseOf, HasDeclaration, ListsUses, TellsUses};
 
-/// A member that is used does not stand behind the name of a package.
+/// A use of a member is not `N` in a qualified identifier `q.N`.
 pub fn used_members_exclude_packages()
     ensures { (w : Workspace) → (known : Verdicts) → (p : Package) → IsPackage w known p → (u : ℕ) → (d e : Declaration) → Stands p u →
         BindsByMember p u d → BindsByPackage (IsPackage w known) p u e → ⊥ }
 {}
 
-/// The name by which a field or a method is declared declares one.
+/// An identifier is the declaring identifier of at most one field or method.
 pub fn one_declaration_by_name()
     ensures { (w : Workspace) → (known : Verdicts) → (p : Package) → IsPackage w known p → (u : ℕ) → (d e : Declaration) →
         BindsByName p u d → BindsByName p u e → d ≡ e }
 {}
 
-/// An identifier that stands in a file is bound to one declaration at most, by whatever way.
+/// An identifier is bound to at most one declaration.
 pub fn one_declaration()
     ensures { (w : Workspace) → (known : Verdicts) → (p : Package) → IsPackage w known p → (u : ℕ) → Stands p u → (d e : Declaration) →
         IsBoundTo w known p u d → IsBoundTo w known p u e → d ≡ e }
 {}
 
-/// What begins at a place of a workspace is bound to one declaration at most, and so is what holds a byte of it.
+/// The identifier that begins at a place is bound to at most one declaration. So is the identifier or path literal that holds a byte.
 pub fn one_declaration_at_a_place()
     ensures begins { (w : Workspace) → (known : Verdicts) → (place : Place) → (d e : Declaration) → IsUseOf w known d place → IsUseOf w known e place → d ≡ e }
     ensures holds { (w : Workspace) → (known : Verdicts) → (path : List ℕ) → (offset : ℕ) → (d e : Declaration) →
         HasDeclaration w known path offset d → HasDeclaration w known path offset e → d ≡ e }
 {}
 
-/// The uses that are told of a byte are one list, and of the answers that are not for want of memory one at most is right.
+/// There is at most one list of uses for a byte, and at most one right answer besides running out of memory.
 pub fn uses_are_unique()
     ensures lists { (w : Workspace) → (path : List ℕ) → (offset : ℕ) → (places others : List Place) →
         ListsUses w path offset places → ListsUses w path offset others → places ≡ others }
@@ -50,14 +50,13 @@ pub fn uses_are_unique()
         TellsUses w path offset r → TellsUses w path offset s → (r ≡ Err Memory → ⊥) → (s ≡ Err Memory → ⊥) → r ≡ s }
 {}
 
-/// In a workspace without faults no identifier that declares or is a lexical use is bound to nothing.
+/// In a workspace without faults, each identifier that may declare or is a lexical use is bound to some declaration.
 pub fn lexical_names_are_bound()
     ensures { (w : Workspace) → ListsFaults w [] → (known : Verdicts) → AreVerdicts w known → (p : Package) → IsPackage w known p → (u : ℕ) → Stands p u →
         MayDeclare p.layout u ⊎ (is_use (p.layout.role u) ≡ true) → ((d : Declaration) → IsBoundTo w known p u d → ⊥) → ⊥ }
 {}
 
-/// In a workspace without faults no name by which a field is declared, or a method of a definition of the package, is bound to
-/// nothing.
+/// In a workspace without faults, the declaring identifier of each field, and of each method of a type definition of the package, is bound.
 pub fn declared_members_are_bound()
     ensures fields { (w : Workspace) → ListsFaults w [] → (known : Verdicts) → AreVerdicts w known → (p : Package) → IsPackage w known p →
         (rank : ℕ) → (f : PlacedField) → slice_get (package_fields p) rank ≡ Some f → (u : ℕ) → StandsAt p.layout (field_place f) u →
@@ -67,7 +66,7 @@ pub fn declared_members_are_bound()
         (u : ℕ) → StandsAt p.layout (function_place f) u → ((d : Declaration) → IsBoundTo w known p u d → ⊥) → ⊥ }
 {}
 
-/// In a workspace without faults a name behind the name of a package is bound to a declaration of that package.
+/// In a workspace without faults, `N` in a qualified identifier `q.N` is bound to a declaration of the package that `q` names.
 pub fn names_behind_packages_are_bound()
     ensures { (w : Workspace) → ListsFaults w [] → (known : Verdicts) → AreVerdicts w known → (p : Package) → IsPackage w known p → (u : ℕ) → Stands p u →
         (path : List ℕ) → IsBehindPackage p u path → (d : ℕ) × IsBoundTo w known p u (Declared path d) }

@@ -1,4 +1,4 @@
-//! The member that an identifier is where it is used: behind a dot, or as a key of a literal.
+//! Finds the member that a selector or a composite literal key names.
 ghost use Rattle.std.specs.Prelude.{◌≡◌, ◌<◌, Some, [], length, map, slice_get, IfOk};
 ghost use Rattle.types_expr.specs.Found.{use_of};
 ghost use Rattle.types_info.specs.MemberUses.{AreMemberUses, uses_in};
@@ -14,7 +14,7 @@ use types_expr::found::MemberUse;
 use types_expr::world::Definition;
 use types_info::one_world;
 
-/// The declaration of the member that is used, if it stands at a token.
+/// Returns the declaration of a use of a member, if the use is at this token.
 fn declaration_if(
     unit: Package<'_>,
     own: &[Definition],
@@ -31,7 +31,7 @@ fn declaration_if(
     }
 }
 
-/// The declaration of the member that is used at a token, by the member uses of its file.
+/// Returns the declaration of the use of a member at a token, among the uses of its file.
 fn declaration_among(
     unit: Package<'_>,
     own: &[Definition],
@@ -50,7 +50,7 @@ fn declaration_among(
     Ok(None)
 }
 
-/// The member uses of a file.
+/// Returns the uses of members in a file.
 fn uses_of(members: &[Vec<MemberUse>], file: usize) -> &[MemberUse]
     ensures { result.now ≡ uses_or_none (slice_get members.now file) }
 {
@@ -60,7 +60,7 @@ fn uses_of(members: &[Vec<MemberUse>], file: usize) -> &[MemberUse]
     }
 }
 
-/// The field or method that an identifier is, behind a dot or as a key.
+/// Returns the field or method that `u` names as a selector or a composite literal key.
 pub fn declaration_by_member(
     unit: Package<'_>,
     own: &[Definition],

@@ -1,4 +1,4 @@
--- Where the declarations of packages stand.
+-- The places of the declarations of packages.
 use Rattle.std.proofs.Common.{ℕ, ◌≡◌, ◌+◌, ◌<◌, ◌≤◌, inl, inr, Bool, true, false, List, [], ◌∷◌, ◌++◌, length, get_or, refl, sym, ap, subst, ◌∙◌, arith}
 use Rattle.std.specs.Prelude.{Option, Some, None, IsTrue, ◌↔◌, slice_get, slice_index_or}
 use Rattle.std.specs.Borrow.{Bor}

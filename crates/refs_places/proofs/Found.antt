@@ -1,4 +1,4 @@
--- What is found, told otherwise.
+-- Results of searches, by equivalent conditions.
 use Rattle.std.proofs.Common.{◌≡◌, ℕ, ◌<◌, ◌≤◌, false, true, inl, inr, sym, subst}
 use Rattle.std.specs.Prelude.{Option, Some, None}
 use Rattle.std.specs.Borrow.{Bor}
@@ -14,7 +14,7 @@ pub found_in_as : {X : Type 0} (P Q : X → Type 0) (o : Option (Bor X)) → ((x
 found_in_as P Q None to from h = λ x q. h x (from x q)
 found_in_as P Q (Some x) to from h = to x.now h
 
--- the same of what is borrowed
+-- A borrowed result is right if its copy is.
 pub found_copied : {X : Type 0} (P : X → Type 0) (o : Option (Bor X)) (x : Option X) → option_copied o ≡ x → IsFound P x → IsFoundIn P o
 found_copied P None x e h = subst (IsFound P) (sym e) h
 found_copied P (Some b) x e h = subst (IsFound P) (sym e) h

@@ -1,4 +1,4 @@
--- The bound identifiers that begin at a place, among those in order.
+-- The bound identifiers that begin at a place, in a list sorted by place.
 use Rattle.std.proofs.Common.{ℕ, ◌≡◌, ◌+◌, ◌-◌, ◌<◌, ◌≤◌, inl, inr, Bool, true, false, not}
 use Rattle.std.proofs.Common.{List, length, get_or, drop, refl, sym, ap, subst, ◌∙◌, arith, length-drop, length-take}
 use Rattle.std.specs.Prelude.{Contains, ◌↔◌}
@@ -59,7 +59,7 @@ parted_behind bs place sorted i j d le lt e =
     let one_at = low (compared place (get_or bs j d)) e in
     is_low (compared place (get_or bs i d)) (omega arith)
 
--- what one tells of those in front of it
+-- If the test is true just below an index, it is true of all below it.
 pub tells_before : (p : BoundSpot → Bool) (bs : List BoundSpot) (n : ℕ) (b : BoundSpot) → IsPartitionedBy p bs → n ≤ length bs → (n ≡ 0 → ⊥) →
     b ≡ get_or bs (n - 1) b → p b ≡ true → AllWithin (λ x. p x ≡ true) bs 0 n
 tells_before p bs n b parted le some is holds k d from lt =
@@ -67,7 +67,7 @@ tells_before p bs n b parted le some is holds k d from lt =
     let at : get_or bs (n - 1) d ≡ b = get_or_default bs (n - 1) d b last ∙ sym is in
     parted k (n - 1) d (omega arith) last (subst (λ x. p x ≡ true) (sym at) holds)
 
--- what one tells of those behind it
+-- If the test is false at an index, it is false of all from it on.
 pub tells_behind : (p : BoundSpot → Bool) (bs : List BoundSpot) (n : ℕ) (b : BoundSpot) → IsPartitionedBy p bs → n < length bs →
     b ≡ get_or bs n b → p b ≡ false → AllWithin (λ x. p x ≡ false) bs n (length bs)
 tells_behind p bs n b parted inside is fails k d from lt =

@@ -1,4 +1,4 @@
--- Where tokens, names and identifiers begin.
+-- The places of tokens, names and identifiers.
 use Rattle.std.proofs.Common.{ℕ, ◌≡◌, ◌<◌, ◌≤◌, true, false, List, length, map, get_or, sym, subst, ◌∙◌}
 use Rattle.std.specs.Prelude.{Option, Some, None, slice_get}
 use Rattle.std.proofs.lemmas.Bool.{true≢false}

@@ -6,14 +6,14 @@ use Rattle.workspace_graph.specs.Search.{IsMarked}
 use Rattle.refs_binding.specs.declared.declaration.Declaration.{Declaration}
 use Rattle.refs_binding.specs.declared.declaration.Declaration.TheVariants.{Predeclared, Declared, Field, Method}
 
--- the path of the package of a declaration; none where it is predeclared
+-- The path of the package of a declaration, or `None` if it is predeclared.
 abbrev pub path_by : Declaration → Option (List ℕ)
 path_by (Predeclared n) = None
 path_by (Declared path n) = Some path
 path_by (Field s) = Some s.package
 path_by (Method s) = Some s.package
 
--- the package of the declaration is there, and is not marked
+-- The workspace has the package of the declaration, and it is not marked.
 pub record IsOutside (w : Workspace) (marks : List Bool) (d : Declaration) : Type 0 where
   pub path : List ℕ
   pub of_path : path_by d ≡ Some path

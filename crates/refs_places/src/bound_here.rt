@@ -1,4 +1,4 @@
-//! The bound identifiers that begin at a place.
+//! Finds the bound identifiers that begin at a place, in a list sorted by place.
 ghost use Rattle.std.specs.Prelude.{◌≡◌, ◌↔◌, ◌≤◌, IsTrue, Contains, not, true, false, length};
 ghost use Rattle.std.specs.List.{AllWithin};
 ghost use Rattle.std.specs.List.Sorted.{IsSortedBy, IsPartitionedBy, IsPartitionPoint};
@@ -14,21 +14,21 @@ use refs_binding::BoundSpot;
 use refs_binding::bindings::compare;
 use std::cmp::Ordering;
 
-/// Whether an identifier begins before a place.
+/// Whether a bound identifier begins before a place.
 fn is_before(bound: &BoundSpot, place: &Place) -> bool
     ensures { result ≡ is_lt (place_cmp (place_at bound.now) place.now) }
 {
     compare(bound, place).is_lt()
 }
 
-/// Whether an identifier begins behind a place.
+/// Whether a bound identifier begins after a place.
 fn is_behind(bound: &BoundSpot, place: &Place) -> bool
     ensures { result ≡ is_gt (place_cmp (place_at bound.now) place.now) }
 {
     compare(bound, place).is_gt()
 }
 
-/// Whether all in front of a number begin before a place.
+/// Whether all bound identifiers below an index begin before a place.
 fn are_before(bound: &[BoundSpot], number: usize, place: &Place) -> bool
     requires parted { IsPartitionedBy (λ b. is_lt (place_cmp (place_at b) place.now)) bound.now }
     requires within { number ≤ length bound.now }
@@ -37,7 +37,7 @@ fn are_before(bound: &[BoundSpot], number: usize, place: &Place) -> bool
     number == 0 || is_before(&bound[number - 1], place)
 }
 
-/// Whether none from a number on begins before a place.
+/// Whether none of the bound identifiers from an index on begins before a place.
 fn is_none_before(bound: &[BoundSpot], number: usize, place: &Place) -> bool
     requires { IsPartitionedBy (λ b. is_lt (place_cmp (place_at b) place.now)) bound.now }
     ensures { IsTrue result → AllWithin (λ b. is_lt (place_cmp (place_at b) place.now) ≡ false) bound.now number (length bound.now) }
@@ -45,7 +45,7 @@ fn is_none_before(bound: &[BoundSpot], number: usize, place: &Place) -> bool
     number >= bound.len() || !is_before(&bound[number], place)
 }
 
-/// Whether none in front of a number begins behind a place.
+/// Whether none of the bound identifiers below an index begins after a place.
 fn is_none_behind(bound: &[BoundSpot], number: usize, place: &Place) -> bool
     requires parted { IsPartitionedBy (λ b. not (is_gt (place_cmp (place_at b) place.now))) bound.now }
     requires within { number ≤ length bound.now }
@@ -54,7 +54,7 @@ fn is_none_behind(bound: &[BoundSpot], number: usize, place: &Place) -> bool
     number == 0 || !is_behind(&bound[number - 1], place)
 }
 
-/// Whether all from a number on begin behind a place.
+/// Whether all bound identifiers from an index on begin after a place.
 fn are_behind(bound: &[BoundSpot], number: usize, place: &Place) -> bool
     requires { IsPartitionedBy (λ b. not (is_gt (place_cmp (place_at b) place.now))) bound.now }
     ensures { IsTrue result → AllWithin (λ b. not (is_gt (place_cmp (place_at b) place.now)) ≡ false) bound.now number (length bound.now) }
@@ -62,7 +62,7 @@ fn are_behind(bound: &[BoundSpot], number: usize, place: &Place) -> bool
     number >= bound.len() || is_behind(&bound[number], place)
 }
 
-/// Whether those that don't begin behind a place are as many as a number.
+/// Whether an index is the end of the bound identifiers that begin at a place or before it.
 fn is_end(bound: &[BoundSpot], number: usize, place: &Place) -> bool
     requires parted { IsPartitionedBy (λ b. not (is_gt (place_cmp (place_at b) place.now))) bound.now }
     requires within { number ≤ length bound.now }
@@ -71,7 +71,7 @@ fn is_end(bound: &[BoundSpot], number: usize, place: &Place) -> bool
     is_none_behind(bound, number, place) && are_behind(bound, number, place)
 }
 
-/// How many begin before a place. Where it is asked near the last answer, this takes no search.
+/// Returns the count of bound identifiers that begin before a place. Takes no search if that is `near`.
 fn first_near(bound: &[BoundSpot], near: usize, place: &Place) -> usize
     requires { IsPartitionedBy (λ b. is_lt (place_cmp (place_at b) place.now)) bound.now }
     ensures within { result ≤ length bound.now }
@@ -83,7 +83,7 @@ fn first_near(bound: &[BoundSpot], near: usize, place: &Place) -> usize
     bound.partition_point(|b| is_before(b, place))
 }
 
-/// How many don't begin behind a place. Where none or one begins there, this takes no search.
+/// Returns the count of bound identifiers that begin at a place or before it. Takes no search if at most one begins there.
 fn end_near(bound: &[BoundSpot], first: usize, place: &Place) -> usize
     requires parted { IsPartitionedBy (λ b. not (is_gt (place_cmp (place_at b) place.now))) bound.now }
     requires within { first ≤ length bound.now }
@@ -99,8 +99,8 @@ fn end_near(bound: &[BoundSpot], first: usize, place: &Place) -> usize
     bound.partition_point(|b| !is_behind(b, place))
 }
 
-/// The bound identifiers that begin at a place, among those in the order of their places. They are looked for first where those
-/// found last end: places in order are found without a search.
+/// Returns the bound identifiers that begin at a place, in a list sorted by place. The search starts at the index `near`, where the last
+/// answer ended, so queries in the order of places take no search.
 pub fn bound_here<'a>(bound: &'a [BoundSpot], near: &mut usize, place: &Place) -> &'a [BoundSpot]
     requires { IsSortedBy (λ a b. is_lt (place_cmp (place_at a) (place_at b))) bound.now }
     ensures { (b : Bound) → Contains result.now b ↔ (Contains bound.now b × (place_at b ≡ place.now)) }
@@ -111,27 +111,27 @@ pub fn bound_here<'a>(bound: &'a [BoundSpot], near: &mut usize, place: &Place) -
     &bound[first..end]
 }
 
-/// Whether a bound identifier begins where a name does.
+/// Whether a bound identifier begins at this place.
 fn begins(bound: &BoundSpot, at: NameStart<'_>) -> bool
     ensures { IsTrue result ↔ (place_at bound.now ≡ place_of at.entry) }
 {
     bound.spot.offset == at.offset && bound.spot.path == *at.path
 }
 
-/// Whether the bound identifier of a number begins where a name does.
+/// Whether the bound identifier at an index begins at this place.
 fn begins_there(bound: &[BoundSpot], number: usize, at: NameStart<'_>) -> bool
     ensures { IsTrue result → BeginsAmong bound.now (place_of at.entry) }
 {
     number < bound.len() && begins(&bound[number], at)
 }
 
-/// How a bound identifier compares with the beginning of a name.
+/// Compares the place of a bound identifier with another place.
 fn compare_start(bound: &BoundSpot, at: NameStart<'_>) -> Ordering {
     let by_path = bound.spot.path.cmp(at.path);
     by_path.then(bound.spot.offset.cmp(&at.offset))
 }
 
-/// Whether one of the bound identifiers begins where a name does, by a search. The number is that at which it was found.
+/// Whether some bound identifier begins at this place, by a binary search. Sets `near` to the index that it finds.
 fn search(bound: &[BoundSpot], near: &mut usize, at: NameStart<'_>) -> bool
     ensures { IsTrue result → BeginsAmong bound.now (place_of at.entry) }
 {
@@ -142,8 +142,8 @@ fn search(bound: &[BoundSpot], near: &mut usize, at: NameStart<'_>) -> bool
     begins_there(bound, *near, at)
 }
 
-/// Whether one of the bound identifiers, which are in the order of their places, begins where a name does. It is looked for first
-/// where the one before it was found.
+/// Whether some bound identifier of a list sorted by place begins at this place. The index `near` of the last answer and the next one are
+/// tried first, then a binary search.
 pub fn is_bound(bound: &[BoundSpot], near: &mut usize, at: NameStart<'_>) -> bool
     ensures { IsTrue result → BeginsAmong bound.now (place_of at.entry) }
 {

@@ -1,4 +1,4 @@
-//! Where the declarations of a workspace without faults stand.
+//! The places of the declarations of a workspace without faults.
 ghost use Rattle.std.specs.Prelude.{◌≡◌, ◌<◌, ◌↔◌, None, Some, length, map, slice_get, slice_index_or, Contains, IsTrue, IfOk, MatchOption};
 ghost use Rattle.std.specs.Option.{option_copied};
 ghost use Rattle.base_files.specs.Packages.{package_paths};
@@ -28,11 +28,10 @@ use types_declared::{Index, Package, literal_of};
 use types_expr::symbol::SharedPath;
 use workspace_graph::Graph;
 
-/// How many names are predeclared: they have the first numbers in the table of each package.
+/// The count of predeclared names. They have the first numbers in the table of each package.
 const PREDECLARED: usize = 11;
 
-/// Where the declarations of a package stand that count: those of its scopes by their numbers, the fields and the methods by
-/// their ranks.
+/// The places of the declarations of a package that count: those of its scopes by number, and fields and methods by rank.
 #[derive(Drop)]
 pub struct DeclaredPlaces {
     pub names: Vec<Option<Place>>,
@@ -40,7 +39,7 @@ pub struct DeclaredPlaces {
     pub methods: Vec<Option<Place>>,
 }
 
-/// Whether an identifier declares, and this counts.
+/// Whether `d` is a declaration that counts.
 fn counts(table: &ScopeTable<'_>, d: usize) -> bool
     requires { d < length table.now.sites }
     ensures { IsTrue result ↔ Counts (layout_in table.now) (names_in table.now) d }
@@ -54,7 +53,7 @@ fn counts(table: &ScopeTable<'_>, d: usize) -> bool
     }
 }
 
-/// Where a declaration of a package's own scopes stands: an import at its path literal.
+/// Returns the position of a declaration of a package's own scopes. An import is at its path literal.
 fn position_in(unit: Package<'_>, d: usize) -> Option<Position>
     requires { d < length unit.table.now.sites }
     ensures { IsFound (IsScopeAt (package_of unit.entry) d) result }
@@ -69,7 +68,7 @@ fn position_in(unit: Package<'_>, d: usize) -> Option<Position>
     }
 }
 
-/// The same of each number.
+/// Returns the position of each declaration of a package's own scopes, by number.
 fn name_places(alloc: Global, unit: Package<'_>) -> Result<Vec<Option<Position>>, AllocError>
     ensures { IfOk result (λ places. ArePlaces (IsScopeAt (package_of unit.entry)) places.items) }
 {
@@ -80,7 +79,7 @@ fn name_places(alloc: Global, unit: Package<'_>) -> Result<Vec<Option<Position>>
     Ok(places)
 }
 
-/// Where the token begins at a position that was found.
+/// Returns the place of the token at a position, if there is a position.
 fn found_place(files: &[FileTree], at: Option<Position>) -> Result<Option<Place>, AllocError>
     ensures { IfOk result (IsFound (BeginsIn (map source_of files.now) at)) }
 {
@@ -90,7 +89,7 @@ fn found_place(files: &[FileTree], at: Option<Position>) -> Result<Option<Place>
     }
 }
 
-/// Where the tokens begin at some positions.
+/// Returns the places of the tokens at some positions.
 fn places_of(
     alloc: Global,
     files: &[FileTree],
@@ -105,7 +104,7 @@ fn places_of(
     Ok(places)
 }
 
-/// Where the declarations of a package stand, by what was found once in it.
+/// Returns the places of the declarations of a package, by its index.
 pub fn indexed_places(
     alloc: Global,
     unit: Package<'_>,
@@ -124,7 +123,7 @@ pub fn indexed_places(
     })
 }
 
-/// The same of a package in which nothing was found yet.
+/// Indexes a package, and returns the places of its declarations.
 pub fn unit_places(alloc: Global, unit: Package<'_>) -> Result<DeclaredPlaces, AllocError>
     ensures { IfOk result (AreDeclaredIn (package_of unit.entry)) }
 {
@@ -132,7 +131,7 @@ pub fn unit_places(alloc: Global, unit: Package<'_>) -> Result<DeclaredPlaces, A
     indexed_places(alloc, unit, &index)
 }
 
-/// The same of the package of a number.
+/// Returns the places of the declarations of the package of a number.
 fn places_at(
     alloc: Global,
     packages: &Packages<'_>,
@@ -146,7 +145,7 @@ fn places_at(
     unit_places(alloc, unit)
 }
 
-/// Where the declarations of all packages stand, by the packages' numbers.
+/// Returns the places of the declarations of all packages, by package number.
 pub fn declared_places(
     alloc: Global,
     packages: &Packages<'_>,
@@ -161,7 +160,7 @@ pub fn declared_places(
     Ok(all)
 }
 
-/// The place that a list has for a number.
+/// Returns the place that a list has at an index.
 fn listed(places: &[Option<Place>], number: usize) -> Option<&Place>
     ensures { option_copied result ≡ slice_index_or places.now number None }
 {
@@ -172,7 +171,7 @@ fn listed(places: &[Option<Place>], number: usize) -> Option<&Place>
 }
 
 impl DeclaredPlaces {
-    /// Where a declaration of the package stands. A predeclared one stands nowhere.
+    /// Returns the place of a declaration of the package, or `None` if it is predeclared.
     pub fn at(&self, declaration: &Declaration) -> Option<&Place>
         ensures { (p : Checked) → AreDeclaredIn p self.now → IsPlaceIn p declaration.now result }
     {
@@ -185,7 +184,7 @@ impl DeclaredPlaces {
     }
 }
 
-/// The path of the package of a declaration; none where it is predeclared.
+/// Returns the path of the package of a declaration, or `None` if it is predeclared.
 pub fn package_path(declaration: &Declaration) -> Option<&SharedPath>
     ensures { option_copied result ≡ path_by declaration.now }
 {
@@ -197,14 +196,14 @@ pub fn package_path(declaration: &Declaration) -> Option<&SharedPath>
     }
 }
 
-/// Whether the package of a number has a path.
+/// Whether the package of a number has this path.
 fn has_path(graph: &Graph, number: usize, path: &[u8]) -> bool
     ensures { IsTrue result → slice_get (package_paths graph.now) number ≡ Some path.now }
 {
     number < graph.len() && graph.package(number).path.as_slice() == path
 }
 
-/// The number of the package that has a path. It is looked for first where the one before it was found.
+/// Returns the number of the package of a path. The search starts at `near`, the number found last.
 fn number_near(graph: &Graph, near: &mut usize, path: &[u8]) -> Option<usize>
     ensures { MatchOption result (Contains (package_paths graph.now) path.now → ⊥) (λ number. slice_get (package_paths graph.now) number ≡ Some path.now) }
 {
@@ -216,7 +215,7 @@ fn number_near(graph: &Graph, near: &mut usize, path: &[u8]) -> Option<usize>
     found
 }
 
-/// Where a declaration of the package of a path stands.
+/// Returns the place of a declaration of the package of a path.
 fn declared_under<'a>(
     graph: &Graph,
     all: &'a [DeclaredPlaces],
@@ -235,8 +234,7 @@ fn declared_under<'a>(
     }
 }
 
-/// Where a declaration of a workspace stands. A predeclared one stands nowhere. Its package is looked for first where the one before
-/// it was found.
+/// Returns the place of a declaration, or `None` if it is predeclared. The search for its package starts at `near`, the number found last.
 pub fn declared_near<'a>(
     graph: &Graph,
     all: &'a [DeclaredPlaces],
@@ -257,7 +255,7 @@ pub fn declared_near<'a>(
     }
 }
 
-/// The same of one declaration alone.
+/// Returns the place of a declaration, or `None` if it is predeclared.
 pub fn declared_at<'a>(
     graph: &Graph,
     all: &'a [DeclaredPlaces],

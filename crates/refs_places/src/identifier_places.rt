@@ -1,4 +1,4 @@
-//! The places at which the identifiers of a workspace without faults begin.
+//! Lists the places of all identifiers of a workspace without faults.
 ghost use Rattle.std.specs.Prelude.{ℕ, ◌<◌, ◌↔◌, length, Contains, IfOk, OnOk};
 ghost use Rattle.base_files.specs.Packages.{package_paths};
 ghost use Rattle.base_files.specs.declared.place.Place.{Place as At};
@@ -16,7 +16,7 @@ use refs_binding::Packages;
 use std::alloc::{AllocError, Global};
 use types_declared::Package;
 
-/// Adds the place at which an identifier begins, if it stands in a file and is no literal.
+/// Adds the place of the identifier `u`. Adds nothing for an import's path literal or a predeclared name.
 fn add_beginning(found: &mut Vec<Place>, unit: Package<'_>, u: usize) -> Result<(), AllocError>
     requires { u < length unit.table.now.sites }
     ensures { OnOk result (AddsAll found.old.items found.new.items (λ (place : At). BeginsAt (package_of unit.entry) place.path place.offset u)) }
@@ -30,7 +30,7 @@ fn add_beginning(found: &mut Vec<Place>, unit: Package<'_>, u: usize) -> Result<
     }
 }
 
-/// Adds the places at which the identifiers of a package begin.
+/// Adds the places of the identifiers of a package.
 pub fn add_unit(found: &mut Vec<Place>, unit: Package<'_>) -> Result<(), AllocError>
     ensures { OnOk result (AddsAll found.old.items found.new.items (λ (place : At). (u : ℕ) × BeginsAt (package_of unit.entry) place.path place.offset u)) }
 {
@@ -40,7 +40,7 @@ pub fn add_unit(found: &mut Vec<Place>, unit: Package<'_>) -> Result<(), AllocEr
     Ok(())
 }
 
-/// The same of the package of a number.
+/// Adds the places of the identifiers of the package of a number.
 fn add_package(
     places: &mut Vec<Place>,
     packages: &Packages<'_>,
@@ -54,7 +54,7 @@ fn add_package(
     add_unit(places, unit)
 }
 
-/// The same of all packages.
+/// Adds the places of the identifiers of all packages.
 fn add_all(places: &mut Vec<Place>, packages: &Packages<'_>) -> Result<(), AllocError>
     requires { ArePackages packages.now }
     ensures { OnOk result (AddsAll places.old.items places.new.items (IsIdentifierAt packages.now.graph.now (known_in packages.now.found.now))) }
@@ -65,7 +65,7 @@ fn add_all(places: &mut Vec<Place>, packages: &Packages<'_>) -> Result<(), Alloc
     Ok(())
 }
 
-/// The places at which identifiers begin that are no literals.
+/// Returns the places of all identifiers. Path literals of imports are left out.
 pub fn identifier_places(alloc: Global, packages: &Packages<'_>) -> Result<Vec<Place>, AllocError>
     requires { ArePackages packages.now }
     ensures { IfOk result (λ places. (place : At) → Contains places.items place ↔ IsIdentifierAt packages.now.graph.now (known_in packages.now.found.now) place) }

@@ -1,4 +1,4 @@
-//! Where the declarations and the identifiers of a workspace without faults begin.
+//! The places of the declarations and identifiers of a workspace without faults.
 #![tactic(auto)]
 
 pub mod bound_here;

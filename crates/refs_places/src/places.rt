@@ -1,4 +1,4 @@
-//! The places at which the tokens and the identifiers of packages begin.
+//! The places of tokens and identifiers of packages.
 ghost use Rattle.std.specs.Prelude.{◌<◌, Some, length, map, option_map, slice_get, IfOk};
 ghost use Rattle.base_files.specs.declared.place.Place.{Place as At};
 ghost use Rattle.go_ast.specs.SourceFile.{source_of};
@@ -15,7 +15,7 @@ use refs_binding::is_name;
 use std::alloc::AllocError;
 use types_declared::Package;
 
-/// Where a token of a file begins.
+/// Returns the place at which a token of a file begins.
 fn begin(file: &FileTree, token: usize) -> Result<Place, AllocError>
     ensures { IfOk result (λ place. TokenBegins (Some (source_of file.now)) token place) }
 {
@@ -25,7 +25,7 @@ fn begin(file: &FileTree, token: usize) -> Result<Place, AllocError>
     })
 }
 
-/// The place at which the token at a position begins.
+/// Returns the place of the token at a position, if the file exists.
 pub fn place_of(files: &[FileTree], at: Position) -> Result<Option<Place>, AllocError>
     ensures { IfOk result (IsFound (TokenBegins (slice_get (map source_of files.now) at.file) at.index)) }
 {
@@ -35,7 +35,7 @@ pub fn place_of(files: &[FileTree], at: Position) -> Result<Option<Place>, Alloc
     }
 }
 
-/// The place at which a name of a file begins; none where the token is no name.
+/// Returns the place of a token of a file, or `None` if the token is no identifier.
 fn name_in(file: &FileTree, token: usize) -> Result<Option<Place>, AllocError>
     ensures { IfOk result (IsFound (λ (place : At). NameBegins (Some (source_of file.now)) token place.path place.offset)) }
 {
@@ -46,7 +46,7 @@ fn name_in(file: &FileTree, token: usize) -> Result<Option<Place>, AllocError>
     }
 }
 
-/// The place at which the name at a position begins; none where the token is no name.
+/// Returns the place of the token at a position, or `None` if the token is no identifier.
 pub fn name_beginning(files: &[FileTree], at: Position) -> Result<Option<Place>, AllocError>
     ensures { IfOk result (IsFound (λ (place : At). NameBegins (slice_get (map source_of files.now) at.file) at.index place.path place.offset)) }
 {
@@ -56,7 +56,7 @@ pub fn name_beginning(files: &[FileTree], at: Position) -> Result<Option<Place>,
     }
 }
 
-/// The place at which an identifier begins; none where it stands in no file, and for the literal of an import.
+/// Returns the place of the identifier `u`, or `None` for an import's path literal or a predeclared name.
 pub fn beginning(unit: Package<'_>, u: usize) -> Result<Option<Place>, AllocError>
     requires { u < length unit.table.now.sites }
     ensures { IfOk result (IsFound (λ (place : At). BeginsAt (package_of unit.entry) place.path place.offset u)) }
@@ -68,14 +68,14 @@ pub fn beginning(unit: Package<'_>, u: usize) -> Result<Option<Place>, AllocErro
     }
 }
 
-/// Where a name begins: at a byte of a file.
+/// A place with a borrowed path: where an identifier begins.
 #[derive(Clone, Copy)]
 pub struct NameStart<'a> {
     pub path: &'a Path,
     pub offset: usize,
 }
 
-/// Where a name of a file begins; nowhere where the token is no name.
+/// Returns the borrowed place of a token of a file, or `None` if the token is no identifier.
 fn start_in<'a>(file: &'a FileTree, token: usize) -> Option<NameStart<'a>>
     ensures { IsFound (λ (place : At). NameBegins (Some (source_of file.now)) token place.path place.offset) (option_map place_of result) }
 {
@@ -89,7 +89,7 @@ fn start_in<'a>(file: &'a FileTree, token: usize) -> Option<NameStart<'a>>
     }
 }
 
-/// Where the name at a position begins; nowhere where the token is no name.
+/// Returns the borrowed place of the token at a position, or `None` if the token is no identifier.
 fn start_at<'a>(files: &'a [FileTree], at: Position) -> Option<NameStart<'a>>
     ensures { IsFound (λ (place : At). NameBegins (slice_get (map source_of files.now) at.file) at.index place.path place.offset) (option_map place_of result) }
 {
@@ -99,7 +99,7 @@ fn start_at<'a>(files: &'a [FileTree], at: Position) -> Option<NameStart<'a>>
     }
 }
 
-/// Where an identifier begins; nowhere where it stands in no file, and for the literal of an import.
+/// Returns the borrowed place of the identifier `u`, or `None` for an import's path literal or a predeclared name.
 pub fn start<'a>(unit: Package<'a>, u: usize) -> Option<NameStart<'a>>
     requires { u < length unit.table.now.sites }
     ensures { IsFound (λ (place : At). BeginsAt (package_of unit.entry) place.path place.offset u) (option_map place_of result) }

@@ -1,5 +1,5 @@
--- Which packages may use a declaration: its own; those that import that, where it is exported; and those that reach it and use
--- members, where it is one.
+-- The packages that may use a declaration: its own, those that import it if it is exported, and for a member those that import it
+-- indirectly and use members.
 use Rattle.std.proofs.Common.{ℕ, ◌≡◌, List, [], true, map, refl, sym, ap, subst, ◌∙◌}
 use Rattle.std.specs.Prelude.{Option, Some, None, Contains, slice_get}
 use Rattle.std.specs.Borrow.{Bor}

@@ -1,4 +1,4 @@
--- The uses of a field or method of another package are the uses of members that are known of a package.
+-- The uses of another package's field or method are among the uses of members that a package's finding has.
 use Rattle.std.proofs.Common.{ℕ, ◌≡◌, Bool, true, false, not, List, sym, subst}
 use Rattle.std.specs.Prelude.{Option, Some, None}
 use Rattle.std.proofs.lemmas.Bool.{false≢true}

@@ -1,4 +1,4 @@
--- At each token of a package that is a name an identifier stands.
+-- Each identifier token of a package is an identifier of the package.
 use Rattle.std.proofs.Common.{ℕ, zero, suc, ◌≡◌, ◌+◌, ◌<◌, ◌⊎◌, inl, inr, Bool, true, false, cond, List, [], ◌∷◌, map, refl, sym, ap, subst, ◌∙◌, arith}
 use Rattle.std.specs.Prelude.{Option, Some, None, Contains, option_map, slice_get}
 use Rattle.std.proofs.lemmas.Bool.{true≢false, false≢true}

@@ -23,7 +23,7 @@ both : (a b : Bool) → (a && b) ≡ true → (a ≡ true) × (b ≡ true)
 both true b e = (refl, e)
 both false b e = let z : ⊥ = cc in absurd z
 
--- spots that compare as equal are the same
+-- Spots that compare as equal are equal.
 same_spot : (x y : Spot) → equal.ghosts.eq x y ≡ true → y ≡ x
 same_spot x y e =
     let a = both (pointwise ◌==◌ x.path y.path) (nat_eq x.offset y.offset) e in
@@ -53,7 +53,7 @@ held xs s = (
   (λ h. (h.0, (let lt : h.0 < length xs = h.1 in rw (length-map xs place_of) lt), get_or-map place_of xs h.0 s ∙ ap place_of h.2)),
 )
 
--- the same where another list of spots holds the same
+-- The list of places holds the places of another list of spots with equal elements.
 pub held_as : (places : List Place) (xs ys : List Spot) (s : Spot) → places ≡ map place_of xs → (Contains ys s → Contains xs s) →
     (Contains xs s → Contains ys s) → Contains places (place_of s) ↔ Contains ys s
 held_as places xs ys s e to from = (

@@ -1,4 +1,4 @@
--- The uses of a declaration of another package are the qualified identifiers under its path that have its name.
+-- The uses of another package's declaration are the qualified identifiers with its path and name.
 use Rattle.std.proofs.Common.{ℕ, ◌≡◌, ◌<◌, false, List, length, refl, sym, ap, subst, ◌∙◌}
 use Rattle.std.specs.Prelude.{Some, None, Result, OnOk, slice_get}
 use Rattle.std.proofs.lemmas.Option.{same_Some, slice_get_within, slice_get_read, get_or_from_slice_get}

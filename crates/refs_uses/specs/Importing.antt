@@ -1,9 +1,9 @@
--- Marks for the packages that import that of a declaration.
+-- Marks on the packages that import a declaration's package.
 use Rattle.std.specs.Prelude.{ℕ, ◌≡◌, Bool, List, Option, Some}
 use Rattle.base_files.specs.Workspace.{Workspace}
 use Rattle.workspace_graph.specs.Graphs.{OfPackage}
 use Rattle.workspace_graph.specs.Reaching.{MarkImporting}
 
--- if there is a package, those are marked that import it, directly or indirectly, or are it
+-- If there is a package `home`, the marked packages are just `home` and those that import it, directly or indirectly.
 abbrev pub AreImporting : Workspace → Option ℕ → List Bool → Type 0
 AreImporting w home marks = (h : ℕ) → home ≡ Some h → OfPackage w h (λ q. MarkImporting w q marks)

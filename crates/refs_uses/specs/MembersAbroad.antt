@@ -1,4 +1,4 @@
--- Where a field or method of another package is used, by what is known of a package.
+-- The uses of another package's field or method, by what is known of a package.
 use Rattle.std.specs.Prelude.{ℕ, ◌≡◌, map}
 use Rattle.base_files.specs.Workspace.{Workspace}
 use Rattle.go_ast.specs.SourceFile.{source_of}
@@ -12,7 +12,7 @@ use Rattle.refs_binding.specs.Members.{definitions_known}
 use Rattle.refs_uses.specs.declared.members_abroad.KnownUses.{KnownUses}
 use Rattle.refs_uses.specs.Abroad.{IsAbroad}
 
--- the trees of the package p of a workspace, the type definitions that it knows, and its uses of members
+-- `of` has the trees of the package `p`, the type definitions that it knows, and its uses of members.
 pub record IsKnownOf (w : Workspace) (known : Verdicts) (p : Package) (of : KnownUses) : Type 0 where
   pub is_package : IsPackageIn w known p.path p
   pub files : map source_of of.files.now ≡ p.files
@@ -20,7 +20,7 @@ pub record IsKnownOf (w : Workspace) (known : Verdicts) (p : Package) (of : Know
   pub definitions : AreDefinitions p (definitions_known of.types)
   pub members : AreMemberUses p (map uses_in of.members.now)
 
--- the declaration is a field or method of another package than that of the number
+-- The declaration is a field or method of another package than `number`.
 abbrev pub IsMemberAbroad : Workspace → Verdicts → (number : ℕ) → Declaration → Type 0
 IsMemberAbroad w known number (Predeclared d) = ⊥
 IsMemberAbroad w known number (Declared path d) = ⊥

@@ -1,4 +1,4 @@
--- A declaration whose uses are sought.
+-- A declaration whose uses are listed.
 use Rattle.base_files.specs.Workspace.{Workspace}
 use Rattle.go_scope.specs.Named.{name_value}
 use Rattle.workspace_check.specs.Verdicts.{Verdicts}
@@ -6,7 +6,7 @@ use Rattle.refs_binding.specs.Workspaces.{IsHome, IsExportedUnder}
 use Rattle.refs_uses.specs.Importing.{AreImporting}
 use Rattle.refs_uses.specs.declared.may_use.Sought.{Sought}
 
--- a declaration has that name abroad, and its package that number, and those that import it are marked
+-- The name, the package number and the marks in `sought` are those of its declaration.
 pub record IsSought (w : Workspace) (known : Verdicts) (sought : Sought) : Type 0 where
   pub name : IsExportedUnder w known sought.declaration.now (name_value sought.name)
   pub home : IsHome w sought.declaration.now sought.home

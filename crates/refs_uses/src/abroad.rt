@@ -1,5 +1,5 @@
-//! Where a declaration of another package is used behind the name of this: told by the qualified identifiers that are known of a
-//! package, so that this is not read.
+//! Finds the uses of another package's declaration through the qualified identifiers that a package's finding has. So the package is not
+//! read.
 ghost use Rattle.std.specs.Prelude.{ℕ, ◌≡◌, ◌↔◌, map, slice_get, IsTrue, OnOk};
 ghost use Rattle.go_ast.specs.SourceFile.{source_of};
 ghost use Rattle.go_scope.specs.Named.{name_value};
@@ -20,7 +20,7 @@ use std::alloc::AllocError;
 use types_expr::symbol::SharedPath;
 use types_info::Qualified;
 
-/// How a token of one of some files is spelled.
+/// Returns the spelling of the token at a position.
 pub(crate) fn spelling_at(files: &[FileTree], at: Position) -> &[u8]
     ensures { result.now ≡ spelled_at (slice_get (map source_of files.now) at.file) at.index }
 {
@@ -30,14 +30,14 @@ pub(crate) fn spelling_at(files: &[FileTree], at: Position) -> &[u8]
     }
 }
 
-/// Whether a token of one of some files is spelled as a name.
+/// Whether the token at a position has this spelling.
 fn is_spelled(files: &[FileTree], at: Position, name: &[u8]) -> bool
     ensures { IsTrue result ↔ (spelled_at (slice_get (map source_of files.now) at.file) at.index ≡ name.now) }
 {
     spelling_at(files, at) == name
 }
 
-/// Adds the place of a token, if it is spelled as a name.
+/// Adds the place of the token at a position, if it is an identifier with this name.
 fn add_spelled(
     spots: &mut Vec<Spot>,
     files: &[FileTree],
@@ -53,7 +53,7 @@ fn add_spelled(
     }
 }
 
-/// Adds the places of those of some tokens that are spelled as a name.
+/// Adds the places of the tokens at some positions that are identifiers with this name.
 fn add_all_spelled(
     spots: &mut Vec<Spot>,
     files: &[FileTree],
@@ -68,14 +68,14 @@ fn add_all_spelled(
     Ok(())
 }
 
-/// Whether a list is that of a path.
+/// Whether a list of qualified identifiers is that of a path.
 fn is_of_path(list: &Qualified, path: &[u8]) -> bool
     ensures { IsTrue result ↔ (path_under list.now ≡ path.now) }
 {
     list.path.as_slice() == path
 }
 
-/// Adds the places of those tokens of a list that are spelled as a name, if the list is that of a path.
+/// Adds the places of the qualified identifiers of a list with this name, if the list is that of the path.
 fn add_listed(
     spots: &mut Vec<Spot>,
     files: &[FileTree],
@@ -92,7 +92,7 @@ fn add_listed(
     }
 }
 
-/// Adds the places of those tokens that are listed under a path and are spelled as a name.
+/// Adds the places of the qualified identifiers with this name that are listed under a path.
 fn add_all_listed(
     spots: &mut Vec<Spot>,
     files: &[FileTree],
@@ -108,7 +108,7 @@ fn add_all_listed(
     Ok(())
 }
 
-/// Adds the places of the identifiers of a package that stand behind the name of the package of a path, and have a name.
+/// Adds the place of each `N` in a qualified identifier `q.N` of a package, where `q` names the package of `path` and `N` is `name`.
 fn add_behind(
     spots: &mut Vec<Spot>,
     at: Numbered<'_>,
@@ -123,8 +123,8 @@ fn add_behind(
     add_all_listed(spots, files, name, path, lists)
 }
 
-/// Adds the places of the identifiers of a package that are bound to a declaration of a scope of another one, by its path and the name
-/// under which it is exported, if it is.
+/// Adds the places of a package's identifiers that are bound to a declaration in a scope of another package. `path` is that package, and
+/// `name` is the name under which it exports the declaration, if it does.
 pub(crate) fn add_abroad(
     spots: &mut Vec<Spot>,
     at: Numbered<'_>,
@@ -142,14 +142,14 @@ pub(crate) fn add_abroad(
     }
 }
 
-/// Whether two paths are the same.
+/// Whether two paths are equal.
 fn is_same(own: &SharedPath, path: &SharedPath) -> bool
     ensures { IsTrue result ↔ (own.now ≡ path.now) }
 {
     own.path() == path.path()
 }
 
-/// Whether a path is that of the package of a number.
+/// Whether the package of a number has this path.
 pub(crate) fn is_home(at: Numbered<'_>, path: &SharedPath) -> bool
     requires { IsNumbered at }
     ensures { (p : Checked) → IsPackageAt at.entry.graph.now (known_in at.entry.found.now) at.entry.number p → IsTrue result ↔ (p.path ≡ path.now) }
@@ -157,7 +157,7 @@ pub(crate) fn is_home(at: Numbered<'_>, path: &SharedPath) -> bool
     is_same(path_of(at.graph, at.found, at.number), path)
 }
 
-/// The path of the package of a declaration of a scope, where that is not the package of the number.
+/// Returns the path of a declaration's package, if the declaration is in a scope of another package than that of the number.
 pub(crate) fn path_abroad<'a>(
     at: Numbered<'_>,
     declaration: &'a Declaration,

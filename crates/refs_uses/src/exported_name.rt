@@ -1,4 +1,4 @@
-//! The name under which the package of a declaration exports it.
+//! Finds the name under which a declaration is exported.
 ghost use Rattle.std.specs.Prelude.{option_map, IfOk, Some};
 ghost use Rattle.types_declared.specs.PackageView.{package_of};
 ghost use Rattle.refs_binding.specs.declared.declaration.Declaration.TheVariants.{Declared};
@@ -18,7 +18,7 @@ use types_expr::symbol::SharedPath;
 use workspace_check::{Findings, seen};
 use workspace_graph::Graph;
 
-/// The name under which a package exports a declaration of its own.
+/// Returns the name under which a package exports its declaration `d`, if it does.
 pub(crate) fn own_name(
     alloc: Global,
     unit: Package<'_>,
@@ -32,7 +32,7 @@ pub(crate) fn own_name(
     }
 }
 
-/// The name under which the package of a number exports a declaration of its own, by what it sees and by its table.
+/// Returns the name under which the package of a number exports its declaration `d`, by its table and by what it sees of others.
 fn name_by(
     alloc: Global,
     at: Numbered<'_>,
@@ -47,7 +47,7 @@ fn name_by(
     own_name(alloc, unit_of(at, seen, table), d)
 }
 
-/// The name under which the package of a number exports a declaration of its own.
+/// Reads the package of a number, and returns the name under which it exports its declaration `d`, if it does.
 fn name_at(alloc: Global, at: Numbered<'_>, d: usize) -> Result<Option<Vec<u8>>, AllocError>
     requires { IsNumbered at }
     ensures { IfOk result (λ name. IsNameAt at.entry.graph.now (known_in at.entry.found.now) at.entry.number d (option_map bytes_of name)) }
@@ -57,7 +57,7 @@ fn name_at(alloc: Global, at: Numbered<'_>, d: usize) -> Result<Option<Vec<u8>>,
     name_by(alloc, at, &seen, &table, d)
 }
 
-/// The name under which the package of a declaration of a scope exports it.
+/// Returns the name under which the package of `path` exports its declaration `d`, if it does.
 pub(crate) fn declared_name(
     alloc: Global,
     graph: &Graph,
@@ -81,7 +81,7 @@ pub(crate) fn declared_name(
     }
 }
 
-/// The name under which the package of a declaration exports it.
+/// Returns the name under which a declaration is exported, if it is.
 pub(crate) fn exported_under(
     alloc: Global,
     graph: &Graph,
@@ -97,7 +97,7 @@ pub(crate) fn exported_under(
     }
 }
 
-/// The name under which a package exports a declaration, by its number.
+/// Returns the name under which a package exports its declaration `d`, if it does, as borrowed bytes.
 pub fn exported_name<'a>(unit: Package<'a>, d: usize) -> Option<&'a [u8]>
     ensures { IsExportedBy (package_of unit.entry) d (name_value result) }
 {

@@ -1,4 +1,4 @@
-//! The identifiers of a workspace that are bound to the same declaration.
+//! Lists the identifiers of a workspace that are bound to a declaration.
 #![tactic(auto)]
 
 mod abroad;

@@ -1,4 +1,4 @@
-//! Which packages may use a declaration, by what they import and by the members that are used in them.
+//! Decides which packages may use a declaration, by their imports and by whether they use members.
 ghost use Rattle.std.specs.Prelude.{ℕ, ◌≡◌, ◌≢◌, ◌<◌, ◌↔◌, [], false, length, slice_get, IfOk, IsTrue};
 ghost use Rattle.base_files.specs.declared.place.Place.{Place};
 ghost use Rattle.base_files.specs.Packages.{package_paths};
@@ -19,8 +19,8 @@ use types_expr::found::MemberUse;
 use workspace_check::{Findings, is_marked};
 use workspace_graph::{Graph, is_among};
 
-/// A declaration that is sought, with the name under which it is exported and the number of its package, if it has them, and marks for
-/// the packages that import that one.
+/// A declaration whose uses are listed. `name` is the name under which it is exported, and `home` is the number of its package, if it has
+/// them. `importing` marks that package and those that import it, directly or indirectly.
 #[derive(Clone, Copy)]
 pub struct Sought<'a> {
     pub declaration: &'a Declaration,
@@ -29,7 +29,7 @@ pub struct Sought<'a> {
     pub importing: &'a [bool],
 }
 
-/// Marks for the packages that import that of a number, directly or indirectly, if there is one.
+/// Marks the package of a number and the packages that import it, directly or indirectly.
 fn importing_number(alloc: Global, graph: &Graph, number: usize) -> Result<Vec<bool>, AllocError>
     ensures { IfOk result (λ marks. OfPackage graph.now number (λ q. MarkImporting graph.now q marks.items)) }
 {
@@ -40,7 +40,7 @@ fn importing_number(alloc: Global, graph: &Graph, number: usize) -> Result<Vec<b
     }
 }
 
-/// Marks for the packages that import that of a declaration, directly or indirectly, if it has one.
+/// Marks the package `home` and the packages that import it, directly or indirectly. Without `home` there are no marks.
 pub(crate) fn importing_home(
     alloc: Global,
     graph: &Graph,
@@ -54,7 +54,7 @@ pub(crate) fn importing_home(
     }
 }
 
-/// Whether a package imports another directly.
+/// Whether a package imports another one directly.
 fn imports(graph: &Graph, number: usize, other: usize) -> bool
     requires { number < length (package_paths graph.now) }
     ensures { OfPackage graph.now number (λ p. OfPackage graph.now other (λ q. IsTrue result ↔ PackageImports graph.now p q)) }
@@ -62,7 +62,7 @@ fn imports(graph: &Graph, number: usize, other: usize) -> bool
     is_among(graph.imports(number), other)
 }
 
-/// Whether a member is used in one of some files.
+/// Whether some file uses a member.
 fn uses_members(members: &[Vec<MemberUse>]) -> bool
     ensures { result ≡ false → (file : ℕ) → uses_or_none (slice_get members.now file) ≡ [] }
 {
@@ -74,7 +74,7 @@ fn uses_members(members: &[Vec<MemberUse>]) -> bool
     false
 }
 
-/// Whether a member of the package of another number may be used in a package. Those are marked that import that one.
+/// Whether the package `number` may use a member of the package `home`: it must import `home`, directly or indirectly, and use members.
 fn may_use_member(
     graph: &Graph,
     found: &Findings,
@@ -90,7 +90,7 @@ fn may_use_member(
     is_marked(importing, number) && uses_members(members_of(graph, found, number))
 }
 
-/// Whether a declaration of the package of another number may be used in a package.
+/// Whether the package `number` may use a declaration of another package, `home`.
 fn may_use_other(
     graph: &Graph,
     found: &Findings,
@@ -113,7 +113,7 @@ fn may_use_other(
     }
 }
 
-/// The number of the package of a declaration, if it has one.
+/// Returns the number of the package of a declaration, if it has one.
 pub(crate) fn home_of(graph: &Graph, declaration: &Declaration) -> Option<usize>
     ensures { IsHome graph.now declaration.now result }
 {
@@ -125,7 +125,7 @@ pub(crate) fn home_of(graph: &Graph, declaration: &Declaration) -> Option<usize>
     }
 }
 
-/// Whether an identifier of a package may be bound to a declaration.
+/// Whether an identifier of the package `number` may be bound to a declaration.
 pub(crate) fn may_use(graph: &Graph, found: &Findings, number: usize, sought: &Sought<'_>) -> bool
     requires in_range { number < length (package_paths graph.now) }
     requires sound { IsSound graph.now found.now }

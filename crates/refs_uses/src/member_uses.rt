@@ -1,4 +1,4 @@
-//! Where the member of a declaration is used: behind a dot, or as a key of a literal.
+//! Finds the uses of a field or method: selectors and composite literal keys.
 ghost use Rattle.std.specs.Prelude.{◌≡◌, ◌↔◌, Some, map, IsTrue, OnOk};
 ghost use Rattle.types_expr.specs.Found.{use_of};
 ghost use Rattle.types_expr.specs.View.{type_of};
@@ -19,7 +19,7 @@ use types_expr::found::MemberUse;
 use types_expr::world::{Definition, Name};
 use types_info::one_world;
 
-/// Whether the member that is used is that of a declaration.
+/// Whether a use of a member is bound to this declaration.
 fn is_member_use(
     unit: Package<'_>,
     own: &[Definition],
@@ -40,7 +40,7 @@ fn is_member_use(
     }
 }
 
-/// Adds the place of the member that is used, if it is that of a declaration.
+/// Adds the place of a use of a member, if it is bound to this declaration.
 fn add_member_use(
     found: &mut Vec<Spot>,
     of: &Indexed<'_>,
@@ -62,7 +62,7 @@ fn add_member_use(
     }
 }
 
-/// Adds the places of the members that are used in a file, where they are that of a declaration.
+/// Adds the places of the uses of members in a file that are bound to this declaration.
 fn add_file_members(
     found: &mut Vec<Spot>,
     of: &Indexed<'_>,
@@ -79,7 +79,7 @@ fn add_file_members(
     Ok(())
 }
 
-/// Adds the places of the identifiers of a package that are a member, behind a dot or as a key.
+/// Adds the places of a package's selectors and composite literal keys that are bound to this field or method.
 fn add_all_members(
     found: &mut Vec<Spot>,
     of: &Indexed<'_>,
@@ -97,8 +97,8 @@ fn add_all_members(
     Ok(())
 }
 
-/// Adds the places of the identifiers of a package that are a field or method, behind a dot or as a key. Where the
-/// declaration is none, there are no such places.
+/// Adds the places of a package's selectors and composite literal keys that are bound to this declaration. Adds nothing unless it is a
+/// field or method.
 pub(crate) fn add_member_uses(
     found: &mut Vec<Spot>,
     of: &Indexed<'_>,

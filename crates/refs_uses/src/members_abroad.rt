@@ -1,5 +1,5 @@
-//! Where a field or method of another package is used: told by the uses of members that are known of a package, by its trees and by the
-//! type definitions that it knows, so that this is not read.
+//! Finds the uses of another package's field or method through the uses of members that a package's finding has. So the package is not
+//! read.
 ghost use Rattle.std.specs.Prelude.{ℕ, ◌≡◌, ◌↔◌, Some, Option, List, map, option_map, IsTrue, OnOk};
 ghost use Rattle.base_files.specs.Workspace.{Workspace};
 ghost use Rattle.types_expr.specs.Found.{use_of};
@@ -29,7 +29,7 @@ use types_expr::types::GoType;
 use types_expr::world::Name;
 use workspace_check::seen;
 
-/// What is known of a package that is not read: its trees, the type definitions that it knows, and its uses of members.
+/// What is used of a package that is not read: its trees, the type definitions that it knows, and its uses of members.
 #[derive(Clone, Copy)]
 pub(crate) struct KnownUses<'a> {
     pub(crate) files: &'a [FileTree],
@@ -37,7 +37,7 @@ pub(crate) struct KnownUses<'a> {
     pub(crate) members: &'a [Vec<MemberUse>],
 }
 
-/// Whether a name is for a type the member of a declaration.
+/// Whether the member of the type `before` with this name is this declaration.
 fn is_member(
     types: KnownTypes<'_>,
     spelling: &[u8],
@@ -57,7 +57,7 @@ fn is_member(
     }
 }
 
-/// Whether the member that is used is that of a declaration.
+/// Whether a use of a member is bound to this declaration.
 fn is_use(of: &KnownUses<'_>, file: usize, member: &MemberUse, declaration: &Declaration) -> bool
     ensures { (w : Workspace) → (known : Verdicts) → (p : Checked) → IsKnownOf w known p of.now →
         IsTrue result ↔ (member_at (definitions_known of.now.types) p file member.now.place (type_of member.now.before) ≡ Some declaration.now) }
@@ -74,7 +74,7 @@ fn is_use(of: &KnownUses<'_>, file: usize, member: &MemberUse, declaration: &Dec
     )
 }
 
-/// Adds the place of the member that is used, if it is that of a declaration.
+/// Adds the place of a use of a member, if it is bound to this declaration.
 fn add_use(
     spots: &mut Vec<Spot>,
     of: &KnownUses<'_>,
@@ -96,7 +96,7 @@ fn add_use(
     }
 }
 
-/// Adds the places of the members that are used in a file, where they are that of a declaration.
+/// Adds the places of the uses of members in a file that are bound to this declaration.
 fn add_file_uses(
     spots: &mut Vec<Spot>,
     of: &KnownUses<'_>,
@@ -113,7 +113,7 @@ fn add_file_uses(
     Ok(())
 }
 
-/// Adds the places of the identifiers of a package that are a member, behind a dot or as a key.
+/// Adds the places of a package's selectors and composite literal keys that are bound to this declaration.
 fn add_known_members(
     spots: &mut Vec<Spot>,
     of: &KnownUses<'_>,
@@ -128,7 +128,7 @@ fn add_known_members(
     Ok(())
 }
 
-/// Adds the places of the identifiers of a package that are bound to a field or method of another one, by what it sees.
+/// Adds the places of a package's identifiers that are bound to a field or method of another package, by what the package sees of others.
 fn add_members_by(
     spots: &mut Vec<Spot>,
     at: Numbered<'_>,
@@ -154,7 +154,7 @@ fn add_members_by(
     add_known_members(spots, &of, declaration)
 }
 
-/// Adds the places of the identifiers of a package that are bound to a field or method of another one.
+/// Adds the places of a package's identifiers that are bound to a field or method of another package.
 pub(crate) fn add_members_abroad(
     alloc: Global,
     spots: &mut Vec<Spot>,

@@ -1,4 +1,4 @@
-//! The name by which the field or method of a declaration is declared.
+//! Finds the declaring identifier of a field or method.
 ghost use Rattle.std.specs.Prelude.{◌≡◌, ◌↔◌, Some, None, slice_index_or, IsTrue, OnOk};
 ghost use Rattle.types_declared.specs.PackageView.{package_of, IsIndexOf};
 ghost use Rattle.refs_binding.specs.declared.declaration.Declaration.TheVariants.{Field, Method};
@@ -13,7 +13,7 @@ use std::alloc::{AllocError, Global};
 use types_declared::{Index, Package};
 use types_expr::symbol::{SharedPath, Symbol};
 
-/// Adds the places of the identifiers that stand where a list has a place for a rank.
+/// Adds the place of the identifier at the position that a list has for a rank.
 fn add_named(
     found: &mut Vec<Spot>,
     unit: Package<'_>,
@@ -30,14 +30,14 @@ fn add_named(
     }
 }
 
-/// Whether a path is that of a package.
+/// Whether a package has this path.
 pub(crate) fn is_own(unit: Package<'_>, path: &SharedPath) -> bool
     ensures { IsTrue result ↔ (path.now ≡ unit.entry.path.now) }
 {
     path.path() == unit.path.path()
 }
 
-/// Adds the place of the name of a field, by its symbol.
+/// Adds the place of the declaring identifier of a field.
 fn add_own_field(
     alloc: Global,
     found: &mut Vec<Spot>,
@@ -57,7 +57,7 @@ fn add_own_field(
     }
 }
 
-/// Adds the place of the name of a method, by its symbol.
+/// Adds the place of the declaring identifier of a method.
 fn add_own_method(
     alloc: Global,
     found: &mut Vec<Spot>,
@@ -77,7 +77,7 @@ fn add_own_method(
     }
 }
 
-/// Adds the place of the name by which a field or method is declared, if this is its package.
+/// Adds the place of the declaring identifier of a field or method, if this package declares it.
 pub fn add_own_names(
     alloc: Global,
     found: &mut Vec<Spot>,

@@ -1,4 +1,4 @@
-//! Where a declaration is used behind the name of its package.
+//! Finds the uses of a declaration in qualified identifiers.
 ghost use Rattle.std.specs.Prelude.{◌≡◌, ◌<◌, ◌↔◌, Some, length, IsTrue, OnOk};
 ghost use Rattle.go_scope.specs.Named.{name_value};
 ghost use Rattle.types_declared.specs.PackageView.{package_of, IsIndexOf};
@@ -13,7 +13,7 @@ use std::alloc::AllocError;
 use types_declared::{Index, Package};
 use types_info::package_before;
 
-/// Whether a path was found, and is this one.
+/// Whether `found` is this path.
 fn is_path(found: Option<&[u8]>, path: &[u8]) -> bool
     ensures { IsTrue result ↔ (name_value found.entry ≡ Some path.now) }
 {
@@ -23,7 +23,7 @@ fn is_path(found: Option<&[u8]>, path: &[u8]) -> bool
     }
 }
 
-/// Whether an identifier stands behind the name of the package of a path, and has a name.
+/// Whether `u` is `N` in a qualified identifier `q.N`, where `q` names the package of `path` and `N` is `name`.
 fn is_package_use(unit: Package<'_>, index: &Index<'_>, path: &[u8], name: &[u8], u: usize) -> bool
     requires index { IsIndexOf (package_of unit) index.now }
     requires in_range { u < length unit.table.now.sites }
@@ -33,7 +33,7 @@ fn is_package_use(unit: Package<'_>, index: &Index<'_>, path: &[u8], name: &[u8]
     has_name(unit, u, name) && is_path(package_before(unit, index, u), path)
 }
 
-/// Adds the place of an identifier if it stands behind the name of the package of a path, and has a name.
+/// Adds the place of `u`, if it is `N` in a qualified identifier `q.N`, where `q` names the package of `path` and `N` is `name`.
 fn add_package_use(
     found: &mut Vec<Spot>,
     unit: Package<'_>,
@@ -54,7 +54,7 @@ fn add_package_use(
     }
 }
 
-/// Adds the places of the identifiers that stand behind the name of the package of a path, and have a name.
+/// Adds the place of each `N` in a qualified identifier `q.N`, where `q` names the package of `path` and `N` is `name`.
 fn add_package_uses(
     found: &mut Vec<Spot>,
     unit: Package<'_>,
@@ -72,8 +72,8 @@ fn add_package_uses(
     Ok(())
 }
 
-/// Adds the places of the identifiers that stand behind the name of a declaration's package, and have the name under which
-/// it is exported there, if it is.
+/// Adds the place of each `N` in a qualified identifier `q.N`, where `q` names the declaration's package and `N` is `name`. `name` is the
+/// name under which the declaration is exported; without it nothing is added.
 pub fn add_exported_uses(
     found: &mut Vec<Spot>,
     unit: Package<'_>,

@@ -1,10 +1,10 @@
-//! A list of places, of which contracts speak as of a list, without the memory that holds it.
+//! A list of places that contracts treat as a plain list.
 ghost use Rattle.std.specs.Prelude.{◌≡◌};
 
 use base_files::Place;
 use std::marker::Model;
 
-/// Some places in the files of a workspace.
+/// Places in files of a workspace.
 #[derive(Drop)]
 pub struct Places {
     items: Vec<Place>,
@@ -20,12 +20,14 @@ impl Model for Places {
 }
 
 impl Places {
+    /// Wraps a vector of places.
     pub fn new(items: Vec<Place>) -> Places
         ensures { result ≡ items.items }
     {
         Places { items }
     }
 
+    /// The places as a slice.
     pub fn as_slice(&self) -> &[Place]
         ensures { result.now ≡ self.now }
     {

@@ -1,4 +1,4 @@
-//! Which identifiers the scopes of a package bind to a declaration.
+//! Finds the identifiers that the scopes of a package bind to a declaration.
 ghost use Rattle.std.specs.Prelude.{◌≡◌, ◌<◌, ◌↔◌, Some, length, IsTrue, OnOk};
 ghost use Rattle.go_scope.specs.Bindings.{IsBoundTo};
 ghost use Rattle.types_declared.specs.PackageView.{package_of};
@@ -11,10 +11,10 @@ use refs_binding::{Declaration, Spot};
 use std::alloc::AllocError;
 use types_declared::Package;
 
-/// How many names are predeclared: they have the first numbers in the table of each package.
+/// The count of predeclared names. They have the first numbers in the table of each package.
 const PREDECLARED: usize = 11;
 
-/// The number of a declaration in the table of a package, where its scopes can bind to it.
+/// Returns the number of a declaration in the table of a package, if the package's scopes can bind an identifier to it.
 fn number_in(unit: Package<'_>, declaration: &Declaration) -> Option<usize>
     ensures { IsNumberOf (package_of unit.entry) declaration.now result }
 {
@@ -31,7 +31,7 @@ fn number_in(unit: Package<'_>, declaration: &Declaration) -> Option<usize>
     }
 }
 
-/// Whether an identifier has the name of a declaration.
+/// Whether the identifier `u` has the name of the declaration `d`.
 fn has_name_of(unit: Package<'_>, u: usize, d: usize) -> bool
     requires { u < length unit.table.now.sites }
     ensures { let p = package_of unit.entry in
@@ -40,7 +40,7 @@ fn has_name_of(unit: Package<'_>, u: usize, d: usize) -> bool
     d < unit.table.len() && unit.table.name(u) == unit.table.name(d)
 }
 
-/// Whether a declaration was found, and is this one.
+/// Whether `found` is this number.
 fn is_number(found: Option<usize>, d: usize) -> bool
     ensures { IsTrue result ↔ (found ≡ Some d) }
 {
@@ -50,7 +50,7 @@ fn is_number(found: Option<usize>, d: usize) -> bool
     }
 }
 
-/// Whether an identifier is bound to the declaration of a number. Only identifiers of its name are looked up.
+/// Whether the scopes bind `u` to the declaration with the number `d`. Only identifiers with its name are resolved.
 fn is_bound_to(unit: Package<'_>, u: usize, d: usize) -> bool
     requires { u < length unit.table.now.sites }
     ensures { let p = package_of unit.entry in
@@ -61,7 +61,7 @@ fn is_bound_to(unit: Package<'_>, u: usize, d: usize) -> bool
     has_name_of(unit, u, d) && is_number(unit.table.binding(u), d)
 }
 
-/// Adds the place of an identifier if it is bound to the declaration of a number.
+/// Adds the place of `u`, if the scopes bind it to the declaration with the number `d`.
 fn add_bound(found: &mut Vec<Spot>, unit: Package<'_>, d: usize, u: usize) -> Result<(), AllocError>
     requires { u < length unit.table.now.sites }
     ensures { let p = package_of unit.entry in
@@ -74,7 +74,7 @@ fn add_bound(found: &mut Vec<Spot>, unit: Package<'_>, d: usize, u: usize) -> Re
     }
 }
 
-/// Adds the places of the identifiers that are bound to the declaration of a number.
+/// Adds the places of the identifiers that the scopes bind to the declaration with the number `d`.
 fn add_all_bound(found: &mut Vec<Spot>, unit: Package<'_>, d: usize) -> Result<(), AllocError>
     ensures { let p = package_of unit.entry in
         OnOk result (Adds found.old.items found.new.items (UsesIn p (λ u. IsBoundTo p.layout p.names u d))) }
@@ -85,7 +85,7 @@ fn add_all_bound(found: &mut Vec<Spot>, unit: Package<'_>, d: usize) -> Result<(
     Ok(())
 }
 
-/// Adds the places of the identifiers of a package that its scopes bind to a declaration.
+/// Adds the places of the identifiers that the scopes of a package bind to a declaration.
 pub fn add_scope_uses(
     found: &mut Vec<Spot>,
     unit: Package<'_>,

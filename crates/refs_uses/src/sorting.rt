@@ -1,4 +1,4 @@
-//! Each of some places once, in order.
+//! Sorts places and drops duplicates.
 ghost use Rattle.std.specs.Prelude.{◌≡◌, ◌↔◌, true, map, Any, Contains, IfOk};
 ghost use Rattle.std.specs.List.Sorted.{IsStrictlySortedBy};
 ghost use Rattle.refs_binding.specs.Steps.{place_of};
@@ -8,7 +8,7 @@ use base_files::Place;
 use refs_binding::Spot;
 use std::alloc::{AllocError, Global};
 
-/// Sorts values, and keeps one of those that are equal.
+/// Sorts values and keeps one of those that are equal.
 fn sort_strictly<T: Ord + Drop>(values: &mut Vec<T>)
     ensures keeps { (x : T) → Contains values.old.items x → Any (λ y. T.eq x y ≡ true) values.new.items }
     ensures only { (x : T) → Contains values.new.items x → Contains values.old.items x }
@@ -18,7 +18,7 @@ fn sort_strictly<T: Ord + Drop>(values: &mut Vec<T>)
     values.dedup();
 }
 
-/// Sorts places, and keeps one of each.
+/// Sorts places and drops duplicates.
 fn sort(spots: &mut Vec<Spot>)
     ensures keeps { (s : Spot) → Contains spots.old.items s → Contains spots.new.items s }
     ensures only { (s : Spot) → Contains spots.new.items s → Contains spots.old.items s }
@@ -27,7 +27,7 @@ fn sort(spots: &mut Vec<Spot>)
     sort_strictly(spots);
 }
 
-/// The places of spots.
+/// Returns the places of spots.
 fn places_of(alloc: Global, spots: Vec<Spot>) -> Result<Vec<Place>, AllocError>
     ensures { IfOk result (λ places. places.items ≡ map place_of spots.items) }
 {
@@ -41,7 +41,7 @@ fn places_of(alloc: Global, spots: Vec<Spot>) -> Result<Vec<Place>, AllocError>
     Ok(places)
 }
 
-/// Each place once, in order.
+/// Returns the places of spots, sorted and without duplicates.
 pub fn places(alloc: Global, spots: Vec<Spot>) -> Result<Vec<Place>, AllocError>
     ensures each { IfOk result (λ places. (s : Spot) → Contains places.items (place_of s) ↔ Contains spots.items s) }
     ensures order { IfOk result (λ places. IsStrictlySortedBy place_cmp places.items) }

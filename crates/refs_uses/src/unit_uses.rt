@@ -1,4 +1,4 @@
-//! What the identifiers of one package are bound to, and those that are bound to a declaration.
+//! Finds the identifiers of one package that are bound to a declaration.
 ghost use Rattle.std.specs.Prelude.{OnOk};
 ghost use Rattle.go_scope.specs.Named.{name_value};
 ghost use Rattle.types_declared.specs.PackageView.{package_of};

@@ -1,4 +1,4 @@
-//! The identifiers of a workspace that are bound to the same declaration.
+//! Lists the uses of a declaration in all packages of a workspace.
 ghost use Rattle.std.specs.Prelude.{◌≡◌, ◌<◌, Some, length, option_map, slice_get, IfOk, OnOk};
 ghost use Rattle.base_files.specs.Packages.{package_paths};
 ghost use Rattle.base_files.specs.Path.{folder};
@@ -48,7 +48,7 @@ fn add_known_uses(
     add_unit_uses(alloc, spots, of, sought)
 }
 
-/// The same by what was found once in the package.
+/// Adds the places of a package's identifiers that are bound to a declaration, by the package's index.
 fn add_indexed_uses(
     alloc: Global,
     spots: &mut Vec<Spot>,
@@ -67,7 +67,7 @@ fn add_indexed_uses(
     add_known_uses(alloc, spots, at, &of, sought)
 }
 
-/// The same by what the package sees and by its table.
+/// Adds the places of a package's identifiers that are bound to a declaration, by its table and by what it sees of others.
 fn add_uses_by(
     alloc: Global,
     spots: &mut Vec<Spot>,
@@ -86,7 +86,7 @@ fn add_uses_by(
     add_indexed_uses(alloc, spots, at, unit, &index, sought)
 }
 
-/// The same of a package that is read for it.
+/// Reads a package, and adds the places of its identifiers that are bound to a declaration.
 fn add_package_uses(
     alloc: Global,
     spots: &mut Vec<Spot>,
@@ -102,7 +102,8 @@ fn add_package_uses(
     add_uses_by(alloc, spots, at, &seen, &table, sought)
 }
 
-/// The same of a package that is not read where the declaration is a field or method of another one.
+/// Adds the places of a package's identifiers that are bound to a declaration. Does not read the package for a field or method of another
+/// one.
 fn add_members_or_read(
     alloc: Global,
     spots: &mut Vec<Spot>,
@@ -120,7 +121,8 @@ fn add_members_or_read(
     }
 }
 
-/// The same of a package that may use the declaration. Where that is declared in another one, it is not read.
+/// Adds the places of a package's identifiers that are bound to a declaration which it may use. Does not read the package if another one
+/// declares that.
 fn add_where_used(
     alloc: Global,
     spots: &mut Vec<Spot>,
@@ -137,7 +139,7 @@ fn add_where_used(
     }
 }
 
-/// The same of a package that is not read where it cannot use the declaration.
+/// Adds the places of a package's identifiers that are bound to a declaration. Skips a package that can't use it.
 fn add_if_used(
     alloc: Global,
     spots: &mut Vec<Spot>,
@@ -179,7 +181,7 @@ fn add_all_uses(
     Ok(())
 }
 
-/// Adds the places of the identifiers of the package of a number that are bound to a declaration. One package was read.
+/// Adds the places of the identifiers of the package `number` that are bound to a declaration. The package `read` is not read again.
 fn add_uses_at(
     alloc: Global,
     spots: &mut Vec<Spot>,
@@ -207,7 +209,7 @@ fn add_uses_at(
     add_if_used(alloc, spots, at, sought)
 }
 
-/// Adds the places of the identifiers of all packages that are bound to a declaration. One package was read.
+/// Adds the places of the identifiers of all packages that are bound to a declaration. The package `read` is not read again.
 fn add_uses_beyond(
     alloc: Global,
     spots: &mut Vec<Spot>,
@@ -227,7 +229,7 @@ fn add_uses_beyond(
     Ok(())
 }
 
-/// The name under which the package of a declaration of a scope exports it. One package was read.
+/// Returns the name under which the package of `path` exports its declaration `d`, if it does. The package `read` is not read again.
 fn scope_name(
     alloc: Global,
     read: Numbered<'_>,
@@ -246,7 +248,7 @@ fn scope_name(
     }
 }
 
-/// The name under which the package of a declaration exports it. One package was read.
+/// Returns the name under which a declaration is exported, if it is. The package `read` is not read again.
 fn name_by_read(
     alloc: Global,
     read: Numbered<'_>,
@@ -263,7 +265,7 @@ fn name_by_read(
     }
 }
 
-/// The bytes of a name.
+/// Borrows the bytes of a name.
 fn bytes(name: &Option<Vec<u8>>) -> Option<&[u8]>
     ensures { name_value result ≡ option_map bytes_of name.now }
 {
@@ -273,7 +275,8 @@ fn bytes(name: &Option<Vec<u8>>) -> Option<&[u8]>
     }
 }
 
-/// The places of all uses of a declaration, in order. It is exported under a name, if it is, and one package was read.
+/// Returns the places of all uses of a declaration, sorted. `name` is the name under which it is exported, if it is. The package `read` is
+/// not read again.
 fn list_named(
     alloc: Global,
     read: Numbered<'_>,
@@ -300,7 +303,7 @@ fn list_named(
     Ok(Places::new(places(alloc, spots)?))
 }
 
-/// The places of all uses of a declaration, in order. One package was read.
+/// Returns the places of all uses of a declaration, sorted. The package `read` is not read again.
 fn list_from(
     alloc: Global,
     read: Numbered<'_>,
@@ -316,7 +319,7 @@ fn list_from(
     list_named(alloc, read, of, declaration, bytes(&name))
 }
 
-/// The places of all uses of a declaration, in order. It is exported under a name, if it is.
+/// Returns the places of all uses of a declaration, sorted. `name` is the name under which it is exported, if it is.
 fn list_everywhere(
     alloc: Global,
     graph: &Graph,
@@ -341,7 +344,7 @@ fn list_everywhere(
     Ok(Places::new(places(alloc, spots)?))
 }
 
-/// The places of all uses of a declaration, in order. Packages that cannot use it are not read.
+/// Returns the places of all uses of a declaration, sorted and without duplicates. Packages that can't use it are not read.
 pub fn list_uses(
     alloc: Global,
     graph: &Graph,
@@ -355,7 +358,7 @@ pub fn list_uses(
     list_everywhere(alloc, graph, found, declaration, bytes(&name))
 }
 
-/// The uses of what holds a byte of a file of a package.
+/// Returns the uses of the identifier at a byte of a file of a package, or a refusal.
 fn uses_known(
     alloc: Global,
     at: Numbered<'_>,
@@ -375,7 +378,7 @@ fn uses_known(
     }
 }
 
-/// The same by what was found once in the package.
+/// Returns the uses of the identifier at a byte of a file of a package, by the package's index.
 fn uses_indexed(
     alloc: Global,
     at: Numbered<'_>,
@@ -394,7 +397,7 @@ fn uses_indexed(
     uses_known(alloc, at, &of, path, offset)
 }
 
-/// The same by what the package sees and by its table.
+/// Returns the uses of the identifier at a byte of a file of a package, by its table and by what it sees of others.
 fn uses_by(
     alloc: Global,
     at: Numbered<'_>,
@@ -413,7 +416,7 @@ fn uses_by(
     uses_indexed(alloc, at, unit, &index, path, offset)
 }
 
-/// The uses of what holds a byte of a file of a package, which is read once.
+/// Reads the package of a number once, and returns the uses of the identifier at a byte of one of its files.
 fn uses_of_package(
     alloc: Global,
     at: Numbered<'_>,
@@ -429,7 +432,7 @@ fn uses_of_package(
     uses_by(alloc, at, &seen, &table, path, offset)
 }
 
-/// The uses of what holds a byte of a file. The workspace has no fault.
+/// Returns the uses of the identifier at a byte of a file of a workspace without faults.
 fn uses_at(
     alloc: Global,
     graph: &Graph,
@@ -453,7 +456,7 @@ fn uses_at(
     }
 }
 
-/// The uses of what holds a byte of a file, or the first fault of the workspace.
+/// Returns the uses of the identifier at a byte of a file, or refuses with the first fault of the workspace.
 fn uses_in(
     alloc: Global,
     graph: &Graph,
@@ -470,8 +473,11 @@ fn uses_in(
     }
 }
 
-/// The places of the identifiers of a workspace that are bound to the same declaration as the one at a byte of a file, by
-/// path and offset, by what was found in its packages.
+/// Returns the places of all identifiers that are bound to the declaration of the identifier at a byte of a file. The places are sorted by
+/// path and offset; offsets are in bytes, from 0.
+///
+/// Refuses, in this order: `path` is no path of a file; the file is missing; the workspace has a fault, of which it names the first; the
+/// byte is in no identifier; the identifier has no declaration.
 pub fn uses(
     alloc: Global,
     graph: &Graph,

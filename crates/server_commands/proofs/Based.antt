@@ -1,4 +1,4 @@
--- A change that was planned on a snapshot has the snapshot's files as its base. So what is known of these is known of its base.
+-- The base of a change that was planned on a snapshot has the snapshot's files. So the desk knows of the base what it knows of these.
 use Rattle.std.proofs.Common.{ℕ, List, Option, None, Some, Result, Ok, Err, IfOk, sym, subst}
 use Rattle.base_files.specs.Workspace.{Workspace}
 use Rattle.base_files.specs.declared.refusal.Refusal.{Refusal}
@@ -33,7 +33,7 @@ module _ (P : Workspace → Type 0) (snapshot : Snapshot) (here : P snapshot.fil
   move_based from to (Ok change) plans = subst (λ (x : Change). P x.base) (sym plans.1.is_change) here
   move_based from to (Err refusal) plans = tt
 
--- a change that was planned with what is known of its files
+-- a change that was planned together with the findings of its files
 with_known : (P : Workspace → Type 0) (planned : Result Planned Refusal) → OnBase P (change_in planned) → IfOk planned (λ p. P p.change.base)
 with_known P (Ok planned) based = based
 with_known P (Err refusal) based = tt

@@ -1,4 +1,4 @@
--- What a command does.
+-- The events that a command sends, and its answer.
 use Rattle.std.specs.Prelude.{◌≡◌, ◌⊎◌, ℕ, List, ⊤, Option, Some, None, IfSome, Result, Ok, Err}
 use Rattle.base_files.specs.Path.{IsPath}
 use Rattle.base_files.specs.declared.place.Place.{Place}
@@ -27,11 +27,11 @@ use Rattle.server_read.specs.declared.command.StateCommand.TheVariants as state
 use Rattle.server_commands.specs.declared.response.Response.{Response}
 use Rattle.server_commands.specs.declared.response.Response.TheVariants as response
 
--- the command is meant for the state that the view shows
+-- the command is meant for the state that the view shows: its basis is that state's number, or it has none
 abbrev pub FitsView : View → StateCommand → Type 0
 FitsView view asked = IfSome (basis_of asked) (λ basis. basis ≡ view.snapshot.number)
 
--- a put whose body was not kept, and so is over the limit of a file if its path is one
+-- the refusal of a put whose body was dropped: its path is no path of a file, or its body is over the limit of a file
 abbrev pub PlansDropped : List ℕ → Result Change Refusal → Type 0
 PlansDropped path (Err BadPath) = ¬ (IsPath 2 path)
 PlansDropped path (Err TooLarge) = IsPath 2 path
@@ -39,15 +39,16 @@ PlansDropped path (Err Memory) = ⊤
 PlansDropped path (Err refusal) = ⊥
 PlansDropped path (Ok change) = ⊥
 
+-- the plan of a put; its body is none where it was dropped
 abbrev pub PlansBody : View → List ℕ → Option (List ℕ) → Result Change Refusal → Type 0
 PlansBody view path None planned = PlansDropped path planned
 PlansBody view path (Some text) planned = PlansPut view.snapshot path text planned
 
--- the files of the view, or want of memory to share them
+-- the answer is the view's files, or a refusal for want of memory to share them
 abbrev pub TellsFiles : View → Response → Type 0
 TellsFiles view answer = (answer ≡ response.Listing view.snapshot.number view.snapshot.files) ⊎ (answer ≡ response.Refused Memory)
 
--- the answer that tells a reply without a Job
+-- the answer that passes this reply on; there is none to a reply with a Job
 abbrev pub TellsReply : Reply → Response → Type 0
 TellsReply (Looked view) answer = answer ≡ response.Steps view.snapshot.number view.undo view.redo
 TellsReply (Logged current line) answer = answer ≡ response.Entry current line
@@ -56,31 +57,33 @@ TellsReply (Taken job) answer = ⊥
 TellsReply (Refused refusal) answer = answer ≡ response.Refused refusal
 TellsReply (Back refusal job unit) answer = ⊥
 
+-- the answer with the text of a file or an object, or with the refusal
 abbrev pub file_response : ℕ → Result (List ℕ) Refusal → Response
 file_response number (Ok text) = response.File number text
 file_response number (Err refusal) = response.Refused refusal
 
+-- the answer with these places, or with the refusal
 abbrev pub places_response : ℕ → Result (List Place) Refusal → Response
 places_response number (Ok places) = response.Places number places
 places_response number (Err refusal) = response.Refused refusal
 
--- the faults of the view's files, or want of memory for them
+-- the answer is the list of all faults of the view's files, or a refusal for want of memory
 abbrev pub AnswersFaults : View → Response → Type 0
 AnswersFaults view answer =
     ((list : List FileFault) × ListsFaults view.snapshot.files list × (answer ≡ response.Faults view.snapshot.number list))
     ⊎ (answer ≡ response.Refused Memory)
 
 module _ {D : Type 0} (steps : D → Event → Reply → D → Type 0) where
-  -- one event
+  -- the event is sent, and its reply answered
   abbrev pub Sends : D → Event → Response → D → Type 0
   Sends old event answer new = (reply : Reply) × steps old event reply new × TellsReply reply answer
 
-  -- a change that was planned, or why there is none
+  -- a planned change is committed; without a plan its refusal is answered, and no event is sent
   abbrev pub Commits : D → ℕ → Result Change Refusal → Response → D → Type 0
   Commits old basis (Ok change) answer new = Sends old (Commit basis change) answer new
   Commits old basis (Err refusal) answer new = (answer ≡ response.Refused refusal) × (new ≡ old)
 
-  -- a command that is meant for the state of the view
+  -- a command that is meant for the state of the view, after its look
   abbrev pub ActsOn : D → View → StateCommand → Response → D → Type 0
   ActsOn old view state.Look answer new = TellsReply (Looked view) answer × (new ≡ old)
   ActsOn old view (state.Put basis path body) answer new =
@@ -104,22 +107,22 @@ module _ {D : Type 0} (steps : D → Event → Reply → D → Type 0) where
       ((found : Result (List ℕ) Refusal) × TellsObject view path found × (answer ≡ file_response view.snapshot.number found)) × (new ≡ old)
   ActsOn old view state.Work answer new = Works steps old answer new
 
-  -- the command after its look has shown this view: it is refused where it is meant for another state
+  -- a command after its look has shown this view: it is refused where it is meant for another state
   abbrev pub ActsAfter : D → View → StateCommand → Response → D → Type 0
   ActsAfter old view asked answer new =
       (¬ (FitsView view asked) × (answer ≡ response.Refused (Moved view.snapshot.number)) × (new ≡ old))
       ⊎ (FitsView view asked × ActsOn old view asked answer new)
 
-  -- the command after the reply to its look
+  -- a command after its look got this reply: a refused look refuses the command
   abbrev pub Continues : D → Reply → StateCommand → Response → D → Type 0
   Continues old (Looked view) asked answer new = ActsAfter old view asked answer new
   Continues old reply asked answer new = TellsReply reply answer × (new ≡ old)
 
-  -- a command that begins with a look
+  -- a command about the current state: a look, and what comes after it
   abbrev pub Looks : D → StateCommand → Response → D → Type 0
   Looks old asked answer new = (reply : Reply) × (mid : D) × steps old Look reply mid × Continues mid reply asked answer new
 
-  -- one command: one about the current state begins with a look, a wait is what the desk says of it, and a log is one event alone
+  -- One command: it looks first if it is about the current state. A wait is one wait of the desk, and a log one event.
   abbrev pub Acts : WaitLaw D → D → Command → Response → D → Type 0
   Acts waits old (command.OnState asked) answer new = Looks old asked answer new
   Acts waits old command.Wait answer new = Waits waits old answer new

@@ -1,4 +1,4 @@
--- What a view answers.
+-- Queries that a view answers.
 use Rattle.std.specs.Prelude.{◌≡◌, List, ℕ, ⊤, Some, None, Result, Ok, Err}
 use Rattle.std.specs.List.{Contains}
 use Rattle.std.specs.FinMap as map
@@ -11,7 +11,7 @@ use Rattle.build_unit.specs.declared.unit.Unit.{Unit as PackageUnit}
 use Rattle.build_carry.specs.Finished.{IsFinished}
 use Rattle.history_machine.specs.declared.view.View.{View}
 
--- reading one file
+-- the text of one file, or the refusal: the path is no path of a file, or there is no file
 abbrev pub Cats : View → List ℕ → Result (List ℕ) Refusal → Type 0
 Cats view path (Ok text) = IsPath 2 path × (map.get view.snapshot.files path ≡ Some text)
 Cats view path (Err BadPath) = ¬ (IsPath 2 path)
@@ -19,14 +19,16 @@ Cats view path (Err NoFile) = IsPath 2 path × (map.get view.snapshot.files path
 Cats view path (Err Memory) = ⊤
 Cats view path (Err refusal) = ⊥
 
--- the package of the path is finished in the view, and this is its unit
+-- the package of this path is finished in the view, and this is its unit
 abbrev pub HasUnit : View → List ℕ → PackageUnit → Type 0
 HasUnit view path unit = IsFinished view.snapshot.files view.finished path unit
 
+-- a package of the view has this path
 abbrev pub IsPackagePath : View → List ℕ → Type 0
 IsPackagePath view path = IsPath 1 path × Contains (package_paths view.snapshot.files) path
 
--- the object of a package, or why there is none: no path, no package there, not finished, or its first fault
+-- the object of a package, or the refusal: no path of a package, no package of this path, a unit that isn't finished, or the package's
+-- first fault
 abbrev pub TellsObject : View → List ℕ → Result (List ℕ) Refusal → Type 0
 TellsObject view path (Ok text) = IsPath 1 path × ((unit : PackageUnit) × HasUnit view path unit × (result_of unit ≡ Ok text))
 TellsObject view path (Err BadPath) = ¬ (IsPath 1 path)

@@ -1,4 +1,4 @@
--- What the command `work` does: a Job is taken, its package is built, and what was built is delivered.
+-- The command `work`: takes a Job, builds its package, and delivers what was built.
 use Rattle.std.specs.Prelude.{◌≡◌, ◌⊎◌, ℕ, List}
 use Rattle.base_files.specs.declared.refusal.Refusal.TheVariants.{Memory}
 use Rattle.build_unit.specs.Builds.{IsBuiltOf}
@@ -12,32 +12,34 @@ use Rattle.server_commands.specs.declared.response.Response.{Response}
 use Rattle.server_commands.specs.declared.response.Response.TheVariants as response
 
 module _ {D : Type 0} (steps : D → Event → Reply → D → Type 0) where
-  -- a Job is given back; where it comes back, it is retired
+  -- the Job is given back, whatever the reply
   abbrev pub GivesBack : D → JobRecord → D → Type 0
   GivesBack old job new = (reply : Reply) × steps old (GiveBack job) reply new
 
-  -- what is answered after the reply to a delivery
+  -- the answer after this reply to a delivery; a Job that comes back is given back
   abbrev pub AfterDelivery : D → List ℕ → Reply → Response → D → Type 0
   AfterDelivery old path (Done number) answer new = (answer ≡ response.Built number path) × (new ≡ old)
   AfterDelivery old path (Refused refusal) answer new = (answer ≡ response.Refused refusal) × (new ≡ old)
   AfterDelivery old path (Back refusal job unit) answer new = (answer ≡ response.Refused refusal) × GivesBack old job new
   AfterDelivery old path reply answer new = ⊥
 
+  -- what was built is delivered, and the reply answered
   abbrev pub Delivers : D → JobRecord → Built → Response → D → Type 0
   Delivers old job built answer new =
       (reply : Reply) × (mid : D) × steps old (Deliver job built) reply mid × AfterDelivery mid job.package reply answer new
 
-  -- the package is built and delivered; or memory was wanting, and the Job is given back
+  -- the package is built and delivered; or memory is wanting, and the Job is given back
   abbrev pub Builds : D → JobRecord → Response → D → Type 0
   Builds old job answer new =
       ((built : Built) × IsBuiltOf job built × Delivers old job built answer new)
       ⊎ ((answer ≡ response.Refused Memory) × GivesBack old job new)
 
-  -- what is answered after the reply to a Take
+  -- the answer after this reply to a Take: a Job is built, a refusal answered
   abbrev pub AfterTake : D → Reply → Response → D → Type 0
   AfterTake old (Taken job) answer new = Builds old job answer new
   AfterTake old (Refused refusal) answer new = (answer ≡ response.Refused refusal) × (new ≡ old)
   AfterTake old reply answer new = ⊥
 
+  -- a Job is taken, and what comes after it
   abbrev pub Works : D → Response → D → Type 0
   Works old answer new = (reply : Reply) × (mid : D) × steps old Take reply mid × AfterTake mid reply answer new

@@ -1,4 +1,4 @@
-//! One command. One about the current state begins with a look, and what it does is planned on the view that the look gave.
+//! Acts on one command. A command about the current state begins with a look, and is planned on the view that the look shows.
 ghost use Rattle.std.specs.Prelude.{◌≡◌, ◌↔◌, ℕ, IfOk, IsTrue, List, Result};
 ghost use Rattle.base_files.specs.declared.place.Place.{Place};
 ghost use Rattle.base_files.specs.declared.refusal.Refusal.{Refusal as WhyRefused};
@@ -45,7 +45,7 @@ use workspace_check::{Findings, Found, Known, faults};
 use workspace_graph::Graph;
 use workspace_snapshot::{MadeChange, plan_del, plan_put};
 
-/// Whether the command is meant for the state that the view shows.
+/// Whether the command is meant for the state that the view shows: its basis is that state's number, or it has none.
 fn fits_view(view: &View, command: &StateCommand) -> bool
     ensures { IsTrue result ↔ FitsView view.now command.now }
 {
@@ -55,7 +55,7 @@ fn fits_view(view: &View, command: &StateCommand) -> bool
     }
 }
 
-/// The change of a put. A body that was not kept is over the limit of a file, if its path is one.
+/// Plans a put. A body that was dropped is over the limit of a file, if the path is a path of a file.
 fn plan_body(
     alloc: Global,
     view: &View,
@@ -74,7 +74,7 @@ fn plan_body(
     }
 }
 
-/// Sends what changes the workspace.
+/// Sends an event that changes the workspace, and answers its reply.
 fn send<D: Desk>(desk: &mut D, asked: Changing) -> Response
     ensures { Sends D.steps desk.old (changing_event asked) result desk.new }
 {
@@ -84,19 +84,21 @@ fn send<D: Desk>(desk: &mut D, asked: Changing) -> Response
     }
 }
 
+/// Undoes the last change.
 fn undo<D: Desk>(desk: &mut D, basis: u64) -> Response
     ensures { Sends D.steps desk.old (Undo basis) result desk.new }
 {
     send(desk, Changing::Undo(basis))
 }
 
+/// Redoes the change that the last undo took back.
 fn redo<D: Desk>(desk: &mut D, basis: u64) -> Response
     ensures { Sends D.steps desk.old (Redo basis) result desk.new }
 {
     send(desk, Changing::Redo(basis))
 }
 
-/// Sends a change of files that a look has shown.
+/// Commits a change of files that a look has shown.
 fn send_change<D: Desk>(desk: &mut D, basis: u64, change: MadeChange) -> Response
     requires { D.sees desk.old change.base }
     ensures { Sends D.steps desk.old (Commit basis change) result desk.new }
@@ -107,7 +109,7 @@ fn send_change<D: Desk>(desk: &mut D, basis: u64, change: MadeChange) -> Respons
     }
 }
 
-/// Commits a change that was planned.
+/// Commits a planned change, or answers why there is none.
 fn commit<D: Desk>(desk: &mut D, basis: u64, planned: Result<MadeChange, Refusal>) -> Response
     requires { IfOk planned (λ change. D.sees desk.old change.base) }
     ensures { Commits D.steps desk.old basis planned result desk.new }
@@ -118,7 +120,7 @@ fn commit<D: Desk>(desk: &mut D, basis: u64, planned: Result<MadeChange, Refusal
     }
 }
 
-/// Commits a change, and has the desk learn what is known of its files, which are these, if it is admitted.
+/// Commits a change. If it is admitted, the desk learns the findings of its files, which are `files`.
 fn commit_learning<D: Desk>(
     desk: &mut D,
     basis: u64,
@@ -140,7 +142,7 @@ fn commit_learning<D: Desk>(
     }
 }
 
-/// Commits a planned change. The desk learns what is known of its files, unless a clone of these finds no memory.
+/// Commits a planned change. If it is admitted, the desk learns the findings of its files, unless memory is wanting to share these.
 fn commit_planned<D: Desk>(desk: &mut D, basis: u64, planned: Planned) -> Response
     requires seen { D.sees desk.old planned.change.base }
     requires known { KnowsVerdicts planned.change.files planned.known }
@@ -153,7 +155,7 @@ fn commit_planned<D: Desk>(desk: &mut D, basis: u64, planned: Planned) -> Respon
     }
 }
 
-/// Commits a change that was planned with what is known of its files.
+/// Commits a planned change together with its findings, or answers why there is none.
 fn commit_known<D: Desk>(desk: &mut D, basis: u64, planned: Result<Planned, Refusal>) -> Response
     requires seen { IfOk planned (λ p. D.sees desk.old p.change.base) }
     requires known { IfOk planned (λ p. KnowsVerdicts p.change.files p.known) }
@@ -165,7 +167,7 @@ fn commit_known<D: Desk>(desk: &mut D, basis: u64, planned: Result<Planned, Refu
     }
 }
 
-/// The change that a put asks for, committed.
+/// Plans and commits a put.
 fn put<D: Desk>(
     alloc: Global,
     desk: &mut D,
@@ -181,7 +183,7 @@ fn put<D: Desk>(
     commit(desk, basis, planned)
 }
 
-/// The change that a del asks for, committed.
+/// Plans and commits a del.
 fn del<D: Desk>(alloc: Global, desk: &mut D, view: &View, basis: u64, path: Word) -> Response
     requires { D.sees desk.old view.now.snapshot.files }
     ensures { (planned : Result PlannedChange WhyRefused) × PlansDel view.now.snapshot path planned × Commits D.steps desk.old basis planned result desk.new }
@@ -190,7 +192,7 @@ fn del<D: Desk>(alloc: Global, desk: &mut D, view: &View, basis: u64, path: Word
     commit(desk, basis, planned)
 }
 
-/// What is found in the packages of a view's files. The desk learns of it.
+/// Checks the packages of a view's files. The desk learns the findings.
 fn find<D: Desk>(alloc: Global, desk: &mut D, view: &View) -> Result<Findings, AllocError>
     requires { D.sees desk.old view.now.snapshot.files }
     ensures findings { IfOk result (AreFindings view.now.snapshot.files) }
@@ -201,7 +203,7 @@ fn find<D: Desk>(alloc: Global, desk: &mut D, view: &View) -> Result<Findings, A
     Ok(findings)
 }
 
-/// Has a desk learn what was found in the packages of a view's files.
+/// Has the desk learn what was found in the packages of a view's files.
 fn learn<D: Desk>(desk: &mut D, view: &View, found: Found)
     requires seen { D.sees desk.old view.now.snapshot.files }
     requires found { IsFound view.now.snapshot.files found }
@@ -212,7 +214,7 @@ fn learn<D: Desk>(desk: &mut D, view: &View, found: Found)
     desk.learn(view.snapshot.files(), known);
 }
 
-/// The change that a rename asks for. The desk learns what was found for it.
+/// Plans a rename. The desk learns what was found in the view's packages for it.
 fn plan_name<D: Desk>(
     alloc: Global,
     desk: &mut D,
@@ -232,14 +234,14 @@ fn plan_name<D: Desk>(
     planned
 }
 
-/// A byte of a file, as a command names it.
+/// The path of a file and an offset in it, as a command gives them.
 #[derive(Drop)]
 struct NamedByte {
     path: Word,
     offset: usize,
 }
 
-/// The change that a rename asks for, committed.
+/// Plans and commits a rename.
 fn rename<D: Desk>(
     alloc: Global,
     desk: &mut D,
@@ -262,7 +264,7 @@ fn rename<D: Desk>(
     commit_known(desk, basis, planned)
 }
 
-/// The change that a move asks for. The desk learns what was found for it.
+/// Plans a move. The desk learns what was found in the view's packages for it.
 fn plan_target<D: Desk>(
     alloc: Global,
     desk: &mut D,
@@ -281,7 +283,7 @@ fn plan_target<D: Desk>(
     planned
 }
 
-/// The change that a move asks for, committed.
+/// Plans and commits a move.
 fn move_to<D: Desk>(
     alloc: Global,
     desk: &mut D,
@@ -297,6 +299,7 @@ fn move_to<D: Desk>(
     commit_known(desk, basis, planned)
 }
 
+/// The answer with the text of a file or an object, or with the refusal.
 fn file_response(number: u64, found: Result<FileText, Refusal>) -> Response
     ensures { result ≡ file_response number found }
 {
@@ -306,6 +309,7 @@ fn file_response(number: u64, found: Result<FileText, Refusal>) -> Response
     }
 }
 
+/// The answer with these places, or with the refusal.
 fn places_response(number: u64, found: Result<Places, Refusal>) -> Response
     ensures { result ≡ places_response number found }
 {
@@ -315,6 +319,7 @@ fn places_response(number: u64, found: Result<Places, Refusal>) -> Response
     }
 }
 
+/// Answers a cat.
 fn tell_file(alloc: Global, view: &View, path: Word) -> Response
     ensures { (found : Result (List ℕ) WhyRefused) × Cats view.now path found × (result ≡ file_response view.now.snapshot.number found) }
 {
@@ -322,6 +327,7 @@ fn tell_file(alloc: Global, view: &View, path: Word) -> Response
     file_response(view.snapshot.number(), found)
 }
 
+/// Answers an `object` command.
 fn tell_object(alloc: Global, view: &View, path: Word) -> Response
     ensures { (found : Result (List ℕ) WhyRefused) × TellsObject view.now path found × (result ≡ file_response view.now.snapshot.number found) }
 {
@@ -329,7 +335,7 @@ fn tell_object(alloc: Global, view: &View, path: Word) -> Response
     file_response(view.snapshot.number(), found)
 }
 
-/// The uses of what holds a byte of a file.
+/// The uses of the declaration that the identifier at `path:offset` is bound to.
 fn find_uses<D: Desk>(
     alloc: Global,
     desk: &mut D,
@@ -345,6 +351,7 @@ fn find_uses<D: Desk>(
     uses(alloc, view.snapshot.files(), &found, path, offset)
 }
 
+/// Answers a `uses` command.
 fn tell_uses<D: Desk>(
     alloc: Global,
     desk: &mut D,
@@ -360,7 +367,7 @@ fn tell_uses<D: Desk>(
     places_response(view.snapshot.number(), found)
 }
 
-/// All files of a view. They are shared.
+/// Answers a list: all files of a view, which are shared.
 fn tell_list(view: &View) -> Response
     ensures { TellsFiles view.now result }
 {
@@ -386,6 +393,7 @@ fn find_faults<D: Desk>(alloc: Global, desk: &mut D, view: &View) -> Result<Faul
     Ok(FaultList::new(faults))
 }
 
+/// Answers a `faults` command.
 fn tell_faults<D: Desk>(alloc: Global, desk: &mut D, view: &View) -> Response
     requires { D.sees desk.old view.now.snapshot.files }
     ensures told { AnswersFaults view.now result }
@@ -402,7 +410,7 @@ fn tell_faults<D: Desk>(alloc: Global, desk: &mut D, view: &View) -> Response
     }
 }
 
-/// Acts on a command that is meant for the state of the view.
+/// Acts on a command that is meant for the state that the view shows.
 fn act_on<D: Desk>(alloc: Global, desk: &mut D, view: &View, command: StateCommand) -> Response
     requires { D.sees desk.old view.now.snapshot.files }
     ensures { ActsOn D.steps desk.old view.now command result desk.new }
@@ -433,7 +441,7 @@ fn act_on<D: Desk>(alloc: Global, desk: &mut D, view: &View, command: StateComma
     }
 }
 
-/// Acts on a command after its look has shown the view.
+/// Acts on a command after its look has shown the view. A command that is meant for another state is refused.
 fn act_after<D: Desk>(alloc: Global, desk: &mut D, view: &View, command: StateCommand) -> Response
     requires { D.sees desk.old view.now.snapshot.files }
     ensures { ActsAfter D.steps desk.old view.now command result desk.new }
@@ -450,7 +458,7 @@ fn act_after<D: Desk>(alloc: Global, desk: &mut D, view: &View, command: StateCo
     }
 }
 
-/// Acts on a command about the current state, which begins with a look.
+/// Looks, and acts on a command about the current state.
 fn act_looking<D: Desk>(alloc: Global, desk: &mut D, command: StateCommand) -> Response
     ensures { Looks D.steps desk.old command result desk.new }
 {
@@ -460,7 +468,7 @@ fn act_looking<D: Desk>(alloc: Global, desk: &mut D, command: StateCommand) -> R
     }
 }
 
-/// Waits until every package is finished.
+/// Waits until every package of the current state is finished.
 fn wait<D: Desk>(desk: &mut D) -> Response
     ensures { Waits D.waits desk.old result desk.new }
 {
@@ -470,7 +478,7 @@ fn wait<D: Desk>(desk: &mut D) -> Response
     }
 }
 
-/// Shows an entry of the journal. No look comes before it.
+/// Answers a log. No look comes before it.
 fn log<D: Desk>(desk: &mut D, number: u64) -> Response
     ensures { Sends D.steps desk.old (Log number) result desk.new }
 {
@@ -483,7 +491,7 @@ fn log<D: Desk>(desk: &mut D, number: u64) -> Response
     }
 }
 
-/// Acts on one command.
+/// Acts on one command, and answers it.
 pub fn act<D: Desk>(alloc: Global, desk: &mut D, command: Command) -> Response
     ensures { Acts D.steps D.waits desk.old command result desk.new }
 {

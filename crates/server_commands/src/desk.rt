@@ -1,4 +1,4 @@
-//! Where commands take their events.
+//! The desk: it takes the events of commands.
 ghost use Rattle.std.specs.Prelude.{◌≡◌, ℕ, IfOk, Result};
 ghost use Rattle.base_files.specs.Workspace.{Workspace};
 ghost use Rattle.base_files.specs.declared.refusal.Refusal.{Refusal as WhyRefused};
@@ -21,61 +21,62 @@ use workspace_check::Known;
 use workspace_graph::Graph;
 use workspace_snapshot::MadeChange;
 
-/// Takes events, and gives their replies.
+/// Takes events, and answers them: a book of one's own, or a seat at a shared book.
 pub trait Desk {
-    /// What one event may do: the desk before, the event, its reply, and the desk after.
+    /// The steps of an event: the desk before it, the event, its reply, and the desk after it.
     ghost steps: { Self → Event → Reply → Self → Type 0 };
 
-    /// What a wait may do: the desk before, the number of the state whose packages are all finished, or why it was refused, and the desk
-    /// after.
+    /// The outcomes of a wait: the desk before it, the outcome, and the desk after it. The outcome is the number of the state whose
+    /// packages are all finished, or a refusal.
     ghost waits: { Self → Result ℕ WhyRefused → Self → Type 0 };
 
-    /// What is known of the current files, once a look has shown these.
+    /// What the desk knows of files that a look or a commit has shown to be current, until the next event. A desk at a shared book knows
+    /// nothing of them.
     ghost sees: { Self → Workspace → Type 0 };
 
-    /// What is known of a Job that was taken here, until the next event.
+    /// What the desk knows of a Job that was taken here, until the next event. A desk at a shared book knows nothing of it.
     ghost brings: { Self → JobRecord → Type 0 };
 
-    /// One event. The type of the answer tells which replies it may get.
+    /// Answers one event. The type of the answer determines which replies it may get.
     fn step<Q: Question>(&mut self, question: Q) -> Q::Answer
         ensures step { steps self.old (Q.event question) (Q.reply result) self.new }
         ensures kind { MayReply (Q.event question) (Q.reply result) };
 
-    /// A look at the current state. What is known of its files then holds until the next event.
+    /// A view of the current state. Until the next event the desk may know that its files are current.
     fn look(&mut self) -> Result<View, Refusal>
         ensures step { steps self.old Look (looked result) self.new }
         ensures sees { IfOk result (λ view. sees self.new view.snapshot.files) };
 
-    /// A change of files that a look has shown. What is known of its own files then holds until the next event.
+    /// Commits a change of files that a look has shown. Until the next event the desk may know that the change's files are current.
     fn commit(&mut self, basis: u64, change: MadeChange) -> Result<u64, Refusal>
         requires { sees self.old change.base }
         ensures step { steps self.old (Commit basis change) (done result) self.new }
         ensures sees { IfOk result (λ _. sees self.new change.files) };
 
-    /// A Job of the first package that waits to be built. What is known of it then holds until the next event.
+    /// Takes a Job of the first package that waits to be built. Until the next event the desk may know that its inputs are current.
     fn take(&mut self) -> Result<Job, Refusal>
         ensures step { steps self.old Take (taken result) self.new }
         ensures brings { IfOk result (λ job. brings self.new job) };
 
-    /// A Job that was taken here, with what was built of it.
+    /// Delivers what was built for a Job that was taken here.
     fn deliver(&mut self, job: Job, built: Built) -> Handed
         requires brings { brings self.old job }
         requires built { IsBuiltOf job built }
         ensures { steps self.old (Deliver job built) (handed result) self.new };
 
-    /// Waits until every package of the current state is finished.
+    /// Waits until every package of the current state is finished, and returns that state's number.
     fn wait(&mut self) -> Result<u64, Refusal>
         ensures { waits self.old result self.new };
 
-    /// Takes in what was found in packages of files that a look has shown, or a change has made. It is no event: it decides how long
-    /// something takes, and the desk stays as it is.
+    /// Keeps the findings of the packages of files that a look has shown or a commit has made. It is no event: it affects how long later
+    /// commands take, and the desk stays as it is.
     fn learn(&mut self, files: &Graph, known: Known)
         requires seen { sees self.old files.now }
         requires known { KnowsVerdicts files.now known }
         ensures { self.new ≡ self.old };
 }
 
-/// A desk with a book of its own. It is ended by `into_book`.
+/// A desk with a book of its own. `into_book` ends it.
 #[must_use]
 pub struct Solo {
     book: Book,
@@ -95,12 +96,14 @@ impl Model for Solo {
 }
 
 impl Solo {
+    /// A desk over this book.
     pub fn new(book: Book) -> Solo
         ensures { result ≡ book }
     {
         Solo { book }
     }
 
+    /// Ends the desk, and returns its book.
     pub fn into_book(self) -> Book
         ensures { result ≡ self }
     {
@@ -119,10 +122,10 @@ impl Desk for Solo {
 
     ghost waits = { RefusesWait };
 
-    // No one else changes the book, so these are the current files.
+    // No other desk changes the book, so these are the current files.
     ghost sees = { λ machine files. files ≡ machine.current.files };
 
-    // And the Job has the inputs of its package in these.
+    // For the same reason the Job has the inputs of its package in the current files.
     ghost brings = { λ machine job. AreInputs machine.current.files job.package job.inputs };
 
     fn step<Q: Question>(&mut self, question: Q) -> Q::Answer {
@@ -133,7 +136,7 @@ impl Desk for Solo {
         self.book.step(Looking)
     }
 
-    /// Nothing need be compared but the basis.
+    /// The basis alone is compared, and no text.
     fn commit(&mut self, basis: u64, change: MadeChange) -> Result<u64, Refusal> {
         self.book.commit_on_current(basis, change)
     }
@@ -142,17 +145,17 @@ impl Desk for Solo {
         self.book.step(Taking)
     }
 
-    /// No text need be compared.
+    /// Numbers and packages are compared, and no text.
     fn deliver(&mut self, job: Job, built: Built) -> Handed {
         self.book.deliver_on_current(job, built)
     }
 
-    /// No one else builds.
+    /// Refuses the wait, since no one else builds.
     fn wait(&mut self) -> Result<u64, Refusal> {
         Err(Refusal::BadCommand)
     }
 
-    /// They are the current files, so nothing is compared.
+    /// They are the current files, so none is compared.
     fn learn(&mut self, _files: &Graph, known: Known) {
         self.book.learn_current(known);
     }

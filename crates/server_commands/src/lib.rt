@@ -1,4 +1,4 @@
-//! Commands over a desk, which is a book of one's own or a seat at a shared one; answers are data.
+//! Acts on the commands of a session, at a desk: a book of one's own, or a seat at a shared book. Answers are data.
 #![tactic(auto)]
 
 mod acting;

@@ -1,4 +1,4 @@
-//! Questions that a view answers.
+//! Answers queries from a view: a file's text, a package's object, and what is found in the packages.
 ghost use Rattle.std.specs.Prelude.{IfOk};
 ghost use Rattle.workspace_check.specs.Found.{IsFound};
 ghost use Rattle.server_commands.specs.Queries.{Cats, TellsObject};
@@ -19,7 +19,8 @@ pub fn cat(alloc: Global, view: &View, path: &str) -> Result<FileText, Refusal>
     }
 }
 
-/// The object of a package. It is shared, not copied.
+/// The object of a package. It is shared, not copied. The refusal says why there is none: no package has this path, its unit isn't
+/// finished, or its unit is a fault.
 pub fn object(alloc: Global, view: &View, path: &str) -> Result<FileText, Refusal>
     ensures { TellsObject view.now path.now result }
 {
@@ -43,7 +44,8 @@ pub fn object(alloc: Global, view: &View, path: &str) -> Result<FileText, Refusa
     }
 }
 
-/// What is found in the packages of a view's files, and what is known of them then. What is known already is not found again.
+/// The findings of all packages of a view's files, and what is known of these after the check. A finding that the view knows isn't made
+/// again.
 pub(crate) fn found(alloc: Global, view: &View) -> Result<Found, AllocError>
     ensures { IfOk result (IsFound view.now.snapshot.files) }
 {

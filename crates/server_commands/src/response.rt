@@ -1,4 +1,4 @@
-//! What a command is answered: data, and no bytes of a reply.
+//! The answers to commands: data, and no bytes of a reply.
 ghost use Rattle.std.specs.Prelude.{◌≡◌};
 
 use base_files::{FileText, Refusal};
@@ -9,7 +9,7 @@ use types_expr::symbol::SharedPath;
 use workspace_check::FileFault;
 use workspace_graph::Graph;
 
-/// Some faults of files.
+/// A list of faults, each with its file.
 #[derive(Drop)]
 pub struct FaultList {
     items: Vec<FileFault>,
@@ -25,12 +25,14 @@ impl Model for FaultList {
 }
 
 impl FaultList {
+    /// A list of these faults.
     pub fn new(items: Vec<FileFault>) -> FaultList
         ensures { result ≡ items.items }
     {
         FaultList { items }
     }
 
+    /// The faults.
     pub fn as_slice(&self) -> &[FileFault]
         ensures { result.now ≡ self.now }
     {
@@ -38,9 +40,10 @@ impl FaultList {
     }
 }
 
-/// The answer to a command. The number is that of the current state after it.
+/// The answer to a command. The number is that of the current state after the command.
 #[derive(Drop)]
 pub enum Response {
+    /// The workspace was changed, or a wait is over.
     Done {
         number: u64,
     },
@@ -50,17 +53,17 @@ pub enum Response {
         undo: usize,
         redo: usize,
     },
-    /// The text of one file, or an object.
+    /// The text of a file, or the object of a package.
     File {
         number: u64,
         text: FileText,
     },
-    /// All files, with their graph, which shares them.
+    /// All files, as a graph that shares them.
     Listing {
         number: u64,
         files: Graph,
     },
-    /// The identifiers that are bound to one declaration.
+    /// The places of the identifiers that are bound to one declaration.
     Places {
         number: u64,
         places: Places,
@@ -70,12 +73,12 @@ pub enum Response {
         number: u64,
         faults: FaultList,
     },
-    /// An entry of the journal, or None past its end.
+    /// The line of an entry of the journal, or `None` past the journal's end.
     Entry {
         number: u64,
         line: Option<Line>,
     },
-    /// The package that was built.
+    /// The path of the package that was built.
     Built {
         number: u64,
         package: SharedPath,

@@ -1,4 +1,4 @@
-//! The command `work`: one package is built in this session.
+//! The command `work`: builds one package in this session.
 ghost use Rattle.std.specs.Prelude.{◌≡◌, IfOk};
 ghost use Rattle.build_unit.specs.Builds.{IsBuiltOf};
 ghost use Rattle.server_commands.specs.Work.{Builds, Delivers, GivesBack, Works};
@@ -11,7 +11,7 @@ use history_book::{Handed, HandingIn};
 use std::alloc::{AllocError, Global};
 use types_expr::symbol::SharedPath;
 
-/// Gives a Job back. Where it comes back, it is retired.
+/// Gives a Job back. If the desk refuses it, the Job is retired.
 fn give_back<D: Desk>(desk: &mut D, job: Job)
     ensures { GivesBack D.steps desk.old job desk.new }
 {
@@ -26,7 +26,7 @@ fn give_back<D: Desk>(desk: &mut D, job: Job)
     }
 }
 
-/// What a Job is built into, and its package, which is shared before anything is delivered.
+/// Builds a Job. Returns what was built, and the package's path, which is shared before anything is delivered.
 fn made_of(alloc: Global, job: &Job) -> Result<(Built, SharedPath), AllocError>
     ensures { IfOk result (λ made. IsBuiltOf job.now made.0 × (made.1 ≡ job.now.package)) }
 {
@@ -35,7 +35,7 @@ fn made_of(alloc: Global, job: &Job) -> Result<(Built, SharedPath), AllocError>
     Ok((built, path))
 }
 
-/// Delivers what was built. A Job that comes back is given back.
+/// Delivers what was built for a Job, and answers. A Job that the desk refuses is given back.
 fn deliver<D: Desk>(desk: &mut D, job: Job, built: Built, path: SharedPath) -> Response
     requires brings { D.brings desk.old job }
     requires built { IsBuiltOf job built }
@@ -56,7 +56,7 @@ fn deliver<D: Desk>(desk: &mut D, job: Job, built: Built, path: SharedPath) -> R
     }
 }
 
-/// Builds what a Job is of, and delivers it. For want of memory the Job is given back.
+/// Builds a Job and delivers it. For want of memory the Job is given back.
 fn build_in<D: Desk>(alloc: Global, desk: &mut D, job: Job) -> Response
     requires { D.brings desk.old job }
     ensures { Builds D.steps desk.old job result desk.new }
@@ -72,7 +72,7 @@ fn build_in<D: Desk>(alloc: Global, desk: &mut D, job: Job) -> Response
     }
 }
 
-/// Takes a Job, builds it and delivers what was built.
+/// Takes a Job, builds it, and delivers what was built.
 pub(crate) fn work<D: Desk>(alloc: Global, desk: &mut D) -> Response
     ensures { Works D.steps desk.old result desk.new }
 {

@@ -1,4 +1,4 @@
--- The part of a line that is read so far.
+-- The part of a line that was read.
 use Rattle.std.proofs.Common.{◌≡◌, ◌≢◌, ℕ, ◌+◌, ◌<◌, ◌≤◌, List, [], ◌∷◌, ◌++◌, length, take, Option, None, Some, Ok, Bool, true, false, cond, nat_lt}
 use Rattle.std.proofs.Common.{sym, ap, ◌∙◌, arith, length-append, length-take, min}
 use Rattle.std.proofs.lemmas.List.{length-take, take_all, take-append-le}
@@ -13,7 +13,7 @@ use Rattle.server_read.specs.Limit.{is_newline, line_of, after_line}
 use Rattle.server_read.specs.Incoming.{ReadsLine}
 use Rattle.server_read.specs.declared.input.ReadLine.TheVariants.{Whole, TooLong}
 
--- these bytes of a line are read, and of them as many as the limit allows are kept
+-- these bytes of a line were read, and of them as many kept as the limit allows
 pub record LineSoFar (limit : ℕ) (before now : Option (List ℕ)) (line : List ℕ) (is_too_long : Bool) : Type 0 where
   pub bytes : List ℕ
   pub consumed : Consumes before now bytes
@@ -70,7 +70,7 @@ line_of-append bytes rest p = rw (position_there bytes rest p)
 pub after_line-append : (bytes rest : List ℕ) → position_or_len is_newline bytes ≡ length bytes → after_line (bytes ++ 10 ∷ rest) ≡ rest
 after_line-append bytes rest p = rw (position_there bytes rest p) (drop-append-add bytes (10 ∷ rest) 1)
 
--- what a finished line says
+-- the outcome of a line that was read to its end
 pub line_read : (limit : ℕ) (before mid after : Option (List ℕ)) (line : List ℕ) (is_too_long : Bool)
     → LineSoFar limit before mid line is_too_long → Consumes mid after (10 ∷ [])
     → ReadsLine limit before after line (Ok (cond is_too_long TooLong Whole))

@@ -61,7 +61,7 @@ args_no_space line.Wait h = tt
 args_no_space (line.Log number) h = (decimal_word number h, tt)
 args_no_space End h = tt
 
--- a line has its words in one way
+-- a line has one list of words at most
 spaced_unique : (v : List ℕ) (vs : List (List ℕ)) (w : List ℕ) (ws : List (List ℕ)) → HasNoSpace v → HaveNoSpace vs → HasNoSpace w → HaveNoSpace ws
     → spaced v vs ≡ spaced w ws → (v ≡ w) × (vs ≡ ws)
 spaced_unique v [] w [] h hs k ks e = (e, refl)
@@ -82,7 +82,7 @@ abbrev weight : List ℕ → ℕ
 weight [] = 0
 weight (x ∷ xs) = x + 256 * weight xs
 
--- which lines begin with a word
+-- the command lines that begin with a given word
 pub only_put : (command : CommandLine) (P : CommandLine → Type 0) → verb_of command ≡ codes "put" →
     ((basis : ℕ) (path : List ℕ) (size : ℕ) → P (Put basis path size)) → P command
 only_put (Put basis path size) P e h = h basis path size
@@ -152,7 +152,7 @@ pub only_end : (command : CommandLine) (P : CommandLine → Type 0) → verb_of 
 only_end End P e h = h
 only_end command P e h = absurd (omega (arith, ap weight e))
 
--- what stands behind the first word
+-- no command line of this first word has these words after it, where they are not of its form
 pub put_words : (words : List ℕ) → ((basis : ℕ) (path : List ℕ) (size : ℕ) → FitsLine (Put basis path size) →
     words ≡ decimal basis ++ 32 ∷ (path ++ 32 ∷ decimal size) → ⊥)
     → (command : CommandLine) → HasWords (codes "put") words command → ⊥
@@ -172,7 +172,7 @@ pub move_words : (words : List ℕ) → ((basis : ℕ) (from to : List ℕ) → 
     → (command : CommandLine) → HasWords (codes "move") words command → ⊥
 move_words words never command h = only_move command (λ c. FitsLine c → IsSpaced (args_of c) words → ⊥) h.first never h.fits h.others
 
--- a line with a space has other words
+-- a line with a space has more than one word
 spelled_by : (text verb words first : List ℕ) (others : List (List ℕ)) → text ≡ verb ++ 32 ∷ words → first ≡ verb → IsSpaced others words →
     text ≡ spaced first others
 spelled_by text verb words first [] e f h = absurd h

@@ -46,11 +46,11 @@ kept_is : (xs : List ℕ) (after : Option (List ℕ)) → Keeps (Some xs) after 
 kept_is xs None h = absurd h
 kept_is xs (Some ys) h = ap Some h
 
--- the line and its newline, and then the rest
+-- the input is its first line, its newline and the rest
 line_then_rest : (input : List ℕ) → input ≡ take (position_or_len is_newline input + 1) input ++ after_line input
 line_then_rest input = sym (take-append-drop (position_or_len is_newline input + 1) input)
 
--- no message goes on before the end of its line
+-- no message ends before its line
 says_after : (limits : Limits) (input : List ℕ) (m : Message) (after : List ℕ) → Says limits input m after → length after ≤ length (after_line input)
 says_after limits input (Ask asked) after h =
     omega (arith, ap length h.1.5, length-drop (size_after h.1.0) (after_line input))
@@ -60,7 +60,7 @@ says_after limits input CutShort after h = omega (arith, ap length h.1.4)
 ends_after : (limits : Limits) (input after : List ℕ) → Ends limits input after → length after ≤ length (after_line input)
 ends_after limits input after e = elim e [ inl over ↦ omega (arith, ap length over.1) | inr line ↦ omega (arith, ap length line.2) ]
 
--- a part of a line has nothing of what follows the line
+-- the bytes after a line are not in a part of the line
 beyond_part : (part rest : List ℕ) → position_or_len is_newline part ≡ length part → length part ≤ position_or_len is_newline (part ++ rest)
 beyond_part part rest p = grind (arith, common_steps, prefix_len-append)
 
@@ -72,7 +72,7 @@ line_within part rest p =
 ended_line : (part front back : List ℕ) → part ≡ front ++ back → part ++ 10 ∷ [] ≡ front ++ (back ++ 10 ∷ [])
 ended_line part front back e = ap (λ l. l ++ 10 ∷ []) e ∙ append_assoc front back (10 ∷ [])
 
--- no message is whole before its line is ended
+-- no message is whole before the end of its line
 no_message_in_line : (limits : Limits) (part front back : List ℕ) (m : Message) → position_or_len is_newline part ≡ length part
     → part ≡ front ++ back → IsWhole limits front m → ⊥
 no_message_in_line limits part front back m p e whole =
@@ -97,7 +97,7 @@ stays_in_line limits part rest p =
       no_end = λ front back e whole. no_end_in_line limits part front back p e whole;
     }
 
--- a part of a body has nothing of what follows the body
+-- the bytes after a body are not in a part of the body
 after_body : (limits : Limits) (input part rest : List ℕ) (said : CommandLine) (m : Message) (after : List ℕ) → IsReadable limits (line_of input) →
     IsCommandLine (line_of input) said
     → after_line input ≡ part ++ rest → length part ≤ size_after said → Says limits input m after → length after ≤ length rest
@@ -107,7 +107,7 @@ after_body limits input part rest said (Ask asked) after readable is_line e shor
 after_body limits input part rest said Unknown after readable is_line e short h = absurd (h.1.0 readable said is_line)
 after_body limits input part rest said CutShort after readable is_line e short h = omega (arith, ap length h.1.4)
 
--- no message is whole before its body is
+-- no message is whole before the end of its body
 no_message_in_body : (limits : Limits) (input bytes rest front back : List ℕ) (said : CommandLine) (m : Message)
     → IsReadable limits (line_of input) → IsCommandLine (line_of input) said
     → after_line input ≡ bytes ++ rest → length bytes < size_after said → input ≡ front ++ (back ++ rest) → IsWhole limits front m → ⊥
@@ -159,7 +159,7 @@ next_stops limits None after fault h = tt
 next_stops limits (Some input) None fault h = absurd h.1
 next_stops limits (Some input) (Some rest) fault h = (h.0, rest, h.1, refl, stays_in_line limits h.0 rest h.2)
 
--- what reading after a line does, where the reader tells nothing
+-- reading on after a line, where the bytes of the reader are not known
 next_unknown_reader : (limits : Limits) (after : Option (List ℕ)) (r : Result Next InputFault) → ReadsNext limits None after r
 next_unknown_reader limits after (Ok next.End) = tt
 next_unknown_reader limits after (Ok (next.Message message)) = tt

@@ -1,4 +1,4 @@
--- A path and an offset in one word, with the signs :# between.
+-- A path and an offset in one word, with `:#` between.
 use Rattle.std.proofs.Common.{◌≡◌, ◌≢◌, ℕ, ◌+◌, ◌^◌, ◌<◌, List, [], ◌∷◌, ◌++◌, length, take, drop, Option, None, Some, refl, sym, ap, ◌∙◌, arith}
 use Rattle.std.proofs.Common.{append_assoc, decimal, codes, length-append, take-append-drop}
 use Rattle.std.specs.Prelude.{MatchOption}
@@ -18,7 +18,7 @@ no_mark text h = λ front back e. none_within 58 text front (35 ∷ back) h e
 abbrev HasNoPair : ℕ → ℕ → List ℕ → Type 0
 HasNoPair a b text = (front back : List ℕ) → text ≢ front ++ a ∷ b ∷ back
 
--- the last place at which two different bytes stand behind each other is one
+-- the last position of two given bytes next to each other is unique
 pair_unique : (a b : ℕ) → b ≢ a → (xs ys zs ws : List ℕ) → HasNoPair a b ys → HasNoPair a b ws → xs ++ a ∷ b ∷ ys ≡ zs ++ a ∷ b ∷ ws → (xs ≡ zs) × (ys ≡ ws)
 pair_unique a b ne [] ys [] ws h k e = (refl, cc)
 pair_unique a b ne [] ys (z ∷ []) ws h k e = absurd (ne cc)
@@ -64,7 +64,7 @@ place_word_no_space path offset h k =
     rw (place_word_is path offset)
     (no_space_append path (58 ∷ 35 ∷ decimal offset) h (not_32 58 (omega arith), (not_32 35 (omega arith), decimal_word offset (omega (arith, k)))))
 
--- what a search from the end for the mark finds
+-- the result of a search for `:#` from the end
 pub last_mark : (text : List ℕ) (r : Option (Bor (List ℕ) × Bor (List ℕ)))
     → MatchOption r (RFindsText (codes ":#") text None) (λ x. SplitsAroundMatch (RFindsText (codes ":#")) text x.0.now x.1.now) → SplitsPlace text r
 last_mark text None h = λ front back e.

@@ -30,7 +30,7 @@ unfolding Either
 true_or true = inl refl
 true_or false = inr false≢true
 
--- whether a text is a path can be told
+-- a text is a path or it is none
 path_or : (path : List ℕ) → Either (IsPath 2 path)
 unfolding Either
 path_or path = elim (le_by (length path) 255 (nat_lt 255 (length path)) refl) [
@@ -54,7 +54,7 @@ kept_or limits path size = elim (path_or path) [
   ]
 ]
 
--- there is a body that is kept of these bytes, or none
+-- the body of a put with these bytes is kept or dropped
 some_body : (limits : Limits) (path bytes : List ℕ) → (body : Option (List ℕ)) × KeepsBody limits path bytes body
 unfolding Either
 some_body limits path bytes = elim (kept_or limits path (length bytes)) [
@@ -62,7 +62,7 @@ some_body limits path bytes = elim (kept_or limits path (length bytes)) [
   | inr f ↦ (None, f)
 ]
 
--- the bytes that were taken, as a part of the input
+-- the bytes that were read, as a part of the input
 pub record IsFront (size : ℕ) (input bytes rest : List ℕ) : Type 0 where
   pub taken : take size input ≡ bytes
   pub left : drop size input ≡ rest
@@ -75,7 +75,7 @@ front size input bytes rest n e = rw e (record {
   within = omega (arith, n, length-append bytes rest);
 })
 
--- bytes that were taken, but not kept for want of memory
+-- bytes that were read, and dropped for want of memory
 taken_away : (limits : Limits) (basis : ℕ) (path : List ℕ) (size : ℕ) (before after : Option (List ℕ)) → Takes before after size
     → ReadsPut limits basis path size before after (Ok next.NoRoom)
 taken_away limits basis path size None after h = (command.OnState state.Look, tt)

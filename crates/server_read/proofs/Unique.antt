@@ -1,4 +1,4 @@
--- An input begins with one message, and goes on in one way.
+-- An input has one first message at most, and one rest after it.
 use Rattle.std.proofs.Common.{◌≡◌, ℕ, ◌^◌, ◌≤◌, ◌<◌, List, [], ◌∷◌, take, drop, length, Option, None, Some, refl, sym, ap, ◌∙◌, arith, decimal, codes, inl, inr}
 use Rattle.std.proofs.lemmas.Fmt.{decimal_injective}
 use Rattle.base_files.specs.declared.limits.Limits.{Limits}
@@ -156,7 +156,7 @@ end_says_none limits text after CutShort rest readable is_line h =
     let same : h.0 ≡ End = line_unique text h.0 End h.2 is_line in
     absurd (omega (arith, ap size_after same, h.3))
 
--- where a session ends, no message begins
+-- where a session ends no message begins
 ends_or_says : (limits : Limits) (input : List ℕ) (m : Message) (rest end : List ℕ) → Ends limits input end → Says limits input m rest → ⊥
 ends_or_says limits input m rest end e h = elim e [
   | inl over ↦ h.0 over.0

@@ -1,9 +1,9 @@
--- What a command gives besides what it asks.
+-- The bases of commands.
 use Rattle.std.specs.Prelude.{ℕ, Option, Some, None}
 use Rattle.server_read.specs.declared.command.StateCommand.{StateCommand}
 use Rattle.server_read.specs.declared.command.StateCommand.TheVariants as state
 
--- the basis that a command gives, where it gives one
+-- the basis of a command about the current state, or none
 abbrev pub basis_of : StateCommand → Option ℕ
 basis_of state.Look = None
 basis_of (state.Put basis path body) = Some basis

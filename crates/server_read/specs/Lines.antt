@@ -6,7 +6,7 @@ use Rattle.server_read.specs.declared.parse.CommandLine.{CommandLine}
 use Rattle.server_read.specs.declared.parse.CommandLine.TheVariants.{Look, Put, Del, Rename, Move, Undo, Redo, Cat, Uses, End}
 use Rattle.server_read.specs.declared.parse.CommandLine.TheVariants as line
 
--- the first word
+-- the first word of a command line
 abbrev pub verb_of : CommandLine → List ℕ
 verb_of Look = codes "look"
 verb_of (Put basis path size) = codes "put"
@@ -25,11 +25,11 @@ verb_of line.Wait = codes "wait"
 verb_of (line.Log number) = codes "log"
 verb_of End = codes "end"
 
--- a place as it is printed. An offset has digits alone, so the last :# of the word stands between it and the path
+-- A place as a word: `path:#offset`. An offset has digits alone, so the last `:#` of the word is between path and offset.
 abbrev pub place_word : List ℕ → ℕ → List ℕ
 place_word path offset = place_text (record { path = path; offset = offset })
 
--- the other words; numbers are written as they are printed, so without leading zeros
+-- the words after the first; numbers are decimal, without leading zeros
 abbrev pub args_of : CommandLine → List (List ℕ)
 args_of Look = []
 args_of (Put basis path size) = decimal basis ∷ path ∷ decimal size ∷ []
@@ -48,11 +48,11 @@ args_of line.Wait = []
 args_of (line.Log number) = decimal number ∷ []
 args_of End = []
 
--- what stands before an offset is a part of a word, which may be empty
+-- the path has no space, and may be empty; the offset is below 2^32
 abbrev pub FitsPlace : List ℕ → ℕ → Type 0
 FitsPlace path offset = HasNoSpace path × (offset < 2 ^ 32)
 
--- its numbers are within their ranges, and its other arguments are words
+-- the command line's numbers are within their ranges, and its other arguments are words
 abbrev pub FitsLine : CommandLine → Type 0
 FitsLine Look = ⊤
 FitsLine (Put basis path size) = (basis < 2 ^ 64) × IsWord path × (size < 2 ^ 32)
@@ -71,7 +71,7 @@ FitsLine line.Wait = ⊤
 FitsLine (line.Log number) = number < 2 ^ 64
 FitsLine End = ⊤
 
--- how many bytes follow the line
+-- how many bytes the command line announces
 abbrev pub size_after : CommandLine → ℕ
 size_after Look = 0
 size_after (Put basis path size) = size

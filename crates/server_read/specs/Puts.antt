@@ -1,5 +1,5 @@
--- What reading the bytes after a command line does. `before` and `after` are what the reader has left after the line.
--- A later command is a case of `ReadsAfter`.
+-- Reading the bytes that a command line announces. `before` and `after` are the bytes that the reader has left after the line. A later
+-- command is a case of `ReadsAfter`.
 use Rattle.std.specs.Prelude.{◌≡◌, ◌↔◌, ℕ, ◌<◌, ◌≤◌, List, [], length, take, drop, Option, None, Some, IfSome, Result, Ok, Err, Bool, IsTrue}
 use Rattle.std.specs.Io.KnownBytes.{Keeps}
 use Rattle.base_files.specs.declared.limits.Limits.{Limits}
@@ -17,21 +17,23 @@ use Rattle.server_read.specs.declared.parse.CommandLine.TheVariants as line
 use Rattle.server_read.specs.Stops.{StopsBefore}
 use Rattle.server_read.specs.Wire.{IsKept, SaysCommand}
 
+-- whether the body of a put with this path and size is kept
 abbrev pub TellsKept : Limits → List ℕ → ℕ → Bool → Type 0
 TellsKept limits path size kept = IsTrue kept ↔ IsKept limits path size
 
--- the message of a line `put` whose body became this
+-- the message of a line `put`, from the outcome of reading its body
 abbrev pub put_next : ℕ → List ℕ → Body → Next
 put_next basis path (body.Kept text) = next.Message (Ask (command.OnState (state.Put basis path (Some text))))
 put_next basis path body.Dropped = next.Message (Ask (command.OnState (state.Put basis path None)))
 put_next basis path body.NoRoom = next.NoRoom
 put_next basis path body.Short = next.Message CutShort
 
--- `size` bytes are taken, which with the line say this command
+-- `size` bytes are read; the command line, with these bytes, says this command
 abbrev pub TakesCommand : Limits → CommandLine → ℕ → (before after : Option (List ℕ)) → Command → Type 0
 TakesCommand limits said size before after asked = IfSome before (λ input.
     (size ≤ length input) × SaysCommand limits said (take size input) asked × (after ≡ Some (drop size input)))
 
+-- Reading the body of a line `put` with this basis, path and size.
 abbrev pub ReadsPut : Limits → ℕ → List ℕ → ℕ → (before after : Option (List ℕ)) → Result Next InputFault → Type 0
 ReadsPut limits basis path size before after (Ok (next.Message (Ask asked))) = TakesCommand limits (line.Put basis path size) size before after asked
 ReadsPut limits basis path size before after (Ok next.NoRoom) =
@@ -41,14 +43,14 @@ ReadsPut limits basis path size before after (Ok (next.Message Unknown)) = ⊥
 ReadsPut limits basis path size before after (Ok next.End) = ⊥
 ReadsPut limits basis path size before after (Err fault) = StopsBefore before after size
 
--- the command of a line that announces no bytes, or want of memory to keep it
+-- the message is this command, or the command is dropped for want of memory
 abbrev pub AsksOf : Command → Result Next InputFault → Type 0
 AsksOf asked (Ok (next.Message message)) = message ≡ Ask asked
 AsksOf asked (Ok next.NoRoom) = Unit {0}
 AsksOf asked (Ok next.End) = ⊥
 AsksOf asked (Err fault) = ⊥
 
--- the input goes on after a command line
+-- reading on after a command line: the bytes that it announces are read, and the message is made
 abbrev pub ReadsAfter : Limits → CommandLine → (before after : Option (List ℕ)) → Result Next InputFault → Type 0
 ReadsAfter limits (line.Put basis path size) before after r = ReadsPut limits basis path size before after r
 ReadsAfter limits line.End before after r = (r ≡ Ok next.End) × Keeps before after

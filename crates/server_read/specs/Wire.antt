@@ -1,5 +1,4 @@
--- The messages of an input: what its lines, and the bytes that some lines announce, say.
--- A later command is a case of `SaysCommand`.
+-- The messages of an input: its lines, with the bytes that some lines announce. A later command is a case of `SaysCommand`.
 use Rattle.std.specs.Prelude.{◌≡◌, ◌≢◌, ℕ, ◌<◌, ◌≤◌, ◌⊎◌, List, [], ◌∷◌, ◌++◌, length, take, drop, Option, Some, None, codes}
 use Rattle.std.specs.Str.{IsUtf8}
 use Rattle.base_files.specs.Path.{IsPath}
@@ -14,20 +13,21 @@ use Rattle.server_read.specs.declared.parse.CommandLine.TheVariants as line
 use Rattle.server_read.specs.Limit.{line_of, after_line}
 use Rattle.server_read.specs.Lines.{IsCommandLine, size_after}
 
--- a line that may be a command
+-- the line may be a command: it is within the limit, and UTF-8
 pub record IsReadable (limits : Limits) (text : List ℕ) : Type 0 where
   pub short : length text ≤ limits.command_bytes
   pub utf8 : IsUtf8 text
 
--- the body of a put is kept where its path is one of a file, and it is within the limit of a file
+-- the body of a put is kept: its path is a path of a file, and its size is within the limit of a file
 abbrev pub IsKept : Limits → List ℕ → ℕ → Type 0
 IsKept limits path size = IsPath 2 path × (size ≤ limits.file_bytes)
 
+-- the body of a put is these bytes where it is kept, else none
 abbrev pub KeepsBody : Limits → List ℕ → List ℕ → Option (List ℕ) → Type 0
 KeepsBody limits path bytes (Some body) = IsKept limits path (length bytes) × (body ≡ bytes)
 KeepsBody limits path bytes None = ¬ (IsKept limits path (length bytes))
 
--- the line, and these bytes that it announces, say this command
+-- the command line, with these bytes that it announces, says this command
 abbrev pub SaysCommand : Limits → CommandLine → List ℕ → Command → Type 0
 SaysCommand limits line.Look bytes asked = asked ≡ command.OnState state.Look
 SaysCommand limits (line.Put basis path size) bytes asked =
@@ -47,7 +47,7 @@ SaysCommand limits line.Wait bytes asked = asked ≡ command.Wait
 SaysCommand limits (line.Log number) bytes asked = asked ≡ command.Log number
 SaysCommand limits line.End bytes asked = ⊥
 
--- the line `text`, and then `after`, say this message, and then comes `rest`
+-- The line `text`, with the bytes `after` it, says this message. `rest` are the bytes that remain.
 abbrev pub SaysLine : Limits → (text after : List ℕ) → Message → (rest : List ℕ) → Type 0
 SaysLine limits text after (Ask asked) rest =
     (said : CommandLine) × IsReadable limits text × IsCommandLine text said × (size_after said ≤ length after)
@@ -57,30 +57,30 @@ SaysLine limits text after CutShort rest =
 SaysLine limits text after Unknown rest =
     (IsReadable limits text → (said : CommandLine) → IsCommandLine text said → ⊥) × (rest ≡ after)
 
--- the input begins with this message, and then comes `rest`
+-- the input begins with this message, and `rest` are the bytes after it
 abbrev pub Says : Limits → List ℕ → Message → List ℕ → Type 0
 Says limits input message rest = (input ≢ []) × SaysLine limits (line_of input) (after_line input) message rest
 
--- the input begins with these messages, one after another, and then comes `rest`
+-- the input begins with these messages, in order, and `rest` are the bytes after them
 abbrev pub Reads : Limits → List ℕ → List Message → List ℕ → Type 0
 Reads limits input [] rest = input ≡ rest
 Reads limits input (message ∷ messages) rest = (mid : List ℕ) × Says limits input message mid × Reads limits mid messages rest
 
--- a session ends here: at the end of the input, or at a line `end`, after which comes `rest`
+-- the session ends here: the input is over, or its first line is `end`, and `rest` are the bytes after it
 abbrev pub Ends : Limits → List ℕ → List ℕ → Type 0
 Ends limits input rest = ((input ≡ []) × (rest ≡ []))
     ⊎ (IsReadable limits (line_of input) × (line_of input ≡ codes "end") × (rest ≡ after_line input))
 
--- these bytes are the whole message: whatever follows them, an input begins with it and goes on behind them
+-- these bytes are exactly one message, whatever follows them
 abbrev pub IsWhole : Limits → List ℕ → Message → Type 0
 IsWhole limits bytes message = (rest : List ℕ) → Says limits (bytes ++ rest) message rest
 
--- these bytes are a whole end: whatever follows them, a session ends behind them
+-- these bytes are exactly the end of a session, whatever follows them
 abbrev pub IsWholeEnd : Limits → List ℕ → Type 0
 IsWholeEnd limits bytes = (rest : List ℕ) → Ends limits (bytes ++ rest) rest
 
--- `part` is read of an input, and then comes `rest`: no whole message and no whole end is read,
--- and nothing beyond the message or the end with which the input begins
+-- Of an input `part` is read, and `rest` is left. `part` has no whole message and no whole end in front, and doesn't reach beyond the
+-- message or the end with which the input begins.
 pub record StaysWithin (limits : Limits) (part rest : List ℕ) : Type 0 where
   pub message : (m : Message) (after : List ℕ) → Says limits (part ++ rest) m after → length after ≤ length rest
   pub end : (after : List ℕ) → Ends limits (part ++ rest) after → length after ≤ length rest

@@ -1,4 +1,4 @@
-//! Reading the bytes that a line announces.
+//! Reads the body of a put: the bytes after its line.
 ghost use Rattle.std.specs.Prelude.{◌≡◌, ◌<◌, ◌+◌, ◌^◌, ◌≤◌, IfOk};
 ghost use Rattle.server_read.specs.Failures.{CountsReadFault};
 ghost use Rattle.server_read.specs.Bodies.{Fills, Skips, ReadsBody, IsKeptOrNoRoom};
@@ -8,22 +8,23 @@ use crate::stream::ByteSource;
 use base_files::FileText;
 use std::alloc::Global;
 
-/// What became of a body.
+/// The outcome of reading a body.
 #[derive(Drop)]
 pub enum Body {
+    /// The body was read and kept.
     Kept(FileText),
-    /// It was read and dropped, as asked.
+    /// The body was read and dropped, as asked.
     Dropped,
-    /// It was read and dropped, since there was no memory to keep it.
+    /// The body was read and dropped for want of memory.
     NoRoom,
-    /// The input ended within it.
+    /// The input ended before the body did.
     Short,
 }
 
-/// The bytes that are dropped in one read.
+/// How many bytes of a dropped body one read takes at most.
 const DROPPED_AT_ONCE: usize = 512;
 
-/// Fills the buffer. It is false where the input ends before that.
+/// Fills the buffer from the source. Returns false where the input ends first.
 fn fill<S: ByteSource>(
     source: &mut S,
     reads_left: &mut u64,
@@ -47,7 +48,7 @@ fn fill<S: ByteSource>(
     Ok(true)
 }
 
-/// Reads and drops `size` bytes. It is false where the input ends before that.
+/// Reads and drops `size` bytes. Returns false where the input ends first.
 pub fn skip<S: ByteSource>(
     source: &mut S,
     reads_left: &mut u64,
@@ -73,6 +74,7 @@ pub fn skip<S: ByteSource>(
     Ok(true)
 }
 
+/// Shares the bytes as a text, if there is memory for that.
 fn keep(alloc: Global, bytes: Vec<u8>) -> Body
     ensures { IsKeptOrNoRoom bytes.items result }
 {
@@ -82,7 +84,7 @@ fn keep(alloc: Global, bytes: Vec<u8>) -> Body
     }
 }
 
-/// Reads a body of `size` bytes, and keeps it if asked.
+/// Reads a body of `size` bytes, and keeps it if `is_kept` says so.
 pub fn read_body<S: ByteSource>(
     alloc: Global,
     source: &mut S,

@@ -1,32 +1,35 @@
-//! What a session asks. A later command is a variant here, and one about the current state also a case of
-//! `basis_of` in specs/Commands.antt.
+//! The commands of a session. A later command is a variant here. If it is about the current state, it is also a case of `basis_of` in
+//! specs/Commands.antt.
 ghost use Rattle.std.specs.Prelude.{◌≡◌};
 
 use crate::word::Word;
 use base_files::FileText;
 
-/// A command about the current state, which is looked at first. Its basis is the number of the state that it is meant for.
+/// A command about the current state, which begins with a look. Its basis is the number of the state that the client means it for.
 #[derive(Drop)]
 pub enum StateCommand {
+    /// How many steps undo and redo can make.
     Look,
-    /// The body is None where it was not kept: the word is no path of a file, or it is over the limit of a file.
+    /// Adds a file, or replaces its text. The body is `None` where it was dropped: the word is no path of a file, or the body is over the
+    /// limit of a file.
     Put {
         basis: u64,
         path: Word,
         body: Option<FileText>,
     },
+    /// Deletes a file.
     Del {
         basis: u64,
         path: Word,
     },
-    /// The offset is that of any byte of an identifier, or of the path literal of an import.
+    /// Renames the identifier, or the import's path literal, at the offset in the file. The offset is that of any byte of it.
     Rename {
         basis: u64,
         path: Word,
         offset: usize,
         name: Word,
     },
-    /// A package's folder, with all that lies below it, and the folder that it is to have.
+    /// Moves a package's folder, with everything below it, to another path.
     Move {
         basis: u64,
         from: Word,
@@ -38,15 +41,19 @@ pub enum StateCommand {
     Redo {
         basis: u64,
     },
+    /// The text of a file.
     Cat {
         path: Word,
     },
-    /// The offset is that of any byte of an identifier, or of the path literal of an import.
+    /// The uses of the declaration that the identifier, or the import's path literal, at the offset in the file is bound to. The offset is
+    /// that of any byte of it.
     Uses {
         path: Word,
         offset: usize,
     },
+    /// All files, with their sizes.
     List,
+    /// The faults of all files.
     Faults,
     /// The object of a package.
     Object {
@@ -59,7 +66,7 @@ pub enum StateCommand {
 impl StateCommand {
     ghost use Rattle.server_read.specs.Commands.{basis_of};
 
-    /// The basis, where the command gives one.
+    /// The basis of the command, or `None` where it has none.
     pub fn basis(&self) -> Option<u64>
         ensures { result ≡ basis_of self.now }
     {
@@ -81,12 +88,12 @@ impl StateCommand {
     }
 }
 
-/// A command.
+/// A command of a session.
 #[derive(Drop)]
 pub enum Command {
     OnState(StateCommand),
     /// Waits until every package of the current state is finished.
     Wait,
-    /// An entry of the journal, by its number.
+    /// The line of an entry of the journal, by its number.
     Log { number: u64 },
 }

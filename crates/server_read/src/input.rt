@@ -1,4 +1,4 @@
-//! Reading the messages of an input.
+//! Reads the lines of an input, within a limit of reads.
 ghost use Rattle.std.specs.Prelude.{◌≡◌, ◌+◌, ◌^◌, ◌≤◌, ◌<◌, IfOk, vec_capacity, if◌then◌else◌, ◌==◌, length};
 ghost use Rattle.std.specs.Io.{ReadsAtMost};
 ghost use Rattle.std.specs.Io.KnownBytes.{ReadConsumes};
@@ -7,21 +7,23 @@ ghost use Rattle.server_read.specs.Incoming.{TakesByte, ReadsLine};
 
 use crate::stream::ByteSource;
 
-/// Why an input cannot be read on.
+/// Why an input can't be read further.
 #[derive(Clone, Copy, Debug, PartialEq, Eq)]
 pub enum InputFault {
     /// The source failed.
     Read,
-    /// All reads that were allowed are used up.
+    /// No read is left of those that a session may make.
     Turns,
 }
 
-/// What a line is.
+/// The outcome of reading a line.
 #[derive(Clone, Copy, Debug, PartialEq, Eq)]
 pub enum ReadLine {
-    /// The input is over.
+    /// The input is over: there is no line.
     Nothing,
+    /// The line is within the limit.
     Whole,
+    /// The line is longer than the limit.
     TooLong,
 }
 
@@ -49,7 +51,7 @@ pub fn read_some<S: ByteSource>(
     }
 }
 
-/// Reads one byte, or None at the end of the input.
+/// Reads one byte, or returns `None` at the end of the input.
 fn read_byte<S: ByteSource>(source: &mut S, reads_left: &mut u64) -> Result<Option<u8>, InputFault>
     requires reads { S.reads source.old + reads_left.old < 2 ^ 64 }
     ensures byte { TakesByte (S.remaining source.old) (S.remaining source.new) result }
@@ -66,7 +68,7 @@ fn read_byte<S: ByteSource>(source: &mut S, reads_left: &mut u64) -> Result<Opti
     }
 }
 
-/// Reads a line and its newline. `line` then has the line, if it is no longer than the limit.
+/// Reads a line and its newline. If the line is no longer than `limit` bytes, `line` has it without the newline.
 pub fn read_line<S: ByteSource>(
     source: &mut S,
     reads_left: &mut u64,
@@ -99,6 +101,7 @@ pub fn read_line<S: ByteSource>(
     }
 }
 
+/// The outcome of a line that a newline ended.
 fn whole_line(is_too_long: bool) -> ReadLine
     ensures { result ≡ (if is_too_long then ReadLine.TooLong else ReadLine.Whole) }
 {
@@ -109,6 +112,7 @@ fn whole_line(is_too_long: bool) -> ReadLine
     }
 }
 
+/// The outcome of a line that the end of the input ended.
 fn last_line(line: &[u8], is_too_long: bool) -> ReadLine
     ensures { result ≡ (if is_too_long then ReadLine.TooLong else (if length line.now == 0 then ReadLine.Nothing else ReadLine.Whole)) }
 {

@@ -1,4 +1,4 @@
-//! Lines, the commands in them, and the next message of a stream.
+//! Reads the lines of a session, takes command lines apart, and makes messages of them.
 #![tactic(auto)]
 
 mod body;

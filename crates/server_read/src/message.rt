@@ -1,11 +1,12 @@
-//! What a session reads.
+//! The messages of a session.
 ghost use Rattle.std.specs.Prelude.{◌≡◌};
 
 use crate::command::Command;
 
-/// What one line, and the bytes that it announces, say.
+/// A message: a line of the input, with the bytes that it announces.
 #[derive(Drop)]
 pub enum Message {
+    /// A command.
     Ask(Command),
     /// A line that is no command.
     Unknown,

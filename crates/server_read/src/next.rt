@@ -1,5 +1,4 @@
-//! The next message of an input. A later command is an arm of `command_after` and a case of
-//! `SaysCommand` in server_read's specs/Wire.antt.
+//! Reads the next message of an input. A later command is an arm of `command_after` and a case of `SaysCommand` in specs/Wire.antt.
 ghost use Rattle.std.specs.Prelude.{◌≡◌, ◌+◌, ◌^◌, ◌≤◌, ◌<◌, IfOk, vec_capacity};
 ghost use Rattle.server_read.specs.Failures.{CountsReadFault};
 ghost use Rattle.server_read.specs.NextMessage.{ReadsNext};
@@ -13,17 +12,17 @@ use crate::{
 use base_files::{Limits, Path, Refusal};
 use std::alloc::{AllocError, Global};
 
-/// What comes next in an input.
+/// The outcome of reading the next message.
 #[derive(Drop)]
 pub enum Next {
-    /// The end of the session.
+    /// The input is over, or its line is `end`.
     End,
     Message(Message),
-    /// A command that there was no memory to keep.
+    /// A command was read and dropped for want of memory.
     NoRoom,
 }
 
-/// Room for the longest command line.
+/// A buffer with room for the longest command line.
 #[derive(Drop)]
 pub struct LineBuffer {
     bytes: Vec<u8>,
@@ -37,7 +36,7 @@ impl LineBuffer {
     }
 }
 
-/// Whether the body of a put is kept: its path is one of a file, and it is within the limit of a file.
+/// Whether the body of a put is kept: its path is a path of a file, and its size is within the limit of a file.
 fn is_kept(alloc: Global, path: &str, size: u32, limits: &Limits) -> Result<bool, AllocError>
     ensures { IfOk result (TellsKept limits.now path.now size) }
 {
@@ -54,7 +53,7 @@ fn is_kept(alloc: Global, path: &str, size: u32, limits: &Limits) -> Result<bool
     }
 }
 
-/// The message of a line `put` and its body.
+/// The message of a line `put`, after its body was read.
 fn put_message(basis: u64, path: Word, body: Body) -> Next
     ensures { result ≡ put_next basis path body }
 {
@@ -67,7 +66,7 @@ fn put_message(basis: u64, path: Word, body: Body) -> Next
     ask(StateCommand::Put { basis, path, body })
 }
 
-/// The word of a put, and whether its body is kept.
+/// The path of a put as a word, and whether the put's body is kept.
 fn prepare_put(
     alloc: Global,
     path: &str,
@@ -80,7 +79,7 @@ fn prepare_put(
     Ok((Word::new(alloc, path)?, is_kept))
 }
 
-/// What a line `put` says.
+/// The basis and the path of a line `put`, and the size of its body in bytes.
 #[derive(Clone, Copy)]
 struct PutLine<'a> {
     basis: u64,
@@ -88,7 +87,7 @@ struct PutLine<'a> {
     size: u32,
 }
 
-/// Reads the body that a line announces, and makes the command.
+/// Reads the body of a line `put`, and makes the command.
 fn read_put<S: ByteSource>(
     alloc: Global,
     source: &mut S,
@@ -126,7 +125,7 @@ fn ask(command: StateCommand) -> Next
     Next::Message(Message::Ask(Command::OnState(command)))
 }
 
-/// The words of two arguments.
+/// Two arguments as words.
 fn two_words(alloc: Global, one: &str, other: &str) -> Result<(Word, Word), AllocError>
     ensures { IfOk result (λ words. (words.0 ≡ one.now) × (words.1 ≡ other.now)) }
 {
@@ -134,7 +133,7 @@ fn two_words(alloc: Global, one: &str, other: &str) -> Result<(Word, Word), Allo
     Ok((one, Word::new(alloc, other)?))
 }
 
-/// What a command line says, once the bytes that it announces are read.
+/// Reads the bytes that a command line announces, and makes the message.
 fn command_after<S: ByteSource>(
     alloc: Global,
     source: &mut S,
@@ -206,7 +205,7 @@ fn command_after<S: ByteSource>(
     }
 }
 
-/// The command line that a line is, or None.
+/// The command line in a line's bytes, or `None` where they are no command line.
 fn command_line_of(line: &[u8]) -> Option<CommandLine<'_>>
     ensures { ReadsLineText line.now result }
 {
@@ -216,8 +215,8 @@ fn command_line_of(line: &[u8]) -> Option<CommandLine<'_>>
     }
 }
 
-/// Reads the next message whole, and nothing beyond it. A read is taken from `reads_left` for each read of the source.
-/// Each read may wait for the other side, so all that was written to the sink has to be sent before.
+/// Reads the next message whole, and nothing beyond it. Each read of the source takes one from `reads_left`. A read may wait for the
+/// client, so everything that was written to the sink must be sent before.
 pub fn read_command<S: ByteSource, T: Sink>(
     alloc: Global,
     source: &mut S,

@@ -1,5 +1,4 @@
-//! The form of a command line. A later command is a variant of `CommandLine`, a case of each function
-//! in specs/Lines.antt, and an arm here.
+//! Takes command lines apart. A later command is a variant of `CommandLine`, a case of each function in specs/Lines.antt, and an arm here.
 ghost use Rattle.std.specs.Prelude.{◌≡◌, ◌^◌, codes, MatchBool};
 ghost use Rattle.server_read.specs.Words.{HasNoSpace};
 ghost use Rattle.server_read.specs.Parsing.{SplitsWord, SplitsPlace, ReadsNumber, ReadsPart, ReadsArgument, ReadsPlace, ParsesBare, ParsesArgs, ParsesLine};
@@ -7,7 +6,7 @@ ghost use Rattle.server_read.specs.Parsing.{SplitsWord, SplitsPlace, ReadsNumber
 use itoa::Buffer;
 use std::marker::Model;
 
-/// A word of a command line that names something, or the part of one before an offset.
+/// A word of a command line that names something, or the part of a word before an offset.
 #[derive(Drop)]
 pub struct Argument<'a> {
     text: &'a str,
@@ -22,6 +21,7 @@ impl<'a> Model for Argument<'a> {
 }
 
 impl<'a> Argument<'a> {
+    /// The word's text.
     pub fn as_str(&self) -> &str
         ensures { result.now ≡ self.now }
     {
@@ -29,7 +29,7 @@ impl<'a> Argument<'a> {
     }
 }
 
-/// A command line, before the bytes that it announces are read.
+/// A command line, without the bytes that it announces.
 #[derive(Drop)]
 pub enum CommandLine<'a> {
     Look,
@@ -79,7 +79,7 @@ pub enum CommandLine<'a> {
     End,
 }
 
-/// A number below 2^64, as it is printed.
+/// The number below 2^64 that the text is the decimal of, without leading zeros.
 fn parse_u64(text: &str) -> Option<u64>
     ensures { ReadsNumber (2 ^ 64) text.now result }
 {
@@ -92,27 +92,28 @@ fn parse_u64(text: &str) -> Option<u64>
     }
 }
 
-/// A number below 2^32, as it is printed.
+/// The number below 2^32 that the text is the decimal of, without leading zeros.
 fn parse_u32(text: &str) -> Option<u32>
     ensures { ReadsNumber (2 ^ 32) text.now result }
 {
     u32::try_from(parse_u64(text)?).ok()
 }
 
-/// What stands before the first space, and after it.
+/// The parts of the text before and after its first space.
 fn split_word(text: &str) -> Option<(&str, &str)>
     ensures { SplitsWord text.now result }
 {
     text.split_once(' ')
 }
 
+/// Whether the text has no space.
 fn has_no_space(text: &str) -> bool
     ensures { MatchBool result (HasNoSpace text.now) (HasNoSpace text.now → ⊥) }
 {
     split_word(text).is_none()
 }
 
-/// What stands before the last `:#`, and after it.
+/// The parts of the text before and after its last `:#`.
 #[tactic(auto, using(crate::proofs::Places::last_mark))]
 fn split_place(text: &str) -> Option<(&str, &str)>
     ensures { SplitsPlace text.now result }
@@ -120,7 +121,7 @@ fn split_place(text: &str) -> Option<(&str, &str)>
     text.rsplit_once(":#")
 }
 
-/// What names something within a word.
+/// The text as the part of a word before an offset: it may be empty, and has no space.
 fn parse_part(text: &str) -> Option<Argument<'_>>
     ensures { ReadsPart text.now result }
 {
@@ -131,6 +132,7 @@ fn parse_part(text: &str) -> Option<Argument<'_>>
     }
 }
 
+/// The text as a word: it isn't empty, and has no space.
 fn parse_argument(text: &str) -> Option<Argument<'_>>
     ensures { ReadsArgument text.now result }
 {
@@ -141,7 +143,7 @@ fn parse_argument(text: &str) -> Option<Argument<'_>>
     }
 }
 
-/// A path and an offset, with the signs :# between.
+/// The path and the offset of a place `path:#offset`.
 fn parse_place(text: &str) -> Option<(Argument<'_>, u32)>
     ensures { ReadsPlace text.now result }
 {
@@ -149,6 +151,7 @@ fn parse_place(text: &str) -> Option<(Argument<'_>, u32)>
     Some((parse_part(path)?, parse_u32(offset)?))
 }
 
+/// The command line `put BASIS PATH SIZE` with these words after `put`.
 fn parse_put(words: &str) -> Option<CommandLine<'_>>
     ensures { ParsesArgs (codes "put") words.now result }
 {
@@ -161,6 +164,7 @@ fn parse_put(words: &str) -> Option<CommandLine<'_>>
     })
 }
 
+/// The command line `del BASIS PATH` with these words after `del`.
 fn parse_del(words: &str) -> Option<CommandLine<'_>>
     ensures { ParsesArgs (codes "del") words.now result }
 {
@@ -171,6 +175,7 @@ fn parse_del(words: &str) -> Option<CommandLine<'_>>
     })
 }
 
+/// The command line `rename BASIS PATH:#OFFSET NAME` with these words after `rename`.
 fn parse_rename(words: &str) -> Option<CommandLine<'_>>
     ensures { ParsesArgs (codes "rename") words.now result }
 {
@@ -185,6 +190,7 @@ fn parse_rename(words: &str) -> Option<CommandLine<'_>>
     })
 }
 
+/// The command line `move BASIS FROM TO` with these words after `move`.
 fn parse_move(words: &str) -> Option<CommandLine<'_>>
     ensures { ParsesArgs (codes "move") words.now result }
 {
@@ -197,6 +203,7 @@ fn parse_move(words: &str) -> Option<CommandLine<'_>>
     })
 }
 
+/// The command line `undo BASIS` with this word after `undo`.
 fn parse_undo(words: &str) -> Option<CommandLine<'_>>
     ensures { ParsesArgs (codes "undo") words.now result }
 {
@@ -204,6 +211,7 @@ fn parse_undo(words: &str) -> Option<CommandLine<'_>>
     Some(CommandLine::Undo { basis })
 }
 
+/// The command line `redo BASIS` with this word after `redo`.
 fn parse_redo(words: &str) -> Option<CommandLine<'_>>
     ensures { ParsesArgs (codes "redo") words.now result }
 {
@@ -211,6 +219,7 @@ fn parse_redo(words: &str) -> Option<CommandLine<'_>>
     Some(CommandLine::Redo { basis })
 }
 
+/// The command line `cat PATH` with this word after `cat`.
 fn parse_cat(words: &str) -> Option<CommandLine<'_>>
     ensures { ParsesArgs (codes "cat") words.now result }
 {
@@ -218,6 +227,7 @@ fn parse_cat(words: &str) -> Option<CommandLine<'_>>
     Some(CommandLine::Cat { path })
 }
 
+/// The command line `object PATH` with this word after `object`.
 fn parse_object(words: &str) -> Option<CommandLine<'_>>
     ensures { ParsesArgs (codes "object") words.now result }
 {
@@ -225,6 +235,7 @@ fn parse_object(words: &str) -> Option<CommandLine<'_>>
     Some(CommandLine::Object { path })
 }
 
+/// The command line `uses PATH:#OFFSET` with this word after `uses`.
 fn parse_uses(words: &str) -> Option<CommandLine<'_>>
     ensures { ParsesArgs (codes "uses") words.now result }
 {
@@ -232,6 +243,7 @@ fn parse_uses(words: &str) -> Option<CommandLine<'_>>
     Some(CommandLine::Uses { path, offset })
 }
 
+/// The command line `log NUMBER` with this word after `log`.
 fn parse_log(words: &str) -> Option<CommandLine<'_>>
     ensures { ParsesArgs (codes "log") words.now result }
 {
@@ -239,7 +251,7 @@ fn parse_log(words: &str) -> Option<CommandLine<'_>>
     Some(CommandLine::Log { number })
 }
 
-/// A command line of one word.
+/// The command line of this one word.
 fn parse_bare(verb: &str) -> Option<CommandLine<'_>>
     ensures { ParsesBare verb.now result }
 {
@@ -254,7 +266,7 @@ fn parse_bare(verb: &str) -> Option<CommandLine<'_>>
     }
 }
 
-/// A command line of several words, by its first word and the others.
+/// The command line with this first word and these words after it.
 fn parse_verb<'a>(verb: &str, words: &'a str) -> Option<CommandLine<'a>>
     ensures { ParsesArgs verb.now words.now result }
 {
@@ -273,7 +285,7 @@ fn parse_verb<'a>(verb: &str, words: &'a str) -> Option<CommandLine<'a>>
     }
 }
 
-/// A command line, or None where the text is none.
+/// The command line that the text is, or `None` where it is none.
 pub fn parse_command_line(text: &str) -> Option<CommandLine<'_>>
     ensures { ParsesLine text.now result }
 {

@@ -1,5 +1,5 @@
-//! What a session reads from and writes to. Both count their failures, so that a contract can say
-//! that a fault is answered only where the reader or the writer failed in that call.
+//! The reader and the writer of a session. Both count their failures. So a contract can say that a fault is answered only where the reader
+//! or the writer failed in that call.
 ghost use Rattle.std.specs.Prelude.{◌≡◌, ◌<◌, ◌+◌, ◌-◌, ◌^◌, ℕ, List, Option, IfOk, OnOk, IsTrue};
 ghost use Rattle.std.specs.Io.{ReadsAtMost, WritesAtMost};
 ghost use Rattle.std.specs.Io.KnownBytes.{Keeps, ReadConsumes, WriteAppends};
@@ -7,22 +7,26 @@ ghost use Rattle.server_read.specs.Failures.{CountsFailure};
 
 use std::io::{Read, Write};
 
+/// A failure of the reader.
 #[derive(Clone, Copy, Debug, PartialEq, Eq)]
 pub struct ReadFailed;
 
+/// A failure of the writer.
 #[derive(Clone, Copy, Debug, PartialEq, Eq)]
 pub struct WriteFailed;
 
+/// A source of bytes.
 pub trait ByteSource {
-    /// The bytes that reads will give from here on, where they are known.
+    /// The bytes that later reads will give, where they are known.
     ghost remaining: { Self → Option (List ℕ) };
 
-    /// The count of failed reads, which changes at each failure and at nothing else.
+    /// The count of failed reads. It changes at each failure, and at nothing else.
     ghost failures: { Self → ℕ };
 
     /// The count of reads.
     ghost reads: { Self → ℕ };
 
+    /// Reads bytes into the front of the buffer, and returns how many; 0 at the end of the input.
     fn read(&mut self, buf: &mut [u8]) -> Result<usize, ReadFailed>
         requires { reads self.old < 2 ^ 64 - 1 }
         ensures bound { ReadsAtMost result buf.new }
@@ -31,31 +35,32 @@ pub trait ByteSource {
         ensures counted { CountsFailure (failures self.old) (failures self.new) result };
 }
 
+/// A sink of bytes.
 pub trait Sink {
-    /// The bytes written so far, where they are known.
+    /// The bytes that were written, where they are known.
     ghost contents: { Self → Option (List ℕ) };
 
-    /// The count of failed writes and of failed sends, which changes at each failure and at nothing else.
+    /// The count of failed writes and failed flushes. It changes at each failure, and at nothing else.
     ghost failures: { Self → ℕ };
 
-    /// All that was written is sent to the other side.
+    /// All bytes that were written are sent to the client.
     ghost sent: { Self → Type 0 };
 
-    /// Writes at least one byte, or fails.
+    /// Writes at least one byte, or fails. Returns how many were written.
     fn write(&mut self, buf: &[u8]) -> Result<usize, WriteFailed>
         ensures bound { WritesAtMost result buf.now }
         ensures some { IfOk result (λ n. 0 < n) }
         ensures bytes { WriteAppends (contents self.old) (contents self.new) result buf.now }
         ensures counted { CountsFailure (failures self.old) (failures self.new) result };
 
-    /// Sends all that was written, or fails.
+    /// Sends all bytes that were written, or fails.
     fn flush(&mut self) -> Result<(), WriteFailed>
         ensures sent { OnOk result (sent self.new) }
         ensures bytes { Keeps (contents self.old) (contents self.new) }
         ensures counted { CountsFailure (failures self.old) (failures self.new) result };
 }
 
-/// Any reader, with the count of its failures.
+/// A reader as a source, with the counts of its reads and its failures.
 #[derive(Drop)]
 pub struct Reading<R> {
     reader: R,
@@ -64,6 +69,7 @@ pub struct Reading<R> {
 }
 
 impl<R: Read> Reading<R> {
+    /// A source over a reader, with both counts at 0.
     pub fn new(reader: R) -> Self
         ensures bytes { ⟦<Reading<R> as ByteSource>⟧.remaining result ≡ R.remaining reader }
         ensures none { ⟦<Reading<R> as ByteSource>⟧.failures result ≡ 0 }
@@ -96,7 +102,7 @@ impl<R: Read> ByteSource for Reading<R> {
     }
 }
 
-/// Any writer, with the count of its failures, and whether it was flushed after the last write.
+/// A writer as a sink, with the count of its failures, and whether it was flushed after the last write.
 #[derive(Drop)]
 pub struct Writing<W> {
     writer: W,
@@ -105,6 +111,7 @@ pub struct Writing<W> {
 }
 
 impl<W: Write> Writing<W> {
+    /// A sink over a writer, with no failure counted.
     pub fn new(writer: W) -> Self
         ensures bytes { ⟦<Writing<W> as Sink>⟧.contents result ≡ W.contents writer }
         ensures none { ⟦<Writing<W> as Sink>⟧.failures result ≡ 0 }
@@ -116,7 +123,7 @@ impl<W: Write> Writing<W> {
         }
     }
 
-    /// The writer, with what was written.
+    /// The writer, with the bytes that were written.
     pub fn into_inner(self) -> W
         ensures bytes { W.contents result ≡ ⟦<Writing<W> as Sink>⟧.contents self }
     {

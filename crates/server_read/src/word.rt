@@ -4,7 +4,7 @@ ghost use Rattle.std.specs.Prelude.{◌≡◌, IfOk};
 use std::alloc::{AllocError, Global};
 use std::marker::Model;
 
-/// A text that a command names something by. It may name nothing.
+/// A text by which a command names something, which need not exist.
 #[derive(Drop)]
 pub struct Word {
     text: String,
@@ -19,6 +19,7 @@ impl Model for Word {
 }
 
 impl Word {
+    /// Copies a text as a word.
     pub fn new(alloc: Global, text: &str) -> Result<Word, AllocError>
         ensures { IfOk result (λ word. word ≡ text.now) }
     {
@@ -26,6 +27,7 @@ impl Word {
         Ok(Word { text })
     }
 
+    /// The word's text.
     pub fn as_str(&self) -> &str
         ensures { result.now ≡ self.now }
     {

@@ -1,4 +1,4 @@
--- How a session over memory ends early.
+-- The early end of a session in memory.
 use Rattle.std.proofs.Common.{◌≡◌, ℕ, List, [], Option, None, Some, Result, Err, subst}
 use Rattle.base_files.specs.declared.limits.Limits.{Limits}
 use Rattle.history_machine.specs.declared.event.Event.{Event}

@@ -26,12 +26,12 @@ AnswersAll-append steps waits old mid new [] ns (r ∷ rs) ss h k = absurd h
 AnswersAll-append steps waits old mid new (m ∷ ms) ns [] ss h k = absurd h
 AnswersAll-append steps waits old mid new (m ∷ ms) ns (r ∷ rs) ss h k = (h.0, h.1, AnswersAll-append steps waits h.0 mid new ms ns rs ss h.2 k)
 
--- nothing read, and nothing written
+-- the exchange of no message
 pub Exchange-none : {D : Type 0} (steps : D → Event → Reply → D → Type 0) (waits : WaitLaw D) (limits : Limits) (input : List ℕ) (old : D)
     → Exchange steps waits limits input input old old []
 Exchange-none steps waits limits input old = record { messages = []; replies = []; read = refl; run = refl; written = refl }
 
--- one message, and its reply
+-- the exchange of one message and its reply
 pub Exchange-one : {D : Type 0} (steps : D → Event → Reply → D → Type 0) (waits : WaitLaw D)
     (limits : Limits) (input rest : List ℕ) (old new : D) (message : Message) (reply : Response)
     → Says limits input message rest → Answered steps waits old message reply new
@@ -56,7 +56,7 @@ Exchange-append steps waits limits input mid rest old now new text more a b = re
   written = rw (a.written, b.written) (sym (flat_map-append reply_text a.replies b.replies));
 }
 
--- one message, whose reply is not written whole
+-- one message whose reply is not written whole
 pub BreaksOff-one : {D : Type 0} (steps : D → Event → Reply → D → Type 0) (waits : WaitLaw D)
     (limits : Limits) (input rest : List ℕ) (old new : D) (message : Message) (reply : Response)
     (written unwritten : List ℕ) → Says limits input message rest → Answered steps waits old message reply new → reply_text reply ≡ written ++ unwritten
@@ -91,7 +91,7 @@ BreaksOff-after steps waits limits input mid rest old now new text more a b = re
       (sym (append_assoc (flat_map reply_text a.replies) (flat_map reply_text b.earlier) b.written));
 }
 
--- an exchange, and then one after which the writer failed
+-- an exchange, and one after it in which the writer failed
 pub CutsOff-after : {D : Type 0} (steps : D → Event → Reply → D → Type 0) (waits : WaitLaw D)
     (limits : Limits) (input mid rest : List ℕ) (old now new : D) (text more : List ℕ)
     → Exchange steps waits limits input mid old now text → CutsOff steps waits limits mid rest now new more

@@ -1,4 +1,4 @@
--- What a session does to a book, as a run of the machine by the events that its messages send.
+-- A session over a book is a run of its machine, by the events that its messages send.
 use Rattle.std.proofs.Common.{◌≡◌, ℕ, List, [], ◌∷◌, ◌++◌, Result, Ok, Err, inl, inr, refl, sym, ◌∙◌, append-nil, append_assoc}
 use Rattle.base_files.specs.declared.refusal.Refusal.{Refusal}
 use Rattle.base_files.specs.declared.limits.Limits.{Limits}
@@ -31,11 +31,11 @@ use Rattle.server_session.specs.Laws.{Notes, RunsTheMachine, RunsUntilCutOff}
 abbrev Events : Type 0
 Events = List (Event × Reply)
 
--- a run by events, and what holds of the list that these events are added to
+-- A run from old to new by some events. P relates each list of events to the list with these events appended.
 abbrev IsRun : Machine → Machine → (Events → Events → Type 0) → Type 0
 IsRun old new P = (events : Events) × Run old events new × ((before after : Events) → after ≡ before ++ events → P before after)
 
--- no event is added
+-- a list to which no event is appended
 nothing : (before after : Events) → after ≡ before ++ [] → after ≡ before
 nothing before after e = e ∙ append-nil before
 
@@ -47,7 +47,7 @@ committed : (old new : Machine) (basis : ℕ) (planned : Result Change Refusal) 
 committed old new basis (Ok change) answer h = sent old new (event.Commit basis change) answer h
 committed old new basis (Err refusal) answer h = ([], h.1, λ before after n. (h.0, nothing before after n))
 
--- what a step leads to, with what comes behind it
+-- one step, and a run after it
 led_on : (old mid new : Machine) (asked : Event) (reply : Reply) (P : Events → Events → Type 0) → Step old asked reply mid → IsRun mid new P
     → IsRun old new (λ a b. (c : Events) × Notes a asked reply c × P c b)
 led_on old mid new asked reply P s rest = (

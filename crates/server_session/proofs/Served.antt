@@ -21,8 +21,8 @@ use Rattle.server_session.specs.Transcript.{StepEnds}
 use Rattle.server_session.proofs.Exchanges.{Exchange-none, Exchange-one, BreaksOff-one}
 use Rattle.server_session.proofs.Sent.{kept_nil, kept_then}
 
--- `a` and `b` are what the reader has left, `x`, `y` and `z` what the writer holds: before what was written is sent, behind that,
--- and behind the reply
+-- `a` and `b` are what the reader has left before and after. `x`, `y` and `z` are what the writer holds: before sending, after it, and
+-- after the reply.
 module _ {D : Type 0} (steps : D → Event → Reply → D → Type 0) (waits : WaitLaw D) (limits : Limits) where
   -- the next message was not read
   pub step_stopped : (a b x y : Option (List ℕ)) (d : D) (fault : SessionFault) → AwaitsNext limits a b x y (Err fault)

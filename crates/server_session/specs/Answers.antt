@@ -1,4 +1,4 @@
--- What a session answers.
+-- The answers of a session to its messages.
 use Rattle.std.specs.Prelude.{◌≡◌, List, [], ◌∷◌, ◌⊎◌}
 use Rattle.base_files.specs.declared.refusal.Refusal.TheVariants.{Memory, BadCommand, BodyShort}
 use Rattle.history_machine.specs.declared.event.Event.{Event}
@@ -12,15 +12,15 @@ use Rattle.server_read.specs.declared.message.Message.{Message}
 use Rattle.server_read.specs.declared.message.Message.TheVariants.{Ask, Unknown, CutShort}
 
 module _ {D : Type 0} (steps : D → Event → Reply → D → Type 0) (waits : WaitLaw D) where
-  -- from old, a session may answer this message so: a command is acted on, and the reply is what is written for its answer; want of memory
-  -- to keep a command changes nothing
+  -- The reply that a session may give to a message, and the desk after it. A command is acted on, and its answer written. A command that is
+  -- dropped for want of memory is refused and changes nothing.
   abbrev pub Answered : D → Message → Response → D → Type 0
   Answered old (Ask command) reply new =
       ((answer : Response) × Acts steps waits old command answer new × IsWrittenFor answer reply) ⊎ ((reply ≡ Refused Memory) × (new ≡ old))
   Answered old Unknown reply new = (reply ≡ Refused BadCommand) × (new ≡ old)
   Answered old CutShort reply new = (reply ≡ Refused BodyShort) × (new ≡ old)
 
-  -- from old, a session may answer these messages so, one after another
+  -- the replies that a session may give to these messages, in order, and the desk after them
   abbrev pub AnswersAll : D → List Message → List Response → D → Type 0
   AnswersAll old [] [] new = new ≡ old
   AnswersAll old (message ∷ messages) (reply ∷ replies) new = (mid : D) × Answered old message reply mid × AnswersAll mid messages replies new

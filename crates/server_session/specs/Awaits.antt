@@ -1,4 +1,4 @@
--- What waiting for the next message does, and what is sent when.
+-- Waiting for the next message, and when replies are sent.
 use Rattle.std.specs.Prelude.{◌≡◌, ℕ, List, ⊤, Option, Result, Ok, Err, Bool, true, false}
 use Rattle.std.specs.Io.KnownBytes.{Keeps}
 use Rattle.base_files.specs.declared.limits.Limits.{Limits}
@@ -8,7 +8,7 @@ use Rattle.server_read.specs.NextMessage.{ReadsNext}
 use Rattle.server_session.specs.declared.exchange.SessionFault.{SessionFault}
 use Rattle.server_session.specs.declared.exchange.SessionFault.TheVariants.{Memory, Read, Write, Turns}
 
--- What was written stays, and the next message is read; or sending failed, and nothing is read. `before` and `after` are what the
+-- The text that was written stays, and the next message is read; if sending fails, nothing is read. `before` and `after` are what the
 -- reader has left, `held` and `holds` what the writer holds.
 abbrev pub AwaitsNext : Limits → (before after held holds : Option (List ℕ)) → Result Next SessionFault → Type 0
 AwaitsNext limits before after held holds (Ok next) = ReadsNext limits before after (Ok next) × Keeps held holds
@@ -17,7 +17,7 @@ AwaitsNext limits before after held holds (Err Turns) = ReadsNext limits before 
 AwaitsNext limits before after held holds (Err Write) = (after ≡ before) × Keeps held holds
 AwaitsNext limits before after held holds (Err Memory) = ⊥
 
--- all that was written is sent, but where the writer failed, or where nothing was begun
+-- everything that was written is sent, unless the writer failed or nothing was begun
 abbrev pub LeavesSent : {T : Type 0} → Type 0 → Result T SessionFault → Type 0
 LeavesSent sent (Ok value) = sent
 LeavesSent sent (Err Read) = sent
@@ -25,7 +25,7 @@ LeavesSent sent (Err Turns) = sent
 LeavesSent sent (Err Write) = ⊤
 LeavesSent sent (Err Memory) = ⊤
 
--- the same of one step, behind which the last reply may wait to be sent where the session goes on
+-- Everything that one step of a session wrote is sent, unless the session goes on, the writer failed or nothing was begun.
 abbrev pub StepLeavesSent : Type 0 → Result Bool SessionFault → Type 0
 StepLeavesSent sent (Ok true) = ⊤
 StepLeavesSent sent (Ok false) = sent

@@ -1,4 +1,4 @@
--- How files, places, faults, entries of the journal and packages are written, each on a line of its own.
+-- The text lines of files, places, faults, entries of the journal and packages.
 use Rattle.std.specs.Prelude.{ℕ, List, [], ◌∷◌, ◌++◌, length, codes, decimal, Option, Some, None}
 use Rattle.std.specs.List.{flat_map}
 use Rattle.std.specs.FinMap as map
@@ -16,15 +16,15 @@ use Rattle.server_session.specs.Refusals.{code_of}
 abbrev pub file_line : List ℕ → List ℕ → List ℕ
 file_line path text = path ++ 32 ∷ (decimal (length text) ++ 10 ∷ [])
 
--- a line for each file, by the bytes of the paths
+-- the lines of all files, in the order of paths
 abbrev pub listing : Workspace → List ℕ
 listing files = flat_map (λ e. file_line e.0 e.1) (map.entries files)
 
--- a line for each place
+-- the lines of places, in their order
 abbrev pub place_lines : List Place → List ℕ
 place_lines = flat_map (λ place. place_text place ++ 10 ∷ [])
 
--- a line for each fault
+-- the lines of faults, in their order
 abbrev pub fault_lines : List FileFault → List ℕ
 fault_lines = flat_map (λ f. fault_line f.place f.kind)
 
@@ -32,20 +32,21 @@ fault_lines = flat_map (λ f. fault_line f.place f.kind)
 abbrev pub package_line : List ℕ → List ℕ
 package_line path = path ++ 10 ∷ []
 
+-- the word of an outcome: `ok` or `no`, and a space
 abbrev pub told_word : Told → List ℕ
 told_word (Done number) = codes "ok "
 told_word (Refused reason) = codes "no "
 
--- the number of the state, or that of the refusal
+-- the number of an outcome: that of the state, or the refusal's code
 abbrev pub told_number : Told → ℕ
 told_number (Done number) = number
 told_number (Refused reason) = code_of (refusal_of reason)
 
--- the kind of the event, its basis, and how it was answered
+-- the text line of an entry: its kind, its basis and its outcome
 abbrev pub entry_line : Line → List ℕ
 entry_line line = kind_name line.kind ++ 32 ∷ [] ++ decimal line.basis ++ 32 ∷ [] ++ told_word line.out ++ decimal (told_number line.out) ++ 10 ∷ []
 
--- the line of an entry, or nothing past the end of the journal
+-- the text line of an entry, or nothing without an entry
 abbrev pub entry_text : Option Line → List ℕ
 entry_text None = []
 entry_text (Some line) = entry_line line

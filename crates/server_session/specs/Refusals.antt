@@ -1,11 +1,11 @@
--- How a refusal is written: its number, and the body of its reply.
+-- The text of a refusal: its code, and the body of its reply.
 use Rattle.std.specs.Prelude.{ℕ, List, [], ◌∷◌, ◌++◌, codes, decimal, Option, None, Some}
 use Rattle.base_files.specs.PlaceText.{place_text, fault_line}
 use Rattle.base_files.specs.declared.place.Place.{Place}
 use Rattle.base_files.specs.declared.refusal.Refusal.{Refusal}
 use Rattle.base_files.specs.declared.refusal.Refusal.TheVariants as refusal
 
--- the number of a refusal
+-- the code of a refusal
 abbrev pub code_of : Refusal → ℕ
 code_of refusal.Memory = 1
 code_of refusal.BadCommand = 2
@@ -32,15 +32,16 @@ code_of refusal.Already = 22
 code_of refusal.NoJob = 23
 code_of refusal.BodyShort = 24
 
--- a declaration by its place, or None for one that every file has
+-- the place of a declaration, or `universe` for a predeclared one
 abbrev pub declaration_text : Option Place → List ℕ
 declaration_text None = codes "universe"
 declaration_text (Some place) = place_text place
 
+-- a number on a line of its own
 abbrev pub number_line : ℕ → List ℕ
 number_line number = decimal number ++ 10 ∷ []
 
--- the body of the reply that tells a refusal
+-- the body of a refusal's reply
 abbrev pub refusal_body : Refusal → List ℕ
 refusal_body (refusal.Moved current) = number_line current
 refusal_body (refusal.Faulty place kind) = fault_line place kind

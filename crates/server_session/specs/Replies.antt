@@ -1,4 +1,4 @@
--- The text of a reply. A later form of answer is a case of `number_of` and `body_of`, and where its body takes memory to be made also of
+-- The text of replies. A later form of answer is a case of `number_of` and `body_of`. If its body takes memory, it is also a case of
 -- `TakesMemory` and `made_body`.
 use Rattle.std.specs.Prelude.{◌≡◌, ◌⊎◌, ⊤, ℕ, List, [], ◌∷◌, ◌++◌, length, codes, decimal, Bool, true, false, if◌then◌else◌}
 use Rattle.base_files.specs.declared.refusal.Refusal.TheVariants.{Memory}
@@ -7,10 +7,11 @@ use Rattle.server_commands.specs.declared.response.Response.TheVariants.{Done, S
 use Rattle.server_session.specs.Listings.{listing, place_lines, fault_lines, entry_text, package_line}
 use Rattle.server_session.specs.Refusals.{code_of, refusal_body}
 
--- how many steps undo and redo can make
+-- the line with how many steps undo and redo can make
 abbrev pub steps_line : ℕ → ℕ → List ℕ
 steps_line undo redo = codes "undo " ++ decimal undo ++ codes " redo " ++ decimal redo ++ 10 ∷ []
 
+-- whether the answer is no refusal
 abbrev pub is_done : Response → Bool
 is_done (Refused refusal) = false
 is_done (Done number) = true
@@ -22,7 +23,7 @@ is_done (Faults number faults) = true
 is_done (Entry number line) = true
 is_done (Built number path) = true
 
--- the current number, or the number of a refusal
+-- the number of the current state, or the refusal's code
 abbrev pub number_of : Response → ℕ
 number_of (Done number) = number
 number_of (Steps number undo redo) = number
@@ -34,6 +35,7 @@ number_of (Entry number line) = number
 number_of (Built number path) = number
 number_of (Refused refusal) = code_of refusal
 
+-- the body of the reply with this answer
 abbrev pub body_of : Response → List ℕ
 body_of (Done number) = []
 body_of (Steps number undo redo) = steps_line undo redo
@@ -45,29 +47,29 @@ body_of (Entry number line) = entry_text line
 body_of (Built number path) = package_line path
 body_of (Refused refusal) = refusal_body refusal
 
--- the first line of a reply: whether it was done, a number, and the length of the body
+-- the first line of a reply: `ok` or `no`, a number, and the size of the body in bytes
 abbrev pub head_of : Bool → ℕ → ℕ → List ℕ
 head_of done number size =
     (if done then codes "ok " else codes "no ") ++ decimal number ++ 32 ∷ [] ++ decimal size ++ 10 ∷ []
 
--- a reply: its first line, and then the body
+-- the text of the reply with this answer: its first line, and its body
 abbrev pub reply_text : Response → List ℕ
 reply_text reply = head_of (is_done reply) (number_of reply) (length (body_of reply)) ++ body_of reply
 
--- the body takes memory to be made. None of these answers tells of a change, nor of anything that was delivered
+-- The body takes memory to be made. No such answer is to a change or to a delivery.
 abbrev pub TakesMemory : Response → Type 0
 TakesMemory (Listing number files) = ⊤
 TakesMemory (Places number places) = ⊤
 TakesMemory (Faults number faults) = ⊤
 TakesMemory other = ⊥
 
--- the body, where it takes memory to be made
+-- the body of the reply if it takes memory, else nothing
 abbrev pub made_body : Response → List ℕ
 made_body (Listing number files) = listing files
 made_body (Places number places) = place_lines places
 made_body (Faults number faults) = fault_lines faults
 made_body other = []
 
--- what is written for an answer: the answer, or for want of memory to make its body the refusal that tells this
+-- the reply with this answer; for want of memory to make the body it is a refusal
 abbrev pub IsWrittenFor : Response → Response → Type 0
 IsWrittenFor answer reply = (reply ≡ answer) ⊎ (TakesMemory answer × (reply ≡ Refused Memory))

@@ -1,4 +1,4 @@
--- What a session has done: the messages read, the replies given, and their text.
+-- The transcript of a session: the messages that it reads, its replies, and their text.
 use Rattle.std.specs.Prelude.{◌≡◌, ◌≢◌, ◌⊎◌, ℕ, List, [], ◌∷◌, ◌++◌, Option, Some, IfSome, Result, Ok, Err, Bool, true, false}
 use Rattle.std.specs.List.{flat_map}
 use Rattle.std.specs.Io.KnownBytes.{Appends, Keeps}
@@ -14,8 +14,7 @@ use Rattle.server_read.specs.Wire.{Reads, Ends, StaysWithin}
 use Rattle.server_session.specs.Replies.{reply_text}
 use Rattle.server_session.specs.Answers.{AnswersAll}
 
--- The input up to `rest` was read as messages, answered in one run of the desk from old to new,
--- and `text` is the text of the replies.
+-- The input up to `rest` is read as messages, which the desk answers in order, from old to new. `text` is the text of the replies.
 pub record Exchange {D : Type 0} (steps : D → Event → Reply → D → Type 0) (waits : WaitLaw D) (limits : Limits) (input rest : List ℕ) (old new : D)
     (text : List ℕ) : Type 0 where
   pub messages : List Message
@@ -24,8 +23,8 @@ pub record Exchange {D : Type 0} (steps : D → Event → Reply → D → Type 0
   pub run : AnswersAll steps waits old messages replies new
   pub written : text ≡ flat_map reply_text replies
 
--- The input up to `rest` was read as messages, answered in one run of the desk from old to new. The replies to all but the last
--- are written whole, and a first part of the last one.
+-- The input up to `rest` is read as messages, which the desk answers in order, from old to new. `text` is the text of all replies but the
+-- last, and a first part of the last.
 pub record BreaksOff {D : Type 0} (steps : D → Event → Reply → D → Type 0) (waits : WaitLaw D) (limits : Limits) (input rest : List ℕ) (old new : D)
     (text : List ℕ) : Type 0 where
   pub messages : List Message
@@ -38,22 +37,21 @@ pub record BreaksOff {D : Type 0} (steps : D → Event → Reply → D → Type 
   pub cut : reply_text last ≡ written ++ unwritten
   pub joined : text ≡ flat_map reply_text earlier ++ written
 
--- The messages of the input up to `rest` are answered, and nothing is done after the writer failed: all replies are written, and
--- could not be sent; or all but the last are written whole.
+-- The exchange ends because the writer failed. All replies are written but can't be sent, or the last reply is written in part.
 abbrev pub CutsOff : {D : Type 0} → (D → Event → Reply → D → Type 0) → WaitLaw D → Limits → (input rest : List ℕ) → D → D → List ℕ → Type 0
 CutsOff steps waits limits input rest old new text = Exchange steps waits limits input rest old new text ⊎ BreaksOff steps waits limits input rest old new text
 
--- How a session ends, over an input that the reader tells. `before` and `after` are what the reader has left,
--- `held` and `holds` what the writer holds.
+-- The end of a session, over an input that is known. `before` and `after` are what the reader has left, `held` and `holds` what the writer
+-- holds.
 abbrev pub SessionEnds : {D : Type 0} → (D → Event → Reply → D → Type 0) → WaitLaw D → Limits → (before after held holds : Option (List ℕ)) → D → D →
     Result (Unit {0}) SessionFault → Type 0
--- all messages are answered, and nothing is read beyond the last
+-- all messages are answered, and nothing is read beyond the end of the session
 SessionEnds steps waits limits before after held holds old new (Ok done) = IfSome before (λ input.
     (mid : List ℕ) × (rest : List ℕ) × (text : List ℕ) × Exchange steps waits limits input mid old new text
     × Ends limits mid rest × (after ≡ Some rest) × Appends held holds text)
--- nothing was read, done or written
+-- nothing is read, done or written
 SessionEnds steps waits limits before after held holds old new (Err Memory) = Keeps before after × (new ≡ old) × Keeps held holds
--- all messages that are read whole are answered, and `part` is read behind them, which begins with no whole one
+-- all messages that are read whole are answered; `part` is read after them, and has no whole message in front
 SessionEnds steps waits limits before after held holds old new (Err Read) = IfSome before (λ input.
     (part : List ℕ) × (rest : List ℕ) × (text : List ℕ) × Exchange steps waits limits input (part ++ rest) old new text
     × (after ≡ Some rest) × Appends held holds text × StaysWithin limits part rest)
@@ -64,7 +62,7 @@ SessionEnds steps waits limits before after held holds old new (Err Turns) = IfS
 SessionEnds steps waits limits before after held holds old new (Err Write) = IfSome before (λ input.
     (rest : List ℕ) × (text : List ℕ) × CutsOff steps waits limits input rest old new text × (after ≡ Some rest) × Appends held holds text)
 
--- A fault of the reader or the writer is answered just where it failed in this call.
+-- The reader's count of failures changes exactly for the fault `Read`, and the writer's exactly for `Write`.
 abbrev pub CountsFaults : {T : Type 0} → (read_before read_after write_before write_after : ℕ) → Result T SessionFault → Type 0
 CountsFaults a b c d (Ok done) = (b ≡ a) × (d ≡ c)
 CountsFaults a b c d (Err Memory) = (b ≡ a) × (d ≡ c)
@@ -72,7 +70,7 @@ CountsFaults a b c d (Err Read) = (b ≢ a) × (d ≡ c)
 CountsFaults a b c d (Err Write) = (b ≡ a) × (d ≢ c)
 CountsFaults a b c d (Err Turns) = (b ≡ a) × (d ≡ c)
 
--- What one step of a session does: true where it goes on.
+-- One step of a session: a message is read and answered. True where the session goes on.
 abbrev pub StepEnds : {D : Type 0} → (D → Event → Reply → D → Type 0) → WaitLaw D → Limits → (before after held holds : Option (List ℕ)) → D → D →
     Result Bool SessionFault → Type 0
 StepEnds steps waits limits before after held holds old new (Ok true) = IfSome before (λ input.
@@ -83,12 +81,12 @@ StepEnds steps waits limits before after held holds old new (Err Read) = Session
 StepEnds steps waits limits before after held holds old new (Err Turns) = SessionEnds steps waits limits before after held holds old new (Err Turns)
 StepEnds steps waits limits before after held holds old new (Err Write) = SessionEnds steps waits limits before after held holds old new (Err Write)
 
--- The whole of a session over memory: every message of the input up to its end is answered, in one run of the desk.
+-- A whole session in memory: all messages of the input are answered, in order, from old to new, and `text` is the text of the replies.
 abbrev pub IsTranscript : {D : Type 0} → (D → Event → Reply → D → Type 0) → WaitLaw D → Limits → List ℕ → D → D → List ℕ → Type 0
 IsTranscript steps waits limits input old new text =
     (mid : List ℕ) × (rest : List ℕ) × Exchange steps waits limits input mid old new text × Ends limits mid rest
 
--- A session over memory that ends early: what of the input is left, and what was written, is that of the fault.
+-- A session in memory that ends early, with this fault.
 abbrev pub EndsEarly : {D : Type 0} → (D → Event → Reply → D → Type 0) → WaitLaw D → Limits → List ℕ → D → D → SessionFault → Type 0
 EndsEarly steps waits limits input old new fault =
     (rest : List ℕ) × (text : List ℕ) × SessionEnds steps waits limits (Some input) (Some rest) (Some []) (Some text) old new (Err fault)

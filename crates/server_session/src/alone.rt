@@ -1,4 +1,4 @@
-//! A session over a reader and a writer, and one over a book of its own, as a program runs it.
+//! A session over any reader and writer, and one over a book of its own.
 ghost use Rattle.server_session.specs.Alone.{Converses, EndsAlone, EndsOver};
 
 use crate::exchange::{SessionFault, session};
@@ -9,7 +9,7 @@ use server_read::{Reading, Writing};
 use std::alloc::Global;
 use std::io::{Read, Write};
 
-/// Serves one session from any reader to any writer. It answers how the session ended, and the writer.
+/// Serves one session at a desk, from any reader to any writer. Returns how the session ended, and the writer.
 pub fn converse<R: Read + Drop, W: Write, D: Desk>(
     alloc: Global,
     reader: R,
@@ -25,7 +25,7 @@ pub fn converse<R: Read + Drop, W: Write, D: Desk>(
     (ended, sink.into_inner())
 }
 
-/// Serves one session over a book, which then ends.
+/// Serves one session over a book, and closes the book.
 fn session_over<R: Read + Drop, W: Write>(
     alloc: Global,
     book: Book,
@@ -41,7 +41,7 @@ fn session_over<R: Read + Drop, W: Write>(
     ended
 }
 
-/// Serves one session over a new book, from any reader to any writer. It answers how the session ended, and the writer.
+/// Serves one session over a new book, from any reader to any writer. Returns how the session ended, and the writer.
 pub fn session_alone<R: Read + Drop, W: Write>(
     alloc: Global,
     reader: R,

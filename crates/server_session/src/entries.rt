@@ -1,4 +1,4 @@
-//! The line of an entry of the journal.
+//! The text of an entry of the journal, as a log shows it.
 ghost use Rattle.std.specs.Prelude.{◌≡◌};
 ghost use Rattle.server_session.specs.Listings.{entry_line, entry_text, told_number, told_word};
 
@@ -7,6 +7,7 @@ use arrayvec::ArrayString;
 use history_machine::{Line, Told};
 use itoa::Buffer;
 
+/// The word of an outcome: `ok` or `no`, and a space.
 fn told_word(out: Told) -> &'static str
     ensures { result.now ≡ told_word out }
 {
@@ -16,7 +17,7 @@ fn told_word(out: Told) -> &'static str
     }
 }
 
-/// The number of the state, or that of the refusal.
+/// The number of an outcome: that of the state, or the refusal's code.
 fn told_number(out: Told) -> u64
     ensures { result ≡ told_number out }
 {
@@ -26,7 +27,7 @@ fn told_number(out: Told) -> u64
     }
 }
 
-/// The line of an entry.
+/// The text line of an entry: its kind, its basis and its outcome.
 fn entry_line(line: Line) -> ArrayString<LONGEST_BODY>
     ensures { result.bytes ≡ entry_line line }
 {
@@ -42,7 +43,7 @@ fn entry_line(line: Line) -> ArrayString<LONGEST_BODY>
     text
 }
 
-/// The line of an entry, or nothing where there is none. It takes no memory.
+/// The text line of an entry, or nothing without an entry. It takes no memory.
 pub(crate) fn entry_text(line: Option<Line>) -> ArrayString<LONGEST_BODY>
     ensures { result.bytes ≡ entry_text line }
 {

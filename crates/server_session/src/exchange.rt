@@ -1,4 +1,4 @@
-//! A session: it reads messages, has them answered, and writes the replies.
+//! A session: reads messages, has them answered, and writes the replies.
 ghost use Rattle.std.specs.Prelude.{◌≡◌, ◌+◌, ◌^◌, ◌≤◌, ◌<◌, IfOk, OnOk, IsTrue};
 ghost use Rattle.server_read.specs.Failures.{CountsFailure, WritesText};
 ghost use Rattle.server_session.specs.Replies.{reply_text};
@@ -14,16 +14,16 @@ use server_read::{
 };
 use std::alloc::Global;
 
-/// Why a session ended before its input did.
+/// Why a session ended before its input.
 #[derive(Clone, Copy, Debug, PartialEq, Eq)]
 pub enum SessionFault {
-    /// There is no memory for a session.
+    /// Memory was wanting at the start.
     Memory,
     /// The reader failed.
     Read,
     /// The writer failed.
     Write,
-    /// All reads that a session may make are used up.
+    /// No read is left of those that a session may make.
     Turns,
 }
 
@@ -37,7 +37,7 @@ impl From<WriteFailed> for SessionFault {
     }
 }
 
-/// Has a message answered, and makes what takes memory to be written.
+/// Has a message answered, and makes the reply's body if that takes memory.
 fn answer<D: Desk>(alloc: Global, desk: &mut D, message: Message) -> WrittenReply
     ensures { Answered D.steps D.waits desk.old message result desk.new }
 {
@@ -48,14 +48,14 @@ fn answer<D: Desk>(alloc: Global, desk: &mut D, message: Message) -> WrittenRepl
     }
 }
 
-/// What reading uses up: the room for a line, and the reads that are left.
+/// What reading uses: the room for a line, and the reads that are left.
 #[derive(Drop)]
 struct Allowance {
     line: LineBuffer,
     reads_left: u64,
 }
 
-/// Has all sent that was written, since a read may wait for the other side, and reads the next message.
+/// Sends everything that was written, since a read may wait for the client, and reads the next message.
 fn await_message<S: ByteSource, T: Sink>(
     alloc: Global,
     source: &mut S,
@@ -88,7 +88,7 @@ fn await_message<S: ByteSource, T: Sink>(
     }
 }
 
-/// Writes a reply, and has it sent where it is the last one.
+/// Writes a reply, and sends it if it is the last one.
 fn send_reply<T: Sink>(sink: &mut T, reply: &WrittenReply, is_last: bool) -> Result<(), WriteFailed>
     ensures written { WritesText (T.contents sink.old) (T.contents sink.new) (reply_text reply.now) result }
     ensures sent { OnOk result (IsTrue is_last → T.sent sink.new) }
@@ -98,7 +98,7 @@ fn send_reply<T: Sink>(sink: &mut T, reply: &WrittenReply, is_last: bool) -> Res
     if is_last { sink.flush() } else { Ok(()) }
 }
 
-/// Reads the next message, has it answered, and writes the reply. It is false where the session ends.
+/// Reads the next message, has it answered, and writes the reply. Returns false where the session ends.
 fn serve_next<S: ByteSource, T: Sink, D: Desk>(
     alloc: Global,
     source: &mut S,
@@ -133,8 +133,8 @@ fn serve_next<S: ByteSource, T: Sink, D: Desk>(
     }
 }
 
-/// Serves one session: reads commands to the end, has each answered, and writes the replies.
-/// What was done before a fault stands. Each reply is sent before the next message is waited for, and the last at the end.
+/// Serves one session: reads messages to the end, has each answered, and writes the replies. Each reply is sent before the next read, and
+/// the last at the end. A fault undoes nothing of what was done before it.
 pub fn session<S: ByteSource, T: Sink, D: Desk>(
     alloc: Global,
     source: &mut S,

@@ -1,4 +1,4 @@
-//! A session: its messages are answered by a desk, and the answers, which are data, are written as replies, as lines of text.
+//! Serves a session: reads messages, has a desk answer them, and writes the answers as text.
 #![tactic(auto)]
 
 mod alone;

@@ -1,4 +1,4 @@
-//! The lines of files, places and faults.
+//! The text lines of files, places and faults.
 ghost use Rattle.std.specs.Prelude.{◌≡◌, ◌++◌, IfOk, OnOk};
 ghost use Rattle.base_files.specs.PlaceText.{place_text, fault_line};
 ghost use Rattle.server_session.specs.Listings.{file_line, place_lines, fault_lines, listing};
@@ -8,7 +8,7 @@ use itoa::Buffer;
 use std::alloc::{AllocError, Global};
 use workspace_check::FileFault;
 
-/// Adds the line of one file: its path and its size in bytes.
+/// Appends the line of one file: its path and its size in bytes.
 fn push_file(lines: &mut Vec<u8>, path: &Path, text: &FileText) -> Result<(), AllocError>
     ensures { OnOk result (lines.new.items ≡ lines.old.items ++ file_line path.now text.now) }
 {
@@ -19,7 +19,7 @@ fn push_file(lines: &mut Vec<u8>, path: &Path, text: &FileText) -> Result<(), Al
     lines.extend_from_slice(b"\n")
 }
 
-/// A line for each file, in the order of the paths' bytes.
+/// The lines of all files, in the order of paths.
 pub(crate) fn listing(alloc: Global, files: &Files) -> Result<Vec<u8>, AllocError>
     ensures { IfOk result (λ lines. lines.items ≡ listing files.now) }
 {
@@ -30,7 +30,7 @@ pub(crate) fn listing(alloc: Global, files: &Files) -> Result<Vec<u8>, AllocErro
     Ok(lines)
 }
 
-/// Adds the text of one place: its path and its offset.
+/// Appends a place: `path:#offset`.
 fn push_place(lines: &mut Vec<u8>, place: &Place) -> Result<(), AllocError>
     ensures { OnOk result (lines.new.items ≡ lines.old.items ++ place_text place.now) }
 {
@@ -40,7 +40,7 @@ fn push_place(lines: &mut Vec<u8>, place: &Place) -> Result<(), AllocError>
     lines.extend_from_slice(digits.format(place.offset).as_bytes())
 }
 
-/// A line for each place.
+/// The lines of places, in their order.
 pub(crate) fn place_lines(alloc: Global, places: &[Place]) -> Result<Vec<u8>, AllocError>
     ensures { IfOk result (λ lines. lines.items ≡ place_lines places.now) }
 {
@@ -52,7 +52,7 @@ pub(crate) fn place_lines(alloc: Global, places: &[Place]) -> Result<Vec<u8>, Al
     Ok(lines)
 }
 
-/// Adds the line of one fault: its place and its kind.
+/// Appends the line of one fault: its place and its kind.
 fn push_fault(lines: &mut Vec<u8>, fault: &FileFault) -> Result<(), AllocError>
     ensures { OnOk result (lines.new.items ≡ lines.old.items ++ fault_line fault.now.place fault.now.kind) }
 {
@@ -62,7 +62,7 @@ fn push_fault(lines: &mut Vec<u8>, fault: &FileFault) -> Result<(), AllocError>
     lines.extend_from_slice(b"\n")
 }
 
-/// A line for each fault.
+/// The lines of faults, in their order.
 pub(crate) fn fault_lines(alloc: Global, faults: &[FileFault]) -> Result<Vec<u8>, AllocError>
     ensures { IfOk result (λ lines. lines.items ≡ fault_lines faults.now) }
 {

@@ -1,4 +1,4 @@
-//! A session over memory.
+//! A session whose input and output are in memory.
 ghost use Rattle.std.specs.Prelude.{MatchResult};
 ghost use Rattle.history_machine.specs.Step.{Step};
 ghost use Rattle.server_commands.specs.Wait.{RefusesWait};
@@ -10,8 +10,8 @@ use base_files::Limits;
 use server_commands::Solo;
 use std::alloc::Global;
 
-/// What a session over a book of its own writes for an input. An `Err` is want of memory for the session or for its text,
-/// or the reads of a session are used up; a first part of the input is then done.
+/// The text that a session over a book of its own writes for an input. It fails for want of memory, or where the session's reads are used
+/// up. The messages that were read before a fault are answered.
 pub fn transcript(
     alloc: Global,
     input: &[u8],

@@ -1,5 +1,5 @@
-//! Writing replies. A later form of answer is a case of `body_of` and `number_of` in specs/Replies.antt,
-//! and an arm of `print_response`, and where its body takes memory also one of `made_body` in written.rt.
+//! Writes replies. A later form of answer is a case of `body_of` and `number_of` in specs/Replies.antt, and an arm of `print_response`. If
+//! its body takes memory, it is also an arm of `made_body` in written.rt.
 ghost use Rattle.std.specs.Prelude.{◌≡◌, ◌++◌, ◌≤◌, true, length};
 ghost use Rattle.server_session.specs.Listings.{package_line};
 ghost use Rattle.server_session.specs.Replies.{head_of, made_body, reply_text, steps_line};
@@ -12,13 +12,13 @@ use itoa::Buffer;
 use server_commands::Response;
 use server_read::{Sink, WriteFailed};
 
-/// The longest first line: a word, two numbers of at most 20 digits, a space and a newline.
+/// The size of the longest first line, in bytes: a word, two numbers of at most 20 digits, a space and a newline.
 const LONGEST_HEAD: usize = 48;
 
-/// The longest reply that is written at once.
+/// The size of the longest reply that is written in one piece, in bytes.
 const LONGEST_SHORT: usize = 700;
 
-/// Writes all bytes, in as many writes as it takes.
+/// Writes all bytes, in as many writes as that takes.
 fn write_whole<T: Sink>(sink: &mut T, bytes: &[u8]) -> Result<(), WriteFailed>
     ensures written { WritesText (T.contents sink.old) (T.contents sink.new) bytes.now result }
     ensures counted { CountsFailure (T.failures sink.old) (T.failures sink.new) result }
@@ -31,7 +31,7 @@ fn write_whole<T: Sink>(sink: &mut T, bytes: &[u8]) -> Result<(), WriteFailed>
     Ok(())
 }
 
-/// The first line of a reply, which takes no memory.
+/// The first line of a reply. It takes no memory.
 fn head(is_done: bool, number: u64, body_len: usize) -> ArrayString<LONGEST_HEAD>
     ensures { result.bytes ≡ head_of is_done number body_len }
 {
@@ -45,7 +45,7 @@ fn head(is_done: bool, number: u64, body_len: usize) -> ArrayString<LONGEST_HEAD
     head
 }
 
-/// How many steps undo and redo can make, as a line.
+/// The line with how many steps undo and redo can make.
 fn steps_text(undo: usize, redo: usize) -> ArrayString<LONGEST_BODY>
     ensures { result.bytes ≡ steps_line undo redo }
 {
@@ -59,7 +59,7 @@ fn steps_text(undo: usize, redo: usize) -> ArrayString<LONGEST_BODY>
     text
 }
 
-/// Writes all of two texts, one behind the other.
+/// Writes two texts, one after the other.
 fn write_both<T: Sink>(sink: &mut T, first: &[u8], second: &[u8]) -> Result<(), WriteFailed>
     ensures written { WritesText (T.contents sink.old) (T.contents sink.new) (first.now ++ second.now) result }
     ensures counted { CountsFailure (T.failures sink.old) (T.failures sink.new) result }
@@ -77,7 +77,7 @@ fn print_parts<T: Sink>(sink: &mut T, number: u64, body: &[u8]) -> Result<(), Wr
     write_both(sink, first_line.as_str().as_bytes(), body)
 }
 
-/// Writes a reply whose body is one line, that of a package.
+/// Writes a reply whose body is the line of a package's path.
 fn print_line<T: Sink>(sink: &mut T, number: u64, path: &[u8]) -> Result<(), WriteFailed>
     ensures written { WritesText (T.contents sink.old) (T.contents sink.new) (head_of true number (length (package_line path.now)) ++ package_line path.now) result }
     ensures counted { CountsFailure (T.failures sink.old) (T.failures sink.new) result }
@@ -87,7 +87,7 @@ fn print_line<T: Sink>(sink: &mut T, number: u64, path: &[u8]) -> Result<(), Wri
     write_both(sink, path, b"\n")
 }
 
-/// Writes a reply with a short body at once.
+/// Writes a reply with a short body in one piece.
 fn print_short<T: Sink>(
     sink: &mut T,
     is_done: bool,
@@ -104,7 +104,7 @@ fn print_short<T: Sink>(
     write_whole(sink, text.as_str().as_bytes())
 }
 
-/// Writes a response, whose body was made where that takes memory. On an `Err` a first part of it is written.
+/// Writes a response; `made` is its body if that takes memory. On an `Err` a first part of it is written.
 pub(crate) fn print_response<T: Sink>(
     sink: &mut T,
     response: &Response,

@@ -1,4 +1,4 @@
-//! How a refusal is told: its number, and the body of its reply.
+//! The text of a refusal: its code, and the body of its reply.
 ghost use Rattle.std.specs.Prelude.{◌≡◌, ◌+◌, ◌++◌, ◌∷◌, [], decimal};
 ghost use Rattle.base_files.specs.PlaceText.{place_text};
 ghost use Rattle.server_session.specs.Refusals.{code_of, refusal_body};
@@ -7,13 +7,13 @@ use arrayvec::ArrayString;
 use base_files::{Place, Refusal};
 use itoa::Buffer;
 
-/// The longest place: a path of 255 bytes, two signs and a number.
+/// The size of the longest place, in bytes: a path of 255 bytes, two signs and a number.
 const LONGEST_PLACE: usize = 300;
 
-/// The longest body of a refusal, which has two places.
+/// The size of the longest body of a refusal, in bytes. It has two places.
 pub(crate) const LONGEST_BODY: usize = 640;
 
-/// The number of a refusal.
+/// The code of a refusal.
 pub(crate) fn refusal_code(refusal: &Refusal) -> u8
     ensures { result ≡ code_of refusal.now }
 {
@@ -45,6 +45,7 @@ pub(crate) fn refusal_code(refusal: &Refusal) -> u8
     }
 }
 
+/// A place as text: `path:#offset`.
 fn place_text(place: &Place) -> ArrayString<LONGEST_PLACE>
     ensures { result.bytes ≡ place_text place.now }
 {
@@ -67,7 +68,7 @@ fn number_line(number: u64) -> ArrayString<LONGEST_BODY>
     text
 }
 
-/// The body of the reply that tells a refusal. It takes no memory.
+/// The body of a refusal's reply. It takes no memory.
 pub(crate) fn refusal_body(refusal: &Refusal) -> ArrayString<LONGEST_BODY>
     ensures { result.bytes ≡ refusal_body refusal.now }
 {

@@ -1,4 +1,4 @@
-//! A reply as it is written. What takes memory is made before anything of it is written.
+//! A reply that is ready to be written: everything of it that takes memory is made first.
 ghost use Rattle.std.specs.Prelude.{◌≡◌, IfOk, OnErr};
 ghost use Rattle.server_read.specs.Failures.{CountsFailure, WritesText};
 ghost use Rattle.server_session.specs.Replies.{IsWrittenFor, TakesMemory, made_body, reply_text};
@@ -11,7 +11,7 @@ use server_read::{Sink, WriteFailed};
 use std::alloc::{AllocError, Global};
 use std::marker::Model;
 
-/// A response, with its body where that takes memory to be made.
+/// A response, with its body if that takes memory.
 #[derive(Drop)]
 pub struct WrittenReply {
     response: Response,
@@ -33,7 +33,7 @@ impl Model for WrittenReply {
     ghost invariant = { λ a. a.body.items ≡ made_body a.response };
 }
 
-/// The body of a response, where it takes memory to be made.
+/// The body of a response if that takes memory, else nothing.
 fn made_body(alloc: Global, response: &Response) -> Result<Vec<u8>, AllocError>
     ensures made { IfOk result (λ body. body.items ≡ made_body response.now) }
     ensures wanting { OnErr result (TakesMemory response.now) }
@@ -47,7 +47,7 @@ fn made_body(alloc: Global, response: &Response) -> Result<Vec<u8>, AllocError>
 }
 
 impl WrittenReply {
-    /// What is written for an answer. For want of memory to make its body it is refused.
+    /// The reply to a command with this answer. Where memory is wanting for its body, the reply is a refusal.
     pub fn of(alloc: Global, answer: Response) -> WrittenReply
         ensures { IsWrittenFor answer result }
     {
@@ -60,7 +60,7 @@ impl WrittenReply {
         }
     }
 
-    /// A refusal, which takes no memory.
+    /// The reply that refuses a message. It takes no memory.
     pub fn refuse(alloc: Global, refusal: Refusal) -> WrittenReply
         ensures { result ≡ Response.Refused refusal }
     {

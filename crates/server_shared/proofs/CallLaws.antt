@@ -1,4 +1,4 @@
--- What a call leaves at its seat.
+-- The receipts that a call leaves at its seat.
 use Rattle.std.proofs.Common.{◌≡◌, ℕ, List, [], ◌∷◌, ◌⊎◌, inl, inr, Option, Some, None, Result, Ok, Err, sym, ap, ◌∙◌}
 use Rattle.std.proofs.Common.{⊎_elim}
 use Rattle.std.proofs.lemmas.List.{append-nil}
@@ -73,7 +73,7 @@ pub looks_is : (old : List Receipt) (outcome : Result View Refusal) (new : List 
 looks_is old (Ok view) new replied = looked_view old view new replied
 looks_is old (Err refusal) new replied = looked_refusal old refusal new replied
 
--- one look more
+-- one more look
 pub looks_on : (old mid : List Receipt) (view : View) (new : List Receipt) → Gains IsLook old mid → Looks mid (Ok view) new → Gains IsLook old new
 looks_on old mid view new gained look =
     gains_more IsLook old mid new gained (gains_of IsLook mid Look (Looked view) (Some look.0) new (λ receipt is. is) look.1)

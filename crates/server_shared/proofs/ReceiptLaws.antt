@@ -1,4 +1,4 @@
--- Searching receipts that rise.
+-- Searches of receipts whose indexes rise.
 use Rattle.std.proofs.Common.{◌≡◌, ℕ, zero, suc, ◌+◌, ◌-◌, ◌<◌, ◌≤◌, Bool, true, false, List, [], ◌∷◌, length, slice_index_or, refl, sym, arith}
 use Rattle.std.specs.Prelude.{IsTrue, ◌↔◌, Result, Ok, Err, nat_lt}
 use Rattle.std.specs.List.{AllAdjacentBelow, IsAllAdjacentAnswer, HoldsAt, AllWithin}
@@ -17,7 +17,7 @@ use Rattle.server_shared.specs.Settled.{Rises, HasIndex}
 abbrev IsBelow : Receipt → Receipt → Type 0
 IsBelow r s = r.index < s.index
 
--- receipts that rise from each to the next, rise
+-- indexes that rise from each receipt to the next rise throughout
 rises_far : (xs : List Receipt) → AllAdjacentBelow IsBelow xs (length xs)
     → (n i j : ℕ) (d : Receipt) → i + n + 1 ≡ j → j < length xs → IsBelow (slice_index_or xs i d) (slice_index_or xs j d)
 rises_far xs steps zero i j d is lt =
@@ -40,7 +40,7 @@ rises_is [] false drop = absurd (omega (arith, drop.1))
 rises_is (x ∷ xs) false drop =
     (λ e. absurd (false≢true e), λ rises. grind (arith, nat_tests, drop.2 x, rises drop.0 (drop.0 + 1) x (omega arith) drop.1))
 
--- an element at the index that was found
+-- the receipt at the position that a search found
 found : (xs : List Receipt) (index i : ℕ) → i < length xs → HoldsAt (λ r. nat_cmp r.index index ≡ Equal) xs i → HasIndex xs index
 unfolding HasIndex
 found [] index i lt here = absurd (omega (arith, lt))

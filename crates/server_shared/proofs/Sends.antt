@@ -82,7 +82,7 @@ folder_sent = search (owned, file_tree_sent) depth 30 fits 50000
 pub folder_shared : IsSync folder
 folder_shared = search (owned, file_tree_shared) depth 30 fits 50000
 
--- the same of a package as a field, whose row is not compared with the other by `search`: that takes too many steps
+-- A package as a field may be sent and shared. Its row is not compared with the other by `search`, which would take too many steps.
 folder_field_sent : IsSend folder_field.row
 folder_field_sent = search (owned, file_tree_sent) depth 30 fits 50000
 

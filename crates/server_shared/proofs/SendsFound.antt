@@ -1,4 +1,4 @@
--- What was found in packages may go to other threads, and may be shared by them.
+-- The findings of packages may be sent to other threads, and shared by them.
 use denote.Param.Send.{IsSend, IsSync, sendable}
 use Rattle.std.proofs.Crossing.{crosses}
 use Rattle.std.proofs.MapsCrossing.{crosses as maps}

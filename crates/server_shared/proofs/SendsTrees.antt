@@ -1,4 +1,4 @@
--- Trees of files may go to other threads, and may be shared by them. Each variant is searched for alone: a search for all gives up.
+-- Syntax trees may be sent to other threads, and shared by them. Each variant is searched for alone, since a search for all gives up.
 use denote.RattleType.{RattleType}
 use denote.Enum.Declared.{shape}
 use denote.Param.Send.{IsSend, IsSync, sendable, owning_send, part_keyless, enum_send, enum_sync}

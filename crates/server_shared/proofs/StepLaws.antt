@@ -1,4 +1,4 @@
--- What a step under the lock is to its caller.
+-- A step under the lock, as its caller sees it.
 use Rattle.std.proofs.Common.{Option, Some, None}
 use Rattle.history_machine.specs.declared.event.Event.{Event}
 use Rattle.history_machine.specs.declared.event.Reply.{Reply}
@@ -6,7 +6,7 @@ use Rattle.history_machine.specs.Machine.{Machine}
 use Rattle.server_shared.specs.declared.receipt.Receipt.{Receipt}
 use Rattle.server_shared.specs.Steps.{IsStepOf, StepsAt}
 
--- what one step of a book is to its caller
+-- one step of a book, as its caller sees it
 pub step_of : (old : Machine) (event : Event) (reply : Reply) (kept : Option Receipt) (new : Machine) → StepsAt old event reply kept new →
     IsStepOf event reply kept
 step_of old event reply (Some receipt) new s = (old, new, s)

@@ -1,4 +1,4 @@
--- Whether a package is finished, by what a table has at its number.
+-- A package is finished exactly where the table has a unit at its number.
 use Rattle.std.proofs.Common.{ℕ, Option, Some, None, Bor, is_some, refl}
 use Rattle.std.specs.Prelude.{◌↔◌, IsTrue}
 use Rattle.std.proofs.lemmas.Bool.{false≢true}

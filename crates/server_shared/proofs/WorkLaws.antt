@@ -1,4 +1,4 @@
--- What a worker's calls leave at its seat.
+-- The receipts that a worker's calls leave at its seat.
 use Rattle.std.proofs.Common.{ℕ, zero, suc, List, [], Option, inl, inr, sym, ap, ◌∙◌, refl, ◌≡◌, true}
 use Rattle.std.proofs.lemmas.List.{append-nil}
 use Rattle.std.proofs.lemmas.List.Elements.{All-nil}
@@ -47,7 +47,7 @@ pub often_gains : (turns : ℕ) (old new : List Receipt) → WorksOften turns ol
 often_gains zero old new same = no_gain old new same
 often_gains (suc n) old new w = gains_more IsWork old w.0 new (often_gains n old w.0 w.1) (worked_gains w.0 new w.2)
 
--- after a delivery that was taken in, nothing more is done
+-- after a delivery that the book takes, nothing more is called
 pub after_taken : (old : List Receipt) (job : JobRecord) (reply : Reply) → ¬ (ComesBack reply) → AfterDelivery old job reply old
 after_taken old job (Looked view) stays = refl
 after_taken old job (Logged current line) stays = refl
@@ -56,7 +56,7 @@ after_taken old job (Taken taken) stays = refl
 after_taken old job (Refused refusal) stays = refl
 after_taken old job (Back refusal back unit) stays = absurd (stays tt)
 
--- after one that came back, the Job is given back
+-- after a delivery that comes back, the Job is given back
 pub after_back : (old : List Receipt) (job : JobRecord) (reply : Reply) (new : List Receipt) → ComesBack reply → Sends old (GiveBack job) new →
     AfterDelivery old job reply new
 after_back old job (Looked view) new back sent = absurd back

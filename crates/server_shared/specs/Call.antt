@@ -1,4 +1,4 @@
--- What a call leaves at its seat.
+-- Calls at a seat, and the receipts that they leave.
 use Rattle.std.specs.Prelude.{◌≡◌, ◌<◌, ℕ, List, [], ◌∷◌, ◌++◌, ◌⊎◌, All, length, slice_get, Option, Some, None, Result, Ok, Err}
 use Rattle.base_files.specs.declared.refusal.Refusal.{Refusal}
 use Rattle.base_files.specs.declared.refusal.Refusal.TheVariants.{Memory, JournalFull}
@@ -15,26 +15,27 @@ use Rattle.history_machine.specs.Kept.{IsTurnedAway}
 use Rattle.server_shared.specs.declared.receipt.Receipt.{Receipt}
 use Rattle.server_shared.specs.Steps.{IsReceiptOf}
 
--- The event was one step of a book, at the index that was answered, and the seat has gained its receipt; or the event was turned away, and
--- the seat has gained none.
+-- The event is one step of a book, at this index of the journal, and the seat gains its receipt. Without an index the event is turned away,
+-- and the seat gains none.
 abbrev pub Calls : List Receipt → Event → Reply → Option ℕ → List Receipt → Type 0
 Calls old event reply (Some index) new =
     (receipt : Receipt) × (receipt.index ≡ index) × IsReceiptOf event reply receipt × (new ≡ old ++ receipt ∷ [])
 Calls old event reply None new = IsTurnedAway event reply × (new ≡ old)
 
--- the event was called, with this reply
+-- the event is called at the seat, and gets this reply
 abbrev pub Replies : List Receipt → Event → Reply → List Receipt → Type 0
 Replies old event reply new = (index : Option ℕ) × Calls old event reply index new
 
--- want of memory, or of room in the journal
+-- the refusal is for want of memory, or of room in the journal
 abbrev pub IsLack : Refusal → Type 0
 IsLack refusal = (refusal ≡ Memory) ⊎ (refusal ≡ JournalFull)
 
--- The seat has gained a receipt of a look, or none, and the look was turned away.
+-- The seat gains the receipt of a look that shows this view. Or the look is turned away, and the seat gains none.
 abbrev pub Looks : List Receipt → Result View Refusal → List Receipt → Type 0
 Looks old (Ok view) new = (index : ℕ) × Calls old Look (Looked view) (Some index) new
 Looks old (Err refusal) new = IsLack refusal × (new ≡ old)
 
+-- the receipt is of a look
 abbrev pub IsLook : Receipt → Type 0
 IsLook receipt = receipt.entry.line.kind ≡ kind.Look
 
@@ -42,16 +43,16 @@ IsLook receipt = receipt.entry.line.kind ≡ kind.Look
 unfoldable pub HasUnit : Table → ℕ → Type 0
 HasUnit table number = (unit : PackageUnit) × (slice_get table number ≡ Some (Some unit))
 
--- each package of the view's files, by its number, is finished
+-- each package of the view's files is finished
 abbrev pub IsBuilt : View → Type 0
 IsBuilt view = (number : ℕ) → number < length (package_paths view.snapshot.files) → HasUnit view.finished number
 
--- The seat has gained receipts of looks. The last shows that every package is built; or a look was turned away.
+-- The seat gains the receipts of looks. The last shows a view in which each package is finished, or a look is turned away.
 abbrev pub LooksUntilBuilt : List Receipt → Result View Refusal → List Receipt → Type 0
 LooksUntilBuilt old (Ok view) new =
     (looks : List Receipt) × All IsLook looks × ((index : ℕ) × Calls (old ++ looks) Look (Looked view) (Some index) new) × IsBuilt view
 LooksUntilBuilt old (Err refusal) new = (looks : List Receipt) × All IsLook looks × (new ≡ old ++ looks) × IsLack refusal
 
--- The seat has gained receipts, each with P.
+-- The seat gains receipts, each with the property P.
 abbrev pub Gains : (Receipt → Type 0) → List Receipt → List Receipt → Type 0
 Gains P old new = (gained : List Receipt) × (new ≡ old ++ gained) × All P gained

@@ -1,4 +1,4 @@
--- The book that a settling hands back.
+-- The book that comes back from settling.
 use Rattle.std.specs.Prelude.{Result, Ok, Err}
 use Rattle.history_machine.specs.Machine.{Machine}
 use Rattle.server_shared.specs.declared.settling.Unsettled.{Unsettled}

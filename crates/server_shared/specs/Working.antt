@@ -1,4 +1,4 @@
--- What a worker does, as it is called at its seat.
+-- The calls of a worker at its seat.
 use Rattle.std.specs.Prelude.{◌≡◌, ◌⊎◌, ℕ, zero, suc, List, ⊤, true, false, Bool}
 use Rattle.base_files.specs.declared.refusal.Refusal.{Refusal}
 use Rattle.build_unit.specs.Builds.{IsBuiltOf}
@@ -13,27 +13,27 @@ use Rattle.history_machine.specs.declared.event.Reply.TheVariants.{Taken, Refuse
 use Rattle.server_shared.specs.declared.receipt.Receipt.{Receipt}
 use Rattle.server_shared.specs.Call.{Replies}
 
--- the event was called
+-- the event is called at the seat, whatever its reply
 abbrev pub Sends : List Receipt → Event → List Receipt → Type 0
 Sends old event new = (reply : Reply) × Replies old event reply new
 
--- the Job came back
+-- the reply brings the Job back
 abbrev pub ComesBack : Reply → Type 0
 ComesBack (Back refusal job unit) = ⊤
 ComesBack reply = ⊥
 
--- after this reply to a delivery the Job is given back, if it came back
+-- after this reply to a delivery the Job is given back if it came back; else nothing more is called
 abbrev pub AfterDelivery : List Receipt → JobRecord → Reply → List Receipt → Type 0
 AfterDelivery old job (Back refusal back unit) new = Sends old (GiveBack job) new
 AfterDelivery old job reply new = new ≡ old
 
--- what was built of the Job is delivered. Where the Job comes back, it is given back
+-- what was built for the Job is delivered; a Job that comes back is given back
 abbrev pub Delivers : List Receipt → JobRecord → List Receipt → Type 0
 Delivers old job new =
     (built : Built) × IsBuiltOf job built
     × ((reply : Reply) × (mid : List Receipt) × Replies old (Deliver job built) reply mid × AfterDelivery mid job reply new)
 
--- The Job is delivered; or nothing was built for want of memory, and it is given back.
+-- The Job is built and delivered, or given back unbuilt.
 abbrev pub HandsIn : List Receipt → JobRecord → List Receipt → Type 0
 HandsIn old job new = Delivers old job new ⊎ Sends old (GiveBack job) new
 
@@ -43,17 +43,18 @@ Works old new =
     ((refusal : Refusal) × Replies old Take (Refused refusal) new)
     ⊎ ((job : JobRecord) × (mid : List Receipt) × Replies old Take (Taken job) mid × HandsIn mid job new)
 
--- So often, one after another, a Take is refused, or a Job is taken and handed in before the next Take.
+-- So many times, one after another, a Take is refused, or a Job is taken and handed in.
 abbrev pub WorksOften : ℕ → List Receipt → List Receipt → Type 0
 WorksOften zero old new = new ≡ old
 WorksOften (suc n) old new = (mid : List Receipt) × WorksOften n old mid × Works mid new
 
--- a worker's events
+-- whether a worker's events are of this kind
 abbrev pub is_work : EntryKind → Bool
 is_work kind.Take = true
 is_work kind.Deliver = true
 is_work kind.GiveBack = true
 is_work other = false
 
+-- the receipt is of a worker's event
 abbrev pub IsWork : Receipt → Type 0
 IsWork receipt = is_work receipt.entry.line.kind ≡ true

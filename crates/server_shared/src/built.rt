@@ -1,11 +1,11 @@
-//! Whether everything is built.
+//! Decides whether every package of a view is finished.
 ghost use Rattle.std.specs.Prelude.{◌↔◌, IsTrue};
 ghost use Rattle.server_shared.specs.Call.{HasUnit, IsBuilt};
 
 use build_carry::Finished;
 use history_machine::View;
 
-/// Whether the package of a number is finished.
+/// Whether the package of this number is finished.
 fn is_finished(table: &Finished, number: usize) -> bool
     ensures { IsTrue result ↔ HasUnit table.now number }
 {

@@ -1,6 +1,6 @@
-//! Where a worker may be held: a test has two meet there, and a server holds none.
+//! Gates: a test can hold a worker at one, so that two workers meet. A server holds none.
 
-/// Is told of a worker's progress, while it holds no lock.
+/// Hears of a worker's progress, while the worker holds no lock.
 pub trait Gate {
     /// The Job with this ticket was taken.
     fn taken(&self, ticket: u64);
@@ -9,7 +9,7 @@ pub trait Gate {
     fn built(&self, ticket: u64);
 }
 
-/// Holds no one.
+/// A gate that holds no worker.
 pub struct OpenGate;
 
 impl Gate for OpenGate {

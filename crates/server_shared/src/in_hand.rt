@@ -1,4 +1,4 @@
-//! A Job between its taking and its handing in. Only here is a Job retired, and only where giving it back failed.
+//! A Job in a worker's hand, from its taking to its handing in. Only here is a Job retired, and only where giving it back failed.
 ghost use Rattle.std.specs.Prelude.{◌≡◌, IfOk, MatchOption, MatchResult};
 ghost use Rattle.base_files.specs.declared.refusal.Refusal.{Refusal as WhyRefused};
 ghost use Rattle.build_unit.specs.Builds.{IsBuiltOf};
@@ -16,13 +16,13 @@ use history_book::{Handed, HandingIn, Taking};
 use std::alloc::{AllocError, Global};
 use std::sync::Wait;
 
-/// A Job that its worker has to hand in, by `deliver` or `give_back`.
+/// A Job that its worker must hand in, by `deliver` or `give_back`.
 #[must_use]
 pub(crate) struct InHand {
     job: Job,
 }
 
-/// Takes a Job, if there is one.
+/// Takes a Job at a seat, if there is one.
 pub(crate) fn take<L: Opening, R: Wait>(
     rt: &R,
     shared: &Shared<L>,
@@ -40,19 +40,21 @@ pub(crate) fn take<L: Opening, R: Wait>(
 }
 
 impl InHand {
+    /// The Job's ticket.
     pub fn ticket(&self) -> u64
         ensures { result ≡ self.now.job.ticket }
     {
         self.job.ticket()
     }
 
+    /// Builds the Job's package.
     pub fn build(&self, alloc: Global) -> Result<Built, AllocError>
         ensures { IfOk result (IsBuiltOf self.now.job) }
     {
         build(alloc, &self.job)
     }
 
-    /// Delivers the Job. It comes back where the book does not take it.
+    /// Delivers what was built for the Job. The Job comes back where the book doesn't take it.
     pub fn deliver<L: Opening, R: Wait>(
         self,
         rt: &R,
@@ -73,7 +75,7 @@ impl InHand {
         }
     }
 
-    /// Gives the Job back. Where the book does not take it, it is retired.
+    /// Gives the Job back. Where the book doesn't take it, it is retired.
     pub fn give_back<L: Opening, R: Wait>(self, rt: &R, shared: &Shared<L>, seat: &mut Seat<L>)
         ensures { Sends seat.old (GiveBack self.job) seat.new }
     {

@@ -1,5 +1,4 @@
-//! A book that threads share: what lies under the lock round it, the seats with receipts which call through, the workers, and the
-//! settling of all.
+//! A book that threads share: its lock, the seats with their receipts, the workers, and the settling.
 #![tactic(auto)]
 
 mod built;

@@ -1,4 +1,4 @@
-//! What lies under the lock.
+//! The state under the lock of a shared book.
 ghost use Rattle.std.specs.Prelude.{◌≡◌, ◌+◌, ◌<◌, ◌≤◌, ◌↔◌, [], length, vec_len, is_some, IfSome, IsOk, if◌then◌else◌};
 ghost use Rattle.workspace_check.specs.Found.{KnowsVerdicts};
 ghost use Rattle.history_machine.specs.Kept.{IsTurnedAway, StepKept};
@@ -24,12 +24,14 @@ use workspace_graph::Graph;
 pub struct Locked<L: Opening> {
     pub book: Book,
     pub count: ledger::Book<L>,
-    /// The parts of the seats that are still to be had.
+    /// The ledger's parts for seats that were not taken.
     pub rest: Share<L>,
+    /// How many seats were not taken.
     pub free: u64,
+    /// The length of the journal when the book was shared.
     pub from: u64,
     pub is_stopped: bool,
-    /// How many events were answered `Done`.
+    /// How many events that may give others something to do were answered `Done` (`is_done`).
     pub done: u64,
     ghost counted: { length book.journal ≡ from + count.total },
     ghost one_each: { rest.parts ≡ free },
@@ -37,7 +39,7 @@ pub struct Locked<L: Opening> {
     ghost from_is: { from ≡ L.from },
 }
 
-/// One step of a book, with a copy of the entry that it added.
+/// Makes one step of a book, and returns a copy of the entry that it adds.
 fn step_book<Q: Question>(book: &mut Book, question: Q) -> (Q::Answer, Option<Entry>)
     ensures step { StepKept book.old (Q.event question) (Q.reply result.0) result.1 book.new }
     ensures kind { MayReply (Q.event question) (Q.reply result.0) }
@@ -45,7 +47,7 @@ fn step_book<Q: Question>(book: &mut Book, question: Q) -> (Q::Answer, Option<En
     book.step_kept(question)
 }
 
-/// What is answered to an event that is turned away, since there is no memory for its receipt.
+/// The answer to an event that is turned away for want of memory for its receipt.
 pub fn turn_away<Q: Question>(question: Q, error: AllocError) -> Q::Answer
     ensures turned { IsTurnedAway (Q.event question) (Q.reply result) }
     ensures kind { MayReply (Q.event question) (Q.reply result) }
@@ -53,7 +55,7 @@ pub fn turn_away<Q: Question>(question: Q, error: AllocError) -> Q::Answer
     question.refuse(Refusal::from(error))
 }
 
-/// Whether an entry is of an event that may give others something to do: it changed the workspace, or handed a Job in.
+/// Whether an entry's event may give others something to do: it was answered `Done`, and changed the workspace or handed a Job in.
 pub fn is_done(line: &Line) -> bool {
     match (line.kind, line.out) {
         (EntryKind::Look | EntryKind::Log | EntryKind::Take, _) => false,
@@ -63,6 +65,7 @@ pub fn is_done(line: &Line) -> bool {
 }
 
 impl<L: Opening> Locked<L> {
+    /// Takes a seat with no receipts, or returns `None` where none is left.
     pub fn seat(&mut self, alloc: Global) -> Option<Seat<L>>
         ensures { IfSome result (λ seat. seat ≡ []) }
     {
@@ -74,7 +77,7 @@ impl<L: Opening> Locked<L> {
         Some(Seat::new(alloc, rest.split_off(1, 0)))
     }
 
-    /// One step of the book, with a receipt of the entry that it added, which counts in the share.
+    /// Makes one step of the book, and returns a receipt of the entry that it adds. The share counts the entry.
     pub fn step<Q: Question>(
         &mut self,
         share: &mut Share<L>,
@@ -106,7 +109,7 @@ impl<L: Opening> Locked<L> {
         }
     }
 
-    /// The same, for callers who cannot name the book.
+    /// Makes one step of the book, for callers whose contracts can't name the book. It returns what `step` returns.
     pub fn call<Q: Question>(
         &mut self,
         share: &mut Share<L>,
@@ -121,7 +124,7 @@ impl<L: Opening> Locked<L> {
         self.step(share, question)
     }
 
-    /// The book takes in what was found in packages of these files. It is no event.
+    /// Has the book keep the findings of the packages of `files`, if these are the current files. It is no event.
     pub fn learn(&mut self, files: &Graph, known: Known)
         requires { KnowsVerdicts files.now known }
         ensures { self.new.book ≡ self.old.book }
@@ -129,11 +132,13 @@ impl<L: Opening> Locked<L> {
         self.book.learn(files, known);
     }
 
+    /// Stops the workers.
     pub fn stop(&mut self) {
         self.is_stopped = true;
     }
 
-    /// Hands the book back. It takes no memory.
+    /// Ends the sharing, and returns the book. It is settled if its new entries are exactly those of the seats' receipts. It takes no
+    /// memory.
     pub fn settle(self, seats: Vec<Seat<L>>) -> Result<Book, Unsettled>
         ensures book { book_in result ≡ self.book }
         ensures legal { IsReplayed self.book }

@@ -1,16 +1,17 @@
-//! Where an entry stands in the journal, and a copy of it.
+//! Receipts: copies of entries of the journal, with their indexes.
 ghost use Rattle.std.specs.Prelude.{◌↔◌, IsTrue, All};
 ghost use Rattle.server_shared.specs.Settled.{Stands};
 
 use history_machine::Entry;
 
-/// The index of an entry in the journal, with a copy of the entry.
+/// The index of an entry in the journal, and a copy of the entry.
 #[derive(Drop)]
 pub struct Receipt {
     pub index: u64,
     pub entry: Entry,
 }
 
+/// Whether the journal has this entry at the receipt's index.
 fn stands(receipt: &Receipt, journal: &[Entry]) -> bool
     ensures { IsTrue result ↔ Stands journal.now receipt.now }
 {
@@ -20,6 +21,7 @@ fn stands(receipt: &Receipt, journal: &[Entry]) -> bool
     }
 }
 
+/// Whether the journal has the entry of each of these receipts, at its index.
 pub(crate) fn all_stand(receipts: &[Receipt], journal: &[Entry]) -> bool
     ensures { IsTrue result ↔ All (Stands journal.now) receipts.now }
 {

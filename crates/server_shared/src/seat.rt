@@ -9,12 +9,12 @@ use std::alloc::{AllocError, Global};
 use std::marker::Model;
 use std::sync::ledger::Share;
 
-/// One thread's right to call, and the receipts of the entries that its calls left. Contracts see it as these.
+/// One thread's right to call a shared book, and the receipts of its calls. Contracts see a seat as its receipts.
 #[derive(Drop)]
 pub struct Seat<L: Opening> {
     pub share: Share<L>,
     pub receipts: Vec<Receipt>,
-    /// How many Jobs were taken at this seat and not handed in. For each there is room for a receipt.
+    /// How many Jobs were taken at this seat and not handed in. The seat has room for a receipt of each.
     pub jobs: u64,
 }
 
@@ -30,6 +30,7 @@ impl<L: Opening> Model for Seat<L> {
 }
 
 impl<L: Opening> Seat<L> {
+    /// A seat with this share and no receipts.
     pub fn new(alloc: Global, share: Share<L>) -> Seat<L>
         requires { (share.parts ≡ 1) × (share.amount ≡ 0) }
         ensures { result ≡ [] }
@@ -41,13 +42,14 @@ impl<L: Opening> Seat<L> {
         }
     }
 
+    /// The receipts, in the order of the calls.
     pub fn receipts(&self) -> &[Receipt]
         ensures { result.now ≡ self.now }
     {
         self.receipts.as_slice()
     }
 
-    /// Its part of the ledger, with what it counted.
+    /// The seat's part of the ledger, which counted its receipts.
     pub fn into_share(self) -> Share<L>
         ensures parts { result.parts ≡ 1 }
         ensures amount { result.amount ≡ length self }
@@ -62,15 +64,15 @@ impl<L: Opening> Seat<L> {
     }
 }
 
-/// A sum of counts, which may be too large to be addressed.
+/// The sum of two counts, or an error where it is over 64 bits.
 fn sum(one: u64, other: u64) -> Result<u64, AllocError>
     ensures { IfOk result (λ all. all ≡ one + other) }
 {
     one.checked_add(other).ok_or(AllocError)
 }
 
-/// For how many receipts there must be room before an event of a kind. Where one of the Jobs is given back, there is such room
-/// already.
+/// For how many receipts a seat with `jobs` Jobs in hand needs room before an event of this kind. For a Job in hand that is given back, the
+/// room is there.
 fn receipts_needed(jobs: u64, kind: EntryKind) -> Result<u64, AllocError>
     ensures needed { IfOk result (λ needed. (needed ≡ receipts_needed kind jobs) × (0 < needed)) }
     ensures given_back { GivesBack kind → IsOk result }
@@ -82,8 +84,8 @@ fn receipts_needed(jobs: u64, kind: EntryKind) -> Result<u64, AllocError>
     }
 }
 
-/// Makes room for the receipt of an event, beside the room kept for the Jobs in hand, and tells for how many receipts there is room
-/// then. Where one of these Jobs is given back, there is room already.
+/// Makes room for the receipt of an event, beside that for the Jobs in hand. Returns for how many receipts there is room. Where a Job in
+/// hand is given back, it can't fail.
 pub fn reserve(receipts: &mut Vec<Receipt>, jobs: u64, kind: EntryKind) -> Result<u64, AllocError>
     requires { vec_len receipts.old + jobs ≤ vec_capacity receipts.old }
     ensures items { receipts.new.items ≡ receipts.old.items }
@@ -97,7 +99,7 @@ pub fn reserve(receipts: &mut Vec<Receipt>, jobs: u64, kind: EntryKind) -> Resul
     Ok(needed)
 }
 
-/// How many Jobs are in hand after the event of an entry, for which there was room for so many receipts.
+/// How many Jobs are in hand after an event with this line, before which there was room for `needed` receipts.
 pub fn jobs_after(jobs: u64, needed: u64, line: &Line) -> u64
     requires { 0 < needed }
     ensures { result < needed }

@@ -1,4 +1,4 @@
-//! What is to hold of the seats' receipts beside a journal, and the parts of their ledger.
+//! Compares the seats' receipts with the journal, and merges the seats' parts of the ledger.
 ghost use Rattle.std.specs.Prelude.{◌≡◌, ◌↔◌, ◌+◌, ◌<◌, ◌≤◌, ◌^◌, IsTrue, All, AllPairs, SomeIff, length, vec_len};
 ghost use Rattle.server_shared.specs.Settled.{Rises, HasIndex, AreApart, Stands, receipt_count};
 
@@ -8,13 +8,14 @@ use crate::seat::Seat;
 use history_machine::Entry;
 use std::sync::ledger::Share;
 
+/// Whether the receipts' indexes rise.
 fn rises(receipts: &[Receipt]) -> bool
     ensures { IsTrue result ↔ Rises receipts.now }
 {
     receipts.is_sorted_by(|r, s| r.index < s.index)
 }
 
-/// A binary search.
+/// Whether one of the receipts has this index. It is a binary search.
 fn has_index(receipts: &[Receipt], index: u64) -> bool
     requires { Rises receipts.now }
     ensures { IsTrue result ↔ HasIndex receipts.now index }
@@ -22,6 +23,7 @@ fn has_index(receipts: &[Receipt], index: u64) -> bool
     receipts.binary_search_by_key(&index, |r| r.index).is_ok()
 }
 
+/// Whether no index is in both lists of receipts.
 fn are_apart(a: &[Receipt], b: &[Receipt]) -> bool
     requires { Rises b.now }
     ensures { IsTrue result ↔ AreApart a.now b.now }
@@ -34,7 +36,7 @@ fn are_apart(a: &[Receipt], b: &[Receipt]) -> bool
     true
 }
 
-/// Whether no index stands both in the seat's receipts and in another's.
+/// Whether no index is in the receipts of the seat and in those of another.
 fn is_apart_from<L: Opening>(seat: &Seat<L>, others: &[Seat<L>]) -> bool
     requires { All Rises others.now }
     ensures { IsTrue result ↔ All (AreApart seat.now) others.now }
@@ -47,7 +49,7 @@ fn is_apart_from<L: Opening>(seat: &Seat<L>, others: &[Seat<L>]) -> bool
     true
 }
 
-/// Whether no index stands in the receipts of two seats.
+/// Whether no index is in the receipts of two seats.
 pub fn seats_apart<L: Opening>(seats: &[Seat<L>]) -> bool
     requires { All Rises seats.now }
     ensures { IsTrue result ↔ AllPairs AreApart seats.now }
@@ -61,20 +63,21 @@ pub fn seats_apart<L: Opening>(seats: &[Seat<L>]) -> bool
     true
 }
 
-/// Whether the receipts of the seats stand in the journal.
+/// Whether the journal has the entry of each receipt of the seats, at its index.
 pub fn seats_stand<L: Opening>(seats: &[Seat<L>], journal: &[Entry]) -> bool
     ensures { IsTrue result ↔ All (All (Stands journal.now)) seats.now }
 {
     seats.iter().all(|seat| all_stand(seat.receipts(), journal))
 }
 
-/// Whether the receipts of each seat rise.
+/// Whether the receipts' indexes rise at each seat.
 pub fn seats_rise<L: Opening>(seats: &[Seat<L>]) -> bool
     ensures { IsTrue result ↔ All Rises seats.now }
 {
     seats.iter().all(|seat| rises(seat.receipts()))
 }
 
+/// How many receipts the seats have, or `None` where that is over 64 bits.
 fn receipts_held<L: Opening>(seats: &[Seat<L>]) -> Option<u64>
     ensures { SomeIff result (receipt_count seats.now < 2 ^ 64) (receipt_count seats.now) }
 {
@@ -85,7 +88,7 @@ fn receipts_held<L: Opening>(seats: &[Seat<L>]) -> Option<u64>
     Some(held)
 }
 
-/// Whether the receipts are as many as the entries that the journal gained.
+/// Whether the seats have as many receipts as the journal gained entries.
 pub fn are_counted<L: Opening>(from: u64, journal: &[Entry], seats: &[Seat<L>]) -> bool
     requires { from ≤ length journal.now }
     ensures { IsTrue result ↔ (length journal.now ≡ from + receipt_count seats.now) }
@@ -93,7 +96,7 @@ pub fn are_counted<L: Opening>(from: u64, journal: &[Entry], seats: &[Seat<L>]) 
     receipts_held(seats) == Some(journal.len() as u64 - from)
 }
 
-/// The seats' parts of the ledger and those that are left, in one share.
+/// The seats' parts of the ledger and those that were not taken, in one share.
 pub fn merged<L: Opening>(rest: Share<L>, seats: Vec<Seat<L>>) -> Share<L>
     ensures parts { result.parts ≡ rest.parts + vec_len seats }
     ensures amount { result.amount ≡ rest.amount + receipt_count seats.items }

@@ -1,4 +1,4 @@
-//! Whether the seats' receipts are the entries that a journal gained.
+//! Decides whether a book is settled.
 ghost use Rattle.std.specs.Prelude.{◌↔◌, ◌≤◌, IsTrue, length};
 ghost use Rattle.server_shared.specs.Settled.{IsSettled};
 
@@ -8,12 +8,12 @@ use crate::settle::{are_counted, seats_apart, seats_rise, seats_stand};
 use history_book::Book;
 use history_machine::Entry;
 
-/// What was handed in is not what the journal gained. The book is handed back.
+/// The journal's new entries are not exactly those of the seats' receipts. The book comes back.
 pub struct Unsettled {
     pub book: Book,
 }
 
-/// Whether the seats' receipts are the entries that the journal gained. It takes no memory, and compares texts last.
+/// Whether the journal's new entries are exactly those of the seats' receipts. It takes no memory, and compares texts last.
 pub(crate) fn is_settled<L: Opening>(from: u64, journal: &[Entry], seats: &[Seat<L>]) -> bool
     requires { from ≤ length journal.now }
     ensures { IsTrue result ↔ IsSettled from journal.now seats.now }

@@ -22,6 +22,7 @@ use std::sync::{Condvar, Mutex, Wait};
 use workspace_check::Known;
 use workspace_graph::Graph;
 
+/// A book that threads share, under a lock. `settle` ends it.
 #[must_use]
 pub struct Shared<L: Opening> {
     locked: Mutex<Locked<L>>,
@@ -32,6 +33,7 @@ pub struct Shared<L: Opening> {
 }
 
 impl<L: Opening> Shared<L> {
+    /// Shares a book, with `seats` seats.
     pub fn new(alloc: Global, blank: Blank, book: Book, seats: u64) -> Shared<L>
         requires name { blank.name ≡ L.name }
         requires parts { blank.parts ≡ L.parts }
@@ -57,14 +59,14 @@ impl<L: Opening> Shared<L> {
         }
     }
 
-    /// A seat that is still to be had.
+    /// Takes a seat with no receipts, or returns `None` where none is left.
     pub fn seat(&mut self) -> Option<Seat<L>>
         ensures { IfSome result (λ seat. seat ≡ []) }
     {
         self.locked.get_mut().seat(self.alloc)
     }
 
-    /// One event of the book, at a seat. With an answer that the journal keeps comes the index of its entry.
+    /// Makes one event of the book at a seat. Returns the answer, and the index of the event's entry, if the journal gains one.
     pub fn call<R: Wait, Q: Question>(
         &self,
         rt: &R,
@@ -88,7 +90,7 @@ impl<L: Opening> Shared<L> {
         (answer, Some(index))
     }
 
-    /// One event under the lock. Who waits is told where it was done.
+    /// Makes one event under the lock, and wakes all waiting threads if it may give them something to do.
     fn step<R: Wait, Q: Question>(
         &self,
         rt: &R,
@@ -108,14 +110,14 @@ impl<L: Opening> Shared<L> {
         (answer, kept)
     }
 
-    /// Wakes who waits, where the event of an entry was done.
+    /// Wakes all waiting threads, if the event of an entry may give them something to do.
     fn wake(&self, line: &Line) {
         if is_done(line) {
             self.changed.notify_all();
         }
     }
 
-    /// The same, for callers who need no index.
+    /// Makes one event of the book at a seat, and returns the answer.
     pub fn send<R: Wait, Q: Question>(&self, rt: &R, seat: &mut Seat<L>, question: Q) -> Q::Answer
         ensures replies { Replies seat.old (Q.event question) (Q.reply result) seat.new }
         ensures kind { MayReply (Q.event question) (Q.reply result) }
@@ -124,14 +126,16 @@ impl<L: Opening> Shared<L> {
         answer
     }
 
-    /// Has the book take in what was found in packages of these files. It is no event, and no seat gains a receipt.
+    /// Has the book keep the findings of the packages of `files`, if these are the current files. It is no event, and no seat gains a
+    /// receipt.
     pub fn learn<R: Wait>(&self, rt: &R, files: &Graph, known: Known)
         requires { KnowsVerdicts files.now known }
     {
         self.locked.lock(rt).learn(files, known);
     }
 
-    /// Hands the book back. It takes no memory.
+    /// Ends the sharing, and returns the book. It is settled if its new entries are exactly those of the seats' receipts. It takes no
+    /// memory.
     pub fn settle(self, seats: Vec<Seat<L>>) -> Result<Book, Unsettled>
         ensures exact { IsOk result ↔ IsSettled self.from (book_in result).journal seats.items }
         ensures legal { IsReplayed (book_in result) }
@@ -148,7 +152,7 @@ impl<L: Opening> Shared<L> {
         locked.into_inner().settle(seats)
     }
 
-    /// How many events were answered `Done`, unless the book was stopped.
+    /// How many events that may give others something to do were answered `Done`, or `None` after the book was stopped.
     pub fn done_so_far<R: Wait>(&self, rt: &R) -> Option<u64> {
         let locked = self.locked.lock(rt);
         if locked.is_stopped {
@@ -158,7 +162,7 @@ impl<L: Opening> Shared<L> {
         }
     }
 
-    /// Waits until more events were answered `Done` than were seen, or the book was stopped.
+    /// Waits until more such events were answered `Done` than `seen`, or the book is stopped.
     pub fn wait_past<R: Wait>(&self, rt: &R, seen: u64) {
         let locked = self.changed.wait_while(rt, self.locked.lock(rt), |locked| {
             locked.done == seen && !locked.is_stopped
@@ -166,13 +170,14 @@ impl<L: Opening> Shared<L> {
         drop(locked);
     }
 
-    /// Lets the workers end.
+    /// Stops the workers.
     pub fn stop<R: Wait>(&self, rt: &R) {
         self.locked.lock(rt).stop();
         self.changed.notify_all();
     }
 
-    /// Looks, and waits after each look, until one shows that every package is built.
+    /// Looks at the current state, again and again, until a view shows that every package is finished. Between two looks it waits for an
+    /// event that is answered `Done`.
     pub fn wait_built<R: Wait>(&self, rt: &R, seat: &mut Seat<L>) -> Result<View, Refusal>
         ensures { LooksUntilBuilt seat.old result seat.new }
     {
@@ -187,12 +192,14 @@ impl<L: Opening> Shared<L> {
         unreachable!()
     }
 
+    /// Looks at the current state.
     pub(crate) fn look<R: Wait>(&self, rt: &R, seat: &mut Seat<L>) -> Result<View, Refusal>
         ensures { Looks seat.old result seat.new }
     {
         self.send(rt, seat, Looking)
     }
 
+    /// How many events that may give others something to do were answered `Done`, stopped or not.
     fn done_by_now<R: Wait>(&self, rt: &R) -> u64 {
         self.locked.lock(rt).done
     }

@@ -1,4 +1,4 @@
-//! What builds the packages.
+//! The workers, which build packages.
 ghost use Rattle.std.specs.Prelude.{ℕ};
 ghost use Rattle.server_shared.specs.Call.{Gains};
 ghost use Rattle.build_unit.specs.Builds.{IsBuiltOf};
@@ -35,7 +35,7 @@ pub fn worker<L: Opening, R: Wait, G: Gate>(
     }
 }
 
-/// Builds a Job with no lock held, and delivers it, or else gives it back.
+/// Builds a Job with no lock held, and delivers it. For want of memory the Job is given back.
 fn hand_in<L: Opening, R: Wait, G: Gate>(
     rt: &R,
     alloc: Global,
@@ -56,7 +56,7 @@ fn hand_in<L: Opening, R: Wait, G: Gate>(
     }
 }
 
-/// Delivers what was built of a Job. Where the Job comes back, it is given back.
+/// Delivers what was built for a Job. A Job that the book doesn't take is given back.
 fn deliver<L: Opening, R: Wait>(
     rt: &R,
     shared: &Shared<L>,

@@ -20,7 +20,7 @@ five_sent ν A B C D E a b c d e = declared_send (type_at ν (A ∷ B ∷ C ∷ 
   ),
 )
 
--- how they lie: an allocator behind one reference and before three
+-- the layout of the captures: an allocator after one reference and before three
 abbrev pub captured : Ty
 captured = ty_struct [] (tcons ty_ptr (tcons (ty_struct [] (tcons (ty_struct [] (tcons ty_unit tnil)) tnil))
     (tcons ty_ptr (tcons ty_ptr (tcons ty_ptr tnil)))))

@@ -1,5 +1,5 @@
--- What is done at a desk, as it is seen in what the desk holds. A desk D shows an E, and has a name that no step changes; where each step and
--- each wait is one of E, so is what a session does.
+-- A session at a desk, seen as a session of what the desk shows. The desk D shows an E, and has a name that no step changes. Where each
+-- step and each wait is one of E, so is the whole session.
 use Rattle.std.proofs.Common.{◌≡◌, ℕ, List, [], ◌∷◌, ◌++◌, Option, Some, None, Result, Ok, Err, inl, inr, ap, ◌∙◌, sym, subst}
 use Rattle.base_files.specs.declared.refusal.Refusal.{Refusal}
 use Rattle.base_files.specs.declared.limits.Limits.{Limits}

@@ -1,4 +1,4 @@
--- What a server tells, by what settling tells.
+-- The outcome of a server, from that of settling.
 use Rattle.std.proofs.Common.{◌≡◌, ◌↔◌, ◌+◌, ◌≤◌, ℕ, List, length, Result, Ok, Err, IfOk, IfErr, IsOk, IsErr, subst, sym, zero-add}
 use Rattle.history_machine.specs.Machine.{Machine}
 use Rattle.server_shared.specs.declared.receipt.Receipt.{Receipt}
@@ -32,7 +32,7 @@ handed_back parts from seats book none legal bound whole = record {
       (subst (λ (n : ℕ). length book.journal ≡ n + receipt_count seats) none (whole all));
 }
 
--- the length of the journal of a book that is handed back
+-- the length of the journal of the book that comes back
 pub settles : (parts from : ℕ) (seats : List (List Receipt)) (settled : Result Machine Leftover) (told : Result ℕ ServeFault) → from ≡ 0
     → IfOk told (λ entries. IsOk settled × (entries ≡ length (book_in settled).journal))
     → IfErr told (λ fault. IsErr settled × (fault ≡ Unsettled))

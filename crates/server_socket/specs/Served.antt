@@ -1,4 +1,4 @@
--- What a server tells at its end.
+-- What a server returns at its end.
 use Rattle.std.specs.Prelude.{◌≡◌, ◌≤◌, ℕ, List, length, Result, Ok, Err, ⊤}
 use Rattle.history_machine.specs.Machine.{Machine}
 use Rattle.server_shared.specs.declared.receipt.Receipt.{Receipt}
@@ -7,8 +7,8 @@ use Rattle.server_shared.specs.Settled.{IsSettled, receipt_count}
 use Rattle.server_socket.specs.declared.fault.ServeFault.{ServeFault}
 use Rattle.server_socket.specs.declared.fault.ServeFault.TheVariants.{Memory, Socket, Unsettled}
 
--- A book was shared by so many seats from its first entry on, and is handed back with these: its content is the replay of its journal, which
--- has an entry for each of their receipts, and no other where they are all the seats.
+-- The book that was shared by so many seats comes back with these receipts. Its content is the replay of its journal. The journal has an
+-- entry for each receipt, and no other where the receipts are those of all seats.
 pub record IsHandedBack (parts : ℕ) (seats : List (List Receipt)) (book : Machine) : Type 0 where
   pub legal : IsReplayed book
   pub bound : receipt_count seats ≤ length book.journal
@@ -21,7 +21,8 @@ Settles parts seats (Err Unsettled) = (book : Machine) × IsHandedBack parts sea
 Settles parts seats (Err Memory) = ⊥
 Settles parts seats (Err Socket) = ⊥
 
--- The book was settled so with all its seats, of which there are so many; or it did not come to that.
+-- The book was settled with all its seats, of which there are so many, and this is its outcome. A fault of memory or of the socket says
+-- nothing.
 abbrev pub Serves : ℕ → Result ℕ ServeFault → Type 0
 Serves parts (Ok entries) = (seats : List (List Receipt)) × (length seats ≡ parts) × Settles parts seats (Ok entries)
 Serves parts (Err Unsettled) = (seats : List (List Receipt)) × (length seats ≡ parts) × Settles parts seats (Err Unsettled)

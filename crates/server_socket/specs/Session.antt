@@ -1,4 +1,4 @@
--- What a session at a seat does.
+-- Sessions at a seat.
 use Rattle.std.specs.Prelude.{ℕ, List, Option, Result}
 use Rattle.base_files.specs.declared.limits.Limits.{Limits}
 use Rattle.server_shared.specs.declared.receipt.Receipt.{Receipt}
@@ -7,7 +7,7 @@ use Rattle.server_socket.specs.Wait.{WaitsUntilBuilt}
 use Rattle.server_session.specs.declared.exchange.SessionFault.{SessionFault}
 use Rattle.server_session.specs.Alone.{Converses}
 
--- The session ended so: what was read is answered by calls at the seat alone, in their order, and by waits there. `before` is what the
--- reader had left at first, `held` and `holds` what the writer held; `old` and `new` are the receipts of the seat.
+-- The session ended with this result: its messages are answered by calls and waits at the seat alone, in their order. `before` is what the
+-- reader had left at first, `held` and `holds` what the writer held before and after; `old` and `new` are the seat's receipts.
 abbrev pub ConversesAtSeat : Limits → (before held holds : Option (List ℕ)) → (old new : List Receipt) → Result (Unit {0}) SessionFault → Type 0
 ConversesAtSeat limits before held holds old new result = Converses CallsAtSeat WaitsUntilBuilt limits before held holds old new result

@@ -1,10 +1,10 @@
--- What an event at a seat does.
+-- Events at a seat.
 use Rattle.std.specs.Prelude.{ℕ, List, Option}
 use Rattle.history_machine.specs.declared.event.Event.{Event}
 use Rattle.history_machine.specs.declared.event.Reply.{Reply}
 use Rattle.server_shared.specs.declared.receipt.Receipt.{Receipt}
 use Rattle.server_shared.specs.Call.{Calls}
 
--- The event was one call at the seat, whichever index it was answered with, if with one.
+-- the event is one call at the seat, whichever index it got, if it got one
 abbrev pub CallsAtSeat : List Receipt → Event → Reply → List Receipt → Type 0
 CallsAtSeat old event reply new = (index : Option ℕ) × Calls old event reply index new

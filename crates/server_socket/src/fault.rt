@@ -1,18 +1,19 @@
-//! Why serving ended otherwise than it was asked to.
+//! Why a server failed.
 ghost use Rattle.std.specs.Prelude.{◌≡◌};
 
 use std::alloc::AllocError;
 use thiserror::Error;
 
+/// Why a server failed. Each message goes to standard error.
 #[derive(Debug, Drop, Error)]
 pub enum ServeFault {
-    /// There was no memory to begin, or a thread could not be made.
+    /// Memory was wanting at the start, or a thread could not be made.
     #[error("memory fault")]
     Memory,
     /// The socket could not be made, or a connection could not be accepted.
     #[error("socket fault")]
     Socket,
-    /// What the sessions and the workers did is not what the journal gained.
+    /// The journal's entries are not exactly those of the receipts of all seats.
     #[error("unsettled")]
     Unsettled,
 }

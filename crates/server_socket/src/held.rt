@@ -1,4 +1,4 @@
-//! A desk at a seat.
+//! A desk at a seat of a shared book.
 use base_files::Refusal;
 use build_unit::{Built, Job};
 use history_book::{Changing, Handed, HandingIn, Looking, Question, Taking};
@@ -10,7 +10,7 @@ use workspace_check::Known;
 use workspace_graph::Graph;
 use workspace_snapshot::MadeChange;
 
-/// A seat at a shared book. It lends the seat, which has the receipts of the events.
+/// A desk at a seat of a shared book. It borrows the seat, which keeps the receipts of the events.
 #[derive(Drop)]
 pub struct Held<'a, L: Opening, R: Wait> {
     pub rt: &'a R,
@@ -23,12 +23,12 @@ impl<'a, L: Opening, R: Wait> Desk for Held<'a, L, R> {
     ghost use Rattle.server_socket.specs.Step.{CallsAtSeat};
     ghost use Rattle.server_socket.specs.Wait.{WaitsUntilBuilt};
 
-    // It goes on lending the same seat.
+    // The desk keeps its seat.
     ghost steps = { λ old event reply new. (new.seat.ghost_name ≡ old.seat.ghost_name) × CallsAtSeat old.seat.now event reply new.seat.now };
 
     ghost waits = { λ old outcome new. (new.seat.ghost_name ≡ old.seat.ghost_name) × WaitsUntilBuilt old.seat.now outcome new.seat.now };
 
-    // Others change the book too, so nothing is known of what is current.
+    // Other seats change the book too, so nothing is known of the current files.
     ghost sees = { λ _ _. ⊤ };
 
     ghost brings = { λ _ _. ⊤ };
@@ -41,7 +41,7 @@ impl<'a, L: Opening, R: Wait> Desk for Held<'a, L, R> {
         self.step(Looking)
     }
 
-    /// Under the lock its base is compared with the current files.
+    /// Its base is compared with the current files under the lock.
     fn commit(&mut self, basis: u64, change: MadeChange) -> Result<u64, Refusal> {
         self.step(Changing::Commit(basis, change))
     }
@@ -50,7 +50,7 @@ impl<'a, L: Opening, R: Wait> Desk for Held<'a, L, R> {
         self.step(Taking)
     }
 
-    /// Under the lock the inputs of the Job, and of what was built, are compared with the current files.
+    /// The inputs of the Job, and those of what was built, are compared with the current files under the lock.
     fn deliver(&mut self, job: Job, built: Built) -> Handed {
         self.step(HandingIn::Deliver(job, built))
     }
@@ -62,7 +62,7 @@ impl<'a, L: Opening, R: Wait> Desk for Held<'a, L, R> {
         }
     }
 
-    /// The seat gains no receipt.
+    /// It is no event, so the seat gains no receipt.
     fn learn(&mut self, files: &Graph, known: Known) {
         self.shared.learn(self.rt, files, known);
     }

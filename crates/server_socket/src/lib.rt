@@ -1,5 +1,4 @@
-//! The server on a Unix socket: threads that serve sessions, each at a seat as at a desk, and threads that build packages, over one
-//! shared book.
+//! The server on a Unix socket, over one shared book: threads that serve sessions, each at a seat, and threads that build packages.
 #![tactic(auto)]
 
 mod fault;

@@ -1,4 +1,4 @@
-//! The server, from its socket to its end.
+//! Runs the server, from making its socket to settling its book.
 ghost use Rattle.std.specs.Prelude.{◌≡◌, ◌≢◌, ◌+◌, IfErr, IfOk, IsErr, IsOk, OnOk, length};
 ghost use Rattle.server_shared.specs.Outcome.{book_in};
 ghost use Rattle.server_socket.specs.Served.{Serves, Settles};
@@ -19,14 +19,14 @@ use std::sync::Wait;
 use std::sync::ledger::Blank;
 use std::thread::Threads;
 
-/// How many threads serve sessions or build packages, each at a seat of its own.
+/// How many threads serve sessions or build packages. Each has a seat of its own.
 fn threads_of(words: &ServeWords<'_>) -> u64
     ensures { result ≡ words.now.workers + words.now.sessions }
 {
     u64::from(words.workers) + u64::from(words.sessions)
 }
 
-/// So many seats, as far as they are to be had.
+/// Takes `count` seats of the shared book, or as many as are left.
 fn seats_of<L: Opening>(
     alloc: Global,
     shared: &mut Shared<L>,
@@ -41,7 +41,7 @@ fn seats_of<L: Opening>(
     Ok(seats)
 }
 
-/// The length of the journal of a book that was settled. The book is closed.
+/// Closes a book after settling, and returns the length of its journal if it was settled.
 fn length_of(settled: Result<Book, Unsettled>) -> Result<u64, ServeFault>
     ensures ok { IfOk result (λ entries. IsOk settled × (entries ≡ length (book_in settled).journal)) }
     ensures err { IfErr result (λ fault. IsErr settled × (fault ≡ ServeFault.Unsettled)) }
@@ -59,7 +59,7 @@ fn length_of(settled: Result<Book, Unsettled>) -> Result<u64, ServeFault>
     }
 }
 
-/// Settles, and tells the length of the journal.
+/// Settles the shared book with these seats, and returns the length of its journal.
 fn settle<L: Opening>(shared: Shared<L>, seats: Vec<Seat<L>>) -> Result<u64, ServeFault>
     requires { shared.from ≡ 0 }
     ensures { Settles L.parts seats.items result }
@@ -92,7 +92,7 @@ fn serve_by<L: Opening + Send + Sync, R: Threads + Wait + Sync, G: Gate + Sync>(
     Ok(())
 }
 
-/// Serves over a book with this ledger.
+/// Serves sessions over a new book with this ledger.
 fn serve_in<L: Opening + Send + Sync, R: Threads + Wait + Sync, G: Gate + Sync>(
     rt: &R,
     alloc: Global,
@@ -124,8 +124,8 @@ fn serve_in<L: Opening + Send + Sync, R: Threads + Wait + Sync, G: Gate + Sync>(
     length
 }
 
-/// Serves sessions on a socket, until as many connections as the words say have ended, and tells the length of the journal then. The
-/// gate is told of each worker's progress.
+/// Serves sessions on a socket, and returns the length of the journal at the end. It ends once `stop_after` connections have ended; without
+/// that number it doesn't end. The gate hears of each worker's progress.
 pub fn serve<R: Threads + Wait + Net + Files + AllocGlobal + Sync, G: Gate + Sync>(
     rt: &R,
     words: &ServeWords<'_>,

@@ -9,14 +9,14 @@ use std::alloc::Global;
 use std::io::{Read, Write};
 use std::sync::Wait;
 
-/// What a session is read from, and what its replies are written to.
+/// The reader and the writer of a session.
 #[derive(Drop)]
 pub struct Connection<I, O> {
     pub input: I,
     pub output: O,
 }
 
-/// Serves one session at a seat, from any reader to any writer. It answers how the session ended, and the writer.
+/// Serves one session at a seat, from any reader to any writer. Returns how the session ended, and the writer.
 pub fn session_at_seat<L: Opening, W: Wait, I: Read + Drop, O: Write>(
     rt: &W,
     alloc: Global,

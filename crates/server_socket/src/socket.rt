@@ -1,5 +1,5 @@
-//! The socket. Only its owner can connect, from its first moment on, and nothing that stands at its path is replaced: it is made in a
-//! folder that only its owner can enter, and linked to its path from there.
+//! Makes the socket. Only its owner can connect, from its first moment on, and nothing at its path is replaced. It is made in a folder that
+//! only its owner can enter, and linked to its path from there.
 ghost use Rattle.std.specs.Prelude.{◌≢◌, IfErr};
 
 use crate::fault::ServeFault;
@@ -15,13 +15,13 @@ const OWNER_ENTERS: u32 = 0o700;
 
 const OWNER_CONNECTS: u32 = 0o600;
 
-/// Lets only its owner connect to the socket at `made`, and links it to its path, where nothing may stand.
+/// Lets only its owner connect to the socket at `made`, and links it to `path`. It fails where something exists at `path`.
 fn link<R: Files>(rt: &R, made: &str, path: &str) -> io::Result<()> {
     fs::set_permissions(rt, made, Permissions::from_mode(OWNER_CONNECTS))?;
     fs::hard_link(rt, made, path)
 }
 
-/// Makes a socket at `made`, which is not to stay, and links it to its path.
+/// Makes a socket at `made`, links it to `path`, and removes `made`.
 fn listen_at<R: Files + Net>(rt: &R, made: &str, path: &str) -> io::Result<UnixListener> {
     let listener = UnixListener::bind(rt, made)?;
     let linked = link(rt, made, path);
@@ -30,7 +30,7 @@ fn listen_at<R: Files + Net>(rt: &R, made: &str, path: &str) -> io::Result<UnixL
     Ok(listener)
 }
 
-/// Makes a socket in a folder of its own, and links it to its path.
+/// Makes a socket in `folder`, and links it to `path`.
 fn listen_in<R: Files + Net>(
     rt: &R,
     alloc: Global,
@@ -53,7 +53,7 @@ fn make_folder<R: Files>(rt: &R, folder: &str) -> io::Result<()> {
     builder.create(rt, folder)
 }
 
-/// Makes the socket.
+/// Makes the socket at `path`, by way of the folder `path.new`, which is removed.
 pub(crate) fn listen<R: Files + Net>(
     rt: &R,
     alloc: Global,

@@ -11,9 +11,11 @@ use std::sync::Wait;
 use std::thread::{Builder, Threads};
 use std::{io, thread};
 
-/// The stack of each thread, whatever limit the server was started with: four times what a file takes at the limit of nesting.
+/// The stack of each thread, in bytes, whatever limit the server was started with. It is four times what a file at the limit of nesting
+/// takes.
 const STACK_BYTES: usize = 8_388_608;
 
+/// Makes threads with a stack of `STACK_BYTES`.
 fn sized() -> Builder {
     Builder::new().stack_size(STACK_BYTES)
 }
@@ -33,7 +35,7 @@ fn talk<L: Opening, R: Wait>(
     Ok(ended)
 }
 
-/// Serves one connection after another, until none is accepted any more.
+/// Serves one connection after another, until no more are accepted.
 fn take_turns<L: Opening, R: Wait>(
     rt: &R,
     alloc: Global,
@@ -52,8 +54,8 @@ fn take_turns<L: Opening, R: Wait>(
     }
 }
 
-/// Serves sessions in a thread for each seat, until none is accepted any more. None is accepted before all threads are made. It is false
-/// where a thread could not be made.
+/// Serves sessions in one thread for each seat, until no more are accepted. No thread accepts before all are made. Returns false where a
+/// thread could not be made.
 fn serve_sessions<L: Opening + Send + Sync, R: Threads + Wait + Sync>(
     rt: &R,
     alloc: Global,
@@ -81,14 +83,15 @@ fn serve_sessions<L: Opening + Send + Sync, R: Threads + Wait + Sync>(
     })
 }
 
-/// What the threads of a server keep to: whom each worker's progress is told, and whose turn it is to accept a connection.
+/// What the threads of a server share beside the book: the gate that hears of each worker's progress, and the turns at accepting
+/// connections.
 pub(crate) struct Running<'a, G> {
     pub(crate) gate: &'a G,
     pub(crate) turns: Turns,
 }
 
-/// Builds packages in as many threads as there are workers, and serves sessions in the others, until none is accepted any more. It is
-/// false where a thread could not be made.
+/// Builds packages in `workers` threads, and serves sessions in the others, until no more are accepted. Returns false where a thread could
+/// not be made.
 pub(crate) fn run<L: Opening + Send + Sync, R: Threads + Wait + Sync, G: Gate + Sync>(
     rt: &R,
     alloc: Global,

@@ -1,19 +1,19 @@
-//! Who accepts the next connection, and when none is accepted any more.
+//! The turns at accepting connections, and when they end.
 use std::os::unix::net::{UnixListener, UnixStream};
 use std::sync::{Mutex, Wait};
 
-/// What the one whose turn it is accepts from.
+/// The listener, and how many connections it is still to accept. The thread whose turn it is has it alone.
 #[derive(Drop)]
 pub(crate) struct Accepting {
     listener: UnixListener,
-    /// How many connections are still to be accepted, if not all.
+    /// How many connections are still to be accepted, or `None` where there is no limit.
     left: Option<u32>,
     is_over: bool,
     has_failed: bool,
 }
 
 impl Accepting {
-    /// The next connection, if there is to be one. The last was accepted once it fails.
+    /// Waits for the next connection, and accepts it. Returns `None` where none is to be accepted any more. After a failure none is.
     fn next(&mut self) -> Option<UnixStream> {
         if self.is_over || self.left == Some(0) {
             return None;
@@ -31,19 +31,20 @@ impl Accepting {
         }
     }
 
-    /// Accepts no more.
+    /// Ends accepting.
     pub(crate) fn end(&mut self) {
         self.is_over = true;
     }
 }
 
-/// Gives turns at accepting.
+/// The turns at accepting connections.
 #[derive(Drop)]
 pub(crate) struct Turns {
     pub(crate) turn: Mutex<Accepting>,
 }
 
 impl Turns {
+    /// Turns at a listener that accept `left` connections, or any number of them.
     pub(crate) fn new(listener: UnixListener, left: Option<u32>) -> Turns {
         Turns {
             turn: Mutex::new(Accepting {
@@ -55,7 +56,7 @@ impl Turns {
         }
     }
 
-    /// The next connection, if there is to be one, when it is this one's turn.
+    /// Waits for its turn and accepts the next connection. Returns `None` where none is to be accepted any more.
     pub(crate) fn next<R: Wait>(&self, rt: &R) -> Option<UnixStream> {
         self.turn.lock(rt).next()
     }

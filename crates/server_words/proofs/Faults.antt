@@ -1,4 +1,4 @@
--- What is told of the faults of a command line.
+-- The faults of a command line, as errors of the parser.
 use Rattle.std.proofs.Common.{◌≡◌, ◌∙◌, List, Err, sym, subst, inl, inr}
 use Rattle.clap.specs.Words.{HasKind, IsAmong, Text, fault_of, kind_of}
 use Rattle.clap.specs.declared.error.Error.{Error}

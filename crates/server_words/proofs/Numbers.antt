@@ -1,4 +1,4 @@
--- What a typed getter tells of a number.
+-- The result of a typed getter of the parser for an option with a number.
 use Rattle.std.proofs.Common.{◌≡◌, ◌∙◌, ◌<◌, ◌≤◌, ◌^◌, ℕ, List, Option, None, Some, Result, Ok, Err, sym, refl, codes, arith}
 use Rattle.std.specs.Str.Parse.{ParsesUnsigned}
 use Rattle.clap.specs.Matches.{ReadsOne}
@@ -29,7 +29,7 @@ module _ {E : Type 0} (G : List ℕ → Result ℕ E → Type 0) (only : (u : Li
       let is = h.3 in
       only h.0 (Err failed.0) failed.1 (h.2, omega arith)
 
--- where the option is there, and no number from 1 to the most, it tells no end
+-- where `stop-after` was given no number from 1 to 1000000, it gives no number of connections
 pub no_stop : (rows : List Row) (s : Text) → Some s ≡ first_of (codes "stop-after") rows → ((n : ℕ) → IsNumberOf (codes "stop-after") 1000000 rows n → ⊥)
     → (stop : Option ℕ) → IsStopOf rows stop → ⊥
 no_stop rows s at none None h = let bad : Some s ≡ None = at ∙ h in absurd cc

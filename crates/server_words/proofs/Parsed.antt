@@ -1,4 +1,4 @@
--- What the parser of command lines tells of a simple command line, as that of the program is one.
+-- The result of the parser for a simple command line, as the program's is.
 use Rattle.std.proofs.Common.{◌≡◌, List, Result, Ok, Err, IfOk, true, refl, subst}
 use Rattle.clap.specs.Words.{App, FailsBy, HasMatchesOf, Text, app_of, fault_of, is_simple, is_simple_and_free, subcommand_of, subcommand_rows_of}
 use Rattle.clap.specs.declared.builder.command.Command.{Command}

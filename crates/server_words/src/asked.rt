@@ -1,12 +1,12 @@
-//! What words ask.
+//! The request that the matches of a command line make.
 ghost use Rattle.std.specs.Prelude.{◌≡◌, Some, codes, option_map};
 ghost use Rattle.clap.specs.Words.{found_of, rows_of, subcommand_rows_of};
 ghost use Rattle.server_words.specs.Asked.{TellsAsked, TellsNumber, TellsServe, TellsStop};
 
 use clap::ArgMatches;
 
-/// How to serve: where the socket is made, how many threads build packages and how many serve connections, and after how many
-/// connections to end.
+/// The options of `serve`: the path of the socket, and how many threads build packages and how many serve connections. `stop_after` is the
+/// number of connections after which to end, if there is one.
 #[derive(Clone, Copy)]
 pub struct ServeWords<'a> {
     pub socket: &'a str,
@@ -15,16 +15,16 @@ pub struct ServeWords<'a> {
     pub stop_after: Option<u32>,
 }
 
-/// What the words of a command line ask.
+/// The request of a command line.
 #[derive(Clone, Copy)]
 pub enum Words<'a> {
-    /// One session from standard input to standard output.
+    /// Serve one session from standard input to standard output.
     Run,
-    /// Sessions on a socket.
+    /// Serve sessions on a socket.
     Serve(ServeWords<'a>),
 }
 
-/// The number that an option was given, from 1 to most.
+/// The number that an option was given, or `None` where it was given none from 1 to `most`.
 fn number(matches: &ArgMatches<'_>, option: &str, most: u32) -> Option<u32>
     ensures { TellsNumber option.now most (rows_of (found_of matches.now)) result }
 {
@@ -36,7 +36,8 @@ fn number(matches: &ArgMatches<'_>, option: &str, most: u32) -> Option<u32>
     }
 }
 
-/// After how many connections to end, or `None` where this is no such number.
+/// The number of connections after which to end, or `Some(None)` without the option `stop-after`. It is `None` where the option was given
+/// no number from 1 to 1000000.
 fn stop_after(matches: &ArgMatches<'_>) -> Option<Option<u32>>
     ensures { TellsStop (rows_of (found_of matches.now)) result }
 {
@@ -46,7 +47,7 @@ fn stop_after(matches: &ArgMatches<'_>) -> Option<Option<u32>>
     }
 }
 
-/// How to serve, by the options that were given.
+/// The options of `serve`, or `None` where one is missing or out of its range.
 fn serve_words<'a>(matches: &ArgMatches<'a>) -> Option<ServeWords<'a>>
     ensures { TellsServe (rows_of (found_of matches.now)) result }
 {
@@ -62,14 +63,14 @@ fn serve_words<'a>(matches: &ArgMatches<'a>) -> Option<ServeWords<'a>>
     })
 }
 
-/// The subcommand that was named, with its matches.
+/// The name of the subcommand, with its matches.
 fn named<'a, 'b>(matches: &'b ArgMatches<'a>) -> Option<(&'a str, &'b ArgMatches<'a>)>
     ensures { option_map (λ p. (p.0.now, rows_of (found_of p.1.now))) result ≡ subcommand_rows_of matches.now }
 {
     matches.subcommand()
 }
 
-/// What the options of `serve` ask.
+/// The request of the subcommand `serve` with these matches.
 fn serve_asked<'a>(matches: &ArgMatches<'a>) -> Option<Words<'a>>
     ensures { TellsAsked (Some (codes "serve", rows_of (found_of matches.now))) result }
 {
@@ -79,7 +80,7 @@ fn serve_asked<'a>(matches: &ArgMatches<'a>) -> Option<Words<'a>>
     }
 }
 
-/// What the subcommand of this name asks.
+/// The request of the subcommand of this name with these matches.
 fn asked_by<'a>(name: &str, matches: &ArgMatches<'a>) -> Option<Words<'a>>
     ensures { TellsAsked (Some (name.now, rows_of (found_of matches.now))) result }
 {
@@ -90,7 +91,7 @@ fn asked_by<'a>(name: &str, matches: &ArgMatches<'a>) -> Option<Words<'a>>
     }
 }
 
-/// What was asked by the matches of the command line.
+/// The request of a command line with these matches.
 pub(crate) fn asked<'a>(matches: &ArgMatches<'a>) -> Option<Words<'a>>
     ensures { TellsAsked (subcommand_rows_of matches.now) result }
 {

@@ -1,4 +1,4 @@
-//! The command line of the program, with its help.
+//! The program's command line, with its help.
 ghost use Rattle.std.specs.Prelude.{◌≡◌, IfOk, Some, codes, false, pos};
 ghost use Rattle.clap.specs.Words.{app_of, rule_of, with_subcommand};
 ghost use Rattle.clap.specs.declared.builder.command.Command.TheViews.{out-Command as fields_of};
@@ -9,6 +9,7 @@ use clap::builder::ValueParser;
 use clap::{Arg, Command};
 use std::alloc::{AllocError, Global};
 
+/// The option `--socket PATH`.
 fn socket<'a>(alloc: Global) -> Arg<'a>
     ensures rule { rule_of result ≡ socket_rule }
     ensures local { result.global ≡ false }
@@ -20,7 +21,7 @@ fn socket<'a>(alloc: Global) -> Arg<'a>
         .required(true)
 }
 
-/// An option whose value is a number from 1 to most.
+/// An option whose value is a number from 1 to `most`.
 fn number_option<'a>(alloc: Global, name: &'a str, value: &'a str, most: i64) -> Arg<'a>
     ensures rule { rule_of result ≡ record (option_rule name.now) { parser = Some (parser.Signed (pos 1) most) } }
     ensures local { result.global ≡ false }
@@ -31,6 +32,7 @@ fn number_option<'a>(alloc: Global, name: &'a str, value: &'a str, most: i64) ->
         .value_parser(ValueParser::signed(1, most))
 }
 
+/// The option `--workers N`.
 fn workers<'a>(alloc: Global) -> Arg<'a>
     ensures rule { rule_of result ≡ required_rule (number_rule (codes "workers") 16) }
     ensures local { result.global ≡ false }
@@ -40,6 +42,7 @@ fn workers<'a>(alloc: Global) -> Arg<'a>
         .required(true)
 }
 
+/// The option `--sessions M`.
 fn sessions<'a>(alloc: Global) -> Arg<'a>
     ensures rule { rule_of result ≡ required_rule (number_rule (codes "sessions") 32) }
     ensures local { result.global ≡ false }
@@ -49,6 +52,7 @@ fn sessions<'a>(alloc: Global) -> Arg<'a>
         .required(true)
 }
 
+/// The option `--stop-after K`.
 fn stop_after<'a>(alloc: Global) -> Arg<'a>
     ensures rule { rule_of result ≡ number_rule (codes "stop-after") 1000000 }
     ensures local { result.global ≡ false }
@@ -58,6 +62,7 @@ fn stop_after<'a>(alloc: Global) -> Arg<'a>
     )
 }
 
+/// The subcommand `run`.
 fn run_command<'a>(alloc: Global) -> Command<'a>
     ensures app { app_of result ≡ run_app }
     ensures local { (fields_of result).has_globals ≡ false }
@@ -65,6 +70,7 @@ fn run_command<'a>(alloc: Global) -> Command<'a>
     Command::new(alloc, "run").about("Serves one session from standard input to standard output")
 }
 
+/// The subcommand `serve`, with its options.
 fn serve_command<'a>(alloc: Global) -> Result<Command<'a>, AllocError>
     ensures app { IfOk result (λ command. app_of command ≡ serve_app) }
     ensures local { IfOk result (λ command. (fields_of command).has_globals ≡ false) }
@@ -78,7 +84,7 @@ fn serve_command<'a>(alloc: Global) -> Result<Command<'a>, AllocError>
     with_sessions.arg(stop_after(alloc))
 }
 
-/// The command line without its subcommands.
+/// The program's command line without its subcommands.
 fn bare_command<'a>(alloc: Global) -> Command<'a>
     ensures { app_of result ≡ bare_app }
 {
@@ -88,14 +94,14 @@ fn bare_command<'a>(alloc: Global) -> Command<'a>
         .disable_help_subcommand(true)
 }
 
-/// The command line with the subcommand `run` alone.
+/// The program's command line with the subcommand `run` alone.
 fn with_run<'a>(alloc: Global) -> Result<Command<'a>, AllocError>
     ensures { IfOk result (λ command. app_of command ≡ with_subcommand bare_app run_app.top) }
 {
     bare_command(alloc).subcommand(run_command(alloc))
 }
 
-/// The command line of the program.
+/// The program's command line.
 pub(crate) fn command_line<'a>(alloc: Global) -> Result<Command<'a>, AllocError>
     ensures { IfOk result (λ command. app_of command ≡ gorefd) }
 {

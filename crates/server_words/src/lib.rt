@@ -1,4 +1,4 @@
-//! The words of the program's command line: what they ask, and what is told of those that ask nothing.
+//! Reads the words of the program's command line as a request, or as a help or usage text.
 #![tactic(auto)]
 
 mod asked;

@@ -1,4 +1,4 @@
-//! What a command line asks, or why it asks nothing.
+//! Reads the words of a command line as a request, or finds why they make none.
 ghost use Rattle.std.specs.Prelude.{◌≡◌, IfOk, map, string_bytes};
 ghost use Rattle.clap.specs.Words.{FailsBy, fault_of, kind_of, subcommand_of, subcommand_rows_of};
 ghost use Rattle.server_words.specs.CommandLine.{gorefd};
@@ -10,14 +10,14 @@ use clap::error::ErrorKind;
 use clap::{ArgMatches, Error};
 use std::alloc::{AllocError, Global};
 
-/// Why words ask nothing that the program does.
+/// Why words make no request.
 #[derive(Drop)]
 pub enum WordsFault {
-    /// There is no memory to read them.
+    /// Memory was wanting.
     Memory,
-    /// They ask for help. The text is for standard output.
+    /// The words ask for help. The text goes to standard output.
     Help(String),
-    /// They are no command line of the program. The text is for standard error.
+    /// The words are no command line of the program. The text goes to standard error.
     Usage(String),
 }
 
@@ -31,7 +31,7 @@ impl From<AllocError> for WordsFault {
     }
 }
 
-/// What is told of an error of the command line.
+/// The fault that an error of the parser is, with the text that it prints.
 fn tell(alloc: Global, error: &Error) -> Result<WordsFault, AllocError>
     ensures { IfOk result (Tells (kind_of error.now)) }
 {
@@ -42,7 +42,7 @@ fn tell(alloc: Global, error: &Error) -> Result<WordsFault, AllocError>
     }
 }
 
-/// What is told where nothing is asked.
+/// The fault of words that the parser accepts and that make no request.
 fn tell_nothing(alloc: Global) -> Result<WordsFault, AllocError>
     ensures { IfOk result IsUsage }
 {
@@ -50,7 +50,7 @@ fn tell_nothing(alloc: Global) -> Result<WordsFault, AllocError>
     Ok(WordsFault::Usage(text))
 }
 
-/// What the parser of command lines finds in the words, of which the first is the program's name.
+/// Parses the words of a command line, the first of which is the program's name.
 fn parse<'a>(alloc: Global, words: &'a [String]) -> Result<ArgMatches<'a>, Error>
     ensures found { IfOk result (λ matches. subcommand_rows_of matches ≡ subcommand_of gorefd (map string_bytes words.now)) }
     ensures fails { FailsBy (fault_of gorefd (map string_bytes words.now)) result }
@@ -59,7 +59,7 @@ fn parse<'a>(alloc: Global, words: &'a [String]) -> Result<ArgMatches<'a>, Error
     line.try_get_matches_from(words)
 }
 
-/// What the words of a command line ask, of which the first is the program's name.
+/// Reads the words of a command line, the first of which is the program's name, as a request.
 pub fn read_words<'a>(alloc: Global, words: &'a [String]) -> Result<Words<'a>, WordsFault>
     ensures { ReadsWords (map string_bytes words.now) result }
 {

@@ -1,4 +1,4 @@
--- Definitions whose fields and methods are added, one rank after the other.
+-- Definitions while fields and methods are added by rank.
 use Rattle.std.proofs.Common.{ℕ, zero, suc, ◌≡◌, ◌+◌, ◌<◌, ◌≤◌, inl, inr, List, [], ◌∷◌, ◌++◌, length, get_or, ap, sym, subst, refl, ◌∙◌, arith}
 use Rattle.std.specs.Prelude.{Option, Some, None, slice_get, map}
 use Rattle.std.specs.List.{flat_map}
@@ -26,7 +26,7 @@ use Rattle.types_declared.proofs.Mentioning.{get_set_same, get_set_other}
 use Rattle.types_members.proofs.Owning.{HasOwner}
 use Rattle.types_members.proofs.MethodNames.{same_function, one_owner}
 
--- each field stands in a definition of the package
+-- Each field is in a definition of the package
 
 abbrev Bounded : ℕ → List PlacedField → Type 0
 Bounded n fs = (r : ℕ) (f : PlacedField) → slice_get fs r ≡ Some f → f.definition < n
@@ -69,7 +69,7 @@ bounded_from n rank (d ∷ ds) le =
 pub field_within : (p : Package) (rank : ℕ) (f : PlacedField) → slice_get (package_fields p) rank ≡ Some f → f.definition < length (package_types p)
 field_within p rank f e = bounded_from (length (package_types p)) 0 (package_types p) (omega arith) rank f e
 
--- a list of which one item is set
+-- A list with one item set
 
 changes_set : {X : Type 0} (old : List X) (place : ℕ) (x y : X) (C : X → X → Type 0) → place < length old → x ≡ get_or old place x → C x y →
     ChangesAt old (set old place y) place C
@@ -103,7 +103,7 @@ counting_field p rank f e c =
     (subst (λ n. IsCountingField p c.definition n rank f) (its_name p rank c.definition c.name f c.field e c.counting)
     (subst (IsCountingField p c.definition c.name rank) (same_field p rank c.definition c.name f c.field e c.counting) c.counting))
 
--- the field of that rank is none of a definition
+-- the field of this rank isn't a field of this name of the definition
 abbrev NoField : Package → (rank definition : ℕ) → List ℕ → Type 0
 NoField p rank d n = (f : PlacedField) (t : PlainType) → IsCountingField p d n rank f → IsTypeOf p f.file f.type_use t → ⊥
 
@@ -123,7 +123,7 @@ fields_skipped : (p : Package) (count methods : ℕ) (found : List Definition) �
     HaveMembersBelow p count methods found → HaveMembersBelow p (count + 1) methods found
 fields_skipped p count methods found none h = record { all = h.all; each = λ r d e. fields_later p count methods r (definition_of d) (none r) (h.each r d e) }
 
--- a field that does not count
+-- a field that doesn't count is passed over
 pub field_skipped : (p : Package) (count methods : ℕ) (found : List Definition) → (CountsAsField p count → ⊥) → HaveMembersBelow p count methods found →
     HaveMembersBelow p (count + 1) methods found
 field_skipped p count methods found none h = fields_skipped p count methods found
@@ -167,7 +167,7 @@ pub field_changed : (p : Package) (rank : ℕ) (f : PlacedField) (t : PlainType)
 field_changed p rank f t old x y lt at is s =
     typed is (changes_set old f.definition x y (λ a b. SetsField (definition_of a) (definition_of b) (spelled p f.file f.name) (field_by p rank f t)) lt at s)
 
--- a field that counts
+-- a field that counts is added
 pub field_added : (p : Package) (count methods : ℕ) (f : PlacedField) (old new : List Definition) → slice_get (package_fields p) count ≡ Some f →
     CountsAsField p count → AddsField p count f old new →
     HaveMembersBelow p count methods old → HaveMembersBelow p (count + 1) methods new
@@ -211,7 +211,7 @@ methods_later : (p : Package) (fields count rank : ℕ) (d : plain.Definition) �
 methods_later p fields count rank d none h = record
     { underlying = h.underlying; has_fields = h.has_fields; has_methods = λ n. method_later p count rank n (d.method n) (none n) (h.has_methods n) }
 
--- a function that is no method that counts
+-- a function that isn't a method that counts is passed over
 pub method_skipped : (p : Package) (fields count : ℕ) (found : List Definition) → (CountsAsMethod p count → ⊥) → HaveMembersBelow p fields count found →
     HaveMembersBelow p fields (count + 1) found
 method_skipped p fields count found none h = record {
@@ -220,7 +220,7 @@ method_skipped p fields count found none h = record {
       (h.each r d e);
 }
 
--- a function that is no method
+-- a function without a definition is no method
 pub no_owner : (p : Package) (rank : ℕ) (o : Option ℕ) → HasOwner p rank o → ((d : ℕ) → o ≡ Some d → ⊥) → CountsAsMethod p rank → ⊥
 no_owner p rank None has none c = has c.definition (record { name = c.name; method = c.method; is_method = c.counting.is_method })
 no_owner p rank (Some d) has none c = none d refl
@@ -249,7 +249,7 @@ pub method_changed : (p : Package) (rank : ℕ) (f : PlacedFunction) (old : List
     ChangesAt old (set old d y) d (λ a b. SetsMethodOf p rank f (definition_of a) (definition_of b))
 method_changed p rank f old d x y lt at s = changes_set old d x y (λ a b. SetsMethodOf p rank f (definition_of a) (definition_of b)) lt at s
 
--- a method that counts
+-- a method that counts is added
 pub method_added : (p : Package) → WellFormed p.layout → (fields count d : ℕ) (f : PlacedFunction) (old new : List Definition) →
     slice_get (package_functions p) count ≡ Some f → CountsAsMethod p count →
     IsMethodOn p count d → ChangesAt old new d (λ x y. SetsMethodOf p count f (definition_of x) (definition_of y)) → HaveMembersBelow p fields count old →
@@ -268,7 +268,7 @@ method_added p w fields count d f old new at c m ch h =
       ];
     }
 
--- all were added
+-- All fields and methods are added
 
 all_fields : (p : Package) (d : ℕ) (n : List ℕ) (o : Option Field) → IsFieldBelow p (length (package_fields p)) d n o → IsField p d n o
 all_fields p d n None h = λ r f t c is. h r f t (slice_get_within (package_fields p) r f c.is_field.has_rank) c is

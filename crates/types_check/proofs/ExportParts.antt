@@ -1,4 +1,4 @@
--- What a package exports, from its parts.
+-- The exports of a package, part by part.
 use Rattle.std.proofs.Common.{ℕ, ◌≡◌, ◌+◌, ◌<◌, ◌≤◌, inl, inr, List, length, ap, sym, subst, ◌∙◌, arith, MatchOption}
 use Rattle.std.specs.Prelude.{Option, Some, None, option_map, slice_get}
 use Rattle.std.specs.Global.{Vec}
@@ -29,9 +29,9 @@ use Rattle.types_check.specs.Interfaces.{IsExportFound, IsExportBelow, AreExport
 use Rattle.types_info.proofs.BoundLists.{slice_get_some, none_past}
 use Rattle.types_declared.proofs.ByteKeys.{cases_bytes, others_stay}
 
--- whether a declaration counts
+-- Whether a declaration counts
 
--- what a declaration of the package's block means
+-- The meaning of a package-level declaration
 
 abbrev is_package : Block → Type 0
 is_package block.Universe = ⊥
@@ -49,7 +49,7 @@ global_by p d level _ (bound.variable is t) = variable
 global_by p d level _ (bound.function is s) = function
 global_by p d level _ (bound.definition at is whole) = type_name
 
--- what a declaration is in other packages
+-- The export of a declaration
 
 pub no_export : (p : Package) (d : ℕ) (b : Bound) → ((b c : Bound) → IsMeantBy p d b → IsMeantBy p d c → b ≡ c) → IsMeantBy p d b → IsGlobalFound b None →
     IsExportFound p d None
@@ -59,7 +59,7 @@ pub is_export : (p : Package) (d : ℕ) (b : Bound) (e : plain.Export) → IsSee
     IsExportBy p d e
 is_export p d b e seen means is = record { seen = seen; means = subst (IsMeantBy p d) is means }
 
--- one more declaration
+-- One more declaration
 
 abbrev FoundBelow : Package → ℕ → List ℕ → Option plain.Export → Type 0
 FoundBelow p n name o = MatchOption o ((e : plain.Export) → IsExportBelow p n name e → ⊥) (λ e. IsExportBelow p n name e)
@@ -93,7 +93,7 @@ one_more_export p n old new key e is u by h = λ name. elim (cases_bytes key.ite
       (still p n name (exports_at old name) (λ x named k. ne (is ∙ named)) (h name))
 ]
 
--- all declarations
+-- All declarations
 
 beyond : (sites : List Site) (d : ℕ) → length sites ≤ d → block_of ((sites_layout sites).role d) ≡ block.Package → ⊥
 beyond sites d ge level = not_level (block_of ((sites_layout sites).role d)) block.Universe level
@@ -115,7 +115,7 @@ pub all_exports : (p : Package) (sites : List Site) (found : List ℕ → Option
     AreExportsBelow p (length sites) found → (name : List ℕ) → IsExported p name (found name)
 all_exports p sites found is h name = exported_by p sites name (found name) is (h name)
 
--- all type definitions
+-- All type definitions
 
 pub all_definitions : (p : Package) (found : List Definition) → HaveDefinitions p found → (rank : ℕ) (d : PlacedType) →
     slice_get (package_types p) rank ≡ Some d →
@@ -130,7 +130,7 @@ beyond_definitions p found h rank none =
     let past : length found ≤ rank = subst (λ n. n ≤ rank) (sym h.all) (none_past (package_types p) rank none) in
     ap (definition_or_none (symbol_in p rank)) (slice_get_past found rank past)
 
--- a name is exported as one thing
+-- A name has at most one export
 
 one_declaration : (l : Layout) (names : Names) (d e : ℕ) → IsPackageLevel l d → IsPackageLevel l e → Counts l names d → Counts l names e →
     names d ≡ names e → d ≡ e

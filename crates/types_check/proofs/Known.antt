@@ -1,4 +1,4 @@
--- A package of which the same is known has the same interface.
+-- Packages with equal known values have the same export data.
 use Rattle.std.proofs.Common.{ℕ, ◌≡◌, List, [], ◌∷◌, map, refl, ap, sym, ◌∙◌}
 use Rattle.std.specs.Prelude.{Bool, true, false, if◌then◌else◌, Option, Some, None, option_map, slice_get}
 use Rattle.std.specs.Global.{Vec}
@@ -17,7 +17,7 @@ use Rattle.types_declared.specs.declared.interfaces.Interfaces.{Interfaces}
 use Rattle.types_declared.specs.InterfacesView.{export_of, known_name, known_scope, name_or_none, scope_export, interface_known}
 use Rattle.types_check.specs.Known.{entry_value, KnownDefinition, known_definition, Known, known_in, known_of, IsKnownAlike}
 
--- the value of a name
+-- the value of a name in a list of entries
 abbrev value_named : {Y : Type 0} → List ℕ → List (List ℕ × Y) → Option Y
 value_named name es = lookup (λ key. is_eq (slice_cmp nat_cmp name key)) es
 
@@ -33,7 +33,7 @@ value_found value name (e ∷ es) =
     one_found value (is_at (λ (key : Vec ℕ). slice_cmp nat_cmp name key.items) e.0) e.1 (lookup (is_at (λ key. slice_cmp nat_cmp name key.items)) es)
     (value_named name (map (entry_value value) es)) (value_found value name es)
 
--- what is known of a definition, as the plain one
+-- the definition with these plain values
 abbrev plain_of : KnownDefinition → plain.Definition
 plain_of d = record {
   underlying = d.underlying;

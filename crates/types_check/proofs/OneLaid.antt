@@ -1,4 +1,4 @@
--- The package that is checked is one: the names of its imports are determined.
+-- The package to check is unique: the names of its imports are determined.
 use Rattle.std.proofs.Common.{ℕ, suc, ◌≡◌, ◌⊎◌, ◌<◌, inl, inr, true, false, Bool, List, [], ◌∷◌, length, ap, sym, refl, ◌∙◌, arith}
 use Rattle.std.specs.Prelude.{Option, Some, None, slice_get, map}
 use Rattle.std.proofs.Math.Path.{ap₂}
@@ -22,7 +22,7 @@ cases_names (Some x) (Some y) = elim (cases_bytes x y) [
   | inr other ↦ inr (λ e. other (cc))
 ]
 
--- an import's package has one name
+-- the package of an import has at most one name
 one_name : (files : List SourceFile) (name_of : (path : List ℕ) → Option (List ℕ)) (p : Laid) (u : ℕ) (a b : Option (List ℕ)) →
     IsPackageName files name_of p u a → IsPackageName files name_of p u b → a ≡ b
 one_name files name_of p u a b h k = elim (cases_names a b) [

@@ -1,4 +1,4 @@
--- A package's check by stages: a stage that has faults ends it, one that has none adds none.
+-- The check of a package by stages: a stage with faults ends it, and one without adds none.
 use Rattle.std.proofs.Common.{◌≡◌, ◌<◌, ◌↔◌, inl, inr, Bool, true, false, nat_eq, List, [], length, ap, sym, subst, ◌∙◌, arith, MatchOption, vec_len}
 use Rattle.std.specs.Prelude.{None, Contains}
 use Rattle.std.specs.Global.{Vec}
@@ -24,7 +24,7 @@ nothing_in f c = let lt : c.0 < 0 = c.1 in omega arith
 lists_first : (P Q : Fault → Type 0) (found : List Fault) → (found ≡ [] → ⊥) → Lists P found → Lists (FirstOf P Q) found
 lists_first P Q found ne h = first_listed P Q found (record { keeps = λ f c. absurd (nothing_in f c); holds = h.holds; only = λ f c. inr (h.only f c) }) ne
 
--- a stage that has faults
+-- A stage with faults
 
 faulty_by : (P : Fault → Type 0) (p : Package) (c : Checked) → (c.faults.items ≡ [] → ⊥) → Lists P c.faults.items →
     IsStrictlySortedBy order.ghosts.cmp c.faults.items → c.interface ≡ None → IsCheckedBy P p c
@@ -36,7 +36,7 @@ faulty_by P p c ne h sorted none = record {
   qualified = λ e. absurd (ne e);
 }
 
--- faults that were tested for, of which there is some, or none
+-- Faults that were tested for, of which there are some or none
 
 pub some_found : (found : Vec Fault) (b : Bool) → b ≡ nat_eq (vec_len found) 0 → b ≡ false → found.items ≡ [] → ⊥
 some_found found b is fails e = eqb-false (vec_len found) 0 (sym is ∙ fails) (found.ok.0 ∙ ap length e)
@@ -53,11 +53,11 @@ ends_with P Q p c found b same none is fails h sorted =
     faulty_by (FirstOf P Q) p c ne (lists_first P Q c.faults.items ne listed)
     (subst (λ (v : Vec Fault). IsStrictlySortedBy order.ghosts.cmp v.items) (sym same) sorted) none
 
--- of such a package nothing is handed back
+-- no meanings are handed back of a package with faults
 pub none_kept : (p : Package) (c : CheckedPackage) → c.bounds ≡ None → MayMean p c
 none_kept p c none b is = absurd (none-some b (sym none ∙ is))
 
--- the same faults, told otherwise
+-- equivalent properties describe the same finding
 pub checked_same : (P Q : Fault → Type 0) (p : Package) (c : Checked) → ((f : Fault) → P f ↔ Q f) → IsCheckedBy P p c → IsCheckedBy Q p c
 checked_same P Q p c same h = record {
   faults = record { holds = λ f is. h.faults.holds f ((same f).1 is); only = λ f k. (same f).0 (h.faults.only f k) };
@@ -67,7 +67,7 @@ checked_same P Q p c same h = record {
   qualified = h.qualified;
 }
 
--- a stage that has none
+-- A stage without faults
 
 without_first : (P Q : Fault → Type 0) (p : Package) (c : Checked) → Lists P [] → IsCheckedBy Q p c → IsCheckedBy (FirstOf P Q) p c
 without_first P Q p c none h = checked_same Q (FirstOf P Q) p c
@@ -82,7 +82,7 @@ pub goes_on : (P Q : Fault → Type 0) (p : Package) (found : Vec Fault) (b : Bo
     IsCheckedBy (FirstOf P Q) p c
 goes_on P Q p found b is passes h c k = without_first P Q p c (subst (Lists P) (none_found found b is passes) h) k
 
--- two stages, and what comes after both
+-- two stages, and those after both
 pub after_both : (A B C : Fault → Type 0) (f : Fault) → FirstOf (FirstOf A B) C f ↔ FirstOf A (FirstOf B C) f
 after_both A B C f = (
   λ is. elim is [

@@ -1,4 +1,4 @@
--- The faults of types of files, and their member uses, one file after the other.
+-- The faults of types in files, and their member uses, file by file.
 use Rattle.std.proofs.Common.{ℕ, ◌≡◌, ◌+◌, ◌<◌, ◌⊎◌, inl, inr, suc, List, [], ◌∷◌, ◌++◌, length, take, get_or, ap, sym, subst, refl, ◌∙◌, arith, length-append}
 use Rattle.std.specs.Prelude.{Contains, Some, slice_get, map}
 use Rattle.std.specs.Global.{Vec}
@@ -27,7 +27,7 @@ use Rattle.types_info.specs.Uniqueness.{IsOneWorld}
 use Rattle.types_check.specs.TypesView.{IsChecked, IsAtToken, IsTypeFaultIn}
 use Rattle.types_declared.proofs.DeclaredPaths.{get_before, get_last}
 
--- faults at tokens
+-- Faults at tokens
 
 pub no_tokens : (file : ℕ) (a : List Fault) → Adds a a (IsAtToken file [])
 no_tokens file a = adds_none a (IsAtToken file []) (λ f h. let lt : h.at.0 < 0 = h.at.1 in absurd (omega arith))
@@ -56,7 +56,7 @@ pub all_tokens : (file : ℕ) (tokens : List ℕ) (i : ℕ) (a b : List Fault) �
     Adds a b (IsAtToken file tokens)
 all_tokens file tokens i a b e h = subst (λ ts. Adds a b (IsAtToken file ts)) (ap (λ n. take n tokens) e ∙ take-length tokens) h
 
--- the faults of a file
+-- The faults of a file
 
 fault_in : (p : Package) (file : ℕ) (c : Checked) → IsChecked p file c → (f : Fault) → IsAtToken file c.faults f → IsTypeFaultIn p file f
 fault_in p file c ch f h = record {
@@ -88,7 +88,7 @@ pub faults_of_file : (p : Package) → IsOneWorld p → (file : ℕ) (c : Checke
     Adds a b (IsTypeFaultIn p file)
 faults_of_file p one file c a b ch h = adds_as a b (IsAtToken file c.faults) (IsTypeFaultIn p file) h (fault_in p file c ch) (fault_from_file p one file c ch)
 
--- the faults of all files
+-- The faults of all files
 
 some_file : (p : Package) (n : ℕ) (f : Fault) → Below (IsTypeFaultIn p) n f → IsTypeFault p f
 some_file p n f h = h.2.fault
@@ -101,7 +101,7 @@ all_faults p n found e h =
     lists_from found (IsTypeFault p)
     (adds_as [] found (Below (IsTypeFaultIn p) n) (IsTypeFault p) h (some_file p n) (λ f t. subst (λ k. Below (IsTypeFaultIn p) k f) (sym e) (own_file p f t)))
 
--- member uses
+-- Member uses
 
 pub uses_of_file : (p : Package) (file : ℕ) (c : Checked) (old new : List (Vec FoundUse)) → IsChecked p file c → AddsUses old new c.uses →
     AddsFile p file old new
@@ -137,7 +137,7 @@ next_uses p n old new added h =
 pub all_uses : (p : Package) (n : ℕ) (members : List (List MemberUse)) → n ≡ length p.files → AreMemberUsesBelow p n members → AreMemberUses p members
 all_uses p n members e h = subst (λ k. AreMemberUsesBelow p k members) e h
 
--- what is found by the world that the program has
+-- the result of checking a file in the program's world
 pub checked_by : (p : Package) (file : ℕ) (x : FileParts) (w : FileWorld) (c : Checked) (t : FileTree) → slice_get p.files file ≡ Some (source_of x) →
     IsWorldOf p file (source_of x) (world_of w) →
     is_init_in w ≡ is_init (source_of x) → t ≡ (source_of x).tree → c ≡ check_file (world_of w) (is_init_in w) t → IsChecked p file c

@@ -1,4 +1,4 @@
--- Lists and maps are alike in pairs where their values are the same.
+-- Lists and maps are equal item by item exactly where their plain values are equal.
 use Rattle.std.proofs.Common.{ℕ, ◌≡◌, List, [], ◌∷◌, map, refl, sym, ap, ◌∙◌}
 use Rattle.std.specs.Prelude.{Bool, IsTrue, ◌↔◌}
 use Rattle.std.specs.List.{AllZip}
@@ -23,7 +23,7 @@ same_values value [] (y ∷ ys) e = cc
 same_values value (x ∷ xs) [] e = cc
 same_values value (x ∷ xs) (y ∷ ys) e = ((cc), same_values value xs ys (cc))
 
--- a test of lists in pairs is one of their values
+-- a test of lists item by item tests their plain values
 pub by_values : {X Y : Type 0} (value : X → Y) (xs ys : List X) (test : Bool) → (IsTrue test ↔ AllZip (SameValue value) xs ys) →
     (IsTrue test ↔ (map value xs ≡ map value ys))
 by_values value xs ys test h = (λ t. values_same value xs ys (h.0 t), λ e. h.1 (same_values value xs ys e))
@@ -44,13 +44,13 @@ same_entries value (e ∷ es) (f ∷ fs) q =
     let here : entry_value value e ≡ entry_value value f = cc in
     ((ap (λ p. p.0) here, ap (λ p. p.1) here), same_entries value es fs (cc))
 
--- a test of maps in pairs is one of their values by their names
+-- a test of maps entry by entry tests their names and plain values
 pub by_entries : {X Y : Type 0} (value : X → Y) (es fs : List (Vec ℕ × X)) (test : Bool) →
     (IsTrue test ↔ AllZip (AreNamedAlike (SameValue value)) es fs) →
     (IsTrue test ↔ (map (entry_value value) es ≡ map (entry_value value) fs))
 by_entries value es fs test h = (λ t. entries_same value es fs (h.0 t), λ q. h.1 (same_entries value es fs q))
 
--- the test of types, and that of underlying types
+-- The test of types, and that of underlying types
 
 pub type_by_test : (a b : PlainType) (test : Bool) → test ≡ same_type a b → (IsTrue test ↔ (a ≡ b))
 type_by_test a b test h = (λ t. types_same a b (sym h ∙ t), λ e. h ∙ (sym (ap (same_type a) e) ∙ same_types a))

@@ -1,4 +1,4 @@
--- A package's check from its clauses on, for each package that its path, its files and other packages make.
+-- The check of a package from its package clauses on, for each package of a path, files and export data.
 use Rattle.std.proofs.Common.{ℕ, ◌≡◌, Bool, true, false, nat_eq, List, ap, sym, subst, ◌∙◌, vec_len}
 use Rattle.std.specs.Prelude.{Option, None, Contains, map}
 use Rattle.std.specs.Global.{Vec}
@@ -32,7 +32,7 @@ its_files : (path : List ℕ) (files : List FileParts) (name_of : List ℕ → O
     p.files ≡ map source_of files
 its_files path files name_of interface_of p h = ap (λ (q : Package). q.files) h.is_package
 
--- a package that has faults of clauses or imports
+-- a package with faults of clauses or imports
 pub outer_ends : (state : List ℕ → ImportState) (path : List ℕ) (files : List FileParts) (name_of : List ℕ → Option (List ℕ))
     (interface_of : List ℕ → Interface) (p : Package) →
     IsPackageOf path files name_of interface_of p → (c : Checked) (found : Vec Fault) (b : Bool) → c.faults ≡ found → c.interface ≡ None →
@@ -42,7 +42,7 @@ outer_ends state path files name_of interface_of p h c found b same none is fail
     from_outer state p (map source_of files) (its_files path files name_of interface_of p h) c
     (ends_with (IsOuterFault state (map source_of files)) (IsLaterFault p) p c found b same none is fails listed sorted)
 
--- and what is known where no package is in hand
+-- the finding of files with faults of clauses or imports, where there is no package
 pub found_outside : (path : List ℕ) (files : List FileParts) (state : List ℕ → ImportState) (name_of : List ℕ → Option (List ℕ))
     (interface_of : List ℕ → Interface) (c : Checked) (found : Vec Fault) (b : Bool) →
     c.faults ≡ found → c.interface ≡ None → b ≡ nat_eq (vec_len found) 0 → b ≡ false → Lists (IsOuterFault state (map source_of files)) found.items →
@@ -51,7 +51,7 @@ found_outside path files state name_of interface_of c found b same none is fails
     outside (λ e. some_found found b is fails (sym (ap (λ (v : Vec Fault). v.items) same) ∙ e))
     (subst (λ (v : Vec Fault). Lists (IsOuterFault state (map source_of files)) v.items) (sym same) listed) none
 
--- one that has none, and is the package that was checked
+-- a package without such faults is the one that was checked
 pub outer_goes_on : (state : List ℕ → ImportState) (path : List ℕ) (files : List FileParts) (name_of : List ℕ → Option (List ℕ))
     (interface_of : List ℕ → Interface) (p q : Package) →
     IsPackageOf path files name_of interface_of p → IsPackageOf path files name_of interface_of q → (found : Vec Fault) (b : Bool) →

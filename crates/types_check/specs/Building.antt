@@ -1,4 +1,4 @@
--- The definitions of a package while their members are added, one rank after the other.
+-- The type definitions of a package while fields and methods are added to them, by rank.
 use Rattle.std.specs.Prelude.{ℕ, ◌≡◌, ◌<◌, Bool, false, List, Option, Some, None, length, slice_get}
 use Rattle.go_ast.specs.Tree.{ReceiverTree}
 use Rattle.types_expr.specs.declared.world.Definition.{Definition}
@@ -11,50 +11,52 @@ use Rattle.types_declared.specs.Package.{Package, PlacedFunction, package_types,
 use Rattle.types_declared.specs.Written.{IsTypeOf}
 use Rattle.types_declared.specs.Definitions.{PlacedField, IsCountingField, IsCountingMethod, IsField, IsSignature, IsMethod, IsUnderlyingOf, is_on_pointer}
 
--- the field of a name, where only the fields below a rank were added
+-- the definition's field of this name, while only the fields below count are added
 abbrev pub IsFieldBelow : Package → (count definition : ℕ) → List ℕ → Option Field → Type 0
 IsFieldBelow p count definition name None = (rank : ℕ) (f : PlacedField) (t : PlainType) → rank < count → IsCountingField p definition name rank f →
     IsTypeOf p f.file f.type_use t → ⊥
 IsFieldBelow p count definition name (Some x) = IsField p definition name (Some x)
 
--- the method of a name, where only the methods below a rank were added
+-- the definition's method of this name, while only the methods below count are added
 abbrev pub IsMethodBelow : Package → (count definition : ℕ) → List ℕ → Option Method → Type 0
 IsMethodBelow p count definition name None = (rank : ℕ) (f : PlacedFunction) → rank < count → IsCountingMethod p definition name rank f → ⊥
 IsMethodBelow p count definition name (Some x) = IsMethod p definition name (Some x)
 
+-- d is the definition of this rank with those fields and methods whose ranks are below these
 pub record IsDefinitionBelow (p : Package) (fields methods rank : ℕ) (d : plain.Definition) : Type 0 where
   pub underlying : IsUnderlyingOf p rank d.underlying
   pub has_fields : (name : List ℕ) → IsFieldBelow p fields rank name (d.field name)
   pub has_methods : (name : List ℕ) → IsMethodBelow p methods rank name (d.method name)
 
--- the definitions of a package, with the fields and methods below some ranks
+-- found has the definitions of the package, with those fields and methods whose ranks are below these
 pub record HaveMembersBelow (p : Package) (fields methods : ℕ) (found : List Definition) : Type 0 where
   pub all : length found ≡ length (package_types p)
   pub each : (rank : ℕ) (d : Definition) → slice_get found rank ≡ Some d → IsDefinitionBelow p fields methods rank (definition_of d)
 
--- one field of a definition was set
+-- the new definition has the field x under this name, and all else is as in the old one
 pub record SetsField (old new : plain.Definition) (name : List ℕ) (x : Field) : Type 0 where
   pub underlying : new.underlying ≡ old.underlying
   pub here : new.field name ≡ Some x
   pub elsewhere : (n : List ℕ) → (n ≡ name → ⊥) → new.field n ≡ old.field n
   pub methods : (n : List ℕ) → new.method n ≡ old.method n
 
--- one method of a definition was set
+-- the new definition has the method x under this name, and all else is as in the old one
 pub record SetsMethod (old new : plain.Definition) (name : List ℕ) (x : Method) : Type 0 where
   pub underlying : new.underlying ≡ old.underlying
   pub here : new.method name ≡ Some x
   pub elsewhere : (n : List ℕ) → (n ≡ name → ⊥) → new.method n ≡ old.method n
   pub fields : (n : List ℕ) → new.field n ≡ old.field n
 
--- a field as expressions see it
+-- the field of this rank, with its type, as expressions see it
 abbrev pub field_by : Package → ℕ → PlacedField → PlainType → Field
 field_by p rank f t = record { symbol = symbol_in p rank; exported = is_exported (spelled p f.file f.name); type_of = t }
 
+-- whether there is a receiver whose type is a pointer
 abbrev pub received_by_pointer : Option ReceiverTree → Bool
 received_by_pointer None = false
 received_by_pointer (Some r) = is_on_pointer r
 
--- a method as expressions see it
+-- the method of this rank, with its signature, as expressions see it
 abbrev pub method_by : Package → ℕ → PlacedFunction → Option Signature → Method
 method_by p rank f s =
     record {
@@ -65,13 +67,13 @@ method_by p rank f s =
       signature = s;
     }
 
--- the method was set in a definition
+-- the new definition has the method f, with its signature, and all else is as in the old one
 pub record SetsMethodOf (p : Package) (rank : ℕ) (f : PlacedFunction) (old new : plain.Definition) : Type 0 where
   pub signature : Option Signature
   pub is_signature : IsSignature p f signature
   pub sets : SetsMethod old new (spelled p f.file f.function.name) (method_by p rank f signature)
 
--- one item of a list changed
+-- the item at this place changed by the relation C, and no other item changed
 pub record ChangesAt {X : Type 0} (old new : List X) (place : ℕ) (C : X → X → Type 0) : Type 0 where
   pub size : length new ≡ length old
   pub before : X
@@ -81,7 +83,7 @@ pub record ChangesAt {X : Type 0} (old new : List X) (place : ℕ) (C : X → X 
   pub elsewhere : (i : ℕ) → (i ≡ place → ⊥) → slice_get new i ≡ slice_get old i
   pub changed : C before after
 
--- a field was added to the definition that writes it, unless it has no type
+-- the field f was added to its definition; nothing was added where its type expression is broken
 pub data AddsField (p : Package) (rank : ℕ) (f : PlacedField) (old new : List Definition) : Type 0 where
   typed : {t : PlainType} → IsTypeOf p f.file f.type_use t →
       ChangesAt old new f.definition (λ x y. SetsField (definition_of x) (definition_of y) (spelled p f.file f.name) (field_by p rank f t)) →

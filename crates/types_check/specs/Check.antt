@@ -1,4 +1,4 @@
--- All the faults of a package, and what is found when it is checked.
+-- The faults of a package, stage by stage, and the findings of its check.
 use Rattle.std.specs.Prelude.{ℕ, ◌≡◌, Bool, List, [], Option, None, Some, is_some, map, MatchOption}
 use Rattle.std.specs.List.Sorted.{IsStrictlySortedBy}
 use Rattle.types_declared.specs.declared.fault.Fault.{Fault}
@@ -23,16 +23,16 @@ use Rattle.types_info.specs.MemberUses.{AreMemberUses, uses_in}
 use Rattle.types_info.specs.PackageOf.{IsPackageOf}
 use Rattle.types_info.specs.Qualified.{AreQualified}
 
--- whether the package of a path exports a name
+-- whether the package at a path exports a name, as p sees it
 abbrev pub exports_in : Package → (path name : List ℕ) → Bool
 exports_in p path name = is_some ((p.interface_of path).exported name)
 
--- a fault of a package: one of the first stage that has some; state: what each path is that may be imported
+-- f is a fault of the first stage of p that has any; state gives the states of imported paths
 abbrev pub IsPackageFault : (List ℕ → ImportState) → Package → Fault → Type 0
 IsPackageFault state p = IsFaultIn state p.files (exports_in p) (laid_of p) (IsMemberFault p) (IsTypeFault p)
 
--- What is found of a package whose faults are those of which P tells: all its faults, each once, by file and token; and where
--- it has none, what other packages see of it, its uses of members, and its qualified identifiers.
+-- c is the finding of a package whose faults are those with the property P. The faults are sorted by file and token, each once. Where there
+-- is none, c has the package's export data, its uses of members and its qualified identifiers.
 pub record IsCheckedBy (P : Fault → Type 0) (p : Package) (c : Checked) : Type 0 where
   pub faults : Lists P c.faults.items
   pub order : IsStrictlySortedBy order.ghosts.cmp c.faults.items
@@ -40,15 +40,16 @@ pub record IsCheckedBy (P : Fault → Type 0) (p : Package) (c : Checked) : Type
   pub members : c.faults.items ≡ [] → AreMemberUses p (map uses_in c.members.items)
   pub qualified : c.faults.items ≡ [] → AreQualified p c.qualified.items
 
+-- c is the finding of p; state gives the states of imported paths
 abbrev pub IsCheckedPackage : (List ℕ → ImportState) → Package → Checked → Type 0
 IsCheckedPackage state p c = IsCheckedBy (IsPackageFault state p) p c
 
--- the faults of a package whose clauses and imports have none
+-- f is a fault of p, whose clauses and imports have none
 abbrev pub IsLaterFault : Package → Fault → Type 0
 IsLaterFault p = FirstOf (IsInnerFault p.files (exports_in p) (laid_of p)) (FirstOf (IsMemberFault p) (IsTypeFault p))
 
--- What is found of the files of a package: the faults of their clauses or imports, or where these have none what is found in
--- the package that they make.
+-- c is the finding of a path and files: the faults of their clauses or imports, or where these have none, the finding of the package that
+-- they make.
 pub data IsFoundIn (path : List ℕ) (files : List FileParts) (state : List ℕ → ImportState) (name_of : List ℕ → Option (List ℕ))
     (interface_of : List ℕ → Interface) (c : Checked) : Type 0 where
   outside : (c.faults.items ≡ [] → ⊥) → Lists (IsOuterFault state (map source_of files)) c.faults.items → c.interface ≡ None →
@@ -56,21 +57,20 @@ pub data IsFoundIn (path : List ℕ) (files : List FileParts) (state : List ℕ 
   inside : {p : Package} → HasNone (IsOuterFault state (map source_of files)) → IsPackageOf path files name_of interface_of p →
       IsCheckedBy (IsLaterFault p) p c → IsFoundIn path files state name_of interface_of c
 
--- what the declarations of p mean, which has no fault
+-- c has no fault, and b has the meanings of p's declarations
 pub record IsMeant (p : Package) (c : Checked) (b : Bounds) : Type 0 where
   pub faultless : c.faults.items ≡ []
   pub bounds : AreBounds p b.list.items b.of.items
 
--- what the declarations of p mean, if it is handed back
+-- the meanings that c hands back, if any, are those of p's declarations, and c has no fault
 abbrev pub MayMean : Package → CheckedPackage → Type 0
 MayMean p c = (b : Bounds) → c.bounds ≡ Some b → IsMeant p c.checked b
 
--- the table of files whose clauses and imports have no faults: their scopes, in which each import without a name declares the name
--- of its package
+-- The clauses and imports of the files have no faults. In the scope table each import without a name declares the name of its package.
 pub record IsLaid (files : List FileParts) (state : List ℕ → ImportState) (name_of : List ℕ → Option (List ℕ)) (table : ScopedPackage) : Type 0 where
   pub faultless : HasNone (IsOuterFault state (map source_of files))
   pub is_laid : IsLaidOver (map source_of files) name_of (scoped files) table
 
--- the table, if there is one
+-- the table found, if any, is the scope table of files whose clauses and imports have no faults
 abbrev pub MayLay : List FileParts → (List ℕ → ImportState) → (List ℕ → Option (List ℕ)) → Option ScopedPackage → Type 0
 MayLay files state name_of found = (table : ScopedPackage) → found ≡ Some table → IsLaid files state name_of table

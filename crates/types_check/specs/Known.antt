@@ -1,4 +1,4 @@
--- What is known of a package, value by value.
+-- The export data of a package as plain values, to compare.
 use Rattle.std.specs.Prelude.{ℕ, ◌≡◌, List, map, Option, option_map}
 use Rattle.std.specs.Global.{Vec}
 use Rattle.types_expr.specs.Types.{Underlying}
@@ -11,24 +11,26 @@ use Rattle.types_expr.specs.declared.interfaces.PackageScope.{PackageScope}
 use Rattle.types_declared.specs.declared.interfaces.Interfaces.{Interfaces}
 use Rattle.types_declared.specs.InterfacesView.{export_of, name_in, known_name, interface_in, interface_known}
 
--- a name with its value
+-- an entry of a map: its name and the plain value
 abbrev pub entry_value : {X Y : Type 0} → (X → Y) → Vec ℕ × X → List ℕ × Y
 entry_value value e = (e.0.items, value e.1)
 
--- the name of a package, and its exported names in their order
+-- the name of a package, and its exports in the order of their names
 pub record KnownScope : Type 0 where
   pub name : List ℕ
   pub exported : List (List ℕ × seen.Export)
 
+-- the plain values of a package's name and exports
 abbrev pub known_scope : PackageScope → KnownScope
 known_scope s = record { name = s.name.items; exported = map (entry_value export_of) s.exported.entries }
 
--- a type definition, its fields and methods in the order of their names
+-- the underlying type of a definition, and its fields and methods in the order of their names
 pub record KnownDefinition : Type 0 where
   pub underlying : Underlying
   pub fields : List (List ℕ × plain.Field)
   pub methods : List (List ℕ × plain.Method)
 
+-- the plain values of a type definition
 abbrev pub known_definition : Definition → KnownDefinition
 known_definition d = record {
   underlying = underlying_of d.underlying;
@@ -36,23 +38,24 @@ known_definition d = record {
   methods = map (entry_value method_of) d.methods.entries;
 }
 
--- what is known of a package
+-- the plain values of a package's export data
 pub record Known : Type 0 where
   pub scope : KnownScope
   pub definitions : List KnownDefinition
 
+-- the plain values of export data
 abbrev pub known_as : Interface → Known
 known_as i = record { scope = known_scope i.scope; definitions = map known_definition i.definitions.items }
 
--- likewise, if anything is known of it
+-- the plain values of export data, if there is any
 abbrev pub known_of : Option Interface → Option Known
 known_of known = option_map known_as known
 
--- what is known of the package of a path
+-- the plain values of the export data that a table has for a path
 abbrev pub known_in : Interfaces → List ℕ → Option Known
 known_in i path = known_of (known_at i.definitions path)
 
--- the package of a path, of which this is known, has the same name and the same interface as it has there
+-- the known export data gives the package the name and the export data that the table has for its path
 pub record IsKnownAlike (known : Option Interface) (all : Interfaces) (path : List ℕ) : Type 0 where
   pub name : known_name known ≡ name_in all path
   pub interface : interface_known path known ≡ interface_in all path

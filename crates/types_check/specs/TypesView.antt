@@ -1,4 +1,4 @@
--- What is found where the files of a package are judged.
+-- The results of checking the types of a package's files.
 use Rattle.std.specs.Prelude.{ℕ, ◌≡◌, List, Some, slice_get, Contains}
 use Rattle.base_files.specs.declared.fault_kind.FaultKind.TheVariants as kind
 use Rattle.types_declared.specs.declared.fault.Fault.{Fault}
@@ -10,7 +10,7 @@ use Rattle.types_declared.specs.Package.{Package}
 use Rattle.types_info.specs.Worlds.{IsWorldOf, is_init}
 use Rattle.types_check.specs.Faults.{IsTypeFault}
 
--- what is found in a file
+-- c is the result of checking this file in its world
 pub record IsChecked (p : Package) (file : ℕ) (c : Checked) : Type 0 where
   pub source : SourceFile
   pub in_file : slice_get p.files file ≡ Some source
@@ -18,13 +18,13 @@ pub record IsChecked (p : Package) (file : ℕ) (c : Checked) : Type 0 where
   pub judged_by : IsWorldOf p file source world
   pub is : c ≡ check_file world (is_init source) source.tree
 
--- a fault of types at one of the tokens of a file
+-- f is a fault of type at one of the tokens of the file
 pub record IsAtToken (file : ℕ) (tokens : List ℕ) (f : Fault) : Type 0 where
   pub in_file : f.file ≡ file
   pub at : Contains tokens f.token
   pub kind : f.kind ≡ kind.«Type»
 
--- a fault of types in that file
+-- f is a fault of type in this file
 pub record IsTypeFaultIn (p : Package) (file : ℕ) (f : Fault) : Type 0 where
   pub in_file : f.file ≡ file
   pub fault : IsTypeFault p f

@@ -1,5 +1,4 @@
-//! The check of a package: all its faults, and where it has none, what other packages see of it, its uses of members and its qualified
-//! identifiers.
+//! Checks a package: finds all its faults, or where it has none, its export data, its uses of members and its qualified identifiers.
 ghost use Rattle.std.specs.Prelude.{ℕ, List, Option, None, ◌≡◌, map, IfOk};
 ghost use Rattle.std.specs.List.Sorted.{IsStrictlySortedBy};
 ghost use Rattle.types_declared.specs.contracts.fault.FaultOrd.TheImpl as order;
@@ -39,8 +38,8 @@ use types_info::{Bounds, Qualified, bounds_of, qualified_identifiers};
 use types_members::{Members, member_faults};
 use types_resolve::{inner_faults, outer_faults};
 
-/// What is found in a package: its faults by file and token; where it has none, its interface, for each file by its rank the uses
-/// of members, and the qualified identifiers.
+/// The finding of a package: its faults, sorted by file and token. Where it has none, also its export data, the uses of members in each
+/// file by rank, and the qualified identifiers.
 #[derive(Drop)]
 pub struct Checked {
     pub faults: Vec<Fault>,
@@ -50,7 +49,7 @@ pub struct Checked {
 }
 
 impl Checked {
-    /// What is found of a package that has faults.
+    /// The finding of a package with these faults.
     fn faulty(alloc: Global, faults: Vec<Fault>) -> Checked
         ensures faults { result.faults ≡ faults }
         ensures interface { result.interface ≡ None }
@@ -64,7 +63,7 @@ impl Checked {
     }
 }
 
-/// What is found in a package; and where it has no fault, what its declarations mean, to be used again.
+/// The finding of a package, and where it has no fault, the meanings of its declarations, for later use.
 #[derive(Drop)]
 pub struct CheckedPackage {
     pub checked: Checked,
@@ -72,7 +71,7 @@ pub struct CheckedPackage {
 }
 
 impl CheckedPackage {
-    /// What is found of a package that has faults.
+    /// The finding of a package with these faults.
     fn faulty(alloc: Global, faults: Vec<Fault>) -> CheckedPackage
         ensures faults { result.checked.faults ≡ faults }
         ensures interface { result.checked.interface ≡ None }
@@ -85,7 +84,7 @@ impl CheckedPackage {
     }
 }
 
-/// What is found in a package whose files were judged.
+/// Makes the finding of a package from the types' faults and the uses of members in its files.
 fn judged(
     alloc: Global,
     unit: Package<'_>,
@@ -120,7 +119,7 @@ fn judged(
     })
 }
 
-/// The last stage: the faults of types.
+/// Checks types, the last stage.
 fn check_types(
     alloc: Global,
     unit: Package<'_>,
@@ -139,7 +138,7 @@ fn check_types(
     judged(alloc, unit, index, bounds, definitions, typed)
 }
 
-/// The last stage, of a package of which the members are known.
+/// Checks types, the last stage, given the underlying types, fields and methods.
 fn check_definitions(
     alloc: Global,
     unit: Package<'_>,
@@ -156,7 +155,7 @@ fn check_definitions(
     check_types(alloc, unit, index, &broken, definitions)
 }
 
-/// The last two stages, of a package of which the members are known.
+/// Checks members and then types, the last two stages, given the underlying types, fields and methods.
 fn check_known(
     alloc: Global,
     unit: Package<'_>,
@@ -175,7 +174,7 @@ fn check_known(
     check_definitions(alloc, unit, index, members)
 }
 
-/// The last two stages: the faults of members, and without one those of types.
+/// Checks members and then types, the last two stages.
 fn check_members(
     alloc: Global,
     unit: Package<'_>,
@@ -189,7 +188,7 @@ fn check_members(
     check_known(alloc, unit, index, &members)
 }
 
-/// What is found in a package whose clauses and imports have no faults, by what is found once in it: the stages behind those.
+/// Checks scopes, members and types of a package whose clauses and imports have no faults, given its index.
 pub fn check_package(
     alloc: Global,
     unit: Package<'_>,
@@ -206,7 +205,7 @@ pub fn check_package(
     check_members(alloc, unit, index)
 }
 
-/// The table of a package in which each import without a name declares the name of the imported package.
+/// Returns the scope table of a package in which each import without a name declares the name of the imported package.
 fn laid<'a>(
     alloc: Global,
     files: &'a [FileTree],
@@ -218,8 +217,8 @@ fn laid<'a>(
     lay_names(alloc, &plain, files, interfaces)
 }
 
-/// The table of a package, if its clauses and imports have no faults: in it each import without a name declares the name of the
-/// imported package.
+/// Returns the scope table of a package in which each import without a name declares the name of the imported package; none where its
+/// clauses or imports have faults.
 pub fn table_of<'a>(
     alloc: Global,
     states: &ImportStates,
@@ -236,7 +235,7 @@ pub fn table_of<'a>(
     Ok(Some(table))
 }
 
-/// What is found in the package of a path whose clauses and imports have no faults.
+/// Checks a package whose clauses and imports have no faults, given its scope table.
 fn check_laid(
     alloc: Global,
     path: &SharedPath,
@@ -257,7 +256,7 @@ fn check_laid(
     Ok(checked)
 }
 
-/// What is found in the package of a path, where its files and what it sees last equally long.
+/// Checks the package at a path, stage by stage. Its files and the export data live equally long.
 fn check_files<'a>(
     alloc: Global,
     path: &SharedPath,
@@ -276,7 +275,7 @@ fn check_files<'a>(
     check_laid(alloc, path, files, &table, interfaces)
 }
 
-/// What is found in the package of a path. Its files are in the order of their paths.
+/// Checks the package at a path. Its files are in the order of their paths.
 pub fn check(
     alloc: Global,
     path: &SharedPath,
@@ -290,7 +289,7 @@ pub fn check(
     check_files(alloc, path, files, interfaces)
 }
 
-/// The package that is checked is determined by its path, its files and the interfaces of other packages.
+/// A path, files and the export data of other packages determine the package to check.
 pub fn packages_are_unique()
     ensures { (path : List ℕ) → (files : List FileParts) → (name_of : List ℕ → Option (List ℕ)) → (interface_of : List ℕ → Exported) → (p q : Plain) →
         IsPackageOf path files name_of interface_of p → IsPackageOf path files name_of interface_of q → p ≡ q }

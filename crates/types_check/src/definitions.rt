@@ -1,4 +1,4 @@
-//! The type definitions of a package as expressions are judged by them: underlying types, fields and methods.
+//! Builds the type definitions of a package, as expressions see them: underlying types, fields and methods.
 ghost use Rattle.std.specs.Prelude.{◌≡◌, ◌<◌, length, map, option_map, IfOk, OnOk};
 ghost use Rattle.types_expr.specs.View.{type_of};
 ghost use Rattle.types_expr.specs.WorldView.{definition_of, field_of as plain_field, method_of as plain_method, underlying_of};
@@ -22,7 +22,7 @@ use types_expr::world::{Definition, Field, Method, Underlying};
 use types_info::{signature, whole_type};
 use types_members::{FieldDef, Members, copy, own_struct};
 
-/// The underlying type of a definition. One that has none counts as a struct of its own.
+/// The underlying type of the definition of this rank; a struct of its own where none was found.
 fn underlying_or_struct(
     alloc: Global,
     unit: Package<'_>,
@@ -38,7 +38,7 @@ fn underlying_or_struct(
     }
 }
 
-/// A definition without members.
+/// The definition of this rank without fields and methods.
 fn bare_definition(
     alloc: Global,
     unit: Package<'_>,
@@ -56,7 +56,7 @@ fn bare_definition(
     })
 }
 
-/// The definitions of a package without members.
+/// The definitions of a package without fields and methods.
 fn bare_definitions(
     alloc: Global,
     unit: Package<'_>,
@@ -72,7 +72,7 @@ fn bare_definitions(
     Ok(found)
 }
 
-/// Sets a field of a definition.
+/// Sets the field of this name.
 fn insert_field(definition: &mut Definition, name: Vec<u8>, field: Field) -> Result<(), AllocError>
     ensures { OnOk result (SetsField (definition_of definition.old) (definition_of definition.new) name.items (plain_field field)) }
 {
@@ -80,7 +80,7 @@ fn insert_field(definition: &mut Definition, name: Vec<u8>, field: Field) -> Res
     Ok(())
 }
 
-/// Sets a field of a definition, by what is written.
+/// Sets the field of this rank, with its type.
 fn set_field(
     alloc: Global,
     unit: Package<'_>,
@@ -103,7 +103,7 @@ fn set_field(
     insert_field(definition, key, made)
 }
 
-/// A package, what is found once in it, and which of its definitions are broken.
+/// A package, its index, and the marks of its broken definitions.
 #[derive(Clone, Copy)]
 struct Laying<'a> {
     unit: Package<'a>,
@@ -111,7 +111,7 @@ struct Laying<'a> {
     broken: &'a [bool],
 }
 
-/// Adds a field to the definition that writes it, unless it has no type.
+/// Adds a field to its definition, unless its type expression is broken.
 fn add_field(
     alloc: Global,
     of: &Laying<'_>,
@@ -144,7 +144,7 @@ fn add_field(
     }
 }
 
-/// Adds the fields that count.
+/// Adds the fields that count to their definitions.
 fn add_fields(
     alloc: Global,
     of: &Laying<'_>,
@@ -167,7 +167,7 @@ fn add_fields(
     Ok(())
 }
 
-/// Whether a method is declared on a pointer.
+/// Whether a method's receiver type is a pointer.
 #[tactic(auto, unfolding(go_ast::specs::FileView::func_view, go_ast::specs::FileView::receiver_view))]
 fn is_on_pointer(function: Function<'_>) -> bool
     ensures { result ≡ received_by_pointer (function_of function.entry).function.receiver }
@@ -178,7 +178,7 @@ fn is_on_pointer(function: Function<'_>) -> bool
     }
 }
 
-/// Sets a method of a definition.
+/// Sets the method of this name.
 fn insert_method(
     definition: &mut Definition,
     name: Vec<u8>,
@@ -190,7 +190,7 @@ fn insert_method(
     Ok(())
 }
 
-/// Sets a method of a definition, by what is written.
+/// Sets the method of this rank, with its signature.
 #[tactic(auto, unfolding(go_ast::specs::FileView::func_view))]
 fn set_method(
     alloc: Global,
@@ -215,7 +215,7 @@ fn set_method(
     insert_method(definition, key, made)
 }
 
-/// Adds the methods that count.
+/// Adds the methods that count to their definitions.
 fn add_methods(
     alloc: Global,
     of: &Laying<'_>,
@@ -242,7 +242,7 @@ fn add_methods(
     Ok(())
 }
 
-/// The type definitions of a package, each at its rank, by what was found of their members.
+/// Builds the type definitions of a package, by rank, from its underlying types, fields and methods.
 pub fn definitions(
     alloc: Global,
     unit: Package<'_>,

@@ -1,4 +1,4 @@
-//! When type definitions are alike: their underlying types, fields and methods.
+//! Compares types and type definitions: underlying types, fields and methods.
 ghost use Rattle.std.specs.Prelude.{◌≡◌, ◌↔◌, IsTrue, map, option_map};
 ghost use Rattle.types_expr.specs.Types.{same_underlying};
 ghost use Rattle.types_expr.specs.View.{type_of, signature_of};
@@ -11,16 +11,20 @@ use types_expr::symbol::Symbol;
 use types_expr::types::{GoType, Signature};
 use types_expr::world::{Definition, Field, Method, Underlying};
 
+/// Fields by name.
 type FieldPairs = BTreeMap<Vec<u8>, Field>;
 
+/// Methods by name.
 type MethodPairs = BTreeMap<Vec<u8>, Method>;
 
+/// Whether two symbols are equal.
 fn is_same_symbol(one: &Symbol, other: &Symbol) -> bool
     ensures { IsTrue result ↔ (one.now ≡ other.now) }
 {
     one.same(other)
 }
 
+/// Whether two types are identical.
 pub(crate) fn is_same_type(one: &GoType, other: &GoType) -> bool
     ensures { IsTrue result ↔ (type_of one.now ≡ type_of other.now) }
 {
@@ -35,12 +39,14 @@ impl Alike for GoType {
     }
 }
 
+/// Whether two lists have identical types in the same order.
 fn are_same_types(one: &[GoType], other: &[GoType]) -> bool
     ensures { IsTrue result ↔ (map type_of one.now ≡ map type_of other.now) }
 {
     are_lists_alike(one, other)
 }
 
+/// Whether two signatures have identical parameter and result types.
 pub(crate) fn is_same_signature(one: &Signature, other: &Signature) -> bool
     ensures { IsTrue result ↔ (signature_of one.now ≡ signature_of other.now) }
 {
@@ -48,6 +54,7 @@ pub(crate) fn is_same_signature(one: &Signature, other: &Signature) -> bool
         && are_same_types(&one.results, &other.results)
 }
 
+/// Whether two underlying types are identical.
 #[tactic(auto, unfolding(types_expr::specs::WorldView::underlying_of, types_expr::specs::Types::same_underlying))]
 fn has_same_shape(one: &Underlying, other: &Underlying) -> bool
     ensures { result ≡ same_underlying (underlying_of one.now) (underlying_of other.now) }
@@ -61,12 +68,14 @@ fn has_same_shape(one: &Underlying, other: &Underlying) -> bool
     }
 }
 
+/// Whether two underlying types are identical.
 fn is_same_underlying(one: &Underlying, other: &Underlying) -> bool
     ensures { IsTrue result ↔ (underlying_of one.now ≡ underlying_of other.now) }
 {
     has_same_shape(one, other)
 }
 
+/// Whether two optional signatures are identical, or both none.
 fn is_same_result(one: &Option<Signature>, other: &Option<Signature>) -> bool
     ensures { IsTrue result ↔ (option_map signature_of one.now ≡ option_map signature_of other.now) }
 {
@@ -98,12 +107,14 @@ impl Alike for Method {
     }
 }
 
+/// Whether two maps have identical fields under the same names.
 fn are_same_fields(one: &FieldPairs, other: &FieldPairs) -> bool
     ensures { IsTrue result ↔ (map (entry_value field_of) one.now.entries ≡ map (entry_value field_of) other.now.entries) }
 {
     are_maps_alike(one, other)
 }
 
+/// Whether two maps have identical methods under the same names.
 fn are_same_methods(one: &MethodPairs, other: &MethodPairs) -> bool
     ensures { IsTrue result ↔ (map (entry_value method_of) one.now.entries ≡ map (entry_value method_of) other.now.entries) }
 {
@@ -120,7 +131,7 @@ impl Alike for Definition {
     }
 }
 
-/// Whether the same type definitions are known.
+/// Whether two lists of type definitions are equal, value by value.
 pub(crate) fn are_definitions_alike(one: &[Definition], other: &[Definition]) -> bool
     ensures { IsTrue result ↔ (map known_definition one.now ≡ map known_definition other.now) }
 {

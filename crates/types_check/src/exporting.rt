@@ -1,4 +1,4 @@
-//! The interface of a package: what other packages see of it.
+//! Builds the export data of a package.
 ghost use Rattle.std.specs.Prelude.{◌≡◌, ◌+◌, ◌<◌, ◌↔◌, None, length, map, slice_index_or, option_copied, option_map, IsTrue, IfOk, OnOk};
 ghost use Rattle.go_ast.specs.SourceFile.{source_of};
 ghost use Rattle.go_scope.specs.Bindings.{Counts};
@@ -21,7 +21,7 @@ use types_declared::{Export, ExportMeaning, Interface, Package, PackageScope, is
 use types_expr::world::{Bound, Definition};
 use types_info::{Bounds, copy_signature, one_meaning};
 
-/// What a declaration of the package's block is in other packages, by what it means.
+/// The meaning of an export whose declaration has this meaning; none where it is no package-level variable, type or function.
 #[tactic(auto, unfolding(types_expr::specs::WorldView::bound_of, types_declared::specs::InterfacesView::meaning_of))]
 fn global_meaning(alloc: Global, bound: &Bound) -> Result<Option<ExportMeaning>, AllocError>
     ensures { IfOk result (λ m. IsGlobalFound (bound_of bound.now) (option_map meaning_of m)) }
@@ -41,7 +41,7 @@ fn global_meaning(alloc: Global, bound: &Bound) -> Result<Option<ExportMeaning>,
     }
 }
 
-/// What a declaration means.
+/// The meaning of the declaration `d`; none where it has none.
 fn meant(bounds: &Bounds, d: usize) -> Option<&Bound>
     ensures { option_copied result ≡ bound_at bounds.now.list.items (slice_index_or bounds.now.of.items d None) }
 {
@@ -49,7 +49,7 @@ fn meant(bounds: &Bounds, d: usize) -> Option<&Bound>
     bounds.list().get(place)
 }
 
-/// Whether a declaration counts.
+/// Whether `d` declares a name, and is the first of its block to do so.
 fn counts(table: &ScopeTable<'_>, d: usize) -> bool
     requires { d < length table.now.sites }
     ensures { IsTrue result ↔ Counts (layout_in table.now) (names_in table.now) d }
@@ -58,7 +58,7 @@ fn counts(table: &ScopeTable<'_>, d: usize) -> bool
     table.declares(d) && table.binding(d).is_some()
 }
 
-/// Whether a declaration is seen in other packages.
+/// Whether the package exports the declaration `d`.
 pub fn is_seen(unit: Package<'_>, d: usize) -> bool
     requires { d < length unit.table.now.sites }
     ensures { IsTrue result ↔ IsSeen (package_of unit.entry) d }
@@ -68,7 +68,7 @@ pub fn is_seen(unit: Package<'_>, d: usize) -> bool
         && is_exported(unit.table.name(d))
 }
 
-/// What a declaration that is seen in other packages is there, by what it means.
+/// The export of the exported declaration `d` with this meaning; none where its type is broken.
 fn export_by(
     alloc: Global,
     unit: Package<'_>,
@@ -86,7 +86,7 @@ fn export_by(
     }
 }
 
-/// What a declaration is in other packages.
+/// The export of the declaration `d`; none where the package doesn't export it or its type is broken.
 fn export(
     alloc: Global,
     unit: Package<'_>,
@@ -107,7 +107,7 @@ fn export(
     }
 }
 
-/// Adds what a declaration is in other packages.
+/// Adds the export of the declaration `d`, if there is one.
 fn add_export(
     alloc: Global,
     unit: Package<'_>,
@@ -130,7 +130,7 @@ fn add_export(
     }
 }
 
-/// What a package exports, by name.
+/// Returns the exports of a package, by name.
 fn exports(
     alloc: Global,
     unit: Package<'_>,
@@ -147,7 +147,7 @@ fn exports(
     Ok(found)
 }
 
-/// The name in the clause of a package's first file.
+/// The name in the package clause of a package's first file; empty where it has no file.
 #[tactic(auto, unfolding(go_ast::specs::FileView::file_view))]
 fn package_name(alloc: Global, unit: Package<'_>) -> Result<Vec<u8>, AllocError>
     ensures { IfOk result (λ name. name.items ≡ package_name (map source_of unit.entry.files.now)) }
@@ -158,7 +158,7 @@ fn package_name(alloc: Global, unit: Package<'_>) -> Result<Vec<u8>, AllocError>
     }
 }
 
-/// What other packages see of a package, by what its declarations mean and its type definitions.
+/// Builds the export data of a package from the meanings of its declarations and its type definitions.
 pub fn interface(
     alloc: Global,
     unit: Package<'_>,
@@ -178,7 +178,7 @@ pub fn interface(
     })
 }
 
-/// A package exports one thing under a name at most.
+/// A package has at most one export under a name.
 pub fn exports_once(unit: Package<'_>)
     ensures { IsExportedOnce (package_of unit.entry) }
 {

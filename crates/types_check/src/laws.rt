@@ -1,4 +1,4 @@
-//! The laws of what Types name.
+//! Laws of type expressions and underlying types: each is unique.
 ghost use Rattle.std.specs.Prelude.{◌≡◌, ℕ};
 ghost use Rattle.go_scope.specs.WellFormed.{WellFormed};
 ghost use Rattle.go_ast.specs.Tree.{TypeTree};
@@ -7,7 +7,7 @@ ghost use Rattle.types_declared.specs.Package.{Package};
 ghost use Rattle.types_declared.specs.Written.{Names};
 ghost use Rattle.types_declared.specs.Definitions.{HasUnderlying};
 
-/// A Type names at most one type.
+/// A type expression names at most one type.
 pub fn types_are_named_once()
     ensures { (p : Package) → WellFormed p.layout → (file : ℕ) (tree : TypeTree) (t u : PlainType) → Names p file tree t → Names p file tree u → t ≡ u }
 {}

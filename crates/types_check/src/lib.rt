@@ -1,4 +1,4 @@
-//! The check of a package: its faults of types, and what other packages see of it; and whether the same is seen of two.
+//! Checks a package stage by stage, builds its export data, and compares export data.
 #![tactic(auto)]
 
 mod alike;

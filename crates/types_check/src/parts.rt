@@ -1,21 +1,21 @@
-//! When lists and maps have the same parts: by their order, and by their names.
+//! Compares lists by their items and maps by their names and values.
 ghost use Rattle.std.specs.Prelude.{◌≡◌, ◌↔◌, IsTrue};
 ghost use Rattle.std.specs.List.{AllZip};
 ghost use Rattle.types_check.specs.Alike.{AreNamedAlike};
 
 use std::collections::BTreeMap;
 
-/// Can be compared by what is seen of it.
+/// A value that can be compared with another one for equality.
 pub(crate) trait Alike {
-    /// When the same is seen of both.
+    /// The two values are equal, as the definitions see them.
     ghost alike: { Self → Self → Type 0 };
 
-    /// Whether the same is seen of both.
+    /// Whether two values are equal, as the definitions see them.
     fn is_like(&self, other: &Self) -> bool
         ensures { IsTrue result ↔ alike self.now other.now };
 }
 
-/// Whether two lists are alike, place by place.
+/// Whether two lists have equal items at equal indexes.
 pub(crate) fn are_lists_alike<T: Alike>(one: &[T], other: &[T]) -> bool
     ensures { IsTrue result ↔ AllZip T.alike one.now other.now }
 {
@@ -30,13 +30,14 @@ pub(crate) fn are_lists_alike<T: Alike>(one: &[T], other: &[T]) -> bool
     true
 }
 
+/// Whether two names are equal.
 pub(crate) fn is_same_name(one: &[u8], other: &[u8]) -> bool
     ensures { IsTrue result ↔ (one.now ≡ other.now) }
 {
     one == other
 }
 
-/// Whether two maps have the same names, with values that are alike.
+/// Whether two maps have the same names with equal values.
 pub(crate) fn are_maps_alike<T: Alike>(
     one: &BTreeMap<Vec<u8>, T>,
     other: &BTreeMap<Vec<u8>, T>,

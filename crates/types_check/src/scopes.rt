@@ -1,4 +1,4 @@
-//! When the scopes of packages are alike: their names, and what they export.
+//! Compares the names and the exports of packages.
 ghost use Rattle.std.specs.Prelude.{◌≡◌, ◌↔◌, IsTrue, map};
 ghost use Rattle.types_declared.specs.InterfacesView.{meaning_of, export_of};
 ghost use Rattle.types_check.specs.Known.{entry_value, known_scope};
@@ -8,6 +8,7 @@ use crate::parts::{Alike, are_maps_alike, is_same_name};
 use std::collections::BTreeMap;
 use types_declared::{Export, ExportMeaning, PackageScope};
 
+/// Whether two exports have the same meaning.
 #[tactic(auto, unfolding(types_declared::specs::InterfacesView::meaning_of))]
 fn is_same_meaning(one: &ExportMeaning, other: &ExportMeaning) -> bool
     ensures { IsTrue result ↔ (meaning_of one.now ≡ meaning_of other.now) }
@@ -30,13 +31,14 @@ impl Alike for Export {
     }
 }
 
+/// Whether two maps have the same exports under the same names.
 fn are_same_exports(one: &BTreeMap<Vec<u8>, Export>, other: &BTreeMap<Vec<u8>, Export>) -> bool
     ensures { IsTrue result ↔ (map (entry_value export_of) one.now.entries ≡ map (entry_value export_of) other.now.entries) }
 {
     are_maps_alike(one, other)
 }
 
-/// Whether the same name and the same exported names are known.
+/// Whether two packages have the same name and the same exports.
 pub(crate) fn are_scopes_alike(one: &PackageScope, other: &PackageScope) -> bool
     ensures { IsTrue result ↔ (known_scope one.now ≡ known_scope other.now) }
 {

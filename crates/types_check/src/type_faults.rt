@@ -1,4 +1,4 @@
-//! The faults of types of a package, and the member uses of its files.
+//! Finds the faults of types in a package's files, and their uses of members.
 ghost use Rattle.std.specs.Prelude.{◌<◌, length, map, IfOk, OnOk};
 ghost use Rattle.std.specs.List.Sorted.{IsStrictlySortedBy};
 ghost use Rattle.types_declared.specs.contracts.fault.FaultOrd.TheImpl as order;
@@ -22,14 +22,14 @@ use types_expr::world::{Bound, Definition, Name};
 use types_info::{Bounds, file_names, one_world};
 use types_stmt::{CheckedBody, check_file};
 
-/// What is found where a package's files are judged: its faults of types, and the member uses of each file, by its rank.
+/// The result of checking the types of a package's files: the faults, and the uses of members of each file by rank.
 #[derive(Drop)]
 pub struct Typed {
     pub faults: Vec<Fault>,
     pub members: Vec<Vec<MemberUse>>,
 }
 
-/// Adds faults of types at some tokens of a file.
+/// Adds a fault of type at each of the tokens.
 fn add_tokens(found: &mut Vec<Fault>, file: usize, tokens: &[usize]) -> Result<(), AllocError>
     ensures { OnOk result (Adds found.old.items found.new.items (IsAtToken file tokens.now)) }
 {
@@ -44,7 +44,7 @@ fn add_tokens(found: &mut Vec<Fault>, file: usize, tokens: &[usize]) -> Result<(
     Ok(())
 }
 
-/// What is found in a file, by its names and what they mean.
+/// Checks the types of one file, given its names and their meanings.
 fn check_names<'w>(
     alloc: Global,
     unit: Package<'w>,
@@ -64,7 +64,7 @@ fn check_names<'w>(
     check_file(alloc, &world, tree)
 }
 
-/// A package, what is found once in it, and its definitions.
+/// A package, its index, and its type definitions.
 #[derive(Clone, Copy)]
 struct Judging<'a> {
     unit: Package<'a>,
@@ -72,7 +72,7 @@ struct Judging<'a> {
     definitions: &'a [Definition],
 }
 
-/// What is found in a file.
+/// Checks the types of one file.
 fn check_source(
     alloc: Global,
     of: &Judging<'_>,
@@ -91,7 +91,7 @@ fn check_source(
 }
 
 impl Typed {
-    /// Adds what is found in a file.
+    /// Adds the faults and the uses of members of one file.
     fn add(&mut self, file: usize, checked: CheckedBody) -> Result<(), AllocError>
         ensures faults { OnOk result (Adds self.old.faults.items self.new.faults.items (IsAtToken file checked.found.faults.items)) }
         ensures members { OnOk result (AddsUses self.old.members.items self.new.members.items (uses_in checked.found.uses)) }
@@ -104,7 +104,7 @@ impl Typed {
     }
 }
 
-/// Adds the faults of types of a file, and its member uses.
+/// Checks the types of one file, and adds its faults and its uses of members.
 fn add_file(
     alloc: Global,
     of: &Judging<'_>,
@@ -125,8 +125,8 @@ fn add_file(
     typed.add(file, checked)
 }
 
-/// The faults of types of a package, by file and token, and the member uses of its files. What other packages export is added
-/// to the list of meanings.
+/// Checks the types of a package's files. The faults are sorted by file and token. The meanings of qualified identifiers are appended to
+/// `bounds`.
 pub fn type_faults(
     alloc: Global,
     unit: Package<'_>,

@@ -1,4 +1,4 @@
-//! What a file of a package is judged by.
+//! Makes the world that a file is checked in: the meanings of its names, and the type definitions.
 ghost use Rattle.std.specs.Prelude.{◌≡◌, Some, slice_get};
 ghost use Rattle.go_ast.specs.SourceFile.{SourceFile};
 ghost use Rattle.types_expr.specs.WorldView.{world_of};
@@ -11,7 +11,7 @@ ghost use Rattle.types_declared.specs.PackageView.{package_of};
 use types_declared::Package;
 use types_expr::world::{Bound, Definition, Name, World};
 
-/// What a file is judged by.
+/// The world that a file is checked in.
 pub fn file_world<'w>(
     unit: Package<'w>,
     names: &'w [Name<'w>],

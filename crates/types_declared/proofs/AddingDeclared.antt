@@ -1,4 +1,4 @@
--- What a package declares, added one part after the other.
+-- Lists of declarations while files are added one by one.
 use Rattle.std.proofs.Common.{ℕ, ◌≡◌, ◌+◌, ◌<◌, List, [], length, take, get_or, subst, ◌∙◌, sym}
 use Rattle.std.specs.Prelude.{map}
 use Rattle.std.specs.List.{flat_map, enumerate_from}
@@ -42,7 +42,7 @@ adds_all a b f g h zs i e k = record {
   adds_functions = appends_all function_of a.functions.items b.functions.items h zs i e k.adds_functions;
 }
 
--- what the file of a rank adds
+-- the declarations of the file of a rank are added
 pub adds_file : {V Y : Type 0} (a b c : Declared) (v : V → Y) (f : ℕ × Y → List PlacedVariable) (g : ℕ × Y → List PlacedType)
     (h : ℕ × Y → List PlacedFunction) (vs : List V) (i : ℕ) (x : V) →
     i < length vs → x ≡ get_or vs i x →

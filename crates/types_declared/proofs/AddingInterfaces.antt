@@ -1,4 +1,4 @@
--- What is known of packages when it is set for one.
+-- The table of export data while entries are set.
 use Rattle.std.proofs.Common.{ℕ, ◌≡◌, List, [], ◌∷◌, ◌++◌, None, refl, sym, ap, subst, ◌∙◌}
 use Rattle.std.specs.Prelude.{Option, Some}
 use Rattle.std.specs.Option.{option_flatten}
@@ -19,11 +19,11 @@ use Rattle.types_declared.specs.InterfacesView.{IsBehindAll, EndsAt}
 abbrev known : List ℕ → List (List ℕ × Option (Arc Interface Global)) → Option Interface
 known path es = shared_interface (option_flatten (find path_cmp path es))
 
--- where nothing is held, nothing is known
+-- a table without entries knows no package
 pub nothing_known : (i : Interfaces) → i.definitions.packages ≡ [] → (path : List ℕ) → interface_in i path ≡ no_interface path
 nothing_known i none path = ap (λ es. interface_known path (known path es)) none
 
--- where the same is held of a package, the same is known
+-- two tables with equal entries for a path have the same name and export data for it
 pub same_known : (old new : Interfaces) (path : List ℕ) → known_at new.definitions path ≡ known_at old.definitions path → new.states ≡ old.states →
     KnowsSame old new path
 same_known old new path same states = record {
@@ -32,7 +32,7 @@ same_known old new path same states = record {
   state = ap (λ s. state_in s path) states;
 }
 
--- what is known of a package is set
+-- setting an entry of the map sets what the table knows of the path
 pub is_set : (old new : Interfaces) (path : List ℕ) (held : Option (Arc Interface Global)) →
     new.definitions.packages ≡ put path_cmp path held old.definitions.packages → new.states ≡ old.states → SetsKnown old new path (shared_interface held)
 is_set old new path held set noted =
@@ -47,13 +47,13 @@ is_set old new path held set noted =
           (ap (known p) set ∙ ap (λ o. shared_interface (option_flatten o)) (others_put path held es p ne)) noted;
     }
 
--- Behind all that are held
+-- Paths after all paths of a table
 
--- where nothing is held, each path stands behind all
+-- in an empty table each path comes after all
 pub behind_none : (i : Interfaces) → i.definitions.packages ≡ [] → (path : List ℕ) → IsBehindAll i path
 behind_none i none path = subst (StandsBehind path) (sym none) tt
 
--- what is added behind all is set
+-- an entry appended after all others is set
 pub is_pushed : (old new : Interfaces) (path : List ℕ) (held : Option (Arc Interface Global)) → IsBehindAll old path →
     new.definitions.packages ≡ old.definitions.packages ++ (path, held) ∷ [] → new.states ≡ old.states → SetsKnown old new path (shared_interface held)
 is_pushed old new path held behind pushed noted =
@@ -64,11 +64,11 @@ pub ends_pushed : (old new : Interfaces) (path : List ℕ) (held : Option (Arc I
 ends_pushed old new path held behind pushed p above =
     subst (StandsBehind p) (sym pushed) (behind_pushed p path held old.definitions.packages above behind)
 
--- a path behind one that stands behind all does too
+-- a path after one that comes after all paths of a table comes after all, too
 pub ends_behind : (i : Interfaces) (path : List ℕ) → IsBehindAll i path → EndsAt i path
 ends_behind i path behind p above = behind_all p path i.definitions.packages above behind
 
--- of a path behind all nothing is known, as others know nothing of one that they don't hold
+-- a path that neither table has is unknown in both
 pub none_shared : (others i : Interfaces) (path : List ℕ) → IsBehindAll i path → find path_cmp path others.definitions.packages ≡ None →
     Shares others i i path
 none_shared others i path behind none =
@@ -81,7 +81,7 @@ none_shared others i path behind none =
       elsewhere = λ p ne. same_known i i p refl refl;
     }
 
--- an entry of others is added behind all
+-- an entry of the other table is appended
 pub entry_shared : (others old new : Interfaces) (path : List ℕ) (held : Option (Arc Interface Global)) →
     find path_cmp path others.definitions.packages ≡ Some held → SetsKnown old new path (shared_interface held) → Shares others old new path
 entry_shared others old new path held there set =

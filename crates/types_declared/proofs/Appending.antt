@@ -1,4 +1,4 @@
--- Lists that grow at their end, one step after the other.
+-- Lists that grow at their end, step by step.
 use Rattle.std.proofs.Common.{ℕ, suc, ◌≡◌, ◌+◌, ◌<◌, List, [], ◌∷◌, ◌++◌, length, take, get_or, ap, subst, sym, ◌∙◌, append_assoc, append-nil, arith}
 use Rattle.std.specs.Prelude.{map, Result, OnOk}
 use Rattle.std.specs.List.{flat_map, enumerate_from}
@@ -19,11 +19,11 @@ appends_as f a b xs ys h e = record { added = h.added ∙ ap (λ z. map f a ++ z
 appends_then : {X Y : Type 0} (f : X → Y) (a b c : List X) (xs ys : List Y) → Appends f a b xs → Appends f b c ys → Appends f a c (xs ++ ys)
 appends_then f a b c xs ys h k = record { added = k.added ∙ ap (λ z. z ++ ys) h.added ∙ append_assoc (map f a) xs ys }
 
--- an item that is pushed
+-- one item is pushed
 pub appends_one : {X Y : Type 0} (f : X → Y) (a b : List X) (x : X) → b ≡ a ++ (x ∷ []) → Appends f a b (f x ∷ [])
 appends_one f a b x e = record { added = ap (map f) e ∙ map-append f a (x ∷ []) }
 
--- what is added for the items of a list, as far as a loop has come
+-- The values appended for the items of a list before a loop's index
 
 parts_take : {X Y : Type 0} (g : X → List Y) (xs : List X) (i : ℕ) (x : X) → i < length xs →
     flat_map g (take i xs) ++ g (get_or xs i x) ≡ flat_map g (take (i + 1) xs)
@@ -42,7 +42,7 @@ appends_step f a b c g zs i d lt h k =
     (appends_then f a b c (flat_map g (take i zs)) (g (get_or zs i d)) h k)
     (parts_take g zs i d lt)
 
--- the item that was read
+-- the loop appends for the item at its index
 pub appends_next : {X Y Z : Type 0} (f : X → Y) (a b c : List X) (g : Z → List Y) (zs : List Z) (i : ℕ) (z : Z) → i < length zs → z ≡ get_or zs i z →
     Appends f a b (flat_map g (take i zs)) → Appends f b c (g z) → Appends f a c (flat_map g (take (i + 1) zs))
 appends_next f a b c g zs i z lt e h k = appends_step f a b c g zs i z lt h (subst (λ y. Appends f b c (g y)) e k)
@@ -51,12 +51,12 @@ pub appends_all : {X Y Z : Type 0} (f : X → Y) (a b : List X) (g : Z → List 
     Appends f a b (flat_map g (take i zs)) → Appends f a b (flat_map g zs)
 appends_all f a b g zs i e h = appends_as f a b (flat_map g (take i zs)) (flat_map g zs) h (parts_all g zs i e)
 
--- a call that adds the same under another name
+-- a call appends equal values
 pub call_appends : {E X Y : Type 0} (f : X → Y) (a b : List X) (xs ys : List Y) (r : Result (Unit {0}) E) → OnOk r (Appends f a b xs) → xs ≡ ys →
     OnOk r (Appends f a b ys)
 call_appends f a b xs ys r k e = on_ok_weaker r (λ q. appends_as f a b xs ys q e) k
 
--- files by their ranks, as a loop has come to them
+-- Files with their ranks, before a loop's index
 
 pub next_ranked : {V Y : Type 0} (v : V → Y) (vs : List V) (i : ℕ) (x : V) → i < length vs → x ≡ get_or vs i x →
     (i, v x) ≡ get_or (enumerate_from 0 (map v vs)) i (i, v x)
@@ -68,6 +68,6 @@ next_ranked v vs i x lt e =
 pub short_ranked : {V Y : Type 0} (v : V → Y) (vs : List V) → length (enumerate_from 0 (map v vs)) ≡ length vs
 short_ranked v vs = length-enumerate_from 0 (map v vs) ∙ length-map vs v
 
--- what was added to none
+-- appended to an empty list
 pub from_none : {X Y : Type 0} (f : X → Y) (a b : List X) (xs : List Y) → a ≡ [] → Appends f a b xs → map f b ≡ xs
 from_none f a b xs e h = h.added ∙ ap (λ z. map f z ++ xs) e

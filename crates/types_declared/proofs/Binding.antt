@@ -1,4 +1,4 @@
--- What the identifier at a token is bound to, from its parts.
+-- The declaration to which the identifier at a token is bound, step by step.
 use Rattle.std.proofs.Common.{ℕ, ◌≡◌, ◌<◌, inl, inr, List, length, ap, sym, subst, ◌∙◌, true, MatchOption}
 use Rattle.std.specs.Prelude.{Option, Some, None}
 use Rattle.std.proofs.lemmas.Bool.{cases_lt, cases_order, true≢false}
@@ -16,7 +16,7 @@ one_first P n u v h k = elim (cases_order u v) [
   | inr o ↦ elim o [ inl less ↦ absurd (k.first u less h.holds) | inr more ↦ absurd (h.first v more k.holds) ]
 ]
 
--- at a token without an identifier
+-- a token without an identifier is bound to no declaration
 pub bound_nowhere : (p : Package) (file token : ℕ) (o : Option ℕ) → o ≡ None →
     IsFirstBelow (StandsAt p.layout (record { file = file; index = token })) p.size o →
     (d : ℕ) → BindsToken p file token d → ⊥
@@ -25,7 +25,7 @@ bound_nowhere p file token o e h d b =
     subst (IsFirstBelow (StandsAt p.layout (record { file = file; index = token })) p.size) e h in
     none b.identifier b.found.within b.found.holds
 
--- the identifier that was found
+-- the binding of the identifier found at a token
 pub found_at : (p : Package) (file token u : ℕ) (o : Option ℕ) → o ≡ Some u →
     IsFirstBelow (StandsAt p.layout (record { file = file; index = token })) p.size o →
     IsFoundAt p.layout p.size (record { file = file; index = token }) u
@@ -50,7 +50,7 @@ pub only_by : (p : Package) (file token u : ℕ) (o : Option ℕ) → IsFoundAt 
 only_by p file token u None found one h = tt
 only_by p file token u (Some d) found one h = λ e b. one e d (same_bound p file token u e found b) h
 
--- what an identifier is bound to is one of the table's
+-- the declaration to which an identifier is bound is one of the table
 declared_within : (sites : List Site) (d : ℕ) → may_declare ((sites_layout sites).role d) ≡ true → d < length sites
 declared_within sites d may = elim (cases_lt d (length sites)) [
   | inl below ↦ below

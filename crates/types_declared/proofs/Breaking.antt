@@ -1,4 +1,4 @@
--- Broken definitions: what is reached from the Types that name nothing, along what definitions mention.
+-- Broken definitions are those reached along links from type expressions that name no type.
 use Rattle.std.proofs.Common.{ℕ, zero, suc, ◌≡◌, ◌+◌, ◌<◌, ◌≤◌, ◌⊎◌, inl, inr, Bool, true, false, List, [], ◌∷◌, ◌++◌, length, get_or, ap, sym, subst, refl}
 use Rattle.std.proofs.Common.{◌∙◌, arith}
 use Rattle.std.specs.Prelude.{Option, Some, None, slice_get, map, Contains, ◌↔◌}
@@ -15,7 +15,7 @@ use Rattle.types_declared.specs.Spread.{Leads, IsMarked, IsReached, first, behin
 use Rattle.types_declared.specs.Broken.{IsTarget, nothing, definition, IsTargetOfSome, IsTargetIn, AreMentions, AreBroken, AddsLinks}
 use Rattle.types_declared.proofs.Mentioning.{mention_within}
 
--- the definition of a rank
+-- The definition of a rank
 
 type_or : PlacedType → Option PlacedType → PlacedType
 type_or d None = d
@@ -45,7 +45,7 @@ target_of p rank a d e t =
 pub definition_count : (p : Package) (items : List TypeDef) → map type_of items ≡ package_types p → length items ≡ length (package_types p)
 definition_count p items e = sym (length-map items type_of) ∙ ap length e
 
--- what the definitions below a rank mention
+-- the links lead exactly from each target to the definitions below count that contain a type expression with this target
 pub record MentionsBelow (p : Package) (links : List (Vec ℕ)) (count : ℕ) : Type 0 where
   pub size : length links ≡ suc (length (package_types p))
   pub holds : (a b : ℕ) → b < count → IsTargetIn p b a → Leads links a b
@@ -81,7 +81,7 @@ all_mentions p links count e h = record {
 pub are_linked : (p : Package) (links : List (Vec ℕ)) → AreMentions p links → AreLinked links
 are_linked p links m a b l = let lt : b < length (package_types p) = written_within p b a (m.only a b l) in omega (arith, m.size)
 
--- where it begins
+-- The numbers from which the search begins
 
 begins_at : (n : ℕ) (begins : List Bool) → begins ≡ replicate n false ++ (true ∷ []) → IsMarked begins n
 begins_at n begins e = ap (λ bs. get_or bs n false) e ∙ get_or_push (replicate n false) true false n (length-replicate n false)
@@ -101,7 +101,7 @@ begins_only n begins q e m = elim (cases_eq q n) [
   ]
 ]
 
--- what is reached is broken, and what is broken is reached
+-- A definition is reached exactly where it is broken
 
 broken_behind : (p : Package) (b : ℕ) (file a : ℕ) (tree : _) → IsWrittenIn p b file tree → IsTarget p file tree a → (a ≡ length (package_types p)) ⊎
     IsBroken p a → IsBroken p b
@@ -137,7 +137,7 @@ are_broken p links begins marks n e m is size h = record {
   );
 }
 
--- an empty row links nothing
+-- An empty row adds no link
 
 no_item : (b : ℕ) → Contains [] b → ⊥
 no_item b c = let lt : c.0 < 0 = c.1 in absurd (omega arith)

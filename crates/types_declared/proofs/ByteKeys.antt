@@ -1,4 +1,4 @@
--- Maps with keys of bytes, looked up by any bytes.
+-- Maps whose keys are lists of bytes, looked up by any list of bytes.
 use Rattle.std.proofs.Common.{ℕ, ◌≡◌, ◌⊎◌, inl, inr, true, Ordering, List, ap, sym, ◌∙◌}
 use Rattle.std.specs.Prelude.{Option}
 use Rattle.std.specs.Global.{Vec}
@@ -35,14 +35,14 @@ apart path other ne k e = elim (cases_Bool (is_at (finds path) k)) [
   | inr missed ↦ missed
 ]
 
--- where what bytes find is set, other bytes find what they found
+-- setting the entry of some bytes keeps the entries of all other bytes
 pub others_found : {X : Type 0} (old new : BTreeMap (Vec ℕ) X) (path : List ℕ) (w : Option X) → UpdatesBy key_cmp (finds path) old new w →
     (other : List ℕ) → (other ≡ path → ⊥) →
     get_by (finds other) new ≡ get_by (finds other) old
 unfolding KeepsOthers
 others_found old new path w u other ne = u.3 (is_at (finds other)) (finds_one other) (apart other path ne)
 
--- the same, at a key
+-- setting the entry of a key keeps the entries of all other bytes
 pub others_stay : {X : Type 0} (old new : BTreeMap (Vec ℕ) X) (key : Vec ℕ) (w : Option X) → Updates key_cmp old new key w → (path : List ℕ) →
     (path ≡ key.items → ⊥) →
     get_by (finds path) new ≡ get_by (finds path) old

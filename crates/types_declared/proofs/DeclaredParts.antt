@@ -1,4 +1,4 @@
--- What is declared, by the parts that the program goes over.
+-- The declarations of files, part by part as the program goes over them.
 use Rattle.std.proofs.Common.{ℕ, ◌≡◌, List, [], ◌∷◌, ◌++◌, ap, sym, ◌∙◌, refl}
 use Rattle.std.specs.Prelude.{map}
 use Rattle.std.specs.List.{flat_map}
@@ -42,7 +42,7 @@ items_from : {X Y Z : Type 0} (f : Y → List Z) (v : X → Y) (xs : List (Item 
 items_from f v [] = refl
 items_from f v (x ∷ xs) = ap (λ z. f (v x.value) ++ z) (items_from f v xs)
 
--- what is in the parentheses of a group
+-- the specifications in parentheses
 pub several_from : {X Y Z : Type 0} (f : Y → List Z) (v : X → Y) (g : Group X) (o : ℕ) (items : _) (c : ℕ) (xs : List (Item X)) →
     g ≡ group.Several o items c → xs ≡ items.items →
     flat_map (λ x. f (v x.value)) xs ≡ flat_map f (group_items (group_view v g))
@@ -56,7 +56,7 @@ types_from file g o items c xs eg ex =
     several_from (λ t. placed_type file t ∷ []) type_spec_view g o items c xs eg ex ∙
     flat_map_single (placed_type file) (group_items (group_view type_spec_view g))
 
--- what the declarations of a file declare
+-- the declarations of a file, from its top-level declarations
 pub decls_from : {Z : Type 0} (f : DeclTree → List Z) (tree : File) (ds : List Decl) (file : FileParts) → tree ≡ file.file → ds ≡ tree.decls.items →
     flat_map (λ d. f (decl_view d)) ds ≡ flat_map f (source_of file).tree.decls
 unfolding file_view

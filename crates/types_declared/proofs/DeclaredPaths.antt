@@ -1,4 +1,4 @@
--- The paths of imports, by their parts.
+-- The paths of imports, step by step.
 use Rattle.std.proofs.Common.{ℕ, ◌≡◌, ◌+◌, ◌<◌, inl, inr, zero, suc, List, [], ◌∷◌, ◌++◌, length, ap, sym, subst, refl, ◌∙◌, arith, MatchOption, length-append}
 use Rattle.std.specs.Prelude.{Option, Some, None, slice_get}
 use Rattle.std.specs.Global.{Vec}
@@ -19,7 +19,7 @@ pub path_of_import : (p : Package) (d : ℕ) (o : Option (Vec ℕ)) → IsImport
 path_of_import p d None is h = λ v path. h v path.of_path
 path_of_import p d (Some v) is h = record { is_import = is; of_path = h }
 
--- what is found where one more is pushed
+-- The list of paths after one more is pushed
 
 pub get_before : {X : Type 0} (xs : List X) (x : X) (k : ℕ) → k < length xs → slice_get (xs ++ (x ∷ [])) k ≡ slice_get xs k
 get_before [] x k lt = absurd (omega arith)

@@ -1,4 +1,4 @@
--- The faults of the items of a list, added one item after the other.
+-- The faults of a list's items, added item by item.
 use Rattle.std.proofs.Common.{ℕ, suc, ◌≡◌, ◌+◌, ◌<◌, ◌⊎◌, inl, inr, List, [], ◌∷◌, ◌++◌, length, take, get_or, ap, subst, sym, ◌∙◌, append-nil, arith}
 use Rattle.std.specs.Prelude.{Result, OnOk}
 use Rattle.std.specs.List.{flat_map}
@@ -31,7 +31,7 @@ each_none Q a = adds_none a (SomeOf Q []) (λ f h. h)
 pub each_as : {X : Type 0} (Q : X → Fault → Type 0) (a b : List Fault) (xs ys : List X) → AddsEach Q a b xs → xs ≡ ys → AddsEach Q a b ys
 each_as Q a b xs ys h e = subst (AddsEach Q a b) e h
 
--- what one item adds
+-- the faults of one item are added
 pub each_one : {X : Type 0} (Q : X → Fault → Type 0) (a b : List Fault) (x : X) → Adds a b (Q x) → AddsEach Q a b (x ∷ [])
 each_one Q a b x h = adds_as a b (Q x) (SomeOf Q (x ∷ [])) h (λ f q. inl q) (λ f q. elim q [ inl p ↦ p | inr z ↦ absurd z ])
 
@@ -40,7 +40,7 @@ each_then Q a b c xs ys h k =
     adds_as a c (λ f. SomeOf Q xs f ⊎ SomeOf Q ys f) (SomeOf Q (xs ++ ys)) (adds_then a b c (SomeOf Q xs) (SomeOf Q ys) h k)
     (λ f q. elim q [ inl p ↦ some_left Q xs ys f p | inr p ↦ some_right Q xs ys f p ]) (λ f q. some_cases Q xs ys f q)
 
--- a call that adds the rest
+-- a call adds the faults of the other items
 pub then_each : {E X : Type 0} (Q : X → Fault → Type 0) (a b c : List Fault) (xs ys zs : List X) (r : Result (Unit {0}) E) →
     AddsEach Q a b xs → OnOk r (AddsEach Q b c ys) → xs ++ ys ≡ zs → OnOk r (AddsEach Q a c zs)
 then_each Q a b c xs ys zs r h k e = on_ok_weaker r (λ q. each_as Q a c (xs ++ ys) zs (each_then Q a b c xs ys h q) e) k
@@ -49,7 +49,7 @@ pub call_each : {E X : Type 0} (Q : X → Fault → Type 0) (a b : List Fault) (
     OnOk r (AddsEach Q a b xs) → xs ≡ ys → OnOk r (AddsEach Q a b ys)
 call_each Q a b xs ys r k e = on_ok_weaker r (λ q. each_as Q a b xs ys q e) k
 
--- a loop over items
+-- A loop over items
 
 flat_map-take : {X Y : Type 0} (g : Y → List X) (ys : List Y) (i : ℕ) (d : Y) → i < length ys →
     flat_map g (take i ys) ++ g (get_or ys i d) ≡ flat_map g (take (i + 1) ys)
@@ -67,7 +67,7 @@ pub each_all : {X Y : Type 0} (Q : X → Fault → Type 0) (a b : List Fault) (g
     AddsEach Q a b (flat_map g (take i ys)) → AddsEach Q a b (flat_map g ys)
 each_all Q a b g ys i e h = each_as Q a b (flat_map g (take i ys)) (flat_map g ys) h (ap (λ k. flat_map g (take k ys)) e ∙ ap (flat_map g) (take-length ys))
 
--- a loop over numbers
+-- A loop over numbers
 
 pub below_none : (Q : ℕ → Fault → Type 0) (a : List Fault) → Adds a a (Below Q 0)
 below_none Q a = adds_none a (Below Q 0) (λ f h. let lt : h.0 < 0 = h.1 in absurd (omega arith))
@@ -87,13 +87,13 @@ below_from Q i f h = elim (cases_lt h.0 i) [
 pub below_next : (Q : ℕ → Fault → Type 0) (a b c : List Fault) (i : ℕ) → Adds a b (Below Q i) → Adds b c (Q i) → Adds a c (Below Q (i + 1))
 below_next Q a b c i h k = adds_as a c (λ f. Below Q i f ⊎ Q i f) (Below Q (i + 1)) (adds_then a b c (Below Q i) (Q i) h k) (below_to Q i) (below_from Q i)
 
--- the item at an index, which was read
+-- the loop adds the faults of the items at its index
 pub each_step : {X Y : Type 0} (Q : X → Fault → Type 0) (a b c : List Fault) (g : Y → List X) (ys : List Y) (i : ℕ) (y : Y) → i < length ys →
     y ≡ get_or ys i y →
     AddsEach Q a b (flat_map g (take i ys)) → AddsEach Q b c (g y) → AddsEach Q a c (flat_map g (take (i + 1) ys))
 each_step Q a b c g ys i y lt e h k = each_next Q a b c g ys i y lt h (subst (λ z. AddsEach Q b c (g z)) e k)
 
--- a call that adds one item
+-- a call adds the faults of one item
 pub call_one : {E X : Type 0} (Q : X → Fault → Type 0) (a b : List Fault) (x : X) (ys : List X) (r : Result (Unit {0}) E) →
     OnOk r (Adds a b (Q x)) → (x ∷ []) ≡ ys → OnOk r (AddsEach Q a b ys)
 call_one Q a b x ys r k e = on_ok_weaker r (λ q. each_as Q a b (x ∷ []) ys (each_one Q a b x q) e) k

@@ -1,4 +1,4 @@
--- Lists of faults, and what is added to them.
+-- Lists of faults and the faults added to them.
 use Rattle.std.proofs.Common.{arith, ◌<◌, ℕ, ◌≡◌, ◌⊎◌, inl, inr, List, [], IsTrue, ◌↔◌, true, false, Bool, ap, ◌∙◌}
 use Rattle.std.specs.Prelude.{Result, OnOk}
 use Rattle.std.proofs.lemmas.Result.{on_ok_weaker}
@@ -6,7 +6,7 @@ use Rattle.base_files.specs.declared.fault_kind.FaultKind.{FaultKind}
 use Rattle.types_declared.specs.declared.fault.Fault.{Fault}
 use Rattle.types_declared.specs.Listing.{Adds, Lists}
 
--- nothing is added
+-- no fault is added
 pub adds_none : (a : List Fault) (P : Fault → Type 0) → ((f : Fault) → P f → ⊥) → Adds a a P
 adds_none a P none = record {
   keeps = λ f h. h;
@@ -14,7 +14,7 @@ adds_none a P none = record {
   only = λ f h. inl h;
 }
 
--- the same is added, told otherwise
+-- equivalent properties describe the same added faults
 pub adds_as : (a b : List Fault) (P Q : Fault → Type 0) → Adds a b P → ((f : Fault) → P f → Q f) → ((f : Fault) → Q f → P f) → Adds a b Q
 adds_as a b P Q h to from = record {
   keeps = h.keeps;
@@ -22,7 +22,7 @@ adds_as a b P Q h to from = record {
   only = λ f q. elim (h.only f q) [ inl o ↦ inl o | inr p ↦ inr (to f p) ];
 }
 
--- one thing is added, and then another
+-- faults are added in two steps
 pub adds_then : (a b c : List Fault) (P Q : Fault → Type 0) → Adds a b P → Adds b c Q → Adds a c (λ f. P f ⊎ Q f)
 adds_then a b c P Q h k = record {
   keeps = λ f x. k.keeps f (h.keeps f x);
@@ -38,7 +38,7 @@ pub call_adds : {E : Type 0} (a b : List Fault) (P Q : Fault → Type 0) (r : Re
     ((f : Fault) → P f → Q f) → ((f : Fault) → Q f → P f) → OnOk r (Adds a b Q)
 call_adds a b P Q r k to from = on_ok_weaker r (λ q. adds_as a b P Q q to from) k
 
--- what is added to no fault is all that there is
+-- the faults added to an empty list are all its faults
 pub lists_from : (b : List Fault) (P : Fault → Type 0) → Adds [] b P → Lists P b
 lists_from b P h = record {
   holds = h.holds;
@@ -48,10 +48,10 @@ lists_from b P h = record {
 abbrev pub make : ℕ → ℕ → FaultKind → Fault
 make file token kind = record { file = file; token = token; kind = kind }
 
--- a fault from its parts
+-- a fault is equal to one with the same file, token and kind
 pub fault_from : (f : Fault) (file token : ℕ) (kind : FaultKind) → f.file ≡ file → f.token ≡ token → f.kind ≡ kind → f ≡ make file token kind
 fault_from f file token kind e g h = ap (λ v. make v f.token f.kind) e ∙ ap (λ v. make file v f.kind) g ∙ ap (λ v. make file token v) h
 
--- a test that failed
+-- a false test refutes its property
 pub is_false : (P : Type 0) (b : Bool) → (IsTrue b ↔ P) → b ≡ false → P → ⊥
 is_false P b h e p = let t : b ≡ true = h.1 p in let z : ⊥ = cc in z

@@ -1,4 +1,4 @@
--- What Types mention, one after the other.
+-- The targets of type expressions, one by one.
 use Rattle.std.proofs.Common.{ℕ, suc, ◌≡◌, ◌+◌, ◌<◌, ◌≤◌, ◌⊎◌, inl, inr, List, [], ◌∷◌, ◌++◌, length, get_or, take, ap, sym, subst, refl, ◌∙◌, arith}
 use Rattle.std.specs.Prelude.{Option, Some, None, slice_get}
 use Rattle.std.specs.Global.{Vec}
@@ -26,13 +26,13 @@ mention_within p file _ r (by_name binds declares) = slice_get_within (package_t
 mention_within p file _ r (by_pointer {t = t} m) = mention_within p file t r m
 mention_within p file _ r (by_slice {t = t} m) = mention_within p file t r m
 
--- what mentions a definition names it
+-- a type expression that mentions a definition names a type
 mention_names : (p : Package) (file : ℕ) (tree : TypeTree) (r : ℕ) → Mentions p file tree r → (u : PlainType) × Names p file tree u
 mention_names p file _ r (by_name {d = d} binds declares) = (_, defined {d = d} {rank = r} binds declares)
 mention_names p file _ r (by_pointer {t = t} m) = let n = mention_names p file t r m in (_, pointer n.1)
 mention_names p file _ r (by_slice {t = t} m) = let n = mention_names p file t r m in (_, slice n.1)
 
--- a Type that names nothing
+-- the only target of a type expression that names no type is the number behind the last rank
 nothing_only : (p : Package) (file : ℕ) (tree : TypeTree) → ((u : PlainType) → Names p file tree u → ⊥) → (b : ℕ) → IsTarget p file tree b →
     b ≡ length (package_types p)
 nothing_only p file tree none _ (nothing n) = refl
@@ -44,7 +44,7 @@ target_nothing p file tree n e none =
     subst (λ k. (k ≤ length (package_types p)) × (IsTarget p file tree k × ((b : ℕ) → IsTarget p file tree b → b ≡ k))) (sym e)
     (omega arith, (nothing none, nothing_only p file tree none))
 
--- a Type that names a type
+-- a target of a type expression that names a type is a definition that it mentions
 rank_target : (p : Package) (file : ℕ) (tree : TypeTree) (u : PlainType) → Names p file tree u → (b : ℕ) → IsTarget p file tree b → Mentions p file tree b
 rank_target p file tree u names _ (nothing none) = absurd (none u names)
 rank_target p file tree u names b (definition m) = m
@@ -58,7 +58,7 @@ target_named p file tree u (Some r) names h = (
   (definition h.0, λ b t. h.1 b (rank_target p file tree u names b t)),
 )
 
--- links that were added
+-- Added links
 
 pub adds_as : (old new : List (Vec ℕ)) (to : ℕ) (T U : ℕ → Type 0) → ((a : ℕ) → T a → U a) → ((a : ℕ) → U a → T a) → AddsLinks old new to T →
     AddsLinks old new to U
@@ -82,7 +82,7 @@ adds_then f g h to T U V k l from back = record {
   ];
 }
 
--- a link that was added to a row
+-- A link added to a row
 
 pub get_set_same : {X : Type 0} (xs : List X) (i : ℕ) (x : X) → i < length xs → slice_get (set xs i x) i ≡ Some x
 get_set_same xs i x lt = slice_get-get_or (set xs i x) i x (subst (λ n. i < n) (sym (length-set xs i x)) lt) ∙ ap Some (get_or-set_same xs i x x lt)
@@ -120,13 +120,13 @@ adds_one links to rank row new lt is e =
       ];
     }
 
--- what one Type mentions, noted
+-- The target of one type expression, linked
 
 pub note_one : (p : Package) (file : ℕ) (tree : TypeTree) (to : ℕ) (a : ℕ) → IsTarget p file tree to → ((b : ℕ) → IsTarget p file tree b → b ≡ to) →
     a ≡ to → IsTarget p file tree a
 note_one p file tree to a is only e = subst (IsTarget p file tree) (sym e) is
 
--- Types one after the other
+-- The targets of several type expressions, linked one by one
 
 abbrev pub field_types : List (Item FieldDecl) → List TypeTree
 field_types fields = map (λ f. f.value.type_use) (list_view field_view fields)

@@ -1,4 +1,4 @@
--- The names of packages, one after the other.
+-- The names of imported packages, one by one.
 use Rattle.std.proofs.Common.{ℕ, zero, suc, ◌≡◌, ◌+◌, ◌<◌, inl, inr, true, List, [], ◌∷◌, ◌++◌, length, length-append, Option, None, ap, sym, ◌∙◌, refl}
 use Rattle.std.proofs.Common.{subst, arith}
 use Rattle.std.specs.Borrow.{Bor}
@@ -22,7 +22,7 @@ given_last : (xs : Names) (x : Option (Bor (List ℕ))) → name_given (xs ++ (x
 given_last [] x = refl
 given_last (y ∷ ys) x = given_last ys x
 
--- the name of the package of the path
+-- the name of the package at the import's path
 pub path_named : ((bytes v w : List ℕ) → HasStringValue bytes v → HasStringValue bytes w → v ≡ w) →
     (files : List SourceFile) (name_of : List ℕ → Option (List ℕ)) (p : Laid) (u : ℕ) (path : List ℕ) (name : Option (List ℕ)) →
     IsPathOf files p u path → name ≡ name_of path → IsPackageName files name_of p u name
@@ -38,7 +38,7 @@ path_missing files name_of p u none = record { known = λ v h. absurd (none v h)
 pub sized_next : (old new : Names) (u : ℕ) (x : Option (Bor (List ℕ))) → length old ≡ u → new ≡ old ++ (x ∷ []) → length new ≡ u + 1
 sized_next old new u x size e = ap length e ∙ length-append old (x ∷ []) ∙ ap (λ n. n + 1) size
 
--- one more name
+-- one more name is added
 pub names_next : (files : List SourceFile) (name_of : List ℕ → Option (List ℕ)) (p : Laid) (old new : Names) (u k : ℕ) (x : Option (Bor (List ℕ))) →
     length old ≡ u → new ≡ old ++ (x ∷ []) →
     ((j : ℕ) → j < u → is_unnamed_import (p.layout.role j) ≡ true → IsPackageName files name_of p j (name_given old j)) →

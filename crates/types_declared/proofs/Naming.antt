@@ -1,4 +1,4 @@
--- A name is bound to one declaration, and a Type names one type.
+-- A token is bound to at most one declaration, and a type expression names at most one type.
 use Rattle.std.proofs.Common.{ℕ, ◌≡◌, List, length, ap, sym, subst, refl, ◌∙◌, arith}
 use Rattle.std.proofs.lemmas.Bool.{true≢false}
 use Rattle.std.proofs.lemmas.Option.{same_Some}
@@ -20,15 +20,15 @@ use Rattle.types_declared.specs.WrittenView as found
 use Rattle.types_declared.proofs.Ranking.{one_rank}
 use Rattle.types_declared.proofs.Binding.{same_bound}
 
--- the identifier at a token is bound to one declaration
+-- the identifier at a token is bound to at most one declaration
 pub one_binding : (p : Package) → WellFormed p.layout → (file token d e : ℕ) → BindsToken p file token d → BindsToken p file token e → d ≡ e
 one_binding p w file token d e a b = bound_once p.layout (nests p.layout w) p.names a.identifier d e a.bound (same_bound p file token a.identifier e a.found b)
 
--- an import has one path
+-- an import has at most one path
 pub one_import_path : (p : Package) (d : ℕ) (v w : List ℕ) → ImportsPath p d v → ImportsPath p d w → v ≡ w
 one_import_path p d v w a b = one_path one_string_value p.files (laid_of p) d v w a.of_path b.of_path
 
--- a name behind that of a package is one export
+-- a qualified identifier denotes at most one export
 one_export_of : (p : Package) (d file name : ℕ) (e f : Export) → IsExportOf p d file name e → IsExportOf p d file name f → e ≡ f
 one_export_of p d file name e f a b =
     same_Some e f (sym a.exported ∙ ap (λ v. (p.interface_of v).exported (spelled p file name)) (one_import_path p d a.path b.path a.imports b.imports) ∙
@@ -40,7 +40,7 @@ one_export p w file q name e f a b =
     one_export_of p a.import file name e f a.of_import
     (subst (λ d. IsExportOf p d file name f) (one_binding p w file q b.import a.import b.binds a.binds) b.of_import)
 
--- a predeclared name is that of one type
+-- two predeclared types with the same name are the same
 one_basic : (b c : Basic) → basic_name b ≡ basic_name c → b ≡ c
 one_basic basic.Bool basic.Bool e = refl
 one_basic basic.Bool basic.Int e = let z : ◌≡◌ {A = ℕ} 4 3 = ap length e in absurd (omega arith)
@@ -52,7 +52,7 @@ one_basic basic.String basic.Bool e = let z : ◌≡◌ {A = ℕ} 6 4 = ap lengt
 one_basic basic.String basic.Int e = let z : ◌≡◌ {A = ℕ} 6 3 = ap length e in absurd (omega arith)
 one_basic basic.String basic.String e = refl
 
--- a declaration is that of one type
+-- a declaration declares at most one type
 pub one_declared : (p : Package) (d : ℕ) (t u : PlainType) → DeclaresPlain p d t → DeclaresPlain p d u → t ≡ u
 one_declared p d _ _ (found.predeclared b x) (found.predeclared c y) = ap BasicType (one_basic b c (sym x.named ∙ y.named))
 one_declared p d _ _ (found.predeclared b x) (found.defined {rank = r} y) = absurd (true≢false (sym x.implied ∙ y.stands.0))
@@ -60,7 +60,7 @@ one_declared p d _ _ (found.defined {rank = r} x) (found.predeclared c y) = absu
 one_declared p d _ _ (found.defined {rank = r} x) (found.defined {rank = s} y) =
     ap (λ k. Defined (symbol_in p k)) (one_rank type_place (package_types p) p.layout d r s x y)
 
--- what a Type of each form names
+-- The type that each form of type expression names
 
 by_declaration : (p : Package) (file n : ℕ) (t : PlainType) → Names p file (Local n) t → (d : ℕ) × (BindsToken p file n d × DeclaresPlain p d t)
 by_declaration p file n _ (predeclared {d = d} b binds is) = (d, (binds, found.predeclared b is))
@@ -91,7 +91,7 @@ one_imported : (p : Package) → WellFormed p.layout → (file q n : ℕ) (t u :
 one_imported p w file q n t u a b =
     ap (type_or t) (sym a.is_type ∙ ap (λ e. e.meaning) (one_export p w file q n a.export b.export a.exported b.exported) ∙ b.is_type)
 
--- a Type names one type
+-- a type expression names at most one type
 pub one_named : (p : Package) → WellFormed p.layout → (file : ℕ) (tree : TypeTree) (t u : PlainType) → Names p file tree t → Names p file tree u → t ≡ u
 one_named p w file (Local n) t u a b = one_local p w file n t u a b
 one_named p w file (Imported q dot n) t u a b = one_imported p w file q n t u (by_export p file q dot n t a) (by_export p file q dot n u b)

@@ -1,4 +1,4 @@
--- The underlying type of a type: one, by the form of the type and by what its definition writes.
+-- A type has at most one underlying type, by its form and by the body of its definition.
 use Rattle.std.proofs.Common.{ℕ, ◌≡◌, ◌⊎◌, inl, inr, sym, subst, refl, ◌∙◌}
 use Rattle.std.specs.Prelude.{Some, None, slice_get}
 use Rattle.std.proofs.lemmas.Option.{same_Some, none-some}
@@ -12,7 +12,7 @@ use Rattle.types_declared.specs.Written.{Names}
 use Rattle.types_declared.specs.Definitions.{HasUnderlying, basic, pointer, slice, struct, named, imported}
 use Rattle.types_declared.proofs.Naming.{one_named}
 
--- by the body that a definition of the package writes
+-- a definition of the package with this body has the underlying type
 abbrev pub BodyHas : Package → (rank : ℕ) → PlacedType → BodyTree → Underlying → Type 0
 BodyHas p rank d (Struct k o fs c) u = u ≡ StructOf (symbol_in p rank)
 BodyHas p rank d (Other tree) u = (t : PlainType) × (Names p d.file tree t × HasUnderlying p t u)
@@ -49,7 +49,7 @@ imported_has : (p : Package) (s : Symbol) (u : Underlying) → (s.package ≡ p.
     u ≡ ((p.interface_of s.package).definition s.rank).underlying
 imported_has p s u ne h = elim h [ inl own ↦ absurd (ne own.0) | inr i ↦ i.is ]
 
--- by what the definition of a rank writes
+-- the underlying type of a definition, by its body
 pub of_body : (p : Package) (rank : ℕ) (d : PlacedType) (u : Underlying) → slice_get (package_types p) rank ≡ Some d →
     HasUnderlying p (Defined (symbol_in p rank)) u →
     BodyHas p rank d d.spec.body u
@@ -57,7 +57,7 @@ of_body p rank d u is h =
     let own = own_has p (symbol_in p rank) u refl (by_form p (Defined (symbol_in p rank)) u h) in
     subst (λ x. BodyHas p rank x x.spec.body u) (same_Some own.definition d (sym own.has_rank ∙ is)) own.by_body
 
--- a definition that is not there has none
+-- a rank without a definition has no underlying type
 pub none_beyond : (p : Package) (rank : ℕ) → slice_get (package_types p) rank ≡ None → (u : Underlying) → HasUnderlying p (Defined (symbol_in p rank)) u → ⊥
 none_beyond p rank none u h =
     let own = own_has p (symbol_in p rank) u refl (by_form p (Defined (symbol_in p rank)) u h) in

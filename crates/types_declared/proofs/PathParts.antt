@@ -1,4 +1,4 @@
--- The path that an import names, by the file and the literal.
+-- The path of an import, by its file and its string literal.
 use Rattle.std.proofs.Common.{ℕ, ◌≡◌, ◌<◌, List, length, get_or, map, Option, Some, None, ap, sym, ◌∙◌, subst, MatchOption}
 use Rattle.std.specs.Prelude.{slice_get}
 use Rattle.std.specs.Option.{option_map}
@@ -23,7 +23,7 @@ source_at files i x lt e = slice_get-map source_of files i ∙ ap (option_map so
 pub no_source : (files : List FileParts) (i : ℕ) (s : SourceFile) → slice_get (map source_of files) i ≡ Some s → i < length files
 no_source files i s e = rw length-map at (slice_get_within (map source_of files) i s e)
 
--- what a literal stands for is the import's path
+-- the value of the string literal is the import's path
 pub path_at : (files : List SourceFile) (p : Laid) (d : ℕ) (s : SourceFile) (o : Option (Vec ℕ Global)) → slice_get files (p.layout.place d).file ≡ Some s →
     (let token = (p.layout.place (literal_of p.layout d)).index in MatchOption o ((v : List ℕ) → HasLiteral s token v → ⊥) (λ v. HasLiteral s token v.items)) →
     MatchOption o ((v : List ℕ) → IsPathOf files p d v → ⊥) (λ v. IsPathOf files p d v.items)

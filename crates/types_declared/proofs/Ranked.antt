@@ -1,4 +1,4 @@
--- The faults of the files of a package, added one file after the other.
+-- The faults of a package's files, added file by file.
 use Rattle.std.proofs.Common.{ℕ, ◌≡◌, ◌+◌, ◌<◌, List, [], ◌∷◌, ◌++◌, length, take, get_or, ap, subst, sym, ◌∙◌, arith, refl}
 use Rattle.std.specs.Prelude.{map}
 use Rattle.std.specs.List.{flat_map, enumerate_from}
@@ -23,7 +23,7 @@ pub all_ranked : {X Y : Type 0} (Q : X → Fault → Type 0) (a b : List Fault) 
     AddsEach Q a b (flat_map g (take i (enumerate_from 0 ys))) → AddsEach Q a b (flat_map g (enumerate_from 0 ys))
 all_ranked Q a b g ys i e h = each_all Q a b g (enumerate_from 0 ys) i (e ∙ sym (length-enumerate_from 0 ys)) h
 
--- the same for what the program's files stand for
+-- the faults of the next of the program's files are added
 pub next_file : {V X Y : Type 0} (Q : X → Fault → Type 0) (a b c : List Fault) (g : ℕ × Y → List X) (v : V → Y) (vs : List V) (i : ℕ) (x : V) →
     i < length vs → x ≡ get_or vs i x →
     AddsEach Q a b (flat_map g (take i (enumerate_from 0 (map v vs)))) → AddsEach Q b c (g (i, v x)) →
@@ -36,7 +36,7 @@ pub all_files : {V X Y : Type 0} (Q : X → Fault → Type 0) (a b : List Fault)
     AddsEach Q a b (flat_map g (take i (enumerate_from 0 (map v vs)))) → AddsEach Q a b (flat_map g (enumerate_from 0 (map v vs)))
 all_files Q a b g v vs i e h = all_ranked Q a b g (map v vs) i (e ∙ sym (length-map vs v)) h
 
--- each item for itself
+-- mapping each item to a list of itself gives the list
 pub flat_map-single : {X : Type 0} (xs : List X) → flat_map (λ x. x ∷ []) xs ≡ xs
 flat_map-single [] = refl
 flat_map-single (x ∷ xs) = ap (λ z. x ∷ z) (flat_map-single xs)
@@ -45,7 +45,7 @@ map-append : {X Y : Type 0} (f : X → Y) (xs ys : List X) → map f (xs ++ ys) 
 map-append f [] ys = refl
 map-append f (x ∷ xs) ys = ap (λ z. f x ∷ z) (map-append f xs ys)
 
--- what is made of each item that the parts of some views have
+-- mapping commutes with collecting the parts of views
 pub map-flat_map-map : {X Y Z V : Type 0} (f : Y → Z) (g : X → List Y) (h : V → X) (vs : List V) →
     map f (flat_map g (map h vs)) ≡ flat_map (λ v. map f (g (h v))) vs
 map-flat_map-map f g h [] = refl

@@ -1,4 +1,4 @@
--- Declarations of a scope table by the ranks of what they declare.
+-- The ranks of declarations, by their numbers in a scope table.
 use Rattle.std.proofs.Common.{ℕ, ◌≡◌, ◌+◌, ◌<◌, inl, inr, List, [], ◌∷◌, ◌++◌, length, ap, sym, subst, refl, ◌∙◌, arith}
 use Rattle.std.specs.Prelude.{Bool, true, false, Option, Some, None, option_map, slice_get, map}
 use Rattle.std.proofs.Math.Path.{ap₂}
@@ -14,14 +14,14 @@ use Rattle.types_declared.specs.ByToken.{Numbers, IsFirstBelow, AreRanksOf, numb
 use Rattle.types_declared.specs.RanksView.{IsRankOf, AreRanks}
 use Rattle.go_scope.proofs.TokenRows.{place_or}
 
--- where d stands
+-- the position of the identifier d
 abbrev own_place : Layout → ℕ → Position
 own_place l d = record { file = (l.place d).file; index = (l.place d).index }
 
 same_place : (l : Layout) (d : ℕ) (p : Position) → StandsAt l p d → p ≡ own_place l d
 same_place l d p s = ap₂ (λ f i. record { file = f; index = i }) (sym s.1) (sym s.2)
 
--- the rank of a place, at a token
+-- the rank found at a token is the rank of its position in the list
 rank_at : (places : List Position) (l : Layout) (d : ℕ) (implied : Bool) → is_implied (l.role d) ≡ implied → (o : Option ℕ) →
     IsFirstBelow (λ rank. slice_get places rank ≡ Some (own_place l d)) (length places) o → IsRankOf (λ p. p) places l d (number_if implied o)
 rank_at places l d true e o h = λ rank r. true≢false (sym e ∙ r.stands.0)
@@ -42,7 +42,7 @@ ranks_from places l numbers size ranks h all each = record {
       (rank_at places l d (is_implied (l.role d)) refl (numbers (l.place d).file (l.place d).index) (h (l.place d).file (l.place d).index));
 }
 
--- items by their places
+-- Items by their positions
 
 item_from : {X : Type 0} (f : X → Position) (o : Option X) (p : Position) → option_map f o ≡ Some p → (x : X) × ((o ≡ Some x) × (f x ≡ p))
 item_from f None p e = absurd (none-some p e)
@@ -79,7 +79,7 @@ ranks_of_items f xs l size places ranks e h = record {
   each = λ d lt. rank_of_item f xs l d (number_in ranks d) (subst (λ ps. IsRankOf (λ p. p) ps l d (number_in ranks d)) e (h.each d lt));
 }
 
--- one more rank
+-- one more rank is pushed
 pub push_each : (f : ℕ → Option ℕ) (xs ys : List (Option ℕ)) (d : ℕ) (x : Option ℕ) → ys ≡ xs ++ (x ∷ []) → length xs ≡ d → x ≡ f d →
     ((k : ℕ) → k < d → number_in xs k ≡ f k) →
     (k : ℕ) → k < d + 1 → number_in ys k ≡ f k
@@ -89,7 +89,7 @@ push_each f xs ys d x e len is each k lt = elim (cases_lt k d) [
       ap (λ z. number_in z k) e ∙ ap (number_in (xs ++ (x ∷ []))) same ∙ get_or-append_seam xs x [] None ∙ is ∙ ap f (sym len ∙ sym same)
 ]
 
--- an identifier has one rank
+-- an identifier has at most one rank
 pub one_rank : {X : Type 0} (f : X → Position) (xs : List X) (l : Layout) (d r s : ℕ) → IsRanked f xs l d r → IsRanked f xs l d s → r ≡ s
 one_rank f xs l d r s h k = elim (cases_order r s) [
   | inl same ↦ same

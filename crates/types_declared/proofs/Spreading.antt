@@ -1,4 +1,4 @@
--- Marks that spread, one number after the other.
+-- Reachability along links, number by number.
 use Rattle.std.proofs.Common.{ℕ, ◌≡◌, ◌+◌, ◌<◌, ◌≤◌, ◌⊎◌, inl, inr, Bool, true, false, cond, List, [], ◌∷◌, ◌++◌, length, get_or, refl, sym, ap, subst, ◌∙◌}
 use Rattle.std.proofs.Common.{arith}
 use Rattle.std.proofs.Math.ListN.{set}
@@ -12,7 +12,7 @@ use Rattle.std.specs.Global.{Vec}
 use Rattle.std.proofs.lemmas.List.Elements.{Contains-get_or}
 use Rattle.types_declared.specs.Spread.{IsMarked, IsListed, Marks, IsOrdered, IsOrderOf, Leads, IsReached, first, behind}
 
--- all that the first of what was found lead to is marked
+-- all numbers that the first ones of the list link to are marked
 abbrev pub IsFollowed : List (Vec ℕ) → List ℕ → List Bool → ℕ → Type 0
 IsFollowed links found marks count = (i q : ℕ) → i < count → Leads links (slice_index_or found i 0) q → IsMarked marks q
 
@@ -28,7 +28,7 @@ marked_stays marks n q within m = elim (cases_eq q n) [
 pub marked_before : (marks : List Bool) (n q : ℕ) → (q ≡ n → ⊥) → IsMarked (set marks n true) q → IsMarked marks q
 marked_before marks n q ne m = sym (get_or-set_other marks n q true false ne) ∙ m
 
--- one more mark
+-- one more mark raises the count of marks by one
 counted_set : (marks : List Bool) (n : ℕ) → n < length marks → get_or marks n false ≡ false → count_by (λ m. m) (set marks n true) ≡ count_by (λ m. m) marks + 1
 counted_set marks n within fresh =
     let e : count_by (λ m. m) (set marks n true) + 0 ≡ count_by (λ m. m) marks + 1 =
@@ -78,11 +78,11 @@ marks_as f m g n P R to from h = record {
   only = λ q k. elim (h.only q k) [ inl j ↦ inl j | inr p ↦ inr (from q p) ];
 }
 
--- a number that was read as not marked
+-- the number isn't marked yet
 pub fresh_at : (marks : List Bool) (n : ℕ) (b : Bool) → n < length marks → b ≡ get_or marks n b → b ≡ false → get_or marks n false ≡ false
 fresh_at marks n b lt e is = sym (get_or_read marks n b lt e false) ∙ is
 
--- the items of a row, as far as a loop has come
+-- The items of a row, before a loop's index
 
 abbrev pub IsPassed : List ℕ → ℕ → ℕ → Type 0
 IsPassed row count q = (k : ℕ) × ((k < count) × (q ≡ get_or row k 0))
@@ -107,12 +107,12 @@ passed_all row i q e at = let lt : at.0 < length row = at.1 in (at.0, (omega ari
 pub passed_held : (row : List ℕ) (i q : ℕ) → i ≡ length row → IsPassed row i q → Contains row q
 passed_held row i q e p = let lt : p.0 < i = p.1.0 in subst (Contains row) (sym p.1.1) (Contains-get_or row p.0 0 (omega arith))
 
--- the marks of a list, as far as a loop has come
+-- The marks of a list, before a loop's index
 
 abbrev pub IsBegun : List Bool → ℕ → ℕ → Type 0
 IsBegun begins count q = (q < count) × IsMarked begins q
 
--- a spread that went on
+-- The search after one more step
 
 pub followed_more : (links : List (Vec ℕ)) (f : List ℕ) (m : List Bool) (g : List ℕ) (n : List Bool) (place : ℕ) → place < length f →
     IsFollowed links f m place → Marks f m g n (Leads links (get_or f place 0)) →
@@ -132,7 +132,7 @@ reached_more links Begins f m g n place within listed sound more q k = elim (mor
   | inr leads ↦ behind (sound (get_or f place 0) (listed.marked place within)) leads
 ]
 
--- what is followed to its end holds all that is reached
+-- a search that followed all its numbers has marked all reached ones
 pub holds_reached : (links : List (Vec ℕ)) (Begins : ℕ → Type 0) (f : List ℕ) (m : List Bool) → IsListed f m → ((q : ℕ) → Begins q → IsMarked m q) →
     IsFollowed links f m (length f) →
     (q : ℕ) → IsReached links Begins q → IsMarked m q
@@ -141,7 +141,7 @@ holds_reached links Begins f m listed begun done q (behind {a} r leads) =
     let at = listed.places a (holds_reached links Begins f m listed begun done a r) in
     done at.0 q at.1.0 (subst (λ k. Leads links k q) (sym at.1.1) leads)
 
--- the order in which numbers are found
+-- The order in which numbers are found
 
 abbrev IsLedTo : List (Vec ℕ) → List ℕ → (i q : ℕ) → Type 0
 IsLedTo links found i q = (j : ℕ) × ((j < i) × Leads links (get_or found j 0) q)

@@ -1,4 +1,4 @@
--- The first stage that has faults, as a list that was found in stages.
+-- Lists of the faults of the first stage that has any.
 use Rattle.std.proofs.Common.{arith, ◌≡◌, ◌<◌, ◌⊎◌, inl, inr, List, [], ◌∷◌, refl, subst}
 use Rattle.std.specs.Prelude.{Contains}
 use Rattle.types_declared.specs.declared.fault.Fault.{Fault}
@@ -6,12 +6,12 @@ use Rattle.types_declared.specs.Listing.{Adds, Lists, HoldsSame}
 use Rattle.types_declared.specs.Stage.{FirstOf}
 use Rattle.types_declared.proofs.Listings.{adds_then, lists_from}
 
--- the first fault of a list that has one
+-- a list that isn't empty contains a fault
 head_of : (a : List Fault) → (a ≡ [] → ⊥) → (f : Fault) × Contains a f
 head_of [] some = absurd (some refl)
 head_of (f ∷ fs) some = (f, (0, omega arith, refl))
 
--- faults of the first stage
+-- the list of a first stage with faults
 pub first_listed : (P later : Fault → Type 0) (a : List Fault) → Adds [] a P → (a ≡ [] → ⊥) → Lists (FirstOf P later) a
 first_listed P later a h some =
     let l = lists_from a P h in
@@ -24,7 +24,7 @@ first_listed P later a h some =
 no_element : (g : Fault) → Contains [] g → ⊥
 no_element g h = let lt : h.0 < 0 = h.1 in omega arith
 
--- no fault of the first stage, and those of the later ones
+-- the list of the later stages, where the first stage has no fault
 pub later_listed : (P later : Fault → Type 0) (a b : List Fault) → Adds [] a P → a ≡ [] → Adds a b later → Lists (FirstOf P later) b
 later_listed P later a b h e k =
     let l = lists_from b later (subst (λ z. Adds z b later) e k) in
@@ -33,14 +33,14 @@ later_listed P later a b h e k =
       only = λ f q. inr ((λ g p. no_element g (subst (λ z. Contains z g) e ((lists_from a P h).holds g p))), l.only f q);
     }
 
--- the same faults in another order
+-- a list with the same faults in another order
 pub same_listed : (P : Fault → Type 0) (a b : List Fault) → Lists P a → HoldsSame a b → Lists P b
 same_listed P a b l s = record { holds = λ f p. s.keeps f (l.holds f p); only = λ f q. l.only f (s.only f q) }
 
--- faults of two sorts
+-- the list of the faults of two properties
 pub both_listed : (P Q : Fault → Type 0) (a b : List Fault) → Adds [] a P → Adds a b Q → Lists (λ f. P f ⊎ Q f) b
 both_listed P Q a b h k = lists_from b (λ f. P f ⊎ Q f) (adds_then [] a b P Q h k)
 
--- further faults
+-- a list to which the faults of another property are added
 pub listed_then : (P Q : Fault → Type 0) (a b : List Fault) → Lists P a → Adds a b Q → Lists (λ f. P f ⊎ Q f) b
 listed_then P Q a b l k = both_listed P Q a b (record { keeps = λ f h. absurd (no_element f h); holds = l.holds; only = λ f h. inr (l.only f h) }) k

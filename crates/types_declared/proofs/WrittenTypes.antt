@@ -1,4 +1,4 @@
--- What a Type names and mentions, from its parts.
+-- The types that type expressions name and the definitions that they mention, form by form.
 use Rattle.std.proofs.Common.{ℕ, ◌≡◌, List, ap, sym, subst, ◌∙◌, MatchOption}
 use Rattle.std.specs.Prelude.{Option, Some, None, option_map, unwrap_or}
 use Rattle.std.specs.Borrow.{Bor}
@@ -19,14 +19,14 @@ use Rattle.types_declared.specs.WrittenView.{DeclaresPlain, IsTypeDeclared, IsNa
 use Rattle.types_declared.specs.WrittenView as found
 use Rattle.types_declared.proofs.Ranking.{one_rank}
 
--- the type that a declaration is
+-- The type that a declaration declares
 
 pub declares_none : (p : Package) (d : ℕ) → ((b : Basic) → IsPredeclared p d (basic_name b) → ⊥) → ((r : ℕ) → DeclaresType p d r → ⊥) → (t : PlainType) →
     DeclaresPlain p d t → ⊥
 declares_none p d basic none _ (found.predeclared b is) = basic b is
 declares_none p d basic none _ (found.defined {rank = r} is) = none r is
 
--- a name alone
+-- An unqualified name
 
 pub names_nothing : (p : Package) (file name : ℕ) → ((d : ℕ) → BindsToken p file name d → ⊥) → (t : PlainType) → Names p file (Local name) t → ⊥
 names_nothing p file name none _ (predeclared {d = d} b binds is) = none d binds
@@ -47,7 +47,7 @@ pub named_by : (p : Package) (file name d : ℕ) (o : Option PlainType) → Bind
 named_by p file name d None binds only h = λ t names. h t (declared_of p file name d only t names)
 named_by p file name d (Some t) binds only h = named_of p file name d binds t h
 
--- a name behind the name of a package
+-- A qualified identifier
 
 no_import : (p : Package) (file q dot n : ℕ) → ((t : PlainType) → NamesExport p file q n t → ⊥) → (t : PlainType) → Names p file (Imported q dot n) t → ⊥
 no_import p file q dot n none t (imported e) = none t e
@@ -58,7 +58,7 @@ pub named_import : (p : Package) (file q dot n : ℕ) (o : Option PlainType) →
 named_import p file q dot n None h = no_import p file q dot n h
 named_import p file q dot n (Some t) h = imported h
 
--- a type behind a star or brackets
+-- A pointer or slice type
 
 no_pointer : (p : Package) (file s : ℕ) (tree : TypeTree) → ((t : PlainType) → Names p file tree t → ⊥) → (t : PlainType) → Names p file (Pointer s tree) t → ⊥
 no_pointer p file s tree none _ (pointer {t = t} names) = none t names
@@ -76,7 +76,7 @@ pub named_slice : (p : Package) (file o c : ℕ) (tree : TypeTree) (found : Opti
 named_slice p file o c tree None h = no_slice p file o c tree h
 named_slice p file o c tree (Some t) h = slice h
 
--- exports
+-- Exports
 
 pub export_by_path : (p : Package) (d file name : ℕ) (path : List ℕ) (o : Option (Bor Export)) → ImportsPath p d path →
     ((other : List ℕ) → ImportsPath p d other → other ≡ path) →
@@ -105,7 +105,7 @@ pub type_by_export : (p : Package) (file q name : ℕ) (x : plain.Export) (o : O
 type_by_export p file q name x None at only h = λ t n. h t (sym (ap (λ e. e.meaning) (only n.export n.exported)) ∙ n.is_type)
 type_by_export p file q name x (Some t) at only h = record { export = x; exported = at; is_type = h }
 
--- the definition that a Type mentions
+-- The definition that a type expression mentions
 
 pub mentions_nothing : (p : Package) (file name : ℕ) → ((d : ℕ) → BindsToken p file name d → ⊥) → (r : ℕ) → Mentions p file (Local name) r → ⊥
 mentions_nothing p file name none _ (by_name {d = d} binds declares) = none d binds

@@ -1,4 +1,4 @@
--- What the names of a package are bound to, as expressions are judged by it.
+-- The meanings of a package's declarations where they are used.
 use Rattle.std.specs.Prelude.{ℕ, ◌≡◌, true, false, List, [], ◌∷◌, map, Some, slice_get, codes}
 use Rattle.go_ast.specs.Tree.{Item, TypeTree, ParamTree, ResultTree, no_result, one_result, results}
 use Rattle.go_scope.specs.declared.model.Block.TheVariants.{Inner}
@@ -16,8 +16,9 @@ use Rattle.types_declared.specs.Package.{Package, PlacedVariable, PlacedFunction
 use Rattle.types_declared.specs.Package.{function_place, symbol_in}
 use Rattle.types_declared.specs.Written.{IsPredeclared, DeclaresType, ImportsPath, basic_name, IsBroken, IsTypeOf}
 
--- predeclared values and functions
+-- Meanings of predeclared identifiers
 
+-- the name of a predeclared function
 abbrev pub builtin_name : Builtin → List ℕ
 builtin_name builtin.Append = codes "append"
 builtin_name builtin.Len = codes "len"
@@ -25,6 +26,7 @@ builtin_name builtin.Panic = codes "panic"
 builtin_name builtin.Print = codes "print"
 builtin_name builtin.Println = codes "println"
 
+-- the predeclared identifier of this name has this meaning: a type, `true`, `false`, `nil` or a function
 pub data PredeclaredMeans : List ℕ → Meaning → Type 0 where
   a_type : (b : Basic) → PredeclaredMeans (basic_name b) (TypeName (BasicType b))
   a_truth : PredeclaredMeans (codes "true") (Value (Untyped basic.Bool) false)
@@ -32,41 +34,45 @@ pub data PredeclaredMeans : List ℕ → Meaning → Type 0 where
   a_nil : PredeclaredMeans (codes "nil") (Value Nil false)
   a_function : (b : Builtin) → PredeclaredMeans (builtin_name b) (BuiltinName b)
 
--- each Type of a list, in the order in which they are written, is the type beside it
+-- the type expressions have these types, in order
 abbrev pub AreTypesOf : Package → ℕ → List TypeTree → List PlainType → Type 0
 AreTypesOf p file [] [] = Unit {0}
 AreTypesOf p file [] (t ∷ ts) = ⊥
 AreTypesOf p file (x ∷ xs) [] = ⊥
 AreTypesOf p file (x ∷ xs) (t ∷ ts) = IsTypeOf p file x t × AreTypesOf p file xs ts
 
--- the Types of parameters, once for each name
+-- the type expressions of parameters, once for each name
 abbrev pub parameter_types : List (Item ParamTree) → List TypeTree
 parameter_types ps = flat_map (λ i. map (λ n. i.value.type_use) i.value.names) ps
 
+-- the type expressions of a function's results
 abbrev pub result_types : ResultTree → List TypeTree
 result_types no_result = []
 result_types (one_result t) = t ∷ []
 result_types (results o ts c) = map (λ i. i.value) ts
 
+-- the function's parameters and results have the types of the signature; no type expression in them is broken
 pub record HasSignature (p : Package) (f : PlacedFunction) (s : Signature) : Type 0 where
   pub parameters : AreTypesOf p f.file (parameter_types f.function.params) s.parameters
   pub results : AreTypesOf p f.file (result_types f.function.result) s.results
 
--- d is the declaration of the variable of that rank
+-- d declares the package-level variable of this rank
 abbrev pub DeclaresVariable : Package → (d rank : ℕ) → Type 0
 DeclaresVariable p d rank = IsRanked variable_place (package_variables p) p.layout d rank
 
--- d is the declaration of the function of that rank
+-- d declares the function of this rank
 abbrev pub DeclaresFunction : Package → (d rank : ℕ) → Type 0
 DeclaresFunction p d rank = IsRanked function_place (package_functions p) p.layout d rank
 
+-- d declares the variable v, in the package block
 abbrev pub IsVariable : Package → (d : ℕ) → PlacedVariable → Type 0
 IsVariable p d v = IsPackageLevel p.layout d × ((rank : ℕ) × (DeclaresVariable p d rank × (slice_get (package_variables p) rank ≡ Some v)))
 
+-- d declares the function f, in the package block
 abbrev pub IsFunction : Package → (d : ℕ) → PlacedFunction → Type 0
 IsFunction p d f = IsPackageLevel p.layout d × ((rank : ℕ) × (DeclaresFunction p d rank × (slice_get (package_functions p) rank ≡ Some f)))
 
--- What a declaration means where it is used. Methods and functions `init` are declared in no block, and mean nothing so.
+-- The declaration d has this meaning where it is used. Methods and functions `init` are declared in no block and have no meaning.
 pub data IsMeantBy (p : Package) (d : ℕ) : Bound → Type 0 where
   predeclared : {name : List ℕ} {m : Meaning} → IsPredeclared p d name → PredeclaredMeans name m → IsMeantBy p d (Stands m)
   import_name : {path : List ℕ} → ImportsPath p d path → IsMeantBy p d (Stands PackageName)

@@ -1,4 +1,4 @@
--- The type definitions of a package: underlying types, and the fields and methods that count.
+-- The type definitions of a package: their underlying types, and the fields and methods that count.
 use Rattle.std.specs.Prelude.{ℕ, suc, ◌≡◌, ◌<◌, Bool, true, is_some, List, [], ◌∷◌, ◌++◌, map, Option, Some, None, slice_get}
 use Rattle.std.specs.List.{flat_map}
 use Rattle.go_ast.specs.Tree.{TypeTree, BodyTree, Other, Struct, ReceiverTree}
@@ -12,9 +12,9 @@ use Rattle.types_declared.specs.Package.{Package, PlacedType, PlacedFunction, pa
 use Rattle.types_declared.specs.Written.{BindsToken, DeclaresType, Names, IsTypeOf}
 use Rattle.types_declared.specs.Bound.{HasSignature}
 
--- The underlying type of a type, of this package or of an imported one: following names until a type is written that is
--- none, whether or not a definition on the way is broken. A struct is known by the definition that writes it. None where
--- names lead back to themselves or to what is no type.
+-- The underlying type of a type, of this package or of an imported one (the Go specification, "Underlying types"). It is found through
+-- definitions, broken or not, up to a predeclared type, a pointer, a slice or a struct. A struct is identified by the definition that
+-- contains it. A type has none where its definitions form a cycle or name no type.
 pub data HasUnderlying (p : Package) : PlainType → Underlying → Type 0 where
   basic : {b : _} → HasUnderlying p (BasicType b) (Plain b)
   pointer : {t : PlainType} → HasUnderlying p (Pointer t) (PointerTo t)
@@ -27,43 +27,48 @@ pub data HasUnderlying (p : Package) : PlainType → Underlying → Type 0 where
   imported : {path : List ℕ} {rank : ℕ} → (path ≡ p.path → ⊥) →
       HasUnderlying p (Defined (record { «package» = path; rank = rank })) (((p.interface_of path).definition rank).underlying)
 
--- Fields: each name of each struct, in the order of path and offset; the place of one in this list is its rank
+-- Fields: each name of each struct, in the order of path and offset; the rank of a field is its index in this list
 
+-- a field: the rank of its definition, the rank of its file, the token of its name, its type expression
 pub record PlacedField : Type 0 where
   pub definition : ℕ
   pub file : ℕ
   pub name : ℕ
   pub type_use : TypeTree
 
+-- the fields of a definition's body; none where it is no struct
 abbrev pub body_fields : (definition file : ℕ) → BodyTree → List PlacedField
 body_fields definition file (Other t) = []
 body_fields definition file (Struct k o fs c) =
     flat_map (λ i. map (λ n. record { definition = definition; file = file; name = n.value; type_use = i.value.type_use }) i.value.names) fs
 
+-- the fields of type definitions whose ranks begin at rank
 abbrev pub fields_from : ℕ → List PlacedType → List PlacedField
 fields_from rank [] = []
 fields_from rank (d ∷ ds) = body_fields rank d.file d.spec.body ++ fields_from (suc rank) ds
 
+-- the fields of a package, by rank
 abbrev pub package_fields : Package → List PlacedField
 package_fields p = fields_from 0 (package_types p)
 
--- the field of that rank has that name, in the struct that the definition writes
+-- the field f of this rank has this name and is in the struct of this definition
 pub record IsFieldOf (p : Package) (definition : ℕ) (name : List ℕ) (rank : ℕ) (f : PlacedField) : Type 0 where
   pub has_rank : slice_get (package_fields p) rank ≡ Some f
   pub of_struct : f.definition ≡ definition
   pub named : spelled p f.file f.name ≡ name
 
--- of two fields of one name the first counts
+-- the field f counts: it is the first of its name in its struct
 pub record IsCountingField (p : Package) (definition : ℕ) (name : List ℕ) (rank : ℕ) (f : PlacedField) : Type 0 where
   pub is_field : IsFieldOf p definition name rank f
   pub first : (other : ℕ) (g : PlacedField) → other < rank → IsFieldOf p definition name other g → ⊥
 
--- Methods: functions with a receiver that names a definition of the package
+-- Methods: functions with a receiver whose type name is bound to a definition of the package
 
+-- whether a receiver's type is a pointer, as in `func (r *T) m()`
 abbrev pub is_on_pointer : ReceiverTree → Bool
 is_on_pointer r = is_some r.star
 
--- the function of that rank among the package's is a method of that name of that definition
+-- the function f of this rank is a method of this name whose receiver names this definition
 pub record IsMethodOf (p : Package) (definition : ℕ) (name : List ℕ) (rank : ℕ) (f : PlacedFunction) : Type 0 where
   pub has_rank : slice_get (package_functions p) rank ≡ Some f
   pub receiver : ReceiverTree
@@ -73,8 +78,13 @@ pub record IsMethodOf (p : Package) (definition : ℕ) (name : List ℕ) (rank :
   pub of_type : DeclaresType p declaration definition
   pub named : spelled p f.file f.function.name ≡ name
 
--- The struct that has the fields of the values of a definition of this package, and another of whose fields has that name:
--- names of two packages are the same only where they are exported.
+-- The underlying type of the definition is a struct with a field of this name. The struct may be in an imported package; there only an
+-- exported field counts:
+--
+--   import "q"
+--   type T q.S // q: type S struct { A int; b int }
+--   func (t T) A() {} // a field of T has this name
+--   func (t T) b() {} // no field of T has this name
 pub data HasFieldNamed (p : Package) (definition : ℕ) (name : List ℕ) : Type 0 where
   of_own : {rank field : ℕ} {f : PlacedField} → HasUnderlying p (Defined (symbol_in p definition)) (StructOf (symbol_in p rank)) →
       IsFieldOf p rank name field f → HasFieldNamed p definition name
@@ -82,40 +92,43 @@ pub data HasFieldNamed (p : Package) (definition : ℕ) (name : List ℕ) : Type
       HasUnderlying p (Defined (symbol_in p definition)) (StructOf (record { «package» = path; rank = rank })) → (path ≡ p.path → ⊥) →
       ((p.interface_of path).definition rank).field name ≡ Some f → f.exported ≡ true → HasFieldNamed p definition name
 
--- a method counts where no field has its name and no earlier method of the type
+-- the method f counts: no field of the type has its name, and no earlier method of the definition has it
 pub record IsCountingMethod (p : Package) (definition : ℕ) (name : List ℕ) (rank : ℕ) (f : PlacedFunction) : Type 0 where
   pub is_method : IsMethodOf p definition name rank f
   pub no_field : HasFieldNamed p definition name → ⊥
   pub first : (other : ℕ) (g : PlacedFunction) → other < rank → IsMethodOf p definition name other g → ⊥
 
--- What a definition of the package is to expressions. Where a field's type is broken, the definition is, and nothing is
--- asked of its fields.
+-- Definitions as expressions see them. A definition with a broken field type is broken, and no rule looks at its fields.
 
+-- the definition's field of this name, with its type; none where no field of this name counts or its type is broken
 abbrev pub IsField : Package → ℕ → List ℕ → Option Field → Type 0
 IsField p definition name None = (rank : ℕ) (f : PlacedField) (t : PlainType) → IsCountingField p definition name rank f → IsTypeOf p f.file f.type_use t → ⊥
 IsField p definition name (Some x) = (f : PlacedField) × (IsCountingField p definition name x.symbol.rank f × IsTypeOf p f.file f.type_use x.type_of
     × (x.symbol ≡ symbol_in p x.symbol.rank) × (x.exported ≡ is_exported name))
 
+-- the signature of the function f; none where a type expression in it is broken
 abbrev pub IsSignature : Package → PlacedFunction → Option Signature → Type 0
 IsSignature p f None = (s : Signature) → HasSignature p f s → ⊥
 IsSignature p f (Some s) = HasSignature p f s
 
+-- the definition's method of this name, with its signature and kind of receiver; none where no method of this name counts
 abbrev pub IsMethod : Package → ℕ → List ℕ → Option Method → Type 0
 IsMethod p definition name None = (rank : ℕ) (f : PlacedFunction) → IsCountingMethod p definition name rank f → ⊥
 IsMethod p definition name (Some x) = (f : PlacedFunction) × (c : IsCountingMethod p definition name x.symbol.rank f) × IsSignature p f x.signature
     × (x.on_pointer ≡ is_on_pointer c.is_method.receiver) × (x.symbol ≡ symbol_in p x.symbol.rank) × (x.exported ≡ is_exported name)
 
--- the underlying type of a definition; one that has none counts as a struct of its own
+-- the underlying type of the definition of this rank; where it has none, a struct of its own
 pub data IsUnderlyingOf (p : Package) (rank : ℕ) : Underlying → Type 0 where
   has : {u : Underlying} → HasUnderlying p (Defined (symbol_in p rank)) u → IsUnderlyingOf p rank u
   has_none : ((u : Underlying) → HasUnderlying p (Defined (symbol_in p rank)) u → ⊥) → IsUnderlyingOf p rank (StructOf (symbol_in p rank))
 
+-- d has the underlying type, the fields and the methods of the definition of this rank
 pub record IsDefinition (p : Package) (rank : ℕ) (d : Definition) : Type 0 where
   pub underlying : IsUnderlyingOf p rank d.underlying
   pub fields : (name : List ℕ) → IsField p rank name (d.field name)
   pub methods : (name : List ℕ) → IsMethod p rank name (d.method name)
 
--- definitions by symbol, of this package and of the imported ones; there is one such function at most
+-- the function gives the definition of each symbol, of this package and of imported ones; there is at most one such function
 pub record AreDefinitions (p : Package) (definition : Symbol → Definition) : Type 0 where
   pub own : (rank : ℕ) (d : PlacedType) → slice_get (package_types p) rank ≡ Some d → IsDefinition p rank (definition (symbol_in p rank))
   pub beyond : (rank : ℕ) → slice_get (package_types p) rank ≡ None → definition (symbol_in p rank) ≡ no_definition (symbol_in p rank)

@@ -1,4 +1,4 @@
--- The files of a package in the order of their paths, each with its rank, and what they import.
+-- The files of a package in the order of their paths, each with its rank; their imports and package clauses.
 use Rattle.std.specs.Prelude.{ℕ, List, [], ◌∷◌, map}
 use Rattle.std.specs.List.{flat_map, enumerate_from}
 use Rattle.go_scanner.specs.Cuts.{bytes_of}
@@ -12,10 +12,11 @@ use Rattle.go_ast.specs.SourceFile.{SourceFile, spelling_of}
 abbrev pub Ranked : Type 0
 Ranked = ℕ × SourceFile
 
+-- the files, each with its rank
 abbrev pub ranked : List SourceFile → List Ranked
 ranked files = enumerate_from 0 files
 
--- what stands alone or in the parentheses of a group
+-- the specifications of a declaration: the single one, or those in its parentheses
 abbrev pub group_items : {X : Type 0} → Group X → List X
 group_items (single x) = x ∷ []
 group_items (several o xs c) = map (λ x. x.value) xs
@@ -28,12 +29,12 @@ imports_in t = flat_map (λ d. group_items d.imports) t.imports
 abbrev pub clause_name : SourceFile → List ℕ
 clause_name s = spelling_of s s.tree.name
 
--- the package's name: that in the clause of its first file
+-- the name of a package: that in the package clause of its first file
 abbrev pub package_name : List SourceFile → List ℕ
 package_name [] = []
 package_name (s ∷ others) = clause_name s
 
--- the string literal at a token stands for these bytes
+-- the token is a string literal with this value
 pub record HasLiteral (s : SourceFile) (token : ℕ) (value : List ℕ) : Type 0 where
   pub is_string : IsStringClass (token_at s.cut token).class
   pub stands_for : HasStringValue (bytes_of s.cut.text (token_at s.cut token)) value

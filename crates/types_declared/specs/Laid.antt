@@ -1,4 +1,4 @@
--- The identifiers of a package, laid out, and what its imports name.
+-- The laid out identifiers of a package, the paths of its imports, and exported names.
 use Rattle.std.specs.Prelude.{ℕ, ◌≡◌, ◌+◌, Bool, true, false, List, Option, Some, None, slice_get, length, codes, if◌then◌else◌}
 use Rattle.bstr.specs.Utf8.{decoded}
 use Rattle.unicode.specs.GeneralCategory.{general_category, general_category_eq}
@@ -11,37 +11,39 @@ use Rattle.go_scope.specs.Scoped.{ScopedPackage, layout_in, names_in}
 use Rattle.go_scope.specs.Bindings.{Layout, Names}
 use Rattle.types_declared.specs.Files.{HasLiteral}
 
--- the identifiers of a package, laid out: so many, with their names
+-- the identifiers of a package, laid out: their layout, their names and their number
 pub record Laid : Type 0 where
   pub layout : Layout
   pub names : Names
   pub size : ℕ
 
--- those of a table
+-- the laid out identifiers of a scope table
 abbrev pub laid_in : ScopedPackage → Laid
 laid_in t = record { layout = layout_in t; names = names_in t; size = length t.sites }
 
--- no variable and no type of a package is named so
+-- the name `init`, which no package-level variable and no type may have
 abbrev pub init_name : List ℕ
 init_name = codes "init"
 
+-- whether a role is that of the string literal of an import with a name
 abbrev pub is_literal : Role → Bool
 is_literal (NotLexical purpose.ImportPath) = true
 is_literal r = false
 
--- where an import's literal stands: behind its name, or where it has none in its own place
+-- the identifier of an import's string literal: the next one where the import has a name, else d itself
 abbrev pub literal_of : Layout → ℕ → ℕ
 literal_of l d = if is_literal (l.role (d + 1)) then d + 1 else d
 
--- whether a name's first character is of category Lu
+-- whether a name's first character is an upper case letter (Unicode category Lu)
 abbrev pub is_upper_at : Option ℕ → Bool
 is_upper_at None = false
 is_upper_at (Some c) = general_category_eq (general_category c) UppercaseLetter
 
+-- whether a name is exported
 unfoldable pub is_exported : List ℕ → Bool
 is_exported name = is_upper_at (decoded name).char
 
--- the path that an import names
+-- the import d has this path
 pub record IsPathOf (files : List SourceFile) (p : Laid) (d : ℕ) (path : List ℕ) : Type 0 where
   pub source : SourceFile
   pub is_file : slice_get files (p.layout.place d).file ≡ Some source

@@ -1,4 +1,4 @@
--- A package of the program as the plain one, and what is found once in it.
+-- The program's package and its index, as the definitions see them.
 use Rattle.std.specs.Prelude.{ℕ, ◌≡◌, ◌<◌, List, Option, Some, None, length, map, slice_get, MatchOption}
 use Rattle.std.specs.Global.{Vec}
 use Rattle.go_ast.specs.SourceFile.{source_of}
@@ -13,6 +13,7 @@ use Rattle.types_declared.specs.DeclaredView.{variable_of, type_of, function_of}
 use Rattle.types_declared.specs.RanksView.{AreRanks}
 use Rattle.types_declared.specs.InterfacesView.{interface_in}
 
+-- the program's package, as the definitions see it
 abbrev pub package_of : Package → plain.Package
 package_of p = record {
   path = p.path.now;
@@ -23,17 +24,18 @@ package_of p = record {
   interface_of = interface_in p.interfaces.now;
 }
 
+-- the path at an index of a list of paths; none where there is none
 abbrev pub path_in : Option (Option (Vec ℕ)) → Option (List ℕ)
 path_in None = None
 path_in (Some None) = None
 path_in (Some (Some v)) = Some v.items
 
--- the path of each import below n
+-- the list has for each identifier below n the path of the import that it declares, or none
 pub record ArePaths (p : plain.Package) (n : ℕ) (paths : List (Option (Vec ℕ))) : Type 0 where
   pub all : length paths ≡ n
   pub each : (d : ℕ) → d < n → MatchOption (path_in (slice_get paths d)) ((v : List ℕ) → ImportsPath p d v → ⊥) (λ v. ImportsPath p d v)
 
--- what is found once in a package
+-- the index has exactly the declarations, ranks, identifiers and import paths of the package
 pub record IsIndexOf (p : plain.Package) (index : Index) : Type 0 where
   pub variables : map variable_of index.declared.variables.items ≡ package_variables p
   pub types : map type_of index.declared.types.items ≡ package_types p

@@ -1,30 +1,32 @@
--- Marks that spread along links.
+-- Reachability along links: the numbers that links lead to from the marked ones.
 use Rattle.std.specs.Prelude.{ℕ, ◌≡◌, ◌<◌, ◌≤◌, ◌⊎◌, Bool, true, false, List, [], Option, Some, None, length, slice_get, slice_index_or, Contains}
 use Rattle.std.specs.List.{count_by}
 use Rattle.std.specs.Global.{Vec}
 
+-- the numbers of a row of links; none where there is no row
 abbrev pub row_of : Option (Vec ℕ) → List ℕ
 row_of None = []
 row_of (Some row) = row.items
 
--- a links to b; numbers are linked by rows
+-- a links to b: b is in the row of a
 abbrev pub Leads : List (Vec ℕ) → ℕ → ℕ → Type 0
 Leads links a b = Contains (row_of (slice_get links a)) b
 
--- each number that is linked to has a row
+-- links lead only to numbers that have a row
 abbrev pub AreLinked : List (Vec ℕ) → Type 0
 AreLinked links = (a b : ℕ) → Leads links a b → b < length links
 
+-- the list marks the number q
 abbrev pub IsMarked : List Bool → ℕ → Type 0
 IsMarked marks q = slice_index_or marks q false ≡ true
 
--- the list holds each marked number once
+-- found lists each marked number once, and no other
 pub record IsListed (found : List ℕ) (marks : List Bool) : Type 0 where
   pub counted : length found ≡ count_by (λ m. m) marks
   pub marked : (i : ℕ) → i < length found → IsMarked marks (slice_index_or found i 0)
   pub places : (q : ℕ) → IsMarked marks q → (i : ℕ) × ((i < length found) × (slice_index_or found i 0 ≡ q))
 
--- the numbers of which P holds were marked, and no other
+-- The numbers with the property P were marked too, and no other. The list found was extended to more, and the marks to marked.
 pub record Marks (found : List ℕ) (marks : List Bool) (more : List ℕ) (marked : List Bool) (P : ℕ → Type 0) : Type 0 where
   pub size : length marked ≡ length marks
   pub longer : length found ≤ length more
@@ -33,17 +35,17 @@ pub record Marks (found : List ℕ) (marks : List Bool) (more : List ℕ) (marke
   pub holds : (q : ℕ) → P q → IsMarked marked q
   pub only : (q : ℕ) → IsMarked marked q → IsMarked marks q ⊎ P q
 
--- what begins, and what it leads to, directly or through others
+-- the number has the property Begins, or links lead to it, directly or indirectly, from one that has it
 pub data IsReached (links : List (Vec ℕ)) (Begins : ℕ → Type 0) : ℕ → Type 0 where
   first : {q : ℕ} → Begins q → IsReached links Begins q
   behind : {a b : ℕ} → IsReached links Begins a → Leads links a b → IsReached links Begins b
 
--- each number of a list begins, or stands behind one that leads to it
+-- each number of found has the property Begins or comes after a number that links to it
 abbrev pub IsOrdered : List (Vec ℕ) → (ℕ → Type 0) → List ℕ → Type 0
 IsOrdered links Begins found =
     (i : ℕ) → i < length found → Begins (slice_index_or found i 0) ⊎ ((j : ℕ) × ((j < i) × Leads links (slice_index_or found j 0) (slice_index_or found i 0)))
 
--- a list of all that is reached, each behind one that leads to it
+-- found lists exactly the reached numbers; each that doesn't have the property Begins comes after one that links to it
 pub record IsOrderOf (links : List (Vec ℕ)) (Begins : ℕ → Type 0) (found : List ℕ) : Type 0 where
   pub reached : (i : ℕ) → i < length found → IsReached links Begins (slice_index_or found i 0)
   pub places : (q : ℕ) → IsReached links Begins q → (i : ℕ) × ((i < length found) × (slice_index_or found i 0 ≡ q))

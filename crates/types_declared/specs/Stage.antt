@@ -1,11 +1,11 @@
--- The first stage that has faults. A stage is told by which faults it has.
+-- The faults of the first stage of checking that has any. A stage is a predicate on faults.
 use Rattle.std.specs.Prelude.{◌⊎◌}
 use Rattle.types_declared.specs.declared.fault.Fault.{Fault}
 
--- no fault is one of that stage
+-- the stage P has no fault
 abbrev pub HasNone : (Fault → Type 0) → Type 0
 HasNone P = (f : Fault) → P f → ⊥
 
--- a fault of the first stage, or where that has none, of the later ones
+-- f is a fault of the stage P, or where P has none, a fault of the later stages
 abbrev pub FirstOf : (Fault → Type 0) → (Fault → Type 0) → Fault → Type 0
 FirstOf P later f = P f ⊎ (HasNone P × later f)

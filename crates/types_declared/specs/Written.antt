@@ -1,5 +1,5 @@
--- What the names in the written types of a package's definitions stand for, and which definitions are broken: a Type in
--- them names no type, or a broken one.
+-- The types that type expressions name, and broken definitions: those with a type expression that names no type or mentions a broken
+-- definition.
 use Rattle.std.specs.Prelude.{ℕ, ◌≡◌, true, List, [], ◌∷◌, map, Some, slice_get, Contains, codes}
 use Rattle.go_ast.specs.Tree.{TypeTree, Local, Imported, Pointer, Slice, BodyTree, Other, Struct}
 use Rattle.go_scope.specs.declared.model.Block.TheVariants.{Universe}
@@ -12,52 +12,52 @@ use Rattle.types_expr.specs.Types.{Pointer as PointerType, Slice as SliceType}
 use Rattle.types_declared.specs.Laid.{IsPathOf}
 use Rattle.types_declared.specs.Package.{Package, Export, PlacedType, IsRanked, package_types, type_place, laid_of, symbol_in, spelled}
 
--- the identifier at a token is bound to d
+-- the identifier at the token is bound to the declaration d
 pub record BindsToken (p : Package) (file token d : ℕ) : Type 0 where
   pub identifier : ℕ
   pub found : IsFoundAt p.layout p.size (record { file = file; index = token }) identifier
   pub bound : IsBoundTo p.layout p.names identifier d
 
--- d is the declaration of the predeclared name, which no identifier declares
+-- d is the predeclared declaration of the name, which has no identifier in the package
 pub record IsPredeclared (p : Package) (d : ℕ) (name : List ℕ) : Type 0 where
   pub implied : is_implied (p.layout.role d) ≡ true
   pub universe : block_of (p.layout.role d) ≡ Universe
   pub named : p.names d ≡ name
 
--- d is the declaration of the type definition of that rank
+-- d declares the type definition of this rank
 abbrev pub DeclaresType : Package → (d rank : ℕ) → Type 0
 DeclaresType p d rank = IsRanked type_place (package_types p) p.layout d rank
 
--- d is an import of that path
+-- d declares an import of this path
 pub record ImportsPath (p : Package) (d : ℕ) (path : List ℕ) : Type 0 where
   pub is_import : IsImport p.layout d
   pub of_path : IsPathOf p.files (laid_of p) d path
 
--- the predeclared types
+-- the names of the predeclared types
 abbrev pub basic_name : Basic → List ℕ
 basic_name basic.Bool = codes "bool"
 basic_name basic.Int = codes "int"
 basic_name basic.String = codes "string"
 
--- the package that the import d names exports what the name at a token spells
+-- the package of the import d exports e under the name spelled at the token
 pub record IsExportOf (p : Package) (d file name : ℕ) (e : Export) : Type 0 where
   pub path : List ℕ
   pub imports : ImportsPath p d path
   pub exported : (p.interface_of path).exported (spelled p file name) ≡ Some e
 
--- `a.b`, with a bound to an import, is what that package exports as b
+-- the qualified identifier `p.N` denotes the export e: p is bound to an import whose package exports e as N
 pub record IsExportAt (p : Package) (file qualifier name : ℕ) (e : Export) : Type 0 where
   pub import : ℕ
   pub binds : BindsToken p file qualifier import
   pub of_import : IsExportOf p import file name e
 
--- `a.T` names the exported T of the package that a is bound to
+-- the qualified identifier `p.T` names the type t
 pub record NamesExport (p : Package) (file qualifier name : ℕ) (t : PlainType) : Type 0 where
   pub export : Export
   pub exported : IsExportAt p file qualifier name export
   pub is_type : export.meaning ≡ TypeName t
 
--- the type that a Type names, whether or not its definition is broken
+-- the type expression names the type t, whether or not the definition of t is broken
 pub data Names (p : Package) (file : ℕ) : TypeTree → PlainType → Type 0 where
   predeclared : {n d : ℕ} (b : Basic) → BindsToken p file n d → IsPredeclared p d (basic_name b) → Names p file (Local n) (BasicType b)
   defined : {n d rank : ℕ} → BindsToken p file n d → DeclaresType p d rank → Names p file (Local n) (Defined (symbol_in p rank))
@@ -65,30 +65,35 @@ pub data Names (p : Package) (file : ℕ) : TypeTree → PlainType → Type 0 wh
   pointer : {s : ℕ} {tree : TypeTree} {t : PlainType} → Names p file tree t → Names p file (Pointer s tree) (PointerType t)
   slice : {o c : ℕ} {tree : TypeTree} {t : PlainType} → Names p file tree t → Names p file (Slice o c tree) (SliceType t)
 
--- the Types that are written in a definition
+-- the type expressions of a definition: its type, or the types of its struct's fields
 abbrev pub written_types : BodyTree → List TypeTree
 written_types (Other t) = t ∷ []
 written_types (Struct k o fs c) = map (λ f. f.value.type_use) fs
 
--- a Type names, itself or behind pointers and slices, the definition of that rank
+-- the type expression mentions the definition of this rank: it names it, itself or under pointers and slices
 pub data Mentions (p : Package) (file : ℕ) : TypeTree → ℕ → Type 0 where
   by_name : {n d rank : ℕ} → BindsToken p file n d → DeclaresType p d rank → Mentions p file (Local n) rank
   by_pointer : {s rank : ℕ} {t : TypeTree} → Mentions p file t rank → Mentions p file (Pointer s t) rank
   by_slice : {o c rank : ℕ} {t : TypeTree} → Mentions p file t rank → Mentions p file (Slice o c t) rank
 
--- a Type that is written in the definition of that rank
+-- the definition of this rank contains the type expression t
 pub record IsWrittenIn (p : Package) (rank file : ℕ) (t : TypeTree) : Type 0 where
   pub definition : PlacedType
   pub has_rank : slice_get (package_types p) rank ≡ Some definition
   pub in_file : definition.file ≡ file
   pub written : Contains (written_types definition.spec.body) t
 
--- the definition of that rank is broken
+-- The definition of this rank is broken: one of its type expressions names no type or mentions a broken definition. In this example all
+-- three are broken:
+--
+--   type A nosuch
+--   type B struct { a *A }
+--   type C []B
 pub data IsBroken (p : Package) : ℕ → Type 0 where
   by_itself : {rank file : ℕ} {t : TypeTree} → IsWrittenIn p rank file t → ((u : PlainType) → Names p file t u → ⊥) → IsBroken p rank
   through : {rank file other : ℕ} {t : TypeTree} → IsWrittenIn p rank file t → Mentions p file t other → IsBroken p other → IsBroken p rank
 
--- the type of a Type that is not broken
+-- t is the type of the type expression, which mentions no broken definition
 pub record IsTypeOf (p : Package) (file : ℕ) (tree : TypeTree) (t : PlainType) : Type 0 where
   pub names : Names p file tree t
   pub whole : (rank : ℕ) → Mentions p file tree rank → IsBroken p rank → ⊥

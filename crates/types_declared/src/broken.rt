@@ -1,4 +1,4 @@
-//! Which type definitions of a package are broken: a Type that is written in them names no type, or a broken one.
+//! Finds the broken type definitions of a package: those with a type expression that names no type or mentions a broken definition.
 ghost use Rattle.std.specs.Prelude.{◌≡◌, ◌<◌, ◌↔◌, ℕ, suc, length, map, IsTrue, IfOk, OnOk};
 ghost use Rattle.go_ast.specs.View.{type_view, list_view};
 ghost use Rattle.go_ast.specs.FileView.{field_view, body_view};
@@ -15,7 +15,7 @@ use crate::written::{mentioned, named_type};
 use go_ast::tree::{FieldDecl, Item, TypeBody, TypeExpr};
 use std::alloc::{AllocError, Global};
 
-/// Notes that a definition mentions what has a number.
+/// Adds the link from the number `to` to the definition `rank` that mentions it.
 pub fn note(links: &mut Vec<Vec<usize>>, to: usize, rank: usize) -> Result<(), AllocError>
     requires { to < length links.old.items }
     ensures { OnOk result (AddsLinks links.old.items links.new.items rank (λ a. a ≡ to)) }
@@ -24,7 +24,7 @@ pub fn note(links: &mut Vec<Vec<usize>>, to: usize, rank: usize) -> Result<(), A
     Ok(())
 }
 
-/// Whether a Type names a type.
+/// Whether a type expression names a type.
 fn names_type(
     alloc: Global,
     unit: Package<'_>,
@@ -39,7 +39,7 @@ fn names_type(
     Ok(named.is_some())
 }
 
-/// What a Type mentions: a definition by its rank, or the number behind the last rank where it names no type.
+/// The target of a type expression: the rank of the definition that it mentions, or the number of definitions where it names no type.
 fn target(
     alloc: Global,
     unit: Package<'_>,
@@ -57,14 +57,14 @@ fn target(
     }
 }
 
-/// A definition, by its rank, and the file that it stands in.
+/// A definition by its rank, with the rank of its file.
 #[derive(Clone, Copy)]
 struct DefinitionPlace {
     rank: usize,
     file: usize,
 }
 
-/// Notes what a Type mentions that is written in a definition.
+/// Links the target of one type expression to the definition that contains it.
 fn note_type(
     alloc: Global,
     unit: Package<'_>,
@@ -83,7 +83,7 @@ fn note_type(
     }
 }
 
-/// Notes what the types of fields mention.
+/// Links the targets of the fields' type expressions to the definition that contains them.
 fn note_fields(
     alloc: Global,
     unit: Package<'_>,
@@ -102,7 +102,7 @@ fn note_fields(
     Ok(())
 }
 
-/// Notes what the Types mention that are written in a definition.
+/// Links the targets of a definition's type expressions to the definition.
 #[tactic(auto, unfolding(go_ast::specs::FileView::type_spec_view))]
 fn note_definition(
     alloc: Global,
@@ -124,7 +124,7 @@ fn note_definition(
     }
 }
 
-/// No links yet, between so many numbers and one more.
+/// Returns `size + 1` empty rows of links.
 pub fn no_links(alloc: Global, size: usize) -> Result<Vec<Vec<usize>>, AllocError>
     ensures size { IfOk result (λ links. length links.items ≡ suc size) }
     ensures none { IfOk result (λ links. (a b : ℕ) → Leads links.items a b → ⊥) }
@@ -137,7 +137,8 @@ pub fn no_links(alloc: Global, size: usize) -> Result<Vec<Vec<usize>>, AllocErro
     Ok(links)
 }
 
-/// What the definitions of a package mention.
+/// Builds the links from each definition to those that mention it. The last row links to the definitions with a type expression that names
+/// no type.
 fn mentions(
     alloc: Global,
     unit: Package<'_>,
@@ -154,7 +155,7 @@ fn mentions(
     Ok(links)
 }
 
-/// Which type definitions of a package are broken, by their ranks.
+/// Marks the broken type definitions of a package, by rank. The list has one more entry behind the last rank, which is marked.
 pub fn broken_definitions(
     alloc: Global,
     unit: Package<'_>,

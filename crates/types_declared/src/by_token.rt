@@ -1,4 +1,4 @@
-//! Numbers that stand at tokens of files: found again in one step.
+//! Tables from tokens of a package's files to numbers: identifiers or ranks.
 ghost use Rattle.std.specs.Prelude.{length, IfOk};
 ghost use Rattle.go_scope.specs.Scoped.{layout_in};
 ghost use Rattle.types_declared.specs.ByToken.{number_at, AreIdentifiers, AreRanksOf};
@@ -9,14 +9,14 @@ use go_scope::model::Position;
 use go_scope::table::ScopeTable;
 use std::alloc::{AllocError, Global};
 
-/// The identifier at each token of a package.
+/// Returns the table from the tokens of a package to its identifiers.
 pub fn identifiers_by_token(alloc: Global, table: &ScopeTable) -> Result<ByToken, AllocError>
     ensures { IfOk result (λ found. AreIdentifiers (layout_in table.now) (length table.now.sites) (number_at found)) }
 {
     by_token::identifiers_by_token(alloc, table.identifiers())
 }
 
-/// The ranks of a list of places, by their tokens: the first of each place.
+/// Returns the table from positions to their ranks in a list. A position that comes twice has its first rank.
 pub fn ranks_by_token(alloc: Global, places: &[Position]) -> Result<ByToken, AllocError>
     ensures { IfOk result (λ found. AreRanksOf places.now (length places.now) (number_at found)) }
 {

@@ -1,4 +1,4 @@
-//! What a package declares: its variables, types and functions in the order of path and offset.
+//! The variables, type definitions and functions that a package declares, each list in the order of path and offset.
 ghost use Rattle.std.specs.Prelude.{◌≡◌, ◌∷◌, [], IfOk, OnOk, map};
 ghost use Rattle.std.specs.List.{flat_map};
 ghost use Rattle.go_ast.specs.View.{group_view};
@@ -13,7 +13,7 @@ use go_ast::FileTree;
 use go_ast::tree::{Decl, FuncDecl, Group, TypeExpr, TypeSpec, VarSpec};
 use std::alloc::{AllocError, Global};
 
-/// A package-level variable: the rank of its file, the token of its name, and its type as it is written.
+/// A package-level variable: the rank of its file, the token of its name, and its type expression.
 #[derive(Clone, Copy)]
 pub struct Variable<'a> {
     pub file: usize,
@@ -21,21 +21,21 @@ pub struct Variable<'a> {
     pub var_type: &'a TypeExpr,
 }
 
-/// A type definition, in the file of that rank.
+/// A type definition, with the rank of its file.
 #[derive(Clone, Copy)]
 pub struct TypeDef<'a> {
     pub file: usize,
     pub spec: &'a TypeSpec,
 }
 
-/// A function, a method or a function `init`, in the file of that rank.
+/// A function, method or function `init`, with the rank of its file.
 #[derive(Clone, Copy)]
 pub struct Function<'a> {
     pub file: usize,
     pub func: &'a FuncDecl,
 }
 
-/// What a package declares, each list in the order of path and offset. A declaration's place in its list is its rank.
+/// The declarations of a package, each list in the order of path and offset. The rank of a declaration is its index in its list.
 #[derive(Drop)]
 pub struct Declared<'a> {
     pub variables: Vec<Variable<'a>>,
@@ -43,7 +43,7 @@ pub struct Declared<'a> {
     pub functions: Vec<Function<'a>>,
 }
 
-/// Adds the variables of one type.
+/// Appends the variables of one specification, such as `a, b int`.
 #[tactic(auto, unfolding(go_ast::specs::FileView::global_view))]
 fn add_names<'a>(
     found: &mut Vec<Variable<'a>>,
@@ -62,7 +62,7 @@ fn add_names<'a>(
     Ok(())
 }
 
-/// Adds the variables of a declaration.
+/// Appends the variables of a `var` declaration.
 fn add_variables<'a>(
     found: &mut Vec<Variable<'a>>,
     file: usize,
@@ -81,7 +81,7 @@ fn add_variables<'a>(
     }
 }
 
-/// Adds a type definition.
+/// Appends one type definition.
 fn add_type<'a>(
     found: &mut Vec<TypeDef<'a>>,
     file: usize,
@@ -93,7 +93,7 @@ fn add_type<'a>(
     Ok(())
 }
 
-/// Adds the type definitions of a declaration.
+/// Appends the type definitions of a `type` declaration.
 fn add_types<'a>(
     found: &mut Vec<TypeDef<'a>>,
     file: usize,
@@ -113,7 +113,7 @@ fn add_types<'a>(
 }
 
 impl<'a> Declared<'a> {
-    /// Adds what one keyword declares.
+    /// Appends what one top-level declaration declares.
     fn add_decl(&mut self, file: usize, decl: &'a Decl) -> Result<(), AllocError>
         ensures { OnOk result (AddsDeclared self.old self.new (decl_variables file (decl_view decl.now)) (decl_types file (decl_view decl.now)) (decl_functions file (decl_view decl.now))) }
     {
@@ -127,7 +127,7 @@ impl<'a> Declared<'a> {
         }
     }
 
-    /// Adds what a file declares, by its rank.
+    /// Appends the declarations of the file of this rank.
     fn add_file(&mut self, rank: usize, file: &'a FileTree) -> Result<(), AllocError>
         ensures { OnOk result (AddsDeclared self.old self.new (variables_in (rank, source_of file.now)) (types_in (rank, source_of file.now)) (functions_in (rank, source_of file.now))) }
     {
@@ -138,7 +138,7 @@ impl<'a> Declared<'a> {
         Ok(())
     }
 
-    /// What a package's files declare. They are in the order of their paths.
+    /// Collects the declarations of a package's files, which are in the order of their paths.
     pub fn of(alloc: Global, files: &'a [FileTree]) -> Result<Declared<'a>, AllocError>
         ensures variables { IfOk result (λ d. map variable_of d.variables.items ≡ declared_variables (map source_of files.now)) }
         ensures types { IfOk result (λ d. map type_of d.types.items ≡ declared_types (map source_of files.now)) }

@@ -1,4 +1,4 @@
-//! What a package's files say of their names and imports.
+//! The package clauses and string literals of a package's files.
 ghost use Rattle.std.specs.Prelude.{◌≡◌, ℕ, List, IfOk, MatchOption};
 ghost use Rattle.go_ast.specs.SourceFile.{source_of};
 ghost use Rattle.types_declared.specs.Files.{clause_name, HasLiteral};
@@ -6,7 +6,7 @@ ghost use Rattle.types_declared.specs.Files.{clause_name, HasLiteral};
 use go_ast::FileTree;
 use std::alloc::{AllocError, Global};
 
-/// What the string literal at a token stands for; none where no string literal stands there.
+/// The value of the string literal at a token; none where the token is no string literal.
 pub fn literal(alloc: Global, file: &FileTree, token: usize) -> Result<Option<Vec<u8>>, AllocError>
     ensures { IfOk result (λ value. MatchOption value ((v : List ℕ) → HasLiteral (source_of file.now) token v → ⊥) (λ v. HasLiteral (source_of file.now) token v.items)) }
 {

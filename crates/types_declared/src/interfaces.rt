@@ -1,5 +1,4 @@
-//! What a package sees of others: their names, what they export, and their type definitions; and what each path is that it
-//! imports.
+//! The export data of other packages that a package sees, and the states of its imported paths.
 ghost use Rattle.std.specs.Prelude.{◌≡◌, ℕ, List, None, IsSome, option_copied, option_map, is_some, IfOk, OnOk, OnErr};
 ghost use Rattle.types_declared.specs.States.{state_in};
 ghost use Rattle.types_declared.specs.declared.states.ImportState.TheVariants.{Missing};
@@ -14,7 +13,7 @@ use std::sync::Arc;
 use types_expr::interfaces::{Export, Interface, PackageScope};
 use types_expr::world::Definitions;
 
-/// The interfaces of imported packages, which can be shared with others, and what each imported path is.
+/// The export data of imported packages, by path and shareable, and the state of each imported path.
 pub struct Interfaces {
     definitions: Definitions,
     states: ImportStates,
@@ -32,7 +31,7 @@ impl Drop for Interfaces {
     }
 }
 
-/// What a package exports under a name.
+/// The export of a package under a name.
 fn export<'a>(scope: &'a PackageScope, name: &[u8]) -> Option<&'a Export>
     ensures { option_map (λ e. export_of e.now) result ≡ exported_in scope.now name.now }
 {
@@ -40,7 +39,7 @@ fn export<'a>(scope: &'a PackageScope, name: &[u8]) -> Option<&'a Export>
 }
 
 impl Interfaces {
-    /// No interface, and no path that is a package.
+    /// An empty table: no export data, and every path missing.
     pub fn new(alloc: Global) -> Interfaces
         ensures states { (path : List ℕ) → state_in result.states path ≡ Missing }
         ensures names { (path : List ℕ) → name_in result path ≡ None }
@@ -55,7 +54,7 @@ impl Interfaces {
         }
     }
 
-    /// No interface, and no path that is a package, with room for so many packages.
+    /// An empty table with room for `capacity` packages.
     pub fn with_capacity(alloc: Global, capacity: usize) -> Result<Interfaces, AllocError>
         ensures states { IfOk result (λ i. (path : List ℕ) → state_in i.states path ≡ Missing) }
         ensures names { IfOk result (λ i. (path : List ℕ) → name_in i path ≡ None) }
@@ -69,7 +68,7 @@ impl Interfaces {
         })
     }
 
-    /// What each imported path is.
+    /// The states of imported paths.
     pub fn states(&self) -> &ImportStates
         ensures { result.now ≡ self.now.states }
     {
@@ -83,7 +82,7 @@ impl Interfaces {
         &self.definitions
     }
 
-    /// The name and the exported names of the package of a path, where they are known.
+    /// The name and the exported names of the package at a path; none where its export data isn't known.
     pub fn scope(&self, path: &[u8]) -> Option<&PackageScope>
         ensures { option_copied result ≡ scope_in self.now path.now }
     {
@@ -93,14 +92,14 @@ impl Interfaces {
         }
     }
 
-    /// What a package exports under a name.
+    /// The export that the package at a path has under a name; none where it has none or isn't known.
     pub fn export(&self, path: &[u8], name: &[u8]) -> Option<&Export>
         ensures { option_map (λ e. export_of e.now) result ≡ (interface_in self.now path.now).exported name.now }
     {
         export(self.scope(path)?, name)
     }
 
-    /// What is known of the interface of the package of a path. Both then share it.
+    /// The export data of the package at a path, shared with the table; none where it isn't known.
     pub fn known(&self, path: &[u8]) -> Result<KnownInterface, AllocError>
         ensures { IfOk result (λ one. one ≡ known_at self.now.definitions path.now) }
     {
@@ -113,7 +112,7 @@ impl Interfaces {
         }
     }
 
-    /// Notes what an imported path is.
+    /// Sets the state of an imported path.
     pub fn note(&mut self, path: Vec<u8>, state: ImportState) -> Result<(), AllocError>
         ensures noted { OnOk result (Notes (state_in self.old.states) (state_in self.new.states) path.items state) }
         ensures kept { (p : List ℕ) → interface_in self.new p ≡ interface_in self.old p }
@@ -124,7 +123,7 @@ impl Interfaces {
         Ok(())
     }
 
-    /// Sets what is known of the package of a path.
+    /// Sets the export data of the package at a path, or that it isn't known.
     fn set(
         &mut self,
         path: SharedPath,
@@ -137,7 +136,7 @@ impl Interfaces {
         Ok(())
     }
 
-    /// Adds the interface of the package of a path, in the place of one that is there.
+    /// Sets the export data of the package at a path, in place of an earlier entry.
     pub fn add(
         &mut self,
         alloc: Global,
@@ -153,7 +152,7 @@ impl Interfaces {
         Ok(())
     }
 
-    /// Takes what is known of the package of a path, in the place of what is known of it here. Both then share it.
+    /// Sets the export data of the package at a path to shared data, in place of an earlier entry.
     pub fn share_known(
         &mut self,
         path: SharedPath,
@@ -166,7 +165,7 @@ impl Interfaces {
         self.set(path, held)
     }
 
-    /// Adds what is known of the package of a path that stands behind all that are here.
+    /// Appends an entry for a path that comes after all paths of the table.
     fn push(
         &mut self,
         path: SharedPath,
@@ -181,7 +180,7 @@ impl Interfaces {
         Ok(())
     }
 
-    /// The same as `share_known`, of a path that stands behind all that are here, so that it is compared with none of them.
+    /// Appends shared export data for a path that comes after all paths of the table, so that no path is compared.
     pub fn push_known(&mut self, path: SharedPath, known: &KnownInterface) -> Result<(), AllocError>
         requires { IsBehindAll self.old path }
         ensures set { OnOk result (SetsKnown self.old self.new path known.now) }
@@ -192,9 +191,8 @@ impl Interfaces {
         self.push(path, held)
     }
 
-    /// Takes what others know of the package of a path that stands behind all that are here. Both then share it. It is looked for
-    /// first at a number among the packages that the others know; where many are taken in the order of their paths, the number that
-    /// is answered is the one for the next.
+    /// Appends the entry that `others` has for a path, if any; the path comes after all paths of the table. The search in `others` begins
+    /// at number `first`. Returns the number to begin at for the next path in order.
     pub fn share_next(
         &mut self,
         others: &Interfaces,

@@ -1,4 +1,4 @@
-//! What is known of the interface of one package.
+//! The shared export data of one package, if it is known.
 ghost use Rattle.std.specs.Prelude.{◌≡◌, IfOk};
 ghost use Rattle.std.specs.Option.{option_copied};
 ghost use Rattle.types_expr.specs.WorldView.{shared_interface};
@@ -8,7 +8,7 @@ use std::marker::Model;
 use std::sync::Arc;
 use types_expr::interfaces::Interface;
 
-/// What is seen of a package, where anything is, shared once more.
+/// Returns another shared handle to the export data; none where there is none.
 pub(crate) fn share_held(
     held: &Option<Arc<Interface, Global>>,
 ) -> Result<Option<Arc<Interface, Global>>, AllocError>
@@ -20,7 +20,7 @@ pub(crate) fn share_held(
     }
 }
 
-/// What is known of the interface of one package, if anything is. A clone shares it.
+/// The export data of one package, or none where it isn't known. A clone shares the data.
 pub struct KnownInterface {
     pub(crate) known: Option<Arc<Interface, Global>>,
 }
@@ -48,7 +48,7 @@ impl Model for KnownInterface {
 }
 
 impl KnownInterface {
-    /// What is known.
+    /// The export data, if known.
     pub fn get(&self) -> Option<&Interface>
         ensures { option_copied result ≡ self.now }
     {

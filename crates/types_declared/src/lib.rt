@@ -1,4 +1,4 @@
-//! The faults of a package, its imports, and its declarations.
+//! The faults, the imports and the declarations of one package, and the types that its type expressions name.
 #![tactic(auto)]
 
 mod broken;

@@ -1,4 +1,4 @@
-//! Lists of faults.
+//! Lists of faults: adding to them and sorting them.
 ghost use Rattle.std.specs.Prelude.{◌≡◌, true, Any, Contains, IsTrue, OnOk};
 ghost use Rattle.std.specs.List.Sorted.{IsStrictlySortedBy};
 ghost use Rattle.types_declared.specs.contracts.fault.FaultOrd.TheImpl as order;
@@ -7,7 +7,7 @@ ghost use Rattle.types_declared.specs.Listing.{Adds, HoldsSame};
 use crate::fault::Fault;
 use std::alloc::AllocError;
 
-/// Adds a fault.
+/// Appends a fault.
 pub fn push(found: &mut Vec<Fault>, fault: Fault) -> Result<(), AllocError>
     ensures { OnOk result (Adds found.old.items found.new.items (λ f. f ≡ fault)) }
 {
@@ -15,7 +15,7 @@ pub fn push(found: &mut Vec<Fault>, fault: Fault) -> Result<(), AllocError>
     Ok(())
 }
 
-/// Adds a fault where a test says so.
+/// Appends a fault if `test` is true.
 pub fn push_if(found: &mut Vec<Fault>, test: bool, fault: Fault) -> Result<(), AllocError>
     ensures { OnOk result (Adds found.old.items found.new.items (λ f. IsTrue test × (f ≡ fault))) }
 {
@@ -25,7 +25,7 @@ pub fn push_if(found: &mut Vec<Fault>, test: bool, fault: Fault) -> Result<(), A
     Ok(())
 }
 
-/// Sorts values, and keeps one of those that are equal.
+/// Sorts values and drops repetitions.
 fn sort_strictly<T: Ord + Drop>(values: &mut Vec<T>)
     ensures keeps { (x : T) → Contains values.old.items x → Any (λ y. T.eq x y ≡ true) values.new.items }
     ensures only { (x : T) → Contains values.new.items x → Contains values.old.items x }
@@ -35,7 +35,7 @@ fn sort_strictly<T: Ord + Drop>(values: &mut Vec<T>)
     values.dedup();
 }
 
-/// Sorts faults by file, token and kind, and keeps one of each.
+/// Sorts faults by file, token and kind, and drops repetitions.
 pub fn sort(found: &mut Vec<Fault>)
     ensures same { HoldsSame found.old.items found.new.items }
     ensures order { IsStrictlySortedBy order.ghosts.cmp found.new.items }

@@ -1,4 +1,4 @@
-//! The table of a package in which its imports without a name declare the names of the packages that they import.
+//! Builds the scope table of a package in which each import without a name declares the name of the imported package.
 ghost use Rattle.std.specs.Prelude.{ℕ, List, Option, ◌≡◌, ◌<◌, true, IfOk, map};
 ghost use Rattle.go_ast.specs.SourceFile.{source_of};
 ghost use Rattle.go_scope.specs.Named.{is_unnamed_import, name_value, name_given};
@@ -12,17 +12,17 @@ use go_scope::named::name_imports;
 use go_scope::table::ScopeTable;
 use std::alloc::{AllocError, Global};
 
-/// What packages are called.
+/// The names of packages, by path.
 pub trait PackageNames {
-    /// The name of the package of a path, where it is known.
+    /// The name of the package at a path; none where it isn't known.
     ghost name_of: { Self → (path : List ℕ) → Option (List ℕ) };
 
-    /// The name of the package of a path, where it is known.
+    /// The name of the package at a path; none where it isn't known.
     fn name(&self, path: &[u8]) -> Option<&[u8]>
         ensures { name_value result ≡ name_of self.now path.now };
 }
 
-/// The name of the package of the path that an import names.
+/// The name of the package that the import `u` imports; none where it isn't known or `u` has no path.
 fn name_at<'a, N: PackageNames>(
     alloc: Global,
     plain: &Identifiers<'_>,
@@ -40,7 +40,7 @@ fn name_at<'a, N: PackageNames>(
     }
 }
 
-/// The name of the package of an import without a name.
+/// The name of the package that the import `u` imports, if `u` is an import without a name; none otherwise.
 fn package_name<'a, N: PackageNames>(
     alloc: Global,
     plain: &Identifiers<'_>,
@@ -59,7 +59,7 @@ fn package_name<'a, N: PackageNames>(
     }
 }
 
-/// The names of the packages of the imports without a name, by their numbers.
+/// Returns for each identifier that is an import without a name the name of the imported package, by number.
 fn package_names<'a, N: PackageNames>(
     alloc: Global,
     plain: &Identifiers<'_>,
@@ -75,8 +75,8 @@ fn package_names<'a, N: PackageNames>(
     Ok(names)
 }
 
-/// The table of a package in which each of its imports without a name declares the name of the package that it imports, as
-/// far as that is known.
+/// Builds the scope table of a package in which each import without a name declares the name of the imported package. An import stays as it
+/// is where the name of its package isn't known.
 pub fn lay_names<'a, N: PackageNames>(
     alloc: Global,
     plain: &Identifiers<'a>,

@@ -1,4 +1,4 @@
-//! The imports of a table, and the paths that they name.
+//! The imports of a scope table and their paths.
 ghost use Rattle.std.specs.Prelude.{ℕ, List, ◌≡◌, ◌<◌, ◌↔◌, IsTrue, IfOk, MatchOption, map};
 ghost use Rattle.go_ast.specs.SourceFile.{source_of};
 ghost use Rattle.go_scope.specs.Bindings.{IsImport};
@@ -11,7 +11,7 @@ use go_scope::model::{Block, Purpose, Role};
 use go_scope::table::ScopeTable;
 use std::alloc::{AllocError, Global};
 
-/// Whether an identifier is declared in the block of a file.
+/// Whether an identifier declares an import: its block is that of a file.
 pub fn is_import(table: &ScopeTable, u: usize) -> bool
     requires { u < (laid_in table.now).size }
     ensures { IsTrue result ↔ IsImport (laid_in table.now).layout u }
@@ -22,7 +22,7 @@ pub fn is_import(table: &ScopeTable, u: usize) -> bool
     }
 }
 
-/// Whether a role is that of the literal of an import with a name.
+/// Whether a role is that of the string literal of an import with a name.
 fn is_literal(role: Role) -> bool
     ensures { result ≡ is_literal role }
 {
@@ -32,7 +32,7 @@ fn is_literal(role: Role) -> bool
     }
 }
 
-/// The identifier that stands for an import's literal: the next one where the import has a name, else itself.
+/// The identifier of an import's string literal: the next one where the import has a name, else `d` itself.
 fn literal_among(identifiers: &Identifiers, d: usize) -> usize
     requires { d < (laid_in identifiers.now).size }
     ensures literal { result ≡ literal_of (laid_in identifiers.now).layout d }
@@ -45,7 +45,7 @@ fn literal_among(identifiers: &Identifiers, d: usize) -> usize
     }
 }
 
-/// The path that an import names, in a package whose bindings are not known.
+/// The path of the import `d`, in a package without bindings yet; none where no string literal stands there.
 pub(crate) fn path_among(
     alloc: Global,
     identifiers: &Identifiers,
@@ -68,7 +68,7 @@ pub(crate) fn path_among(
     }
 }
 
-/// The identifier that stands for an import's literal: the next one where the import has a name, else itself.
+/// The identifier of an import's string literal: the next one where the import has a name, else `d` itself.
 pub fn literal_of(table: &ScopeTable, d: usize) -> usize
     requires { d < (laid_in table.now).size }
     ensures literal { result ≡ literal_of (laid_in table.now).layout d }
@@ -77,7 +77,7 @@ pub fn literal_of(table: &ScopeTable, d: usize) -> usize
     literal_among(table.identifiers(), d)
 }
 
-/// The path that an import names.
+/// The path of the import `d`; none where no string literal stands there.
 pub fn path_of(
     alloc: Global,
     table: &ScopeTable,

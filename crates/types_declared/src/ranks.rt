@@ -1,4 +1,4 @@
-//! The way from a declaration's number in a scope table to its rank among what the package declares.
+//! The ranks of a package's declarations, by the numbers of their declaring identifiers in a scope table.
 ghost use Rattle.std.specs.Prelude.{◌≡◌, ◌<◌, length, map, IfOk};
 ghost use Rattle.go_scope.specs.Scoped.{layout_in};
 ghost use Rattle.types_declared.specs.Package.{variable_place, type_place, function_place};
@@ -12,7 +12,7 @@ use go_scope::model::Position;
 use go_scope::table::ScopeTable;
 use std::alloc::{AllocError, Global};
 
-/// For each declaration of a scope table its rank among the variables, the types and the functions of the package.
+/// For each identifier of a scope table, the rank of the variable, type definition or function that it declares.
 #[derive(Drop)]
 pub struct Ranks {
     variables: Vec<Option<usize>>,
@@ -20,7 +20,7 @@ pub struct Ranks {
     functions: Vec<Option<usize>>,
 }
 
-/// The number at the token of an identifier.
+/// The number that a table has for the token of the identifier `d`; none for a declaration without a token.
 fn number_of(table: &ScopeTable, numbers: &ByToken, d: usize) -> Option<usize>
     requires { d < length table.now.sites }
     ensures { result ≡ number_of (layout_in table.now) (number_at numbers.now) d }
@@ -32,7 +32,7 @@ fn number_of(table: &ScopeTable, numbers: &ByToken, d: usize) -> Option<usize>
     }
 }
 
-/// For each identifier of a table the rank of its place in a list of places.
+/// Returns for each identifier of a scope table the rank of its position in a list of positions.
 fn ranks_of(
     alloc: Global,
     table: &ScopeTable,
@@ -48,7 +48,7 @@ fn ranks_of(
     Ok(ranks)
 }
 
-/// Where the names of variables are declared.
+/// The positions of the variables' names.
 fn variable_places(alloc: Global, variables: &[Variable<'_>]) -> Result<Vec<Position>, AllocError>
     ensures { IfOk result (λ places. places.items ≡ map variable_place (map variable_of variables.now)) }
 {
@@ -62,7 +62,7 @@ fn variable_places(alloc: Global, variables: &[Variable<'_>]) -> Result<Vec<Posi
     Ok(places)
 }
 
-/// Where the names of types are declared.
+/// The positions of the type definitions' names.
 #[tactic(auto, unfolding(go_ast::specs::FileView::type_spec_view))]
 fn type_places(alloc: Global, types: &[TypeDef<'_>]) -> Result<Vec<Position>, AllocError>
     ensures { IfOk result (λ places. places.items ≡ map type_place (map type_of types.now)) }
@@ -77,7 +77,7 @@ fn type_places(alloc: Global, types: &[TypeDef<'_>]) -> Result<Vec<Position>, Al
     Ok(places)
 }
 
-/// Where the names of functions are declared.
+/// The positions of the functions' names.
 #[tactic(auto, unfolding(go_ast::specs::FileView::func_view))]
 fn function_places(alloc: Global, functions: &[Function<'_>]) -> Result<Vec<Position>, AllocError>
     ensures { IfOk result (λ places. places.items ≡ map function_place (map function_of functions.now)) }
@@ -93,7 +93,7 @@ fn function_places(alloc: Global, functions: &[Function<'_>]) -> Result<Vec<Posi
 }
 
 impl Ranks {
-    /// The ranks of a package's declarations.
+    /// Computes the ranks of a package's declarations.
     pub fn of(
         alloc: Global,
         table: &ScopeTable,
@@ -113,21 +113,21 @@ impl Ranks {
         })
     }
 
-    /// The rank of a variable, by the number of its declaration; none where that declares no variable.
+    /// The rank of the variable that `d` declares; none where it declares none.
     pub fn variable(&self, d: usize) -> Option<usize>
         ensures { result ≡ number_in self.now.variables.items d }
     {
         *self.variables.get(d)?
     }
 
-    /// The rank of a type definition.
+    /// The rank of the type definition that `d` declares; none where it declares none.
     pub fn definition(&self, d: usize) -> Option<usize>
         ensures { result ≡ number_in self.now.types.items d }
     {
         *self.types.get(d)?
     }
 
-    /// The rank of a function.
+    /// The rank of the function that `d` declares; none where it declares none.
     pub fn function(&self, d: usize) -> Option<usize>
         ensures { result ≡ number_in self.now.functions.items d }
     {

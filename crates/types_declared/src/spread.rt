@@ -1,17 +1,17 @@
-//! Marks that spread along links: what is marked at first, and all that links lead to from there.
+//! Reachability along links: the numbers that links lead to from the marked ones.
 ghost use Rattle.std.specs.Prelude.{◌≡◌, ◌<◌, ◌↔◌, ℕ, length, slice_get, slice_index_or, IfOk, OnOk};
 ghost use Rattle.types_declared.specs.Spread.{AreLinked, IsMarked, IsListed, IsOrdered, IsOrderOf, Marks, Leads, IsReached, row_of};
 
 use std::alloc::{AllocError, Global};
 
-/// What is marked so far: a mark for each number, and the marked numbers in the order in which they were found.
+/// A search under way: a mark for each number, and the marked numbers in the order in which they were found.
 #[derive(Drop)]
 struct Spread {
     marks: Vec<bool>,
     found: Vec<usize>,
 }
 
-/// What a number leads to.
+/// The numbers that `from` links to; none where it has no row.
 pub fn row(links: &[Vec<usize>], from: usize) -> &[usize]
     ensures { result.now ≡ row_of (slice_get links.now from) }
 {
@@ -22,7 +22,7 @@ pub fn row(links: &[Vec<usize>], from: usize) -> &[usize]
 }
 
 impl Spread {
-    /// Nothing marked yet, of so many numbers.
+    /// A search over `size` numbers with none marked.
     fn new(alloc: Global, size: usize) -> Result<Spread, AllocError>
         ensures listed { IfOk result (λ s. IsListed s.found.items s.marks.items) }
         ensures size { IfOk result (λ s. length s.marks.items ≡ size) }
@@ -34,7 +34,7 @@ impl Spread {
         })
     }
 
-    /// Marks a number.
+    /// Marks a number, unless it is marked already.
     fn mark(&mut self, number: usize) -> Result<(), AllocError>
         requires in_range { number < length self.old.marks.items }
         requires listed { IsListed self.old.found.items self.old.marks.items }
@@ -48,7 +48,7 @@ impl Spread {
         Ok(())
     }
 
-    /// Marks all that the number found at a place leads to.
+    /// Marks each number that the number at index `place` of `found` links to.
     fn follow(&mut self, links: &[Vec<usize>], place: usize) -> Result<(), AllocError>
         requires linked { AreLinked links.now }
         requires size { length self.old.marks.items ≡ length links.now }
@@ -63,7 +63,7 @@ impl Spread {
         Ok(())
     }
 
-    /// Marks all that is marked in a list.
+    /// Marks each number that `begins` marks.
     fn begin(&mut self, begins: &[bool]) -> Result<(), AllocError>
         requires size { length begins.now ≡ length self.old.marks.items }
         requires listed { IsListed self.old.found.items self.old.marks.items }
@@ -78,7 +78,7 @@ impl Spread {
         Ok(())
     }
 
-    /// Marks all that is marked in a list, and all that it leads to along links.
+    /// Marks each number that `begins` marks, and each that links lead to from these.
     fn over(alloc: Global, links: &[Vec<usize>], begins: &[bool]) -> Result<Spread, AllocError>
         requires linked { AreLinked links.now }
         requires size { length begins.now ≡ length links.now }
@@ -98,7 +98,7 @@ impl Spread {
     }
 }
 
-/// All that is marked in a list, and all that it leads to along links.
+/// Marks the numbers that `begins` marks and those that links lead to from them.
 pub fn reached(
     alloc: Global,
     links: &[Vec<usize>],
@@ -113,7 +113,8 @@ pub fn reached(
     Ok(spread.marks)
 }
 
-/// The same as a list, in which each number stands behind one that leads to it.
+/// Lists the numbers that `begins` marks and those that links lead to from them. Each number that `begins` doesn't mark comes after one
+/// that links to it.
 pub fn reached_in_order(
     alloc: Global,
     links: &[Vec<usize>],

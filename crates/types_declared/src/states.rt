@@ -1,4 +1,4 @@
-//! What the paths that a package imports are to it.
+//! The states of imported paths: whether a package is at each, and whether it may be imported.
 ghost use Rattle.std.specs.Prelude.{◌≡◌, ℕ, List};
 ghost use Rattle.types_declared.specs.States.{import_fault, state_in};
 
@@ -6,20 +6,21 @@ use base_files::FaultKind;
 use std::alloc::Global;
 use std::collections::BTreeMap;
 
-/// What an imported path is to a package. Of these the first that applies.
+/// The state of an imported path, as the importing package sees it: the first of these that applies.
 #[derive(Clone, Copy, Debug, PartialEq, Eq)]
 pub enum ImportState {
     /// There is no package at the path.
     Missing,
-    /// The package imports this one, directly or not.
+    /// The package at the path imports the importing package, directly or indirectly.
     OnCycle,
-    /// Another package, which has faults.
+    /// The package at the path has faults.
     Faulty,
+    /// The package at the path may be imported.
     Good,
 }
 
 impl ImportState {
-    /// What is wrong with an import of such a path.
+    /// The kind of fault of an import whose path is in this state; none where the path is good.
     pub fn fault(self) -> Option<FaultKind>
         ensures { result ≡ import_fault self }
     {
@@ -32,13 +33,14 @@ impl ImportState {
     }
 }
 
-/// What each path is that is imported. A path of which nothing was noted is missing.
+/// The states of imported paths. A path without an entry is missing.
 #[derive(Drop)]
 pub struct ImportStates {
     pub states: BTreeMap<Vec<u8>, ImportState>,
 }
 
 impl ImportStates {
+    /// A table without entries: every path is missing.
     pub fn new(alloc: Global) -> ImportStates
         ensures { (path : List ℕ) → state_in result path ≡ ImportState.Missing }
     {
@@ -47,7 +49,7 @@ impl ImportStates {
         }
     }
 
-    /// What a path is.
+    /// The state of a path.
     pub fn state(&self, path: &[u8]) -> ImportState
         ensures { result ≡ state_in self.now path.now }
     {

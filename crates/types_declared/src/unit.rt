@@ -1,4 +1,4 @@
-//! A package as it is checked, and what is found once in it before its types are looked at.
+//! A package to check, and the index of its declarations, identifiers and import paths, built once before its types are resolved.
 ghost use Rattle.std.specs.Prelude.{◌≡◌, ◌<◌, ℕ, List, length, slice_get, IfOk, MatchOption};
 ghost use Rattle.go_scope.specs.Named.{name_value};
 ghost use Rattle.types_declared.specs.Package.{spelled};
@@ -17,8 +17,8 @@ use go_scope::table::ScopeTable;
 use std::alloc::{AllocError, Global};
 use types_expr::symbol::SharedPath;
 
-/// A package with the packages that it imports. In the table each import without a name declares the name of the imported
-/// package.
+/// A package to check, with the export data of the packages that it imports. In `table` each import without a name declares the name of the
+/// imported package.
 #[derive(Clone, Copy)]
 pub struct Package<'a> {
     pub path: &'a SharedPath,
@@ -27,8 +27,8 @@ pub struct Package<'a> {
     pub interfaces: &'a Interfaces,
 }
 
-/// What is found once in a package: what it declares, with the ranks of its declarations; the identifier at each token; and
-/// for each import its path, by the number of its declaration.
+/// The index of a package: its declarations with their ranks, the identifier at each token, and the path of each import by the number of
+/// its declaration.
 #[derive(Drop)]
 pub struct Index<'a> {
     pub declared: Declared<'a>,
@@ -37,7 +37,7 @@ pub struct Index<'a> {
     pub paths: Vec<Option<Vec<u8>>>,
 }
 
-/// The path of an import.
+/// Returns the path of the import that the identifier `d` declares; none where it declares no import.
 fn import_path(alloc: Global, unit: Package<'_>, d: usize) -> Result<Option<Vec<u8>>, AllocError>
     requires { d < length unit.table.now.sites }
     ensures { IfOk result (λ path. MatchOption path ((v : List ℕ) → ImportsPath (package_of unit.entry) d v → ⊥) (λ v. ImportsPath (package_of unit.entry) d v.items)) }
@@ -49,7 +49,7 @@ fn import_path(alloc: Global, unit: Package<'_>, d: usize) -> Result<Option<Vec<
     }
 }
 
-/// The paths of imports, by the numbers of their declarations.
+/// Returns the path of each import, by the number of its declaring identifier.
 fn import_paths(alloc: Global, unit: Package<'_>) -> Result<Vec<Option<Vec<u8>>>, AllocError>
     ensures { IfOk result (λ paths. ArePaths (package_of unit.entry) (length unit.entry.table.now.sites) paths.items) }
 {
@@ -60,7 +60,7 @@ fn import_paths(alloc: Global, unit: Package<'_>) -> Result<Vec<Option<Vec<u8>>>
     Ok(paths)
 }
 
-/// The path that a list has for a number.
+/// The path at index `d` of a list of paths; none where `d` is out of range or declares no import.
 fn path_at(paths: &[Option<Vec<u8>>], d: usize) -> Option<&[u8]>
     ensures { name_value result ≡ path_in (slice_get paths.now d) }
 {
@@ -72,7 +72,7 @@ fn path_at(paths: &[Option<Vec<u8>>], d: usize) -> Option<&[u8]>
 }
 
 impl<'a> Package<'a> {
-    /// How a token of a file is spelled.
+    /// The spelling of a token; empty where the package has no such file or token.
     pub fn spelling(self, file: usize, token: usize) -> &'a [u8]
         ensures { result.now ≡ spelled (package_of self.entry) file token }
     {
@@ -84,7 +84,7 @@ impl<'a> Package<'a> {
 }
 
 impl<'a> Index<'a> {
-    /// What is found in a package.
+    /// Builds the index of a package.
     pub fn of(alloc: Global, unit: Package<'a>) -> Result<Index<'a>, AllocError>
         ensures { IfOk result (λ index. IsIndexOf (package_of unit.entry) index) }
     {
@@ -98,7 +98,7 @@ impl<'a> Index<'a> {
         })
     }
 
-    /// The declaration to which the identifier at a token is bound.
+    /// The declaration to which the identifier at a token is bound; none where no identifier stands there or it is unbound.
     pub fn binding(&self, unit: Package<'_>, file: usize, token: usize) -> Option<usize>
         requires { IsIndexOf (package_of unit) self.now }
         ensures bound { MatchOption result ((d : ℕ) → BindsToken (package_of unit.entry) file token d → ⊥) (λ d. BindsToken (package_of unit.entry) file token d) }
@@ -113,7 +113,7 @@ impl<'a> Index<'a> {
         }
     }
 
-    /// The variable of the package that a declaration is, by its rank.
+    /// The rank of the package-level variable that `d` declares; none where it declares none.
     pub fn variable(&self, unit: Package<'_>, d: usize) -> Option<usize>
         requires index { IsIndexOf (package_of unit) self.now }
         requires in_range { d < length unit.table.now.sites }
@@ -122,7 +122,7 @@ impl<'a> Index<'a> {
         self.ranks.variable(d)
     }
 
-    /// The function that a declaration is, by its rank.
+    /// The rank of the function or method that `d` declares; none where it declares none.
     pub fn function(&self, unit: Package<'_>, d: usize) -> Option<usize>
         requires index { IsIndexOf (package_of unit) self.now }
         requires in_range { d < length unit.table.now.sites }
@@ -131,7 +131,7 @@ impl<'a> Index<'a> {
         self.ranks.function(d)
     }
 
-    /// The type definition that a declaration is, by its rank.
+    /// The rank of the type definition that `d` declares; none where it declares none.
     pub fn definition(&self, unit: Package<'_>, d: usize) -> Option<usize>
         requires index { IsIndexOf (package_of unit) self.now }
         requires in_range { d < length unit.table.now.sites }
@@ -140,7 +140,7 @@ impl<'a> Index<'a> {
         self.ranks.definition(d)
     }
 
-    /// The path of an import, by the number of its declaration.
+    /// The path of the import that `d` declares; none where it declares none.
     pub fn path(&self, unit: Package<'_>, d: usize) -> Option<&[u8]>
         requires index { IsIndexOf (package_of unit) self.now }
         requires in_range { d < length unit.table.now.sites }

@@ -1,4 +1,4 @@
-//! What the Types that are written in a package name.
+//! Resolves the type expressions of a package: which type one names, and which type definition it mentions.
 ghost use Rattle.std.specs.Prelude.{◌≡◌, ◌<◌, ◌↔◌, length, option_map, IsTrue, IfOk, MatchOption};
 ghost use Rattle.go_ast.specs.View.{type_view};
 ghost use Rattle.types_expr.specs.declared.types.Basic.{Basic};
@@ -19,7 +19,7 @@ use types_expr::interfaces::{Export, ExportMeaning};
 use types_expr::symbol::Symbol;
 use types_expr::types::{Basic, GoType};
 
-/// Whether a declaration is the predeclared one of a name.
+/// Whether `d` is the predeclared declaration of a name.
 fn is_predeclared(unit: Package<'_>, d: usize, name: &[u8]) -> bool
     requires { d < length unit.table.now.sites }
     ensures { IsTrue result ↔ IsPredeclared (package_of unit.entry) d name.now }
@@ -28,7 +28,7 @@ fn is_predeclared(unit: Package<'_>, d: usize, name: &[u8]) -> bool
     role.is_implied() && role.block().same(Block::Universe) && unit.table.name(d) == name
 }
 
-/// The predeclared type that a declaration is.
+/// The predeclared type that `d` declares: `bool`, `int` or `string`; none otherwise.
 fn basic_type(unit: Package<'_>, d: usize) -> Option<Basic>
     requires { d < length unit.table.now.sites }
     ensures { MatchOption result ((b : Basic) → IsPredeclared (package_of unit.entry) d (basic_name b) → ⊥) (λ b. IsPredeclared (package_of unit.entry) d (basic_name b)) }
@@ -44,7 +44,7 @@ fn basic_type(unit: Package<'_>, d: usize) -> Option<Basic>
     }
 }
 
-/// A type definition of the package, as a type.
+/// The type of the type definition of this rank.
 #[tactic(auto, unfolding(types_expr::specs::View::type_of))]
 pub fn defined_type(unit: Package<'_>, rank: usize) -> Result<GoType, AllocError>
     ensures { IfOk result (λ t. type_of t ≡ Defined (symbol_in (package_of unit.entry) rank)) }
@@ -53,7 +53,7 @@ pub fn defined_type(unit: Package<'_>, rank: usize) -> Result<GoType, AllocError
     Ok(GoType::Defined(Symbol { package, rank }))
 }
 
-/// The type that a declaration is.
+/// The type that `d` declares, predeclared or defined in the package; none where it declares none.
 fn declared_type(
     unit: Package<'_>,
     index: &Index<'_>,
@@ -72,7 +72,7 @@ fn declared_type(
     }
 }
 
-/// The type that a name alone names.
+/// The type that the unqualified name at a token names; none where it names no type.
 fn local_type(
     unit: Package<'_>,
     index: &Index<'_>,
@@ -88,7 +88,7 @@ fn local_type(
     }
 }
 
-/// What the package that an import names exports as the name at a token.
+/// The export that the package of the import `d` has under the name spelled at a token.
 fn export_of_import<'a>(
     unit: Package<'a>,
     index: &Index<'_>,
@@ -106,7 +106,7 @@ fn export_of_import<'a>(
     }
 }
 
-/// What a name behind another name and a dot is, where that is bound to an import.
+/// The export that a qualified identifier `p.N` denotes; none where `p` is no import name or the package doesn't export `N`.
 pub fn export_at<'a>(
     unit: Package<'a>,
     index: &Index<'_>,
@@ -123,7 +123,7 @@ pub fn export_at<'a>(
     }
 }
 
-/// The type that an exported name means.
+/// The type that an export names; none where it is a variable or a function.
 #[tactic(auto, unfolding(crate::specs::InterfacesView::meaning_of))]
 fn exported_type(export: &Export) -> Option<&GoType>
     ensures { MatchOption result ((t : PlainType) → (export_of export.now).meaning ≡ TypeName t → ⊥) (λ t. (export_of export.now).meaning ≡ TypeName (type_of t.now)) }
@@ -134,7 +134,7 @@ fn exported_type(export: &Export) -> Option<&GoType>
     }
 }
 
-/// The type that a name behind the name of a package names.
+/// The type that a qualified identifier `p.T` names; none where it names no type.
 fn imported_type<'a>(
     unit: Package<'a>,
     index: &Index<'_>,
@@ -151,7 +151,7 @@ fn imported_type<'a>(
     }
 }
 
-/// The type that a Type names, whether or not its definition is broken.
+/// The type that a type expression names, whether or not its definition is broken; none where it names no type.
 pub fn named_type(
     alloc: Global,
     unit: Package<'_>,
@@ -181,7 +181,7 @@ pub fn named_type(
     }
 }
 
-/// The type definition of the package that a name alone names.
+/// The rank of the type definition that an unqualified name is bound to; none where it is bound to no definition of the package.
 pub fn local_definition(
     unit: Package<'_>,
     index: &Index<'_>,
@@ -197,7 +197,7 @@ pub fn local_definition(
     }
 }
 
-/// The type definition of the package that a Type mentions.
+/// The rank of the package's type definition that a type expression mentions, itself or under pointers and slices.
 pub fn mentioned(
     unit: Package<'_>,
     index: &Index<'_>,

@@ -1,4 +1,4 @@
--- What several calls in turn add to what was found.
+-- The sums of what several calls in turn add to what was found.
 use Rattle.std.proofs.Common.{ℕ, ◌≡◌, ◌∷◌, ◌++◌, [], List, ap, sym, ◌∙◌, refl, append_assoc, append-nil, subst, Option, option_map, map, Bool, true, false}
 use Rattle.std.proofs.Common.{◌&&◌, ◌||◌}
 use Rattle.types_expr.specs.declared.found.FoundInFile.{FoundInFile}
@@ -24,7 +24,7 @@ adds_then {j} rule {old} {mid} {new} {m} {r} a b =
     let b' : Adds (rule j.meaning) mid new r = subst (λ (x : Meaning). Adds (rule x) mid new r) a.meaning b in
     record { meaning = b'.meaning; faults = joined _ _ _ a.faults b'.faults; uses = joined _ _ _ a.uses b'.uses }
 
--- the use of a member, and then what the member means
+-- the use of a member, followed by the meaning of the member
 adds_use : {u : MemberUse} {j : Judged} {old mid new : FoundInFile} {m : Meaning} → mid.faults.items ≡ old.faults.items →
     map use_of mid.uses.items ≡ map use_of old.uses.items ++ (u ∷ []) → Adds j mid new m → Adds (with_use u j) old new m
 adds_use {u} {j} {old} {mid} {new} {m} faults uses b =
@@ -43,7 +43,7 @@ adds_member w t name a o x {old} {mid} {new} {m} o_is x_is faults uses b =
 pub continues_here : {m : Meaning} {old : FoundInFile} → Continues (λ j. j) m old old m
 continues_here = record { after = λ j before a. a }
 
--- how far a loop over the parts of a whole has come: what was found so far, and the rest still to be done gives the whole
+-- The progress of a loop over the parts of an expression: the judgement so far, and the rest that is still to come, give the whole.
 pub record Reached (total : Judged) (rest : Judged → Judged) (before now : FoundInFile) (m : Meaning) : Type 0 where
   pub so_far : Judged
   pub adds : Adds so_far before now m
@@ -60,7 +60,7 @@ pub reached_end : {total : Judged} (rest : Judged → Judged) {before now : Foun
     ((k : Judged) → rest k ≡ k) → Adds total before now m
 reached_end {total} rest {before} {now} {m} c e = subst (λ (j : Judged). Adds j before now m) (sym (e c.so_far) ∙ c.goes_on) c.adds
 
--- the same for a list of values
+-- the progress of a loop over a list of values
 abbrev pub list_then : JudgedList → JudgedList → JudgedList
 list_then a b = record { values = a.values ++ b.values; faults = a.faults ++ b.faults; uses = a.uses ++ b.uses }
 
@@ -130,7 +130,7 @@ reached_list_end {total} {rest} {before} {now} {vs} c e =
       uses = c.adds.uses ∙ (ap (λ x. map use_of before.uses.items ++ x) (sym (append-nil c.so_far.uses)) ∙ ap (λ x. map use_of before.uses.items ++ x.uses) t);
     }
 
--- the same for the elements of a literal
+-- the progress of a loop over the elements of a literal
 
 abbrev pub elements_then : JudgedElements → JudgedElements → JudgedElements
 elements_then a b = record { whole = a.whole && b.whole; unkeyed = a.unkeyed || b.unkeyed; faults = a.faults ++ b.faults; uses = a.uses ++ b.uses }
@@ -192,7 +192,7 @@ reached_elements_start total = record {
   goes_on = refl;
 }
 
--- an element: its key, its value, and whether that fits
+-- an element: its key, its value, and whether the value fits
 pub reached_element : (w : World) (k : JudgedKey) (place at : ℕ) (j : Judged) (kind : Option Kind) (wanted : Option PlainType)
     {total rest more : JudgedElements} {before now keyed valued new : FoundInFile} {whole unkeyed key_whole key_unkeyed fits : Bool} {m : Meaning} →
     ReachedElements total rest before now whole unkeyed → (key : ElementKey) → AddsKey k now keyed key → Adds j keyed valued m →
@@ -249,7 +249,7 @@ reached_elements_end {total} {rest} {before} {now} {whole} {unkeyed} c e =
       uses = c.adds.uses ∙ (ap (λ x. map use_of before.uses.items ++ x) (sym (append-nil c.so_far.uses)) ∙ ap (λ x. map use_of before.uses.items ++ x.uses) t);
     }
 
--- a literal: its type, its elements, and what they make
+-- a literal: its type, its elements, and its meaning
 pub adds_literal : (w : World) (start : ℕ) (t : TypeJudged) (rest : Option PlainType → JudgedElements) {old typed filled new : FoundInFile}
     {own : Option PlainType} {whole unkeyed : Bool} {m : Meaning} →
     AddsType t old typed own → AddsElements (rest own) typed filled whole unkeyed → Adds (literal_meaning w start own whole unkeyed) filled new m →

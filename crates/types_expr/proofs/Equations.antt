@@ -1,4 +1,4 @@
--- What is found in an expression of src/, form by form.
+-- The judgement of an expression of src/, form by form.
 use Rattle.std.proofs.Common.{ℕ, ◌≡◌, ◌∷◌, [], List, ap, sym, ◌∙◌, refl, subst, false, true, Result, Ok, Err, IfOk, Option}
 use Rattle.go_ast.specs.declared.syntax.PrefixOp.{PrefixOp}
 use Rattle.go_ast.specs.declared.tree.Expr.TheVariants as expr
@@ -34,7 +34,7 @@ pub list_as : {j k : JudgedList} {vs us : List Argued} {old new : FoundInFile} �
 list_as {j} {k} {vs} {us} {old} {new} e f a = subst (λ (x : JudgedList). AddsList x old new vs) (sym e)
     (subst (λ (x : List Argued). AddsList k old new x) (sym f) a)
 
--- at what an expression was matched as
+-- the forms as which an expression was matched
 
 pub number_judged : (w : World) (locals : Locals) {e : Expr} (p : ℕ) → e ≡ expr.Number p →
     judge w locals (expr_view e) ≡ means (Value (Untyped basic.Int) false)

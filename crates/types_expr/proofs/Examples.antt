@@ -1,4 +1,4 @@
--- What the definitions give on small expressions, by computation: where each kind of fault stands.
+-- The judgement of small expressions, by computation: the token of each kind of fault.
 use Rattle.std.proofs.Common.{ℕ, ◌≡◌, ◌==◌, [], ◌∷◌, List, Option, Some, None, true, false, refl, map, if◌then◌else◌}
 use Rattle.go_ast.specs.declared.syntax.BinaryOp.TheVariants as op
 use Rattle.go_ast.specs.declared.syntax.PrefixOp.TheVariants as prefix
@@ -158,7 +158,7 @@ expressions =
     (brace (SliceType 74 75 (LocalType 31)) (value (Number 70) (value (Text 71) no_element)), 71 ∷ []) ∷
     (brace (LocalType 30) (value (Number 70) (value (Number 71) no_element)), 30 ∷ []) ∷
     (brace (LocalType 30) (keyed 60 (Text 70) no_element), 70 ∷ []) ∷
-    -- a key in a slice literal (whose value is still to fit), a key that is no field, a method as key, a field's second key: the key
+    -- The key: one in a slice literal, whose value still has to fit; one that is no field; a method; a field's second key.
     (brace (SliceType 74 75 (LocalType 31)) (keyed 60 (Text 70) no_element), 60 ∷ 70 ∷ []) ∷
     (brace (LocalType 30) (keyed 66 (Text 70) no_element), 66 ∷ []) ∷
     (brace (LocalType 30) (keyed 61 (Text 70) no_element), 61 ∷ []) ∷
@@ -189,7 +189,7 @@ types =
     (LocalType 32, []) ∷
     []
 
--- expressions that may stand
+-- expressions, with their meanings
 abbrev values : List (ExprTree × Meaning)
 values =
     (Prefix prefix.Deref 9 (Name 13), Value (Typed (Defined here)) true) ∷

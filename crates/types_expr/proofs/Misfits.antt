@@ -1,4 +1,4 @@
--- How far the values of a list are compared with types.
+-- The progress of loops that compare the values of a list with types.
 use Rattle.std.proofs.Common.{ℕ, ◌≡◌, ◌∷◌, [], List, Bool, true, ◌&&◌, ap, sym, refl, map, ◌++◌, append_assoc, append-nil, option_map, ◌∙◌}
 use Rattle.types_expr.specs.declared.meaning.Argued.{Argued}
 use Rattle.types_expr.specs.declared.found.FoundInFile.{FoundInFile}
@@ -13,7 +13,7 @@ both_empty : (a b : List ℕ) → (is_empty a && is_empty b) ≡ is_empty (a ++ 
 both_empty [] b = refl
 both_empty (x ∷ a) b = refl
 
--- the places found so far, and the rest
+-- the faults so far and those of the values still to come give the whole
 pub record Compared (total rest : List ℕ) (old new : FoundInFile) (fits : Bool) : Type 0 where
   pub so_far : List ℕ
   pub adds : AddsPlaces so_far old new fits

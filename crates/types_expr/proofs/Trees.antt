@@ -1,4 +1,4 @@
--- The parts of an expression's tree, from the lists that src/ holds them in.
+-- The parts of an expression's tree, from the lists in which src/ holds them.
 use Rattle.std.proofs.Common.{ℕ, ◌≡◌, ap, ◌∙◌, sym, refl}
 use Rattle.go_ast.specs.declared.tree.Expr.{Row_of-Link, end_of-Link, more_of-Link, items-the_row-Link, items_hidden-the_row-Link-0, Row_of-Operand}
 use Rattle.go_ast.specs.declared.tree.Expr.{end_of-Operand, more_of-Operand, items-the_row-Operand, items_hidden-the_row-Operand-1}

@@ -1,4 +1,4 @@
--- What the checker of src/ has found, and what a call adds to it.
+-- Views of what the type checker has found so far (`FoundInFile`), and relations that say what one call adds to it.
 use Rattle.std.specs.Prelude.{ℕ, ◌≡◌, List, ◌++◌, Option, option_map, map, Bool}
 use Rattle.std.specs.BTreeMap.{get}
 use Rattle.std.specs.BTreeSet.{contains}
@@ -17,9 +17,11 @@ use Rattle.types_expr.specs.Types as types
 use Rattle.types_expr.specs.Judge as judge
 use Rattle.types_expr.specs.View.{type_of, kind_of, signature_of}
 
+-- the type of the local that the name at token `place` declares
 unfoldable pub locals_of : Locals → ℕ → Option types.PlainType
 locals_of l place = option_map type_of (get nat_cmp l.types place)
 
+-- the plain meaning that a `Meaning` of src/ stands for
 unfoldable pub meaning_of : Meaning → types.Meaning
 meaning_of (meaning.Value k a) = types.Value (kind_of k) a
 meaning_of (meaning.TypeName t) = types.TypeName (type_of t.now)
@@ -29,10 +31,11 @@ meaning_of meaning.Package = types.Package
 meaning_of (meaning.Results ts) = types.Results (map type_of ts.now)
 meaning_of meaning.Broken = types.Broken
 
--- the fields that keys named, by rank
+-- whether an earlier key of the literal named the field of this rank
 unfoldable pub seen_of : SeenFields → judge.Seen
 seen_of s rank = contains nat_cmp s.ranks rank
 
+-- the plain key that a `LiteralKey` of src/ stands for
 unfoldable pub key_of : LiteralKey → judge.Key
 key_of (key.Field rank t) = judge.FieldKey rank (type_of t.now)
 key_of key.Broken = judge.BrokenKey
@@ -44,30 +47,31 @@ use_of u = record { place = u.place; before = type_of u.before; member = u.membe
 abbrev pub argued_of : Argued → judge.Argued
 argued_of v = record { place = v.place; kind = option_map kind_of v.kind }
 
--- what a call added to what was found: the faults and uses of j, and its meaning as the result
+-- A call appended the faults and member uses of the judgement j to those found before, and returned m, the meaning of j.
 pub record Adds (j : judge.Judged) (old new : FoundInFile) (m : types.Meaning) : Type 0 where
   pub meaning : m ≡ j.meaning
   pub faults : new.faults.items ≡ old.faults.items ++ j.faults
   pub uses : map use_of new.uses.items ≡ map use_of old.uses.items ++ j.uses
 
--- the same of a list of values
+-- A call judged a list of expressions: it appended the faults and member uses of j, and returned vs, the values of j.
 pub record AddsList (j : judge.JudgedList) (old new : FoundInFile) (vs : List judge.Argued) : Type 0 where
   pub values : vs ≡ j.values
   pub faults : new.faults.items ≡ old.faults.items ++ j.faults
   pub uses : map use_of new.uses.items ≡ map use_of old.uses.items ++ j.uses
 
--- what a call adds behind any j that was found before and has that meaning
+-- A call went on from an operand of meaning m. Whatever judgement j with that meaning was appended before the call, both together append
+-- `rule j`, of which the call returned the meaning r.
 pub record Continues (rule : judge.Judged → judge.Judged) (m : types.Meaning) (old new : FoundInFile) (r : types.Meaning) : Type 0 where
   pub after : (j : judge.Judged) (before : FoundInFile) → Adds j before old m → Adds (rule j) before new r
 
--- places were noted as faults; fits: whether there is none
+-- A call appended faults at `places` and no member use. `fits` says whether `places` is empty.
 pub record AddsPlaces (places : List ℕ) (old new : FoundInFile) (fits : Bool) : Type 0 where
   pub faults : new.faults.items ≡ old.faults.items ++ places
   pub uses : new.uses.items ≡ old.uses.items
   pub none : fits ≡ judge.is_empty places
 
--- the key of an element was judged: its faults and uses were noted; whether it is whole, whether there is none, and what the
--- value behind it has to fit
+-- A call judged the key of an element: it appended the faults and member uses of j, and returned k. k says whether the key is whole,
+-- whether there is none, and which type the element's value has to fit.
 pub record AddsKey (j : judge.JudgedKey) (old new : FoundInFile) (k : ElementKey) : Type 0 where
   pub whole : k.whole ≡ j.whole
   pub unkeyed : k.unkeyed ≡ j.unkeyed
@@ -75,14 +79,15 @@ pub record AddsKey (j : judge.JudgedKey) (old new : FoundInFile) (k : ElementKey
   pub faults : new.faults.items ≡ old.faults.items ++ j.faults
   pub uses : map use_of new.uses.items ≡ map use_of old.uses.items ++ j.uses
 
--- the same of the elements of a literal
+-- A call judged the elements of a literal: it appended the faults and member uses of j, and returned whether all are whole and whether one
+-- has no key.
 pub record AddsElements (j : judge.JudgedElements) (old new : FoundInFile) (all_whole some_unkeyed : Bool) : Type 0 where
   pub whole : all_whole ≡ j.whole
   pub unkeyed : some_unkeyed ≡ j.unkeyed
   pub faults : new.faults.items ≡ old.faults.items ++ j.faults
   pub uses : map use_of new.uses.items ≡ map use_of old.uses.items ++ j.uses
 
--- a type was judged: its faults were noted
+-- A call judged a written type: it appended the faults of j, and returned the type, none where it is broken.
 pub record AddsType (j : judge.TypeJudged) (old new : FoundInFile) (own : Option types.PlainType) : Type 0 where
   pub found : own ≡ j.type_of
   pub faults : new.faults.items ≡ old.faults.items ++ j.faults

@@ -1,4 +1,4 @@
--- Lists of parts of an expression in src/, as the trees have them.
+-- Views of lists of syntax nodes: the plain trees of links, operands, arguments and elements.
 use Rattle.std.specs.Prelude.{List, [], ◌∷◌}
 use Rattle.go_ast.specs.Tree as tree
 use Rattle.go_ast.specs.declared.tree.Link.{Link}

@@ -13,19 +13,20 @@ use Rattle.types_expr.specs.Types.{PlainType, Underlying, Plain, PointerTo, Slic
 use Rattle.types_expr.specs.Types.{same_underlying, is_named, either_unnamed, has_nil, element_of}
 use Rattle.types_expr.specs.World.{World, underlying}
 
--- Whether a value fits a type: its type is identical; or one of the two is unnamed and the underlying types are
--- identical; or it has no type, and its kind is that of the underlying type, for nil a pointer or slice.
+-- Whether a value fits a type (Go specification, "Assignability"). Either its type is identical. Or one of the two types is not named and
+-- the underlying types are identical. Or the value has no type: an untyped constant fits its own basic type, and nil fits pointers and
+-- slices.
 unfoldable pub fits : World → Kind → PlainType → Bool
 fits w (Typed v) t = same_type v t || (either_unnamed (is_named v) (is_named t) && same_underlying (underlying w v) (underlying w t))
 fits w (Untyped b) t = same_underlying (Plain b) (underlying w t)
 fits w Nil t = has_nil (underlying w t)
 
--- whether a value converts to a type: it fits, or the underlying types are identical
+-- whether a value converts to a type (Go specification, "Conversions"): it fits, or the underlying types are identical
 abbrev pub converts : World → Kind → PlainType → Bool
 converts w (Typed v) t = fits w (Typed v) t || same_underlying (underlying w v) (underlying w t)
 converts w v t = fits w v t
 
--- the kind that two operands have in common, none where they do not go together
+-- the common kind of two operands of a binary operation, none where they do not go together
 unfoldable pub joined : World → Kind → Kind → Option Kind
 joined w (Typed a) (Typed b) = if same_type a b then Some (Typed a) else None
 joined w (Typed a) v = if fits w v a then Some (Typed a) else None
@@ -38,18 +39,20 @@ unfoldable pub is_nil : Kind → Bool
 is_nil Nil = true
 is_nil v = false
 
+-- the class of the values of an underlying type
 abbrev pub class_of_underlying : Underlying → TypeClass
 class_of_underlying (Plain b) = class.Of b
 class_of_underlying (PointerTo t) = class.Pointer
 class_of_underlying (SliceOf t) = class.Slice
 class_of_underlying (Struct s) = class.Struct
 
+-- the class of the values of a kind
 unfoldable pub class_of : World → Kind → TypeClass
 class_of w (Typed t) = class_of_underlying (underlying w t)
 class_of w (Untyped b) = class.Of b
 class_of w Nil = class.Nil
 
--- the class of `==` and `!=` operands; with_nil: one of the two is nil
+-- whether `==` and `!=` compare values of the class; with_nil: one of the two operands is nil
 abbrev pub compares : Bool → TypeClass → Bool
 compares with_nil (class.Of b) = true
 compares with_nil class.Pointer = true
@@ -64,22 +67,24 @@ abbrev pub is_bool : TypeClass → Bool
 is_bool (class.Of basic.Bool) = true
 is_bool c = false
 
+-- whether `<`, `<=`, `>`, `>=` and `+` take values of the class: ints and strings
 abbrev pub is_ordered : TypeClass → Bool
 is_ordered (class.Of basic.Int) = true
 is_ordered (class.Of basic.String) = true
 is_ordered c = false
 
--- the operands of `len`
+-- whether `len` takes values of the class: strings and slices
 abbrev pub has_length : TypeClass → Bool
 has_length (class.Of basic.String) = true
 has_length class.Slice = true
 has_length c = false
 
--- the operands of `print` and `println`
+-- whether `print` and `println` take values of the class: bools, ints and strings
 abbrev pub is_printed : TypeClass → Bool
 is_printed (class.Of b) = true
 is_printed c = false
 
+-- the family of a binary operator: those that share a rule
 unfoldable pub family_of : BinaryOp → Family
 family_of op.Multiply = family.Arithmetic
 family_of op.Divide = family.Arithmetic
@@ -98,7 +103,7 @@ family_of op.Or = family.Logic
 abbrev pub when : {A : Type 0} → Bool → A → Option A
 when test a = if test then Some a else None
 
--- the kind of the result of an operation on operands of the class c and the common kind k
+-- the kind of an operation on operands of class c and common kind k, none where the class has no such operation
 unfoldable pub result_of : Family → Bool → TypeClass → Kind → Option Kind
 result_of family.Arithmetic with_nil c k = when (is_int c) k
 result_of family.Addition with_nil c k = when (is_ordered c) k
@@ -106,6 +111,7 @@ result_of family.Equality with_nil c k = when (compares with_nil c) (Untyped bas
 result_of family.Order with_nil c k = when (is_ordered c) (Untyped basic.Bool)
 result_of family.Logic with_nil c k = when (is_bool c) k
 
+-- the kind of an operation of this family on operands of the given common kind, none where they have none
 abbrev pub operate_on : World → Family → Bool → Option Kind → Option Kind
 operate_on w f with_nil None = None
 operate_on w f with_nil (Some k) = result_of f with_nil (class_of w k) k
@@ -114,15 +120,17 @@ operate_on w f with_nil (Some k) = result_of f with_nil (class_of w k) k
 unfoldable pub operate : World → BinaryOp → Kind → Kind → Option Kind
 operate w o a b = operate_on w (family_of o) (is_nil a || is_nil b) (joined w a b)
 
--- the element type of a slice value
+-- the element type of a slice value, none for any other value
 abbrev pub element_of_kind : World → Kind → Option PlainType
 element_of_kind w (Typed t) = element_of (underlying w t)
 element_of_kind w k = None
 
+-- the variable that a pointer of this underlying type points to
 abbrev pub pointee : Underlying → Option Meaning
 pointee (PointerTo t) = Some (Value (Typed t) true)
 pointee u = None
 
+-- the variable that a value points to, none where it is no pointer
 abbrev pub pointee_of_kind : World → Kind → Option Meaning
 pointee_of_kind w (Typed t) = pointee (underlying w t)
 pointee_of_kind w k = None
@@ -130,7 +138,7 @@ pointee_of_kind w k = None
 abbrev pub value_when : Bool → Kind → Option Meaning
 value_when test k = if test then Some (Value k false) else None
 
--- what a prefix operator makes of a value, none where it breaks a rule
+-- the meaning of a prefix operator on a value of kind k, none where it breaks a rule
 unfoldable pub prefixed : World → PrefixOp → Kind → Option Meaning
 prefixed w prefix.Plus k = value_when (is_int (class_of w k)) k
 prefixed w prefix.Minus k = value_when (is_int (class_of w k)) k

@@ -1,4 +1,4 @@
--- Types, underlying types, kinds, signatures, and what expressions stand for.
+-- Types, underlying types, kinds of values, signatures, and the meanings of expressions.
 use Rattle.std.specs.Prelude.{ℕ, ◌==◌, Bool, true, false, ◌&&◌, List, Option, Some, None}
 use Rattle.std.specs.Cmp.Lexicographic.{pointwise}
 use Rattle.types_expr.specs.declared.types.Basic.{Basic}
@@ -6,21 +6,21 @@ use Rattle.types_expr.specs.declared.types.Basic.TheVariants as basic
 use Rattle.types_expr.specs.declared.types.Builtin.{Builtin}
 use Rattle.types_expr.specs.declared.symbol.Symbol.{Symbol}
 
--- a type, without where it lies in memory
+-- a type, as a plain value
 pub data PlainType : Type 0 where
   BasicType : Basic → PlainType
   Defined : Symbol → PlainType
   Pointer : PlainType → PlainType
   Slice : PlainType → PlainType
 
--- an underlying type; a struct type is known by the definition that writes it
+-- an underlying type; a struct type is identified by the definition that writes it
 pub data Underlying : Type 0 where
   Plain : Basic → Underlying
   PointerTo : PlainType → Underlying
   SliceOf : PlainType → Underlying
   Struct : Symbol → Underlying
 
--- what a value has: a type, or a kind without one
+-- the kind of a value: its type, the basic type of an untyped constant, or nil
 pub data Kind : Type 0 where
   Typed : PlainType → Kind
   Untyped : Basic → Kind
@@ -30,8 +30,8 @@ pub record Signature : Type 0 where
   pub parameters : List PlainType
   pub results : List PlainType
 
--- What an expression stands for. Results: a call with none or several results. Broken: it or a part of it is a fault, or
--- it uses a declaration that has a broken part.
+-- The meaning of an expression. Results: a call with none or several results. Broken: the expression or a part of it is a fault, or it uses
+-- a declaration that has a broken part.
 pub data Meaning : Type 0 where
   Value : Kind → (addressable : Bool) → Meaning
   TypeName : PlainType → Meaning
@@ -53,7 +53,7 @@ same_path a b = pointwise ◌==◌ a b
 abbrev pub same_symbol : Symbol → Symbol → Bool
 same_symbol a b = a.rank == b.rank && same_path a.package b.package
 
--- identical types
+-- whether two types are identical (Go specification, "Type identity")
 unfoldable pub same_type : PlainType → PlainType → Bool
 same_type (BasicType a) (BasicType b) = same_basic a b
 same_type (Defined a) (Defined b) = same_symbol a b
@@ -68,13 +68,14 @@ same_underlying (SliceOf a) (SliceOf b) = same_type a b
 same_underlying (Struct a) (Struct b) = same_symbol a b
 same_underlying a b = false
 
+-- the underlying type of a type, where `definition` gives those of type definitions
 abbrev pub underlying_by : (Symbol → Underlying) → PlainType → Underlying
 underlying_by definition (BasicType b) = Plain b
 underlying_by definition (Defined s) = definition s
 underlying_by definition (Pointer t) = PointerTo t
 underlying_by definition (Slice t) = SliceOf t
 
--- all but pointers and slices are named
+-- whether a type is named: all but pointers and slices are
 unfoldable pub is_named : PlainType → Bool
 is_named (BasicType b) = true
 is_named (Defined s) = true
@@ -95,6 +96,7 @@ abbrev pub is_pointer : PlainType → Bool
 is_pointer (Pointer t) = true
 is_pointer t = false
 
+-- whether an underlying type is that of pointers
 abbrev pub points : Underlying → Bool
 points (PointerTo t) = true
 points u = false
@@ -103,7 +105,7 @@ abbrev pub is_struct : Underlying → Bool
 is_struct (Struct s) = true
 is_struct u = false
 
--- the element type of a slice
+-- the element type of a slice, none for any other underlying type
 abbrev pub element_of : Underlying → Option PlainType
 element_of (SliceOf t) = Some t
 element_of u = None

@@ -1,4 +1,4 @@
--- The types and kinds of src/, without where they lie in memory.
+-- Views of the types, kinds and signatures of src/: their plain values.
 use Rattle.std.specs.Prelude.{map}
 use Rattle.types_expr.specs.declared.types.GoType.{GoType}
 use Rattle.types_expr.specs.declared.types.GoType.TheVariants as type

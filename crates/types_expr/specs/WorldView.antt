@@ -1,4 +1,4 @@
--- The world of src/ as the plain one.
+-- Views of the `World` of src/: the plain world, with its bindings, definitions and members.
 use Rattle.std.specs.Prelude.{ℕ, true, false, if◌then◌else◌, List, [], Option, Some, None, option_map, slice_get}
 use Rattle.std.specs.Arc.{arc_value}
 use Rattle.std.specs.Option.{option_flatten}
@@ -72,7 +72,7 @@ definition_of d = record {
   method = λ name. option_map method_of (get_by (λ key. slice_cmp nat_cmp name key.items) d.methods);
 }
 
--- a definition that is not there is a struct of its own, with no field
+-- a definition that is not known: a struct of its own, without fields and methods
 abbrev pub no_definition : Symbol → plain.Definition
 no_definition s = record { underlying = types.Struct s; field = λ name. None; method = λ name. None }
 
@@ -80,44 +80,50 @@ abbrev pub definition_or_none : Symbol → Option Definition → plain.Definitio
 definition_or_none s None = no_definition s
 definition_or_none s (Some d) = definition_of d
 
+-- the definition at this rank
 abbrev pub ranked : Option (List Definition) → ℕ → Option Definition
 ranked None rank = None
 ranked (Some ds) rank = slice_get ds rank
 
--- what others see of the package of a path, as it is shared
+-- the export data of the package at a path, as it is shared
 abbrev pub held_at : Definitions → List ℕ → Option (Arc Interface Global)
 held_at ds path = option_flatten (find path_cmp path ds.packages)
 
 abbrev pub shared_interface : Option (Arc Interface Global) → Option Interface
 shared_interface held = option_map (λ (i : Arc Interface Global). arc_value i) held
 
--- what others see of the package of a path, where it is known
+-- the export data of the package at a path, if it is known
 abbrev pub known_at : Definitions → List ℕ → Option Interface
 known_at ds path = shared_interface (held_at ds path)
 
 abbrev pub definitions_listed : Option Interface → Option (List Definition)
 definitions_listed known = option_map (λ (i : Interface). i.definitions.items) known
 
--- the type definitions of the package of a path, where they are known
+-- the type definitions of the package at a path, if they are known
 abbrev pub definitions_at : Definitions → List ℕ → Option (List Definition)
 definitions_at ds path = definitions_listed (known_at ds path)
 
+-- the definition of a symbol of another package
 abbrev pub imported_at : Definitions → Symbol → Option Definition
 imported_at ds s = ranked (definitions_at ds s.package) s.rank
 
--- the definition of a symbol, in the file's own package or in another
+-- the definition of a symbol, of the file's own package or of another
 unfoldable pub definition_at : World → Symbol → Option Definition
 definition_at w s = if types.same_path w.package.now s.package then slice_get w.own.now s.rank else imported_at w.imported.now s
 
+-- the plain definition of a symbol
 unfoldable pub definition_in : World → Symbol → plain.Definition
 definition_in w s = definition_or_none s (definition_at w s)
 
+-- the underlying type of the definition of a symbol
 abbrev pub underlying_in : World → Symbol → types.Underlying
 underlying_in w s = (definition_in w s).underlying
 
+-- the name at token `place`
 abbrev pub name_in : World → ℕ → Option Name
 name_in w place = slice_get w.names.now place
 
+-- the index of the name's binding among the bindings of the world, if it is bound
 abbrev pub bound_index : Option Name → Option ℕ
 bound_index None = None
 bound_index (Some n) = n.bound
@@ -126,18 +132,21 @@ abbrev pub bound_at : List Bound → Option ℕ → Option Bound
 bound_at bs None = None
 bound_at bs (Some i) = slice_get bs i
 
--- a name that is bound to nothing means Broken
+-- the plain binding; a name that is bound to nothing means Broken
 abbrev pub bound_or_broken : Option Bound → plain.Bound
 bound_or_broken None = plain.Means types.Broken
 bound_or_broken (Some b) = bound_of b
 
+-- the binding of the name at token `place`
 unfoldable pub bound_in : World → ℕ → plain.Bound
 bound_in w place = bound_or_broken (bound_at w.bounds.now (bound_index (name_in w place)))
 
+-- the name's bytes
 abbrev pub spelling_of : Option Name → List ℕ
 spelling_of None = []
 spelling_of (Some n) = n.spelling.now
 
+-- the member that the name at token `place` denotes for type t
 unfoldable pub member_in : World → ℕ → types.PlainType → Option plain.Member
 member_in w place t = plain.member_by (definition_in w) w.package.now (spelling_of (name_in w place)) t
 

@@ -15,7 +15,7 @@ use crate::world::World;
 use std::alloc::{AllocError, Global};
 
 impl World<'_> {
-    /// Whether `print` and `println` take such a value; a broken one is let pass.
+    /// Whether `print` and `println` take the value; a broken one passes.
     fn prints_value(&self, kind: &Option<ValueKind>) -> bool
         ensures { result ≡ is_printed_value (world_of self.now) (option_map kind_of kind.now) }
     {
@@ -25,12 +25,14 @@ impl World<'_> {
         }
     }
 
+    /// Whether each value passes `prints_value`.
     fn prints_each(&self, values: &[Argued]) -> bool
         ensures { result ≡ list_all (λ v. is_printed_value (world_of self.now) (option_map kind_of v.kind)) values.now }
     {
         values.iter().all(|value| self.prints_value(&value.kind))
     }
 
+    /// Whether `print` and `println` take all the values.
     #[tactic(auto, using(crate::proofs::Values::printed_found))]
     fn prints_all(&self, values: &[Argued]) -> bool
         ensures { result ≡ all_printed (world_of self.now) (map argued_of values.now) }
@@ -38,7 +40,7 @@ impl World<'_> {
         self.prints_each(values)
     }
 
-    /// Whether these are the operand of `len`.
+    /// Whether the values are the arguments of `len`: one value, which has a length or is broken.
     fn measures(&self, values: &[Argued]) -> bool
         ensures { result ≡ len_fits (world_of self.now) (map argued_of values.now) }
     {
@@ -53,7 +55,7 @@ impl World<'_> {
 }
 
 impl FoundInFile {
-    /// A wrong operation is a fault only where its parts are whole.
+    /// Notes a fault at `start`, but only where none of the values is broken.
     #[tactic(auto, unfolding(crate::specs::Found::meaning_of))]
     fn wrong_if_whole<'w>(
         &mut self,
@@ -69,7 +71,7 @@ impl FoundInFile {
         }
     }
 
-    /// Notes a value that does not fit; whether it fits or is broken.
+    /// Notes a fault where the value does not fit `wanted`. Returns whether the value fits or is broken.
     #[tactic(auto, unfolding(crate::specs::View::kind_of, crate::specs::Judge::misfit))]
     pub fn misfit(
         &mut self,
@@ -89,7 +91,7 @@ impl FoundInFile {
         Ok(false)
     }
 
-    /// Notes each value that does not fit its type; whether there is none.
+    /// Notes each value that does not fit the type at its position. Returns whether there is none.
     fn misfits(
         &mut self,
         world: &World<'_>,
@@ -108,7 +110,7 @@ impl FoundInFile {
         Ok(none)
     }
 
-    /// Notes each value that does not fit one type; whether there is none.
+    /// Notes each value that does not fit `wanted`. Returns whether there is none.
     fn all_misfits(
         &mut self,
         world: &World<'_>,
@@ -125,7 +127,7 @@ impl FoundInFile {
         Ok(none)
     }
 
-    /// The meaning of a call of a function.
+    /// Returns the meaning of a call of a function.
     #[tactic(auto, unfolding(crate::specs::Found::meaning_of, crate::specs::Judge::call_function, crate::specs::Judge::unless_faults))]
     fn call_function<'w>(
         &mut self,
@@ -147,7 +149,7 @@ impl FoundInFile {
         result_meaning(alloc, &signature.results)
     }
 
-    /// The meaning of a conversion.
+    /// Returns the meaning of a conversion `T(x)`.
     #[tactic(auto, unfolding(crate::specs::Found::meaning_of, crate::specs::View::kind_of, crate::specs::Judge::convert))]
     fn convert<'w>(
         &mut self,
@@ -171,7 +173,7 @@ impl FoundInFile {
         }
     }
 
-    /// The meaning of `append` of values to a slice.
+    /// Returns the meaning of `append` of `values` to a value of kind `slice`.
     #[tactic(auto, unfolding(crate::specs::Found::meaning_of, crate::specs::View::kind_of, crate::specs::Judge::unless_faults))]
     fn append_to<'w>(
         &mut self,
@@ -193,7 +195,7 @@ impl FoundInFile {
         Ok(Meaning::value(slice.copy(alloc)?))
     }
 
-    /// The meaning of a call of `append`.
+    /// Returns the meaning of a call of `append`.
     #[tactic(auto, unfolding(crate::specs::Found::meaning_of, crate::specs::Judge::append))]
     fn append<'w>(
         &mut self,
@@ -213,7 +215,7 @@ impl FoundInFile {
         }
     }
 
-    /// That meaning, where the operands of a builtin are as it wants them.
+    /// Returns `meaning` where the arguments of a builtin are `fine`, else notes a fault at `start`.
     #[tactic(auto, unfolding(crate::specs::Found::meaning_of))]
     fn call_when<'w>(
         &mut self,
@@ -230,7 +232,7 @@ impl FoundInFile {
         if fine { Ok(meaning) } else { self.wrong(start) }
     }
 
-    /// The meaning of a call of a builtin.
+    /// Returns the meaning of a call of a predeclared function.
     #[tactic(auto, unfolding(crate::specs::Found::meaning_of, crate::specs::View::kind_of, crate::specs::View::type_of, crate::specs::Judge::call_builtin))]
     fn call_builtin<'w>(
         &mut self,
@@ -272,7 +274,7 @@ impl FoundInFile {
         }
     }
 
-    /// The meaning of a call of an operand that has that meaning.
+    /// Returns the meaning of a call of an operand of the given meaning.
     #[tactic(auto, unfolding(crate::specs::Found::meaning_of, crate::specs::View::kind_of, crate::specs::Judge::call_of))]
     pub fn call<'w>(
         &mut self,

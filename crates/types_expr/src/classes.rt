@@ -1,7 +1,7 @@
-//! Values and operators by the rules that hold for them.
+//! Classes of values and families of operators: those that share rules.
 use crate::types::Basic;
 
-/// The values of one underlying type or kind, as operators tell them apart.
+/// The class of the values of one underlying type or kind, as operators tell them apart.
 #[derive(Clone, Copy, PartialEq, Eq, Debug)]
 pub enum TypeClass {
     Of(Basic),
@@ -11,7 +11,7 @@ pub enum TypeClass {
     Nil,
 }
 
-/// The binary operators that share a rule.
+/// A family of binary operators that share a rule.
 #[derive(Clone, Copy, PartialEq, Eq, Debug)]
 pub enum Family {
     Arithmetic,

@@ -1,4 +1,4 @@
-//! What is found in expressions: faults, and uses of members.
+//! What the judgement of expressions finds: faults, and uses of members' names.
 ghost use Rattle.std.specs.Prelude.{◌≡◌, IfOk, OnOk, option_map, Some, map, ◌++◌, ◌∷◌, []};
 ghost use Rattle.types_expr.specs.Judge.{as_value, means_or_wrong, member_meaning, select, select_member, wrong};
 ghost use Rattle.types_expr.specs.Types.{Typed, Value};
@@ -14,7 +14,8 @@ use crate::types::{Basic, GoType, ValueKind};
 use crate::world::{Bound, Field, Member, Method, World};
 use std::alloc::{AllocError, Global};
 
-/// A name behind a dot, or a key: its token, the type before it, and the field or method that it is, if any.
+/// A use of a member's name: the name after the dot of a selection, or a key of a composite literal. `place` is its token, `before` the
+/// type of the operand or literal, `member` the field or method, if any.
 #[derive(Drop)]
 pub struct MemberUse {
     pub place: usize,
@@ -22,21 +23,21 @@ pub struct MemberUse {
     pub member: Option<Symbol>,
 }
 
-/// What was found so far. A fault is told by its token.
+/// What was found in a file so far: the tokens of its faults, and its uses of members' names.
 #[derive(Drop)]
 pub struct FoundInFile {
     pub faults: Vec<usize>,
     pub uses: Vec<MemberUse>,
 }
 
-/// What an expression is judged by: the world of its file, and the locals that were declared before it.
+/// What an expression is judged by: the world of its file, and the locals that are declared before it.
 #[derive(Clone, Copy)]
 pub struct LocalNames<'w> {
     pub world: &'w World<'w>,
     pub locals: &'w Locals,
 }
 
-/// The field or method as others know it.
+/// Returns the symbol of a member.
 pub(crate) fn symbol_of(member: Option<Member<'_>>) -> Result<Option<Symbol>, AllocError>
     ensures { IfOk result (λ s. s ≡ option_map member_symbol (option_map member_of member.entry)) }
 {
@@ -46,7 +47,7 @@ pub(crate) fn symbol_of(member: Option<Member<'_>>) -> Result<Option<Symbol>, Al
     }
 }
 
-/// What a field of a value means.
+/// Returns the meaning of a field of a value.
 #[tactic(auto, unfolding(crate::specs::Found::meaning_of, crate::specs::View::kind_of))]
 fn field_meaning<'w>(
     alloc: Global,
@@ -59,7 +60,7 @@ fn field_meaning<'w>(
     Ok(Meaning::Value { kind, addressable })
 }
 
-/// What a method of a value means in any world; none where it is one of pointers and the value is none and has no address.
+/// Returns the meaning of a method of a value. There is none where the method is on `*T` and the value is no pointer and not addressable.
 #[tactic(auto, unfolding(crate::specs::Found::meaning_of))]
 fn method_meaning<'w>(method: &'w Method, of: &GoType, addressable: bool) -> Option<Meaning<'w>>
     ensures { (w : PlainWorld) → option_map meaning_of result ≡
@@ -73,7 +74,8 @@ fn method_meaning<'w>(method: &'w Method, of: &GoType, addressable: bool) -> Opt
 }
 
 impl World<'_> {
-    /// What a member of a value of that type means, none where there is none, or not for such a value.
+    /// Returns the meaning of a member of a value of the type `of`. There is none where there is no member, or where `method_meaning` has
+    /// none.
     #[tactic(auto, unfolding(crate::specs::WorldView::member_of))]
     fn member_meaning<'m>(
         &self,
@@ -97,7 +99,7 @@ impl World<'_> {
 }
 
 impl FoundInFile {
-    /// Notes a fault.
+    /// Notes a fault at a token.
     #[tactic(auto, unfolding(crate::specs::Found::meaning_of))]
     pub fn wrong<'w>(&mut self, place: usize) -> Result<Meaning<'w>, AllocError>
         ensures { IfOk result (λ m. Adds (wrong place) self.old self.new (meaning_of m)) }
@@ -106,7 +108,7 @@ impl FoundInFile {
         Ok(Meaning::Broken)
     }
 
-    /// A value; where a value is wanted, anything else is a fault.
+    /// Returns `meaning` where it is a value or broken. Anything else is a fault where a value is required.
     #[tactic(auto, unfolding(crate::specs::Found::meaning_of, crate::specs::Judge::as_value))]
     pub fn as_value<'w>(
         &mut self,
@@ -121,7 +123,8 @@ impl FoundInFile {
         }
     }
 
-    /// Notes the use of a field or method, or of a name that is none, behind a value of a type.
+    /// Notes the use of a member's name at a token, after a value or in a literal of the type `before`. `member` is none where the name
+    /// denotes no member.
     pub(crate) fn note_use(
         &mut self,
         place: usize,
@@ -139,7 +142,7 @@ impl FoundInFile {
         Ok(())
     }
 
-    /// That meaning, or a fault where there is none.
+    /// Returns `meaning`, or notes a fault at `place` where there is none.
     #[tactic(auto, unfolding(crate::specs::Found::meaning_of))]
     fn means_or_wrong<'w>(
         &mut self,
@@ -154,7 +157,7 @@ impl FoundInFile {
         }
     }
 
-    /// The meaning of the member of that name of a value.
+    /// Returns the meaning of the member whose name is at token `name`, of a value of the type `before`.
     fn member<'w>(
         &mut self,
         alloc: Global,
@@ -172,7 +175,7 @@ impl FoundInFile {
         self.means_or_wrong(name, meaning)
     }
 
-    /// The meaning of a selector behind an operand that has that meaning and stands at `place`.
+    /// Returns the meaning of a selector, after an operand of the given meaning that reports its faults at `place`.
     #[tactic(auto, unfolding(crate::specs::Found::meaning_of, crate::specs::View::kind_of, crate::specs::Judge::select))]
     pub(crate) fn select<'w>(
         &mut self,
@@ -203,7 +206,7 @@ impl FoundInFile {
 }
 
 impl<'w> LocalNames<'w> {
-    /// What the local that a token declares means.
+    /// Returns the meaning of the local that a token declares; it is broken where the local has no type.
     #[tactic(auto, unfolding(crate::specs::Found::meaning_of, crate::specs::View::kind_of))]
     fn local_meaning(&self, alloc: Global, place: usize) -> Result<Meaning<'w>, AllocError>
         ensures { IfOk result (λ m. meaning_of m ≡ variable (locals_of self.now.locals.now place)) }
@@ -217,7 +220,7 @@ impl<'w> LocalNames<'w> {
         }
     }
 
-    /// What the name at a token means.
+    /// Returns the meaning of the name at a token.
     #[tactic(auto, unfolding(crate::specs::Found::meaning_of, crate::specs::View::kind_of, crate::specs::WorldView::bound_of))]
     pub(crate) fn name_meaning(
         &self,

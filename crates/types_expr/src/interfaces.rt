@@ -1,9 +1,9 @@
-//! What other packages see of one.
+//! The export data of a package: what other packages see of it.
 use crate::types::{GoType, Signature};
 use crate::world::Definition;
 use std::collections::BTreeMap;
 
-/// What an exported name means in other packages.
+/// The meaning of an exported name in other packages.
 #[derive(Drop)]
 pub enum ExportMeaning {
     Variable(GoType),
@@ -11,8 +11,8 @@ pub enum ExportMeaning {
     Function(Signature),
 }
 
-/// An exported name of a package: what it means in other packages. Where it is declared is not seen there, so that an edit inside
-/// of a function leaves what other packages see as it is.
+/// An exported name of a package: its meaning in other packages. The place of its declaration is left out, so that an edit inside a
+/// function leaves the package's export data as it is.
 #[derive(Drop)]
 pub struct Export {
     pub meaning: ExportMeaning,
@@ -25,7 +25,7 @@ pub struct PackageScope {
     pub exported: BTreeMap<Vec<u8>, Export>,
 }
 
-/// What other packages see of one. The type definitions stand at their ranks.
+/// The export data of a package: its scope, and its type definitions, each at its rank.
 #[derive(Drop)]
 pub struct Interface {
     pub scope: PackageScope,

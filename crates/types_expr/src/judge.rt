@@ -1,4 +1,4 @@
-//! What expressions stand for, and the faults and member uses in them.
+//! The judgement of expressions: their meanings, faults and uses of members' names.
 ghost use Rattle.std.specs.Prelude.{IfOk, map, option_map};
 ghost use Rattle.go_ast.specs.Tree.{no_link};
 ghost use Rattle.go_ast.specs.View.{expr_view, link_view, literal_view};
@@ -17,7 +17,7 @@ use crate::types::{Basic, GoType, ValueKind};
 use go_ast::tree::{CompositeLit, Element, Expr, ExprItem, Link, Operand};
 use std::alloc::{AllocError, Global};
 
-/// What an expression stands for. Its faults and member uses are added to what was found.
+/// Returns the meaning of an expression. Its faults and member uses are added to `found`.
 #[cycle(judging)]
 pub fn judge<'w>(
     alloc: Global,
@@ -56,7 +56,7 @@ pub fn judge<'w>(
     }
 }
 
-/// What an expression stands for where a value is wanted.
+/// Returns the meaning of an expression where a value is required.
 #[cycle(judging)]
 pub fn judge_value<'w>(
     alloc: Global,
@@ -70,7 +70,7 @@ pub fn judge_value<'w>(
     found.as_value(place_of(e), meaning)
 }
 
-/// The links of a chain, behind an operand that has that meaning.
+/// Returns the meaning of a chain of links after an operand of the given meaning.
 #[cycle(judging)]
 pub fn chain<'w>(
     alloc: Global,
@@ -93,7 +93,7 @@ pub fn chain<'w>(
     Ok(meaning)
 }
 
-/// The operators and operands behind a first operand of that meaning.
+/// Returns the meaning of the operations with these operands, after a first operand of the given meaning.
 #[cycle(judging)]
 fn binary<'w>(
     alloc: Global,
@@ -113,7 +113,7 @@ fn binary<'w>(
     Ok(meaning)
 }
 
-/// One link of a chain, behind an operand that has that meaning.
+/// Returns the meaning of one link of a chain, after an operand of the given meaning.
 #[cycle(judging)]
 pub fn judge_link<'w>(
     alloc: Global,
@@ -145,7 +145,7 @@ pub fn judge_link<'w>(
     }
 }
 
-/// The values of the arguments of a call, or of other expressions in turn.
+/// Returns the values of the arguments of a call, or of the expressions of another list.
 #[cycle(judging)]
 pub fn arguments<'w>(
     alloc: Global,
@@ -164,7 +164,7 @@ pub fn arguments<'w>(
     Ok(values)
 }
 
-/// What a composite literal stands for.
+/// Returns the meaning of a composite literal.
 #[cycle(judging)]
 fn literal<'w>(
     alloc: Global,
@@ -180,7 +180,7 @@ fn literal<'w>(
     found.literal_meaning(scope.world, start, own, elements)
 }
 
-/// The elements of a literal of that type, none where it is broken.
+/// Judges the elements of a literal of the type `own`, which is none where it is broken.
 #[cycle(judging)]
 fn elements<'w>(
     alloc: Global,

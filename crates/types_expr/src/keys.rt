@@ -16,13 +16,13 @@ use go_ast::tree;
 use std::alloc::{AllocError, Global};
 use std::collections::BTreeSet;
 
-/// The fields that the keys of a literal named so far, by rank.
+/// The ranks of the fields that the keys of a literal named so far.
 #[derive(Drop)]
 pub struct SeenFields {
     ranks: BTreeSet<usize>,
 }
 
-/// What a key is: a field that no earlier key named, a method that has a broken part, or a fault.
+/// What a key is: a field that no earlier key named, a method whose signature is broken, or a fault.
 #[derive(Clone, Copy)]
 pub enum LiteralKey<'w> {
     Field { rank: usize, field_type: &'w GoType },
@@ -30,8 +30,8 @@ pub enum LiteralKey<'w> {
     Wrong,
 }
 
-/// What stands before the value of an element: whether it is no fault and not broken, whether there is no key, and the type
-/// that the value has to fit.
+/// What precedes the value of an element: whether the key is no fault and not broken, whether there is no key, and the type that the value
+/// has to fit.
 #[derive(Clone, Copy)]
 pub struct ElementKey<'w> {
     pub whole: bool,
@@ -40,7 +40,7 @@ pub struct ElementKey<'w> {
 }
 
 impl SeenFields {
-    /// None so far.
+    /// No fields.
     #[tactic(auto, using(crate::proofs::SeenRanks::none_there))]
     pub fn new(alloc: Global) -> SeenFields
         ensures { seen_of result ≡ none_seen }
@@ -50,6 +50,7 @@ impl SeenFields {
         }
     }
 
+    /// Whether an earlier key named the field of this rank.
     #[tactic(auto, unfolding(crate::specs::Found::seen_of))]
     fn contains(&self, rank: usize) -> bool
         ensures { result ≡ seen_of self.now rank }
@@ -57,7 +58,7 @@ impl SeenFields {
         self.ranks.contains(&rank)
     }
 
-    /// Notes what a key names.
+    /// Adds the field that a key names, if it names one.
     #[tactic(auto, unfolding(crate::specs::Found::key_of))]
     fn add(&mut self, key: LiteralKey<'_>) -> Result<(), AllocError>
         ensures { OnOk result (seen_of self.new ≡ seen_with (key_of key.entry) (seen_of self.old)) }
@@ -70,6 +71,7 @@ impl SeenFields {
 }
 
 impl LiteralKey<'_> {
+    /// Whether the key names a field that no earlier key named.
     #[tactic(auto, unfolding(crate::specs::Found::key_of))]
     fn is_whole(&self) -> bool
         ensures { result ≡ is_whole_key (key_of self.now) }
@@ -79,7 +81,7 @@ impl LiteralKey<'_> {
 }
 
 impl<'w> World<'w> {
-    /// What the key at a token is, in a literal of that type.
+    /// Returns what the key at a token is, in a literal of the type `literal_type`.
     #[tactic(auto, unfolding(crate::specs::Found::key_of, crate::specs::WorldView::shape_of, crate::specs::WorldView::member_of))]
     fn key(&self, literal_type: &GoType, seen: &SeenFields, place: usize) -> LiteralKey<'w>
         ensures { key_of result ≡ key_at (world_of self.now) (seen_of seen.now) (type_of literal_type.now) place }
@@ -106,7 +108,7 @@ impl<'w> World<'w> {
         }
     }
 
-    /// The element type, if the type is one of slices.
+    /// Returns the element type of a slice type, none for any other.
     #[tactic(auto, unfolding(crate::specs::WorldView::shape_of))]
     pub(crate) fn element_type<'a>(&'a self, of: &'a GoType) -> Option<&'a GoType>
         ensures { option_map (λ t. type_of t.now) result ≡ element_of (underlying (world_of self.now) (type_of of.now)) }
@@ -117,7 +119,7 @@ impl<'w> World<'w> {
         }
     }
 
-    /// The field or method that the name at a token is as a key of a literal of that type, if any.
+    /// Returns the symbol of the member that the key at a token denotes, none where the literal is no struct.
     #[tactic(auto, unfolding(crate::specs::WorldView::shape_of))]
     fn key_symbol(&self, literal_type: &GoType, place: usize) -> Result<Option<Symbol>, AllocError>
         ensures { IfOk result (λ s. s ≡ member_in (underlying (world_of self.now) (type_of literal_type.now)) ((world_of self.now).member place (type_of literal_type.now))) }
@@ -128,7 +130,7 @@ impl<'w> World<'w> {
         }
     }
 
-    /// What the value behind a key has to fit.
+    /// Returns the type that the value after a key has to fit.
     #[tactic(auto, unfolding(crate::specs::Found::key_of))]
     fn wanted_behind<'a>(
         &'a self,
@@ -145,7 +147,7 @@ impl<'w> World<'w> {
 }
 
 impl FoundInFile {
-    /// Notes the use of a key, and its fault if it is one.
+    /// Notes the use of a key's name, and a fault if the key is one.
     #[tactic(auto, unfolding(crate::specs::Found::key_of))]
     fn note_key(
         &mut self,
@@ -168,7 +170,7 @@ impl FoundInFile {
         Ok(())
     }
 
-    /// Judges what stands before the value of an element, in a literal of that type; it has none where it is broken.
+    /// Judges the key, if any, of an element of a literal; `literal_type` is none where that type is broken.
     pub(crate) fn element_key<'a>(
         &mut self,
         alloc: Global,

@@ -1,4 +1,4 @@
-//! What the expressions of a package stand for: types, kinds, the world of names, and the judgement of expressions.
+//! Types, kinds of values, the world that a file's names are bound in, and the judgement of expressions.
 #![tactic(auto)]
 
 pub mod calls;

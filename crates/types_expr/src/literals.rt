@@ -1,4 +1,4 @@
-//! What composite literals stand for.
+//! The meanings of composite literals.
 ghost use Rattle.std.specs.Prelude.{◌≡◌, ◌&&◌, ◌||◌, IfOk, option_map};
 ghost use Rattle.types_expr.specs.Judge.{literal_meaning, misfit_if, is_whole};
 ghost use Rattle.types_expr.specs.View.{type_of, kind_of};
@@ -12,7 +12,7 @@ use crate::types::{GoType, ValueKind};
 use crate::world::{Shape, World};
 use std::alloc::AllocError;
 
-/// The elements of a literal: whether no part of them is a fault or broken, and whether one has no key.
+/// A literal's elements so far: whether none has a fault or is broken, and whether one has no key.
 #[derive(Clone, Copy)]
 pub struct Elements {
     pub whole: bool,
@@ -20,7 +20,7 @@ pub struct Elements {
 }
 
 impl Elements {
-    /// These, and then one with that key and that value; fits: whether the value is let pass as fitting.
+    /// Returns these elements with one more, of that key and value. `fits`: whether the value fits or is broken.
     #[tactic(auto, unfolding(crate::specs::View::kind_of))]
     pub fn with(self, key: ElementKey<'_>, value: &Argued, fits: bool) -> Elements
         ensures whole { result.whole ≡ (self.whole && (key.entry.whole && (is_whole (option_map kind_of value.now.kind) && fits))) }
@@ -34,7 +34,7 @@ impl Elements {
 }
 
 impl FoundInFile {
-    /// Notes a value that does not fit what it has to, if that is known; whether it fits or is broken.
+    /// Notes a fault where the value does not fit `wanted`, if that is known. Returns whether the value fits or is broken.
     pub(crate) fn misfit_if(
         &mut self,
         world: &World<'_>,
@@ -49,7 +49,7 @@ impl FoundInFile {
         }
     }
 
-    /// The meaning of a literal of that type, none where it is broken, with such elements.
+    /// Returns the meaning of a literal of the type `own`, which is none where it is broken, with these elements.
     #[tactic(auto, unfolding(crate::specs::Found::meaning_of, crate::specs::View::kind_of, crate::specs::WorldView::shape_of))]
     pub(crate) fn literal_meaning<'w>(
         &mut self,

@@ -8,8 +8,7 @@ use crate::types::GoType;
 use std::alloc::{AllocError, Global};
 use std::collections::BTreeMap;
 
-/// The parameters and local variables that were declared so far and are not broken, by the tokens that declare them, with
-/// their types.
+/// The types of the parameters and local variables that are declared so far and not broken, by the tokens that declare them.
 #[derive(Drop)]
 pub struct Locals {
     types: BTreeMap<usize, GoType>,
@@ -26,7 +25,7 @@ impl Locals {
         }
     }
 
-    /// The type of the local that the name at a token declares; none where it is broken or not declared yet.
+    /// Returns the type of the local that the name at a token declares, none where it is broken or not declared yet.
     #[tactic(auto, unfolding(crate::specs::Found::locals_of))]
     pub fn get(&self, place: usize) -> Option<&GoType>
         ensures { option_map (λ t. type_of t.now) result ≡ locals_of self.now place }
@@ -34,7 +33,7 @@ impl Locals {
         self.types.get(&place)
     }
 
-    /// Declares a local by the token of its name; it has no type where it is broken.
+    /// Declares the local whose name is at a token; `own` is none where its type is broken.
     pub fn declare(&mut self, place: usize, own: Option<GoType>) -> Result<(), AllocError>
         ensures { OnOk result (locals_of self.new ≡ declared (locals_of self.old) place (option_map type_of own)) }
     {

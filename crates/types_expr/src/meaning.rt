@@ -1,4 +1,4 @@
-//! What expressions stand for.
+//! The meanings of expressions.
 ghost use Rattle.std.specs.Prelude.{◌≡◌, IfOk, map, option_map, is_some, false, true};
 ghost use Rattle.std.specs.List.{list_all};
 ghost use Rattle.types_expr.specs.Judge.{value_kind, all_whole, result_meaning};
@@ -9,8 +9,8 @@ ghost use Rattle.types_expr.specs.Types.{Value};
 use crate::types::{Builtin, GoType, Signature, ValueKind};
 use std::alloc::{AllocError, Global};
 
-/// What an expression stands for. `Results` is a call with none or several results; `Broken` is what is or has a fault, or
-/// uses a declaration that has a broken part.
+/// The meaning of an expression. `Results` is a call with none or several results. `Broken` is an expression that is or has a fault, or
+/// that uses a declaration with a broken part.
 #[derive(Drop)]
 pub enum Meaning<'w> {
     Value { kind: ValueKind, addressable: bool },
@@ -22,7 +22,7 @@ pub enum Meaning<'w> {
     Broken,
 }
 
-/// A value of a list, by its place; it has no kind where it is broken.
+/// A value of a list: the token of its faults, and its kind, none where it is broken.
 #[derive(Drop)]
 pub struct Argued {
     pub place: usize,
@@ -30,7 +30,7 @@ pub struct Argued {
 }
 
 impl<'w> Meaning<'w> {
-    /// A value that can't be assigned.
+    /// A value that is not addressable.
     #[tactic(auto, unfolding(crate::specs::Found::meaning_of))]
     pub fn value(kind: ValueKind) -> Meaning<'w>
         ensures { meaning_of result ≡ Value (kind_of kind) false }
@@ -41,7 +41,7 @@ impl<'w> Meaning<'w> {
         }
     }
 
-    /// A value that can be assigned, and whose address can be taken.
+    /// A value that is addressable, so that it can be assigned.
     #[tactic(auto, unfolding(crate::specs::Found::meaning_of))]
     pub(crate) fn variable(kind: ValueKind) -> Meaning<'w>
         ensures { meaning_of result ≡ Value (kind_of kind) true }
@@ -52,7 +52,7 @@ impl<'w> Meaning<'w> {
         }
     }
 
-    /// The kind of a value.
+    /// Returns the kind of a value, none for any other meaning.
     #[tactic(auto, unfolding(crate::specs::Found::meaning_of, crate::specs::Judge::value_kind))]
     pub fn into_kind(self) -> Option<ValueKind>
         ensures { option_map kind_of result ≡ value_kind (meaning_of self.entry) }
@@ -64,7 +64,7 @@ impl<'w> Meaning<'w> {
     }
 }
 
-/// What a call with those results stands for.
+/// Returns the meaning of a call with these results.
 #[tactic(auto, unfolding(crate::specs::Found::meaning_of, crate::specs::View::kind_of))]
 pub(crate) fn result_meaning<'w>(
     alloc: Global,
@@ -78,14 +78,14 @@ pub(crate) fn result_meaning<'w>(
     }
 }
 
-/// Whether none of the values is broken.
+/// Whether each value has a kind.
 fn each_whole(values: &[Argued]) -> bool
     ensures { result ≡ list_all (λ v. is_some v.kind) values.now }
 {
     values.iter().all(|value| value.kind.is_some())
 }
 
-/// The same, of the values as they are told.
+/// Whether none of the values is broken.
 #[tactic(auto, using(crate::proofs::Values::whole_found))]
 pub fn all_whole(values: &[Argued]) -> bool
     ensures { result ≡ all_whole (map argued_of values.now) }

@@ -1,4 +1,4 @@
-//! The rules of the operations, on types and kinds.
+//! The rules of operations on types and kinds: assignability, conversion and binary operators.
 ghost use Rattle.std.specs.Prelude.{◌≡◌, option_map};
 ghost use Rattle.types_expr.specs.Types.{same_underlying, is_named, has_nil, either_unnamed, points};
 ghost use Rattle.types_expr.specs.Operations.{fits, converts, joined, operate, class_of, class_of_underlying, family_of, result_of, is_nil, is_int, is_bool, is_ordered, has_length, is_printed, compares, element_of_kind};
@@ -10,6 +10,7 @@ use crate::types::{Basic, GoType, ValueKind};
 use crate::world::{Shape, World};
 use go_ast::syntax::BinaryOp;
 
+/// Whether two underlying types are identical.
 #[tactic(auto, unfolding(crate::specs::WorldView::shape_of, crate::specs::Types::same_underlying))]
 fn same_shape(a: Shape<'_>, b: Shape<'_>) -> bool
     ensures { result ≡ same_underlying (shape_of a.entry) (shape_of b.entry) }
@@ -32,7 +33,7 @@ impl Shape<'_> {
         matches!(self, Shape::PointerTo(_) | Shape::SliceOf(_))
     }
 
-    /// Whether it is a pointer.
+    /// Whether it is the underlying type of pointers.
     #[tactic(auto, unfolding(crate::specs::WorldView::shape_of))]
     pub fn is_pointer(self) -> bool
         ensures { result ≡ points (shape_of self.entry) }
@@ -40,7 +41,7 @@ impl Shape<'_> {
         matches!(self, Shape::PointerTo(_))
     }
 
-    /// The values of such a type, as operators tell them apart.
+    /// Returns the class of its values.
     #[tactic(auto, unfolding(crate::specs::WorldView::shape_of))]
     fn class(self) -> TypeClass
         ensures { result ≡ class_of_underlying (shape_of self.entry) }
@@ -67,6 +68,7 @@ impl TypeClass {
         matches!(self, TypeClass::Of(Basic::Bool))
     }
 
+    /// Whether `<`, `<=`, `>`, `>=` and `+` take such a value.
     fn is_ordered(self) -> bool
         ensures { result ≡ is_ordered self }
     {
@@ -87,6 +89,7 @@ impl TypeClass {
         matches!(self, TypeClass::Of(_))
     }
 
+    /// Whether `==` and `!=` take such a value; `with_nil`: one of the two operands is nil.
     fn compares(self, with_nil: bool) -> bool
         ensures { result ≡ compares with_nil self }
     {
@@ -98,6 +101,7 @@ impl TypeClass {
     }
 }
 
+/// Returns the family of a binary operator.
 #[tactic(auto, unfolding(crate::specs::Operations::family_of))]
 fn family_of(op: BinaryOp) -> Family
     ensures { result ≡ family_of op }
@@ -115,7 +119,7 @@ fn family_of(op: BinaryOp) -> Family
     }
 }
 
-/// The kind of an operation on operands of one class, none where the class has no such operation.
+/// Returns the kind of an operation on operands of one class, none where the class has no such operation.
 #[tactic(auto, unfolding(crate::specs::View::kind_of, crate::specs::Operations::result_of))]
 fn result_of(family: Family, with_nil: bool, class: TypeClass, kind: ValueKind) -> Option<ValueKind>
     ensures { option_map kind_of result ≡ result_of family with_nil class (kind_of kind) }
@@ -135,6 +139,7 @@ fn result_of(family: Family, with_nil: bool, class: TypeClass, kind: ValueKind) 
     }
 }
 
+/// Whether at least one of the two types is a pointer or slice type.
 #[tactic(auto, unfolding(crate::specs::Types::is_named))]
 fn either_unnamed(a: &GoType, b: &GoType) -> bool
     ensures { result ≡ either_unnamed (is_named (type_of a.now)) (is_named (type_of b.now)) }
@@ -152,7 +157,7 @@ impl ValueKind {
 }
 
 impl World<'_> {
-    /// Whether a value of that kind fits the type.
+    /// Whether a value of that kind fits the type (Go specification, "Assignability").
     #[tactic(auto, unfolding(crate::specs::View::kind_of, crate::specs::WorldView::shape_of, crate::specs::Operations::fits))]
     pub fn fits(&self, kind: &ValueKind, wanted: &GoType) -> bool
         ensures { result ≡ fits (world_of self.now) (kind_of kind.now) (type_of wanted.now) }
@@ -168,7 +173,7 @@ impl World<'_> {
         }
     }
 
-    /// Whether a value of that kind converts to the type.
+    /// Whether a value of that kind converts to the type (Go specification, "Conversions").
     #[tactic(auto, unfolding(crate::specs::View::kind_of))]
     pub(crate) fn converts(&self, kind: &ValueKind, wanted: &GoType) -> bool
         ensures { result ≡ converts (world_of self.now) (kind_of kind.now) (type_of wanted.now) }
@@ -181,7 +186,7 @@ impl World<'_> {
         }
     }
 
-    /// The values of that kind, as operators tell them apart.
+    /// Returns the class of the values of that kind.
     #[tactic(auto, unfolding(crate::specs::View::kind_of, crate::specs::Operations::class_of))]
     pub fn class_of(&self, kind: &ValueKind) -> TypeClass
         ensures { result ≡ class_of (world_of self.now) (kind_of kind.now) }
@@ -193,7 +198,7 @@ impl World<'_> {
         }
     }
 
-    /// The kind that two operands have in common, none where they do not go together.
+    /// Returns the common kind of two operands, none where they do not go together.
     #[tactic(auto, unfolding(crate::specs::View::kind_of, crate::specs::Operations::joined))]
     fn joined(&self, left: ValueKind, right: ValueKind) -> Option<ValueKind>
         ensures { option_map kind_of result ≡ joined (world_of self.now) (kind_of left) (kind_of right) }
@@ -215,7 +220,7 @@ impl World<'_> {
         }
     }
 
-    /// The kind of a binary operation, none where it breaks a rule.
+    /// Returns the kind of a binary operation, none where it breaks a rule.
     #[tactic(auto, unfolding(crate::specs::Operations::operate))]
     pub fn operate(&self, op: BinaryOp, left: ValueKind, right: ValueKind) -> Option<ValueKind>
         ensures { option_map kind_of result ≡ operate (world_of self.now) op (kind_of left) (kind_of right) }
@@ -226,7 +231,7 @@ impl World<'_> {
         result_of(family_of(op), with_nil, class, kind)
     }
 
-    /// The element type of a slice value.
+    /// Returns the element type of a slice value, none for any other value.
     #[tactic(auto, unfolding(crate::specs::View::kind_of, crate::specs::WorldView::shape_of))]
     pub(crate) fn element_of<'a>(&'a self, kind: &'a ValueKind) -> Option<&'a GoType>
         ensures { option_map (λ t. type_of t.now) result ≡ element_of_kind (world_of self.now) (kind_of kind.now) }

@@ -15,7 +15,7 @@ use go_ast::syntax::{BinaryOp, PrefixOp};
 use std::alloc::{AllocError, Global};
 
 impl World<'_> {
-    /// What a prefix operator makes of a value, none where it breaks a rule.
+    /// Returns the meaning of a prefix operator on a value, none where it breaks a rule.
     #[tactic(auto, unfolding(crate::specs::Found::meaning_of, crate::specs::View::kind_of, crate::specs::WorldView::shape_of, crate::specs::Operations::prefixed))]
     fn prefixed<'w>(
         &self,
@@ -45,7 +45,7 @@ impl World<'_> {
         }
     }
 
-    /// What a pointer points to: of one that is written as a pointer the very part of its type.
+    /// Returns the variable that a pointer points to. Of a type that is written as a pointer it takes the target type without copying it.
     #[tactic(auto, unfolding(crate::specs::View::kind_of, crate::specs::View::type_of))]
     fn behind<'w>(&self, alloc: Global, kind: ValueKind) -> Result<Option<Meaning<'w>>, AllocError>
         ensures { IfOk result (λ m. option_map meaning_of m ≡ pointee_of_kind (world_of self.now) (kind_of kind)) }
@@ -59,7 +59,7 @@ impl World<'_> {
         }
     }
 
-    /// What a pointer points to, in other memory.
+    /// Returns the variable that a pointer points to, with a copy of its type.
     #[tactic(auto, unfolding(crate::specs::View::kind_of, crate::specs::WorldView::shape_of))]
     fn copied_behind<'w>(
         &self,
@@ -82,7 +82,7 @@ impl World<'_> {
 }
 
 impl FoundInFile {
-    /// The meaning of a binary operation in an expression that begins at `start`.
+    /// Returns the meaning of a binary operation in an expression that begins at token `start`.
     #[tactic(auto, unfolding(crate::specs::Found::meaning_of, crate::specs::Judge::operation))]
     pub fn operation<'w>(
         &mut self,
@@ -106,7 +106,7 @@ impl FoundInFile {
         }
     }
 
-    /// The meaning of a prefix operator at `place`, before an operand of that meaning.
+    /// Returns the meaning of a prefix operator at token `place`, before an operand of the given meaning.
     #[tactic(auto, unfolding(crate::specs::Found::meaning_of, crate::specs::Judge::prefix_of))]
     pub(crate) fn prefix<'w>(
         &mut self,
@@ -127,7 +127,7 @@ impl FoundInFile {
         }
     }
 
-    /// The meaning of an element of a slice: of one that is written as a slice the very part of its type.
+    /// Returns the meaning of an element of a slice. Of a type that is written as a slice it takes the element type without copying it.
     #[tactic(auto, unfolding(crate::specs::View::kind_of, crate::specs::View::type_of))]
     fn element<'w>(
         &mut self,
@@ -146,7 +146,7 @@ impl FoundInFile {
         }
     }
 
-    /// The meaning of an element of a slice, in other memory.
+    /// Returns the meaning of an element of a slice, with a copy of its type.
     #[tactic(auto, unfolding(crate::specs::Found::meaning_of, crate::specs::View::kind_of))]
     fn copied_element<'w>(
         &mut self,
@@ -166,7 +166,7 @@ impl FoundInFile {
         }
     }
 
-    /// The meaning of an index, at the place of which a wrong one is a fault, behind an operand.
+    /// Returns the meaning of an index expression. An index that is no int is a fault at `at.place`.
     #[tactic(auto, unfolding(crate::specs::Found::meaning_of, crate::specs::Judge::index_of, crate::specs::Judge::indexed, crate::specs::Judge::bad_index))]
     pub fn index<'w>(
         &mut self,
@@ -192,7 +192,7 @@ impl FoundInFile {
 }
 
 impl<'w> Meaning<'w> {
-    /// What `&` makes of a literal.
+    /// Returns the meaning of `&` before a literal of this meaning.
     #[tactic(auto, unfolding(crate::specs::Found::meaning_of, crate::specs::View::kind_of, crate::specs::View::type_of, crate::specs::Judge::address_of))]
     pub(crate) fn into_address(self, alloc: Global) -> Result<Meaning<'w>, AllocError>
         ensures { IfOk result (λ m. means (meaning_of m) ≡ address_of (meaning_of self.entry)) }

@@ -1,4 +1,4 @@
-//! Where expressions and types stand.
+//! The tokens at which expressions and types begin and report their faults.
 ghost use Rattle.std.specs.Prelude.{◌≡◌};
 ghost use Rattle.go_ast.specs.Tree.{no_link};
 ghost use Rattle.go_ast.specs.View.{expr_view, link_view, type_view};
@@ -7,15 +7,15 @@ ghost use Rattle.types_expr.specs.Lists.{links_in};
 
 use go_ast::tree::{Expr, Link, TypeExpr};
 
-/// Where the faults of a link of a chain stand: at the chain's first token, or at the token where the operand before the link,
-/// or its index, has its faults.
+/// The tokens at which a link of a chain reports its faults. `start` is the chain's first token; at `place` the operand before the link, or
+/// the link's index, reports its own.
 #[derive(Clone, Copy)]
 pub struct FaultPlaces {
     pub start: usize,
     pub place: usize,
 }
 
-/// The first token of a type.
+/// Returns the first token of a type.
 #[tactic(auto, unfolding(go_ast::specs::View::type_view))]
 pub(crate) fn first_of_type(t: &TypeExpr) -> usize
     ensures { result ≡ first_of_type (type_view t.now) }
@@ -28,7 +28,7 @@ pub(crate) fn first_of_type(t: &TypeExpr) -> usize
     }
 }
 
-/// The first token of an expression.
+/// Returns the first token of an expression.
 #[tactic(auto, using(crate::proofs::Trees::first_of_literal_tree), unfolding(go_ast::specs::View::expr_view, crate::specs::Places::first_token))]
 pub fn first_token(e: &Expr) -> usize
     ensures { result ≡ first_token (expr_view e.now) }
@@ -44,7 +44,7 @@ pub fn first_token(e: &Expr) -> usize
     }
 }
 
-/// Where a fault of the expression itself stands: at the name behind the dot for a selector, else at its first token.
+/// Returns the token at which an expression reports its own faults: the name after the dot of a selection, else its first token.
 #[tactic(auto, unfolding(go_ast::specs::View::expr_view, crate::specs::Places::place_of))]
 pub fn place_of(e: &Expr) -> usize
     ensures { result ≡ place_of (expr_view e.now) }
@@ -55,7 +55,7 @@ pub fn place_of(e: &Expr) -> usize
     }
 }
 
-/// The same of a chain that begins at `start`, with these links.
+/// Returns the token at which a chain that begins at `start`, with these links, reports its faults.
 fn chain_place(start: usize, links: &[Link]) -> usize
     ensures { result ≡ place_of_links start start (links_in links.now) }
 {
@@ -66,7 +66,7 @@ fn chain_place(start: usize, links: &[Link]) -> usize
     place
 }
 
-/// Where a fault of a chain stands that begins at `start` and ends in that link.
+/// Returns the token at which a chain that begins at `start` and ends in this link reports its faults.
 #[tactic(auto, unfolding(go_ast::specs::View::link_view))]
 pub fn place_behind(start: usize, link: &Link) -> usize
     ensures { result ≡ place_behind start (link_view link.now no_link) }

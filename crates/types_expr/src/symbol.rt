@@ -1,12 +1,12 @@
-//! Declarations as they are known in other packages: by package and rank.
+//! Symbols: declarations as other packages know them, by package and rank.
 ghost use Rattle.std.specs.Prelude.{◌≡◌, IfOk};
 ghost use Rattle.types_expr.specs.Types.{same_symbol};
 
 pub use base_files::SharedPath;
 use std::alloc::AllocError;
 
-/// A type definition, or a field or method: the package that declares it, and its rank among those of its kind there, by
-/// path and offset, from 0.
+/// A type definition, or a field or method: the package that declares it, and its rank among those of its kind there, by path and offset,
+/// from 0.
 #[derive(Drop)]
 pub struct Symbol {
     pub package: SharedPath,
@@ -14,7 +14,7 @@ pub struct Symbol {
 }
 
 impl Symbol {
-    /// The same symbol, with the path shared.
+    /// Copies the symbol; the path stays shared.
     pub fn copy(&self) -> Result<Symbol, AllocError>
         ensures { IfOk result (λ copy. copy ≡ self.now) }
     {
@@ -25,7 +25,7 @@ impl Symbol {
         })
     }
 
-    /// Whether the two are the same.
+    /// Whether the two symbols are equal.
     pub fn same(&self, other: &Symbol) -> bool
         ensures { result ≡ same_symbol self.now other.now }
     {

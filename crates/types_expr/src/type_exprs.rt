@@ -1,4 +1,4 @@
-//! Types as they are written.
+//! The judgement of types as they are written.
 ghost use Rattle.std.specs.Prelude.{◌≡◌, IfOk, option_map};
 ghost use Rattle.go_ast.specs.View.{type_view};
 ghost use Rattle.types_expr.specs.Judge.{judge_type, named_type, imported_type, no_type_at};
@@ -13,7 +13,7 @@ use crate::world::{Bound, World};
 use go_ast::tree::TypeExpr;
 use std::alloc::{AllocError, Global};
 
-/// The type of pointers to values of a type, if there is one.
+/// Returns the type of pointers to values of `target`, if there is one.
 fn pointer_if(alloc: Global, target: Option<GoType>) -> Result<Option<GoType>, AllocError>
     ensures { IfOk result (λ t. option_map type_of t ≡ option_map Pointer (option_map type_of target)) }
 {
@@ -23,7 +23,7 @@ fn pointer_if(alloc: Global, target: Option<GoType>) -> Result<Option<GoType>, A
     }
 }
 
-/// The type of slices with elements of a type, if there is one.
+/// Returns the type of slices with elements of `element`, if there is one.
 fn slice_if(alloc: Global, element: Option<GoType>) -> Result<Option<GoType>, AllocError>
     ensures { IfOk result (λ t. option_map type_of t ≡ option_map Slice (option_map type_of element)) }
 {
@@ -34,7 +34,7 @@ fn slice_if(alloc: Global, element: Option<GoType>) -> Result<Option<GoType>, Al
 }
 
 impl FoundInFile {
-    /// Notes that no type stands at a token.
+    /// Notes a fault at a token where no type is written.
     fn no_type(&mut self, place: usize) -> Result<Option<GoType>, AllocError>
         ensures { IfOk result (λ own. AddsType (no_type_at place) self.old self.new (option_map type_of own)) }
     {
@@ -42,7 +42,7 @@ impl FoundInFile {
         Ok(None)
     }
 
-    /// The type that a name means; no fault again where it is broken.
+    /// Returns the type that the name at a token denotes. A name that is bound to no type is a fault; a broken type definition is none.
     #[tactic(auto, unfolding(crate::specs::Judge::named_type, crate::specs::WorldView::bound_of))]
     pub fn named_type(
         &mut self,
@@ -64,7 +64,7 @@ impl FoundInFile {
         }
     }
 
-    /// The type that a name behind another name and a dot means.
+    /// Returns the type that `p.N` denotes, by the tokens of p and N.
     #[tactic(auto, unfolding(crate::specs::Judge::imported_type, crate::specs::WorldView::bound_of))]
     fn imported_type(
         &mut self,
@@ -87,7 +87,7 @@ impl FoundInFile {
         }
     }
 
-    /// The type that is written; none where it is broken.
+    /// Returns the type that is written, none where it is broken.
     #[tactic(auto, unfolding(go_ast::specs::View::type_view, crate::specs::View::type_of, crate::specs::Judge::judge_type))]
     pub fn judge_type(
         &mut self,

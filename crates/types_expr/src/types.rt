@@ -6,7 +6,7 @@ ghost use Rattle.types_expr.specs.View.{type_of, kind_of};
 use crate::symbol::Symbol;
 use std::alloc::{AllocError, Global};
 
-/// The types that are predeclared.
+/// The predeclared types.
 #[derive(Clone, Copy, PartialEq, Eq, Debug)]
 pub enum Basic {
     Bool,
@@ -14,7 +14,7 @@ pub enum Basic {
     String,
 }
 
-/// A type. Two types are identical where they are built alike.
+/// A type. Two types are identical where they are built alike from equal parts.
 #[derive(Drop)]
 pub enum GoType {
     Basic(Basic),
@@ -23,7 +23,7 @@ pub enum GoType {
     Slice(Box<GoType>),
 }
 
-/// What a value has: a type, or a kind without one.
+/// The kind of a value: its type, the basic type of an untyped constant, or nil.
 #[derive(Drop)]
 pub enum ValueKind {
     Typed(GoType),
@@ -48,7 +48,7 @@ pub enum Builtin {
     Println,
 }
 
-/// The type of a definition.
+/// Returns the type of a definition.
 #[tactic(auto, unfolding(crate::specs::View::type_of))]
 fn defined(symbol: &Symbol) -> Result<GoType, AllocError>
     ensures { IfOk result (λ t. type_of t ≡ Defined symbol.now) }
@@ -57,7 +57,7 @@ fn defined(symbol: &Symbol) -> Result<GoType, AllocError>
     Ok(GoType::Defined(symbol))
 }
 
-/// The type of pointers to values of a type.
+/// Returns the type of pointers to values of `target`.
 #[tactic(auto, unfolding(crate::specs::View::type_of))]
 pub(crate) fn pointer_to(alloc: Global, target: GoType) -> Result<GoType, AllocError>
     ensures { IfOk result (λ t. type_of t ≡ Pointer (type_of target)) }
@@ -66,7 +66,7 @@ pub(crate) fn pointer_to(alloc: Global, target: GoType) -> Result<GoType, AllocE
     Ok(GoType::Pointer(target))
 }
 
-/// The type of slices with elements of a type.
+/// Returns the type of slices with elements of `element`.
 #[tactic(auto, unfolding(crate::specs::View::type_of))]
 pub(crate) fn slice_of(alloc: Global, element: GoType) -> Result<GoType, AllocError>
     ensures { IfOk result (λ t. type_of t ≡ Slice (type_of element)) }
@@ -76,7 +76,7 @@ pub(crate) fn slice_of(alloc: Global, element: GoType) -> Result<GoType, AllocEr
 }
 
 impl GoType {
-    /// The same type, in other memory.
+    /// Copies the type.
     #[tactic(auto, unfolding(crate::specs::View::type_of))]
     pub fn copy(&self, alloc: Global) -> Result<GoType, AllocError>
         ensures { IfOk result (λ t. type_of t ≡ type_of self.now) }
@@ -89,7 +89,7 @@ impl GoType {
         }
     }
 
-    /// Whether the two are identical.
+    /// Whether the two types are identical.
     #[tactic(auto, unfolding(crate::specs::View::type_of, crate::specs::Types::same_type))]
     pub fn same(&self, other: &GoType) -> bool
         ensures { result ≡ same_type (type_of self.now) (type_of other.now) }
@@ -103,7 +103,7 @@ impl GoType {
         }
     }
 
-    /// Whether it is written as a pointer.
+    /// Whether it is written as a pointer type.
     #[tactic(auto, unfolding(crate::specs::View::type_of))]
     pub fn is_pointer(&self) -> bool
         ensures { result ≡ is_pointer (type_of self.now) }
@@ -111,7 +111,7 @@ impl GoType {
         matches!(self, GoType::Pointer(_))
     }
 
-    /// Whether it has a name, as all but pointers and slices have.
+    /// Whether the type is named: all but pointers and slices are.
     #[tactic(auto, unfolding(crate::specs::View::type_of, crate::specs::Types::is_named))]
     pub(crate) fn is_named(&self) -> bool
         ensures { result ≡ is_named (type_of self.now) }
@@ -121,7 +121,7 @@ impl GoType {
 }
 
 impl ValueKind {
-    /// The same kind, in other memory.
+    /// Copies the kind.
     #[tactic(auto, unfolding(crate::specs::View::kind_of))]
     pub fn copy(&self, alloc: Global) -> Result<ValueKind, AllocError>
         ensures { IfOk result (λ k. kind_of k ≡ kind_of self.now) }
@@ -135,7 +135,7 @@ impl ValueKind {
 }
 
 impl Basic {
-    /// Whether the two are the same.
+    /// Whether the two types are equal.
     pub fn same(self, other: Basic) -> bool
         ensures { result ≡ same_basic self other }
     {

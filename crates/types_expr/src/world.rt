@@ -1,4 +1,4 @@
-//! What the names of a file are bound to, and the definitions and members of types.
+//! The bindings of a file's names, and the definitions and members of types.
 ghost use Rattle.std.specs.Prelude.{◌≡◌, option_copied, option_map, MatchOption};
 ghost use Rattle.types_expr.specs.Types.{Broken};
 ghost use Rattle.types_expr.specs.World.{underlying, Means, is_seen, seen_field, seen_method, member_symbol, struct_behind, owner};
@@ -13,7 +13,7 @@ use std::alloc::Global;
 use std::collections::BTreeMap;
 use std::sync::Arc;
 
-/// What all uses of a name mean, or the parameter or local that it is, by the token that declares it. The broken ones are
+/// What a name is bound to: a parameter or local, by the token that declares it, or something that all its uses mean. The broken ones are
 /// declarations whose written type, parameters, results or underlying type has a broken part.
 #[derive(Drop)]
 pub enum Bound {
@@ -30,14 +30,14 @@ pub enum Bound {
     BrokenType,
 }
 
-/// The name at a token: which of the world's bounds it is, if it is bound, and how it is spelled.
+/// The name at a token: the index of its binding among the world's, if it is bound, and its spelling.
 #[derive(Clone, Copy)]
 pub struct Name<'w> {
     pub bound: Option<usize>,
     pub spelling: &'w [u8],
 }
 
-/// The underlying type of a definition. A struct type is known by the definition that writes it.
+/// The underlying type of a definition. A struct type is identified by the definition that writes it.
 #[derive(Drop)]
 pub enum Underlying {
     Plain(Basic),
@@ -63,8 +63,8 @@ pub struct Method {
     pub signature: Option<Signature>,
 }
 
-/// A type definition: its underlying type; by their names the fields of the struct that it writes, and the methods of its
-/// type. Only those are there that count.
+/// A type definition: its underlying type, and by name the fields of the struct that it writes and the methods of its type. Only members
+/// that count are there.
 #[derive(Drop)]
 pub struct Definition {
     pub underlying: Underlying,
@@ -72,21 +72,21 @@ pub struct Definition {
     pub methods: BTreeMap<Vec<u8>, Method>,
 }
 
-/// The type definitions of packages by their paths, with what else others see of these packages. What is seen of a package is
-/// shared by all that have it. A path at which nothing is held is that of no package.
+/// The export data of packages, with their type definitions, by path. The export data of a package is shared by all that hold it. A path
+/// that has none here is no known package's.
 #[derive(Drop)]
 pub struct Definitions {
     pub packages: PathTable<Option<Arc<Interface, Global>>>,
 }
 
-/// What a file is judged by.
+/// What a file is judged by: the bindings of its names, and the type definitions.
 #[derive(Clone, Copy)]
 pub struct World<'w> {
     /// The path of the file's package.
     pub package: &'w SharedPath,
-    /// For each token of the file, the name that stands there.
+    /// For each token of the file, the name at it.
     pub names: &'w [Name<'w>],
-    /// What names are bound to.
+    /// The bindings of names, to which `Name::bound` points.
     pub bounds: &'w [Bound],
     /// The type definitions of the file's package, each at its rank.
     pub own: &'w [Definition],
@@ -111,6 +111,7 @@ pub enum Shape<'a> {
 }
 
 impl Underlying {
+    /// Returns this underlying type by reference.
     #[tactic(auto, unfolding(crate::specs::WorldView::underlying_of, crate::specs::WorldView::shape_of))]
     pub(crate) fn shape(&self) -> Shape<'_>
         ensures { shape_of result ≡ underlying_of self.now }
@@ -125,7 +126,7 @@ impl Underlying {
 }
 
 impl<'w> Member<'w> {
-    /// The member as others know it.
+    /// Returns the symbol of the member.
     #[tactic(auto, unfolding(crate::specs::WorldView::member_of))]
     pub fn symbol(&self) -> &'w Symbol
         ensures { result.now ≡ member_symbol (member_of self.now) }
@@ -138,7 +139,7 @@ impl<'w> Member<'w> {
 }
 
 impl Definitions {
-    /// What others see of the package of a path, as it is shared.
+    /// Returns the export data of the package at a path, as it is shared.
     fn held(&self, path: &[u8]) -> Option<&Arc<Interface, Global>>
         ensures { option_copied result ≡ held_at self.now path.now }
     {
@@ -148,7 +149,7 @@ impl Definitions {
         }
     }
 
-    /// What others see of the package of a path.
+    /// Returns the export data of the package at a path, if it is known.
     pub fn interface(&self, path: &[u8]) -> Option<&Interface>
         ensures { option_copied result ≡ known_at self.now path.now }
     {
@@ -158,7 +159,7 @@ impl Definitions {
         }
     }
 
-    /// The type definitions of the package of a path.
+    /// Returns the type definitions of the package at a path, if they are known.
     pub fn of(&self, path: &[u8]) -> Option<&[Definition]>
         ensures { option_copied result ≡ definitions_at self.now path.now }
     {
@@ -168,7 +169,7 @@ impl Definitions {
         }
     }
 
-    /// The definition of that rank in that package.
+    /// Returns the definition of a symbol of another package.
     pub fn get(&self, symbol: &Symbol) -> Option<&Definition>
         ensures { option_copied result ≡ imported_at self.now symbol.now }
     {
@@ -178,14 +179,14 @@ impl Definitions {
 }
 
 impl Definition {
-    /// The field of that name of the struct that is written here.
+    /// Returns the field of that name of the struct that this definition writes.
     fn field(&self, name: &[u8]) -> Option<&Field>
         ensures { option_map (λ f. field_of f.now) result ≡ (definition_of self.now).field name.now }
     {
         self.fields.get(name)
     }
 
-    /// The method of that name.
+    /// Returns the method of that name.
     fn method(&self, name: &[u8]) -> Option<&Method>
         ensures { option_map (λ m. method_of m.now) result ≡ (definition_of self.now).method name.now }
     {
@@ -194,7 +195,7 @@ impl Definition {
 }
 
 impl<'w> World<'w> {
-    /// The definition of a symbol.
+    /// Returns the definition of a symbol, of the file's own package or of another.
     #[tactic(auto, unfolding(crate::specs::WorldView::definition_at))]
     fn definition(&self, symbol: &Symbol) -> Option<&'w Definition>
         ensures { option_copied result ≡ definition_at self.now symbol.now }
@@ -206,7 +207,7 @@ impl<'w> World<'w> {
         }
     }
 
-    /// The underlying type of a definition; one that is not there is a struct of its own.
+    /// Returns the underlying type of a definition. A definition that is not known is a struct of its own.
     #[tactic(auto, unfolding(crate::specs::WorldView::definition_in, crate::specs::WorldView::shape_of))]
     fn underlying_of<'a>(&'a self, symbol: &'a Symbol) -> Shape<'a>
         ensures { shape_of result ≡ underlying_in self.now symbol.now }
@@ -217,7 +218,7 @@ impl<'w> World<'w> {
         }
     }
 
-    /// The underlying type of a type.
+    /// Returns the underlying type of a type.
     #[tactic(auto, unfolding(crate::specs::View::type_of, crate::specs::WorldView::shape_of))]
     pub fn underlying<'a>(&'a self, of: &'a GoType) -> Shape<'a>
         ensures { shape_of result ≡ underlying (world_of self.now) (type_of of.now) }
@@ -230,7 +231,7 @@ impl<'w> World<'w> {
         }
     }
 
-    /// What the name at a token is bound to; none where it is bound to nothing.
+    /// Returns the binding of the name at a token, none where it is bound to nothing.
     #[tactic(auto, unfolding(crate::specs::WorldView::bound_in))]
     pub fn bound(&self, place: usize) -> Option<&'w Bound>
         ensures { MatchOption result (bound_in self.now place ≡ Means Broken) (λ b. bound_in self.now place ≡ bound_of b.now) }
@@ -239,7 +240,7 @@ impl<'w> World<'w> {
         self.bounds.get(index)
     }
 
-    /// How the name at a token is spelled.
+    /// Returns the bytes of the name at a token.
     pub fn spelling(&self, place: usize) -> &'w [u8]
         ensures { result.now ≡ spelling_of (name_in self.now place) }
     {
@@ -249,7 +250,7 @@ impl<'w> World<'w> {
         }
     }
 
-    /// The struct type, or the one that a pointer points to.
+    /// Returns the struct type whose fields a value of this type has: its own, or that of the values to which it points.
     #[tactic(auto, unfolding(crate::specs::View::type_of, crate::specs::WorldView::shape_of, crate::specs::World::struct_behind))]
     fn struct_behind<'a>(&'a self, of: &'a GoType) -> Option<&'a Symbol>
         ensures { option_copied result ≡ struct_behind (underlying_in self.now) (type_of of.now) }
@@ -264,14 +265,15 @@ impl<'w> World<'w> {
         }
     }
 
-    /// Whether a name declared in the package of the symbol is the same as one that is spelled alike in the file.
+    /// Whether a name in the file denotes the declaration `symbol` where the two are spelled alike: it is exported, or of the file's own
+    /// package.
     fn sees(&self, symbol: &Symbol, exported: bool) -> bool
         ensures { result ≡ is_seen self.now.package.now symbol.now exported }
     {
         exported || self.package.path() == symbol.package.path()
     }
 
-    /// The field of that name of a struct.
+    /// Returns the field of that name of a struct, if the file's package sees it.
     #[tactic(auto, unfolding(crate::specs::WorldView::definition_in))]
     fn field(&self, of: &Symbol, name: &[u8]) -> Option<&'w Field>
         ensures { option_map (λ f. field_of f.now) result ≡ seen_field self.now.package.now ((definition_in self.now of.now).field name.now) }
@@ -284,7 +286,7 @@ impl<'w> World<'w> {
         }
     }
 
-    /// The method of that name of a defined type.
+    /// Returns the method of that name of a defined type, if the file's package sees it.
     #[tactic(auto, unfolding(crate::specs::WorldView::definition_in))]
     fn method(&self, of: &Symbol, name: &[u8]) -> Option<&'w Method>
         ensures { option_map (λ m. method_of m.now) result ≡ seen_method self.now.package.now ((definition_in self.now of.now).method name.now) }
@@ -297,7 +299,7 @@ impl<'w> World<'w> {
         }
     }
 
-    /// The member that the name at a token is, for the type before it.
+    /// Returns the member that the name at a token denotes, for the type before it.
     #[tactic(auto, unfolding(crate::specs::WorldView::member_in, crate::specs::WorldView::member_of, crate::specs::World::member_by))]
     pub fn member(&self, place: usize, of: &GoType) -> Option<Member<'w>>
         ensures { option_map member_of result ≡ member_in self.now place (type_of of.now) }
@@ -313,7 +315,7 @@ impl<'w> World<'w> {
     }
 }
 
-/// The definition whose methods the values of a type have.
+/// Returns the definition whose methods the values of a type have.
 #[tactic(auto, unfolding(crate::specs::View::type_of, crate::specs::World::owner))]
 fn owner(of: &GoType) -> Option<&Symbol>
     ensures { option_copied result ≡ owner (type_of of.now) }

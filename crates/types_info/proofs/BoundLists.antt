@@ -1,4 +1,4 @@
--- Lists of what declarations mean, as they grow.
+-- The list of meanings while it grows.
 use Rattle.std.proofs.Common.{ℕ, ◌≡◌, ◌+◌, ◌<◌, ◌≤◌, inl, inr, zero, suc, List, [], ◌∷◌, ◌++◌, length, ap, sym, subst, refl, ◌∙◌, arith, MatchOption}
 use Rattle.std.proofs.Common.{length-append}
 use Rattle.std.specs.Prelude.{Option, Some, None, option_map, slice_get, slice_index_or}
@@ -15,7 +15,7 @@ use Rattle.types_declared.specs.Bound.{IsMeantBy}
 use Rattle.types_info.specs.BoundsView.{IsMeaningFound, AreBoundsBelow, AreBounds, Extends, AddsMeaning}
 use Rattle.types_declared.proofs.DeclaredPaths.{get_last}
 
--- lists that grow
+-- Lists that grow
 
 pub extends_itself : {X : Type 0} (xs : List X) → Extends xs xs
 extends_itself xs = record { longer = omega arith; keeps = λ i x e. e }
@@ -31,14 +31,14 @@ slice_get_some (x ∷ xs) (suc i) lt = slice_get_some xs i (omega arith)
 pub none_past : {X : Type 0} (xs : List X) (i : ℕ) → slice_get xs i ≡ None → length xs ≤ i
 none_past xs i e = elim (cases_lt i (length xs)) [ inl lt ↦ let x = slice_get_some xs i lt in absurd (none-some x.0 (sym e ∙ x.1)) | inr ge ↦ ge ]
 
--- what stands at a place stays there
+-- the meaning at an index stays when the list grows
 pub bound_stays : (xs ys : List Bound) (o : Option ℕ) → Extends xs ys → ((i : ℕ) → o ≡ Some i → i < length xs) → bound_at ys o ≡ bound_at xs o
 bound_stays xs ys None h within = refl
 bound_stays xs ys (Some i) h within =
     let found = slice_get_some xs i (within i refl) in
     h.keeps i found.0 found.1 ∙ sym found.1
 
--- one more declaration
+-- One more declaration
 
 meaning_at : (p : Package) (d : ℕ) (o : Option Bound) (found : Option plain.Bound) → option_map bound_of o ≡ found → IsMeaningFound p d found →
     MatchOption o ((b : plain.Bound) → IsMeantBy p d b → ⊥) (λ b. IsMeantBy p d (bound_of b))
@@ -74,7 +74,7 @@ next_meaning p n list of found new_list new_of a f h =
       ];
     }
 
--- more may stand in the list
+-- the list may have more entries than the declarations need
 pub bounds_stay : (p : Package) (list : List Bound) (of : List (Option ℕ)) (new_list : List Bound) (new_of : List (Option ℕ)) → Extends list new_list →
     new_of ≡ of → AreBounds p list of →
     AreBounds p new_list new_of

@@ -16,7 +16,7 @@ use Rattle.go_scope.proofs.Rising.{Rises, rises_le, rises_split, rises_of}
 use Rattle.types_declared.specs.Package.{PlacedVariable, PlacedType, PlacedFunction, variables_of, placed_type, decl_variables, decl_types, decl_functions}
 use Rattle.types_declared.specs.Package.{variables_in, types_in, functions_in, declared_variables, declared_types, declared_functions}
 
--- what lists hold
+-- The items of lists
 
 abbrev pub Holds : {X : Type 0} → List X → X → Type 0
 Holds [] x = ⊥
@@ -74,7 +74,7 @@ pub held_map : {X Y : Type 0} (f : X → Y) (xs : List X) (x : X) → Holds xs x
 held_map f [] x h = absurd h
 held_map f (z ∷ zs) x h = elim h [ inl e ↦ inl (ap f e) | inr r ↦ inr (held_map f zs x r) ]
 
--- where tokens stand
+-- The tokens of trees
 
 abbrev pub IsAt : ℕ → List Token → Type 0
 IsAt n [] = ⊥
@@ -114,14 +114,14 @@ at_group n f (several o xs c) x h a =
     inr (at_left n (list_tokens kind.Semicolon f xs) (sign kind.RightParen c ∷ [])
     (at_item n kind.Semicolon f xs i.0 i.1.0 (subst (λ z. IsAt n (f z)) (sym i.1.1) a)))
 
--- the kinds of declarations
+-- The kinds of declarations
 
 abbrev pub kind_number : DeclTree → ℕ
 kind_number (VarDecl k g s) = 0
 kind_number (TypeDecl k g s) = 1
 kind_number (FuncDecl k f s) = 2
 
--- in a tree whose tokens rise one token is in one declaration
+-- in a tree whose tokens are in order, a token is in at most one declaration
 one_decl : (n : ℕ) (ds : List DeclTree) (a b : ℕ) → Rises a (all_tokens decl_tokens ds) b → (d e : DeclTree) → Holds ds d → Holds ds e →
     IsAt n (decl_tokens d) → IsAt n (decl_tokens e) → d ≡ e
 unfolding all_tokens
@@ -143,7 +143,7 @@ one_decl n (x ∷ xs) a b r d e hd he ad ae =
       ]
     ]
 
--- the declarations that a token names
+-- The declarations whose name is a token
 
 pub record DeclaredAt (files : List SourceFile) (sort file token : ℕ) : Type 0 where
   pub source : SourceFile
@@ -230,7 +230,7 @@ function_at files rank f e =
     let n = function_named r.0.0 d.0 f d.1.1 in
     in_ranked files 2 f.function.name f.file r.0 d.0 r.1.0 d.1.0 n.0 n.1
 
--- the declarations of a tree, by its tokens
+-- the declarations of a tree are in the order of its tokens
 pub decls_rise : (tree : FileTree) → AreRising 0 (flatten tree) → (a : ℕ) × ((b : ℕ) × Rises a (all_tokens decl_tokens tree.decls) b)
 unfolding flatten
 decls_rise tree h =

@@ -1,4 +1,4 @@
--- The lists of a package's qualified identifiers while they are made.
+-- The lists of a package's qualified identifiers while they are built.
 use Rattle.std.proofs.Common.{ℕ, ◌≡◌, ◌+◌, ◌<◌, inl, inr, List, length, ap, sym, subst, ◌∙◌, arith}
 use Rattle.std.specs.Prelude.{Option, Some, ◌↔◌}
 use Rattle.std.specs.Borrow.{Bor}
@@ -13,7 +13,7 @@ use Rattle.types_info.specs.Lists.{IsListed, path_for, AreWithin, AddsDeclaratio
 use Rattle.types_info.specs.Qualified.{IsBehindPackage, IsOnePath, StandsBehind, AreQualifiedBelow, AreListsBelow, ListsIdentifier}
 use Rattle.types_info.proofs.NamesBefore.{path_is}
 
--- a list for each import
+-- A list for each import
 
 pub no_lists : (p : Package) (lists : Lists) → AreWithin lists → AreListsBelow p 0 lists
 no_lists p lists within = record { within = within; paths = λ d path lt. absurd (omega arith) }
@@ -33,7 +33,7 @@ next_list p d old new o h size adds one = record {
   ];
 }
 
--- one identifier
+-- One identifier
 
 pub not_listed : (p : Package) (u : ℕ) (lists : Lists) → AreListsBelow p p.size lists → ((path : List ℕ) → IsBehindPackage p u path → ⊥) →
     ListsIdentifier p u lists lists
@@ -59,7 +59,7 @@ is_listed p u d at old new are lt place before within kept adds = record {
   );
 }
 
--- those that were passed
+-- The identifiers before a loop's index
 
 pub none_passed : (p : Package) (all : List Qualified) → ((path : List ℕ) (at : Position) → IsListed all path at → ⊥) → AreQualifiedBelow p 0 all
 none_passed p all none path at = (

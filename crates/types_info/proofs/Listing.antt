@@ -1,4 +1,4 @@
--- Lists of places under paths: what is listed where a list or a place is added.
+-- Lists of positions under paths, when a list or a position is added.
 use Rattle.std.proofs.Common.{ℕ, ◌≡◌, ◌+◌, ◌<◌, ◌⊎◌, inl, inr, List, [], ◌∷◌, ◌++◌, length, get_or, ap, sym, subst, refl, ◌∙◌, arith}
 use Rattle.std.proofs.Math.Seq.{get_or-append_seam}
 use Rattle.std.specs.Prelude.{Option, Some, None, Contains, slice_get, option_map}
@@ -13,7 +13,7 @@ use Rattle.types_info.specs.declared.lists.Qualified.{Qualified}
 use Rattle.types_info.specs.declared.lists.Lists.{Lists}
 use Rattle.types_info.specs.Lists.{path_of, IsListed, path_by, AreWithin, AddsList, AddsDeclaration, AddsPlace, AddsUnder}
 
--- a number that a list of numbers has where one more was pushed
+-- an index in a list of indexes after one more was pushed
 number_cases : (xs : List (Option ℕ)) (x : Option ℕ) (d k : ℕ) → get_or (xs ++ (x ∷ [])) d None ≡ Some k →
     ((d < length xs) × (get_or xs d None ≡ Some k)) ⊎ (x ≡ Some k)
 number_cases xs x d k e = elim (cases_lt d (length xs)) [
@@ -33,7 +33,7 @@ path_kept : (old new : List Qualified) (x : Qualified) (o : Option ℕ) → new 
 path_kept old new x None e within = refl
 path_kept old new x (Some k) e within = ap (option_map path_of) (ap (λ l. slice_get l k) e ∙ get_before old x k (within k refl))
 
--- nothing is listed in a list that was added
+-- an added list has no position
 listed_before : (old new : List Qualified) (path : List ℕ) → AddsList old new path → (p : List ℕ) (at : Position) → IsListed new p at → IsListed old p at
 listed_before old new path adds p at h =
     let is = h.1 in
@@ -82,7 +82,7 @@ added_list old all numbers path k within at adds pushed =
       listed = listed_before old.all.items all.items path adds;
     }
 
--- a place was added to a list
+-- a position was added to a list
 pub added_place : (old new : List Qualified) (k : ℕ) (at : Position) → AddsPlace old new k at → AddsUnder old new (path_by old (Some k)) at
 added_place old new k at adds path x = (to, from)
   where

@@ -1,4 +1,4 @@
--- What a declaration means, by its block and its ranks.
+-- The meaning of a declaration, by its block and its ranks.
 use Rattle.std.proofs.Common.{ℕ, ◌≡◌, ◌<◌, inl, inr, List, length, get_or, ap, sym, subst, refl, ◌∙◌}
 use Rattle.std.specs.Prelude.{Option, Some, None, option_map, slice_get, map, true, false, codes}
 use Rattle.std.proofs.lemmas.Option.{slice_get_within, slice_get-map, slice_get_read, same_Some}
@@ -27,7 +27,7 @@ use Rattle.types_declared.specs.WrittenView.{IsTypeFound}
 use Rattle.types_declared.specs.Definitions.{IsSignature}
 use Rattle.types_info.specs.BoundsView.{IsTruthName, IsUniversal, IsUniversalFound, IsValueFound, IsMeaningFound}
 
--- predeclared names
+-- Predeclared names
 
 pub type_named : (name : List ℕ) (b : Basic) → name ≡ basic_name b → IsUniversal name (Stands (TypeName (BasicType b)))
 type_named name b e = record {
@@ -75,7 +75,7 @@ pub value_else : (name : List ℕ) (found : Option Bound) → ((b : Basic) → n
 value_else name None types functions h = λ m p. not_predeclared name types functions h name m refl p
 value_else name (Some b) types functions h = h
 
--- of no block of the program
+-- A declaration of the universe block
 
 pub universal_only : (p : Package) (d : ℕ) (b : Bound) → block_of (p.layout.role d) ≡ Universe → IsMeantBy p d b → (is_implied (p.layout.role d) ≡ true) ×
     IsUniversal (p.names d) b
@@ -101,7 +101,7 @@ pub no_universe_meaning : (p : Package) (d : ℕ) → block_of (p.layout.role d)
     IsMeantBy p d b → ⊥
 no_universe_meaning p d e i b m = true≢false (sym (universal_only p d b e m).0 ∙ i)
 
--- of a file's block
+-- A declaration of a file's block
 
 pub imported_only : (p : Package) (d file : ℕ) (b : Bound) → block_of (p.layout.role d) ≡ File file → IsMeantBy p d b →
     ((path : List ℕ) × ImportsPath p d path) × (b ≡ Stands PackageName)
@@ -119,7 +119,7 @@ pub no_import_meaning : (p : Package) (d file : ℕ) → block_of (p.layout.role
     IsMeantBy p d b → ⊥
 no_import_meaning p d file e none b m = let found = (imported_only p d file b e m).0 in none found.0 found.1
 
--- of the package's block
+-- A declaration of the package block
 
 pub no_meaning : (p : Package) (d : ℕ) → IsPackageLevel p.layout d → ((r : ℕ) → DeclaresVariable p d r → ⊥) → ((r : ℕ) → DeclaresFunction p d r → ⊥) →
     ((r : ℕ) → DeclaresType p d r → ⊥) →
@@ -134,7 +134,7 @@ no_meaning p d e vs fs ts _ (broken_function is s) = fs is.1.0 is.1.1.0
 no_meaning p d e vs fs ts _ (definition {rank = r} is t w) = ts r t
 no_meaning p d e vs fs ts _ (broken_definition {rank = r} is t w) = ts r t
 
--- a variable and a function that the program has at a rank
+-- the variable or function that the program has at a rank
 
 pub item_at : {X Y : Type 0} (f : X → Y) (xs : List X) (ys : List Y) (rank : ℕ) (x : X) (y : Y) → map f xs ≡ ys → rank < length xs → x ≡ get_or xs rank x →
     slice_get ys rank ≡ Some y → y ≡ f x

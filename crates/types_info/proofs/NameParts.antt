@@ -1,4 +1,4 @@
--- The names of a file, from their parts.
+-- The meanings of a file's names, part by part.
 use Rattle.std.proofs.Common.{ℕ, ◌≡◌, ◌+◌, ◌<◌, ◌≤◌, inl, inr, suc, List, [], ◌∷◌, ◌++◌, length, ap, sym, subst, refl, ◌∙◌, arith, MatchOption, length-append}
 use Rattle.std.specs.Prelude.{Option, Some, None, option_map, slice_get}
 use Rattle.std.specs.Borrow.{Bor}
@@ -28,12 +28,12 @@ use Rattle.types_declared.proofs.Binding.{one_first}
 use Rattle.types_info.proofs.BoundLists.{bound_stays, slice_get_some}
 use Rattle.types_declared.proofs.DeclaredPaths.{get_before, get_last}
 
--- the names at the tokens below n
+-- the names are those at the tokens below n
 pub record AreNamesBelow (p : Package) (file n : ℕ) (list : List Bound) (names : List Name) : Type 0 where
   pub all : length names ≡ n
   pub each : (token : ℕ) (name : Name) → slice_get names token ≡ Some name → IsNameAt p file token list name
 
--- names behind dots
+-- Names after dots
 
 pub no_dot : (p : Package) (file token : ℕ) (o : Option ℕ) → o ≡ None → IsFirstBelow (StandsAt p.layout (record { file = file; index = token })) p.size o →
     IsBehindDot p file token → ⊥
@@ -71,7 +71,7 @@ selected_late p file token e s = let h : token ≡ suc (suc s.before) = s.behind
 pub not_selected : (p : Package) (file token : ℕ) → (IsBehindDot p file token → ⊥) → (e : seen.Export) → IsSelected p file token e → ⊥
 not_selected p file token none e s = none (selected_behind p file token e s)
 
--- names in scopes
+-- Names bound by scopes
 
 pub no_scope : (p : Package) (file token : ℕ) → ((d : ℕ) → BindsToken p file token d → ⊥) → (b : plain.Bound) → IsBoundInScope p file token b → ⊥
 no_scope p file token none b s = none s.declaration s.binds
@@ -81,7 +81,7 @@ pub scope_found : (p : Package) (file token d : ℕ) (o : Option Bound) → Bind
 scope_found p file token d None binds only h = λ b s. h b (subst (λ e. IsMeantBy p e b) (only s.declaration s.binds) s.means)
 scope_found p file token d (Some b) binds only h = record { declaration = d; binds = binds; means = h }
 
--- what the name at a token is bound to
+-- The meaning of the name at a token
 
 neither : (p : Package) (file token : ℕ) → ((b : plain.Bound) → IsBoundInScope p file token b → ⊥) → ((e : seen.Export) → IsSelected p file token e → ⊥) →
     (b : plain.Bound) → IsBoundAt p file token b → ⊥
@@ -107,7 +107,7 @@ placed_behind p file token list i b e at is s = record {
   within = λ j same. subst (λ k. k < length list) (same_Some i j same) (slice_get_within list i b at);
 }
 
--- all names of a file
+-- All names of a file
 
 placed_stays : (p : Package) (file token : ℕ) (old new : List Bound) (place : Option ℕ) → Extends old new → IsPlaced p file token old place →
     IsPlaced p file token new place
@@ -143,7 +143,7 @@ next_name p file n list new_list names new_names name x e is h =
 pub no_names : (p : Package) (file : ℕ) (list : List Bound) (names : List Name) → names ≡ [] → AreNamesBelow p file 0 list names
 no_names p file list names e = record { all = ap length e; each = λ token name at. absurd (none-some name (ap (λ z. slice_get z token) (sym e) ∙ at)) }
 
--- no name stands where no identifier does
+-- a token without an identifier has no name
 pub nothing_past : (p : Package) (file token : ℕ) (o : Option ℕ) → o ≡ None →
     IsFirstBelow (StandsAt p.layout (record { file = file; index = token })) p.size o → (b : plain.Bound) →
     IsBoundAt p file token b → ⊥

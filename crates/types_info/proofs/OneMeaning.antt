@@ -1,4 +1,4 @@
--- A declaration means one thing at most, and so does the name at a token.
+-- A declaration has at most one meaning, and so has the name at a token.
 use Rattle.std.proofs.Common.{ℕ, ◌≡◌, inl, inr, List, [], ◌∷◌, ap, sym, subst, refl, ◌∙◌, arith, Bool, true, false, if◌then◌else◌, MatchOption}
 use Rattle.std.specs.Prelude.{Option, Some, None, slice_get, codes, bytes_eq}
 use Rattle.std.proofs.Math.Path.{ap₂}
@@ -38,7 +38,7 @@ use Rattle.types_info.proofs.Meanings.{universal_only, imported_only, variable_b
 use Rattle.types_info.proofs.DeclKinds.{DeclaredAt, variable_at, type_at, function_at, one_kind}
 use Rattle.types_info.proofs.NameParts.{exported_before}
 
--- predeclared names
+-- Predeclared names
 
 meaning_named : List ℕ → Option Meaning
 meaning_named n =
@@ -72,7 +72,7 @@ one_universal : (n : List ℕ) (b c : Bound) → IsUniversal n b → IsUniversal
 one_universal n b c x y = x.at ∙ ap Stands (same_Some x.meaning y.meaning (sym (named_meaning n x.meaning x.means) ∙ named_meaning n y.meaning y.means)) ∙
     sym y.at
 
--- types and signatures
+-- Types and signatures
 
 pub one_type : (p : Package) → WellFormed p.layout → (file : ℕ) (tree : TypeTree) (t u : PlainType) → IsTypeOf p file tree t → IsTypeOf p file tree u → t ≡ u
 one_type p w file tree t u a b = one_named p w file tree t u a.names b.names
@@ -108,7 +108,7 @@ signature_match p f (Some s) h = h
 pub one_signature_found : (p : Package) → WellFormed p.layout → (f : PlacedFunction) (o u : Option Signature) → IsSignature p f o → IsSignature p f u → o ≡ u
 one_signature_found p w f o u a b = one_found (HasSignature p f) (one_signature p w f) o u (signature_match p f o a) (signature_match p f u b)
 
--- declarations of the package's block
+-- Declarations of the package block
 
 abbrev IsDefinitionFound : Package → (rank : ℕ) (broken : Bool) → Type 0
 IsDefinitionFound p rank true = IsBroken p rank
@@ -135,7 +135,7 @@ global_only p d _ e (broken_function {f = f} is h) = as_function {f = f} None is
 global_only p d _ e (definition {rank = r} is declares h) = as_definition {rank = r} false declares h refl
 global_only p d _ e (broken_definition {rank = r} is declares h) = as_definition {rank = r} true declares h refl
 
--- the token at which d stands
+-- The token at which d stands
 
 at_place : (files : List SourceFile) (l : Layout) (sort d : ℕ) (place : Position) → StandsAt l place d → DeclaredAt files sort place.file place.index →
     DeclaredAt files sort (l.place d).file (l.place d).index
@@ -195,7 +195,7 @@ one_global p w rising d b c (as_definition {rank = r} o x h e) (as_definition {r
     let same : s ≡ r = one_rank type_place (package_types p) p.layout d s r y x in
     e ∙ same_definition p r o q h (subst (λ z. IsDefinitionFound p z q) same k) ∙ ap (λ z. definition_bound p z q) (sym same) ∙ sym g
 
--- any declaration
+-- Any declaration
 
 local_only : (p : Package) (d f a b : ℕ) (c : Bound) → block_of (p.layout.role d) ≡ Inner f a b → IsMeantBy p d c → c ≡ Local (p.layout.place d).index
 local_only p d f a b _ e (predeclared is means) = let q : Inner f a b ≡ Universe = sym e ∙ is.universe in let z : ⊥ = cc in absurd z
@@ -218,7 +218,7 @@ by_block p w rising d b c x y PackageBlock e = one_global p w rising d b c (glob
 pub one_meaning : (p : Package) → WellFormed p.layout → AreInOrder p.files → (d : ℕ) (b c : Bound) → IsMeantBy p d b → IsMeantBy p d c → b ≡ c
 one_meaning p w rising d b c x y = by_block p w rising d b c x y (block_of (p.layout.role d)) refl
 
--- the name at a token
+-- The name at a token
 
 pub lexical : (l : Layout) (names : Names) (u d : ℕ) → l.role u ≡ NotLexical purpose.Selected → IsBoundTo l names u d → ⊥
 lexical l names u d e (use_bound is b) = elim is [

@@ -1,4 +1,4 @@
--- A file is judged by one world.
+-- A file has at most one world.
 use Rattle.std.proofs.Common.{ℕ, ◌≡◌, inl, inr, List, ap, sym, subst, refl, ◌∙◌, Bool, true, false}
 use Rattle.std.specs.Prelude.{Option, Some, None, slice_get}
 use Rattle.std.specs.Cmp.Lexicographic.{bytes_decides}

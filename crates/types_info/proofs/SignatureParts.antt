@@ -1,4 +1,4 @@
--- The Types of parameters and results, by the parts that the program goes over.
+-- The type expressions of parameters and results, part by part as the program goes over them.
 use Rattle.std.proofs.Common.{◌≡◌, List, [], ◌∷◌, ◌++◌, ap, ◌∙◌, refl}
 use Rattle.std.specs.Prelude.{map}
 use Rattle.std.specs.List.{flat_map}

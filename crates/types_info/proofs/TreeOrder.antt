@@ -1,4 +1,4 @@
--- The tokens of parsed files are numbered in their order.
+-- The tokens in the trees of parsed files are in order.
 use Rattle.std.proofs.Common.{ℕ, ◌≡◌, ◌+◌, ◌<◌, inl, inr, List, length, get_or, ap, sym, subst, refl, ◌∙◌, arith}
 use Rattle.std.specs.Prelude.{Some, slice_get, map, option_map}
 use Rattle.std.proofs.lemmas.Bool.{cases_lt}

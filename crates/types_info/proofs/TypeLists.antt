@@ -1,4 +1,4 @@
--- The types of lists of Types, one after the other.
+-- The types of lists of type expressions, one by one.
 use Rattle.std.proofs.Common.{ℕ, zero, suc, ◌≡◌, ◌+◌, ◌<◌, List, [], ◌∷◌, ◌++◌, length, get_or, take, ap, sym, subst, ◌∙◌, arith}
 use Rattle.std.specs.Prelude.{map}
 use Rattle.std.proofs.Math.Seq.{take-suc}
@@ -17,7 +17,7 @@ are_push p file [] (u ∷ ts) x t h is = absurd h
 are_push p file (y ∷ xs) [] x t h is = absurd h
 are_push p file (y ∷ xs) (u ∷ ts) x t h is = (h.0, are_push p file xs ts x t h.1 is)
 
--- each of the Types has a type
+-- each of the type expressions has the type at its index
 are_each : (p : Package) (file : ℕ) (xs : List TypeTree) (ts : List PlainType) (i : ℕ) (d : TypeTree) → i < length xs → AreTypesOf p file xs ts →
     (t : PlainType) × IsTypeOf p file (get_or xs i d) t
 are_each p file [] ts i d lt h = absurd (omega arith)

@@ -1,4 +1,4 @@
--- Types that are not broken, from what they name and mention.
+-- The types of type expressions that aren't broken, by what they name and mention.
 use Rattle.std.proofs.Common.{ℕ, ◌≡◌, ◌<◌, Bool, List, length, subst, arith}
 use Rattle.std.specs.Prelude.{Option, Some, None}
 use Rattle.go_ast.specs.Tree.{TypeTree}
@@ -10,7 +10,7 @@ use Rattle.types_declared.specs.Spread.{IsMarked}
 use Rattle.types_declared.specs.Broken.{AreBroken}
 use Rattle.types_declared.proofs.Mentioning.{mention_within}
 
--- the one that is mentioned is marked exactly if it is broken
+-- The mentioned definition is marked exactly where it is broken
 
 pub marked_broken : (p : Package) (file : ℕ) (tree : TypeTree) (marks : List Bool) (r : ℕ) → AreBroken p marks → Mentions p file tree r → IsMarked marks r →
     MentionsBroken p file tree
@@ -24,7 +24,7 @@ broken_marked p file tree marks r broken only b =
 pub mention_marked : (p : Package) (file : ℕ) (tree : TypeTree) (marks : List Bool) (r : ℕ) → AreBroken p marks → Mentions p file tree r → r < length marks
 mention_marked p file tree marks r broken m = let lt : r < length (package_types p) = mention_within p file tree r m in omega (arith, broken.all)
 
--- what a broken Type has no type, and another has the one that it names
+-- A broken type expression has no type; another has the type that it names
 
 pub broken_none : (p : Package) (file : ℕ) (tree : TypeTree) → MentionsBroken p file tree → (t : PlainType) → IsTypeOf p file tree t → ⊥
 broken_none p file tree b t is = is.whole b.rank b.mentions b.broken

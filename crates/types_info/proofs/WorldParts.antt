@@ -1,4 +1,4 @@
--- What a file is judged by, from the names and definitions that the program has.
+-- The world of a file, from the program's names and definitions.
 use Rattle.std.proofs.Common.{ℕ, ◌≡◌, ◌==◌, ◌<◌, ◌≤◌, List, length, ap, sym, subst, refl, ◌∙◌, Bool, true, false, if◌then◌else◌}
 use Rattle.std.specs.Prelude.{Some, slice_get}
 use Rattle.std.specs.Cmp.Lexicographic.{pointwise, bytes_decides}
@@ -21,7 +21,7 @@ use Rattle.types_info.specs.Worlds.{IsWorldOf, is_init}
 use Rattle.types_info.specs.NamesView.{AreNames}
 use Rattle.types_info.proofs.BoundLists.{slice_get_some, none_past}
 
--- definitions
+-- Definitions
 
 pub at_own : (w : World) (s : Symbol) → w.package.now ≡ s.package → definition_in w s ≡ definition_or_none s (slice_get w.own.now s.rank)
 unfolding definition_in definition_at
@@ -52,7 +52,7 @@ world_definitions p w here own imported = record {
   imported = λ path rank other. at_other w (record { «package» = path; rank = rank }) (λ e. other (sym e ∙ here)) ∙ imported path rank;
 }
 
--- the world
+-- The world
 
 pub world_from : (p : Package) (w : World) (file : ℕ) (s : SourceFile) → slice_get p.files file ≡ Some s → w.package.now ≡ p.path →
     AreNames p file w.bounds.now w.names.now → AreDefinitions p (definition_in w) →

@@ -1,44 +1,45 @@
--- Places that are listed under the paths of imports.
+-- Lists of positions under the paths of imports.
 use Rattle.std.specs.Prelude.{ℕ, ◌≡◌, ◌<◌, ◌+◌, ◌++◌, ◌⊎◌, ◌↔◌, List, [], ◌∷◌, Option, Some, None, Contains, length, option_map, slice_get, slice_index_or}
 use Rattle.go_scope.specs.declared.model.Position.{Position}
 use Rattle.types_info.specs.declared.lists.Qualified.{Qualified}
 use Rattle.types_info.specs.declared.lists.Lists.{Lists}
 
+-- the path of a list
 abbrev pub path_of : Qualified → List ℕ
 path_of list = list.path.items
 
--- a place is listed under a path, in the list of that number
+-- the list at index k has this path and contains the position
 pub record IsListedIn (all : List Qualified) (path : List ℕ) (at : Position) (k : ℕ) : Type 0 where
   pub list : Qualified
   pub has_number : slice_get all k ≡ Some list
   pub of_path : path_of list ≡ path
   pub holds : Contains list.places.items at
 
--- a place is listed under a path
+-- some list with this path contains the position
 abbrev pub IsListed : List Qualified → List ℕ → Position → Type 0
 IsListed all path at = (k : ℕ) × IsListedIn all path at k
 
--- the path of the list of a number, if there is one
+-- the path of the list at an index, if there is one
 abbrev pub path_by : List Qualified → Option ℕ → Option (List ℕ)
 path_by all None = None
 path_by all (Some k) = option_map path_of (slice_get all k)
 
--- the path of the list of a declaration, if it has one
+-- the path of the list of the declaration d, if it has one
 abbrev pub path_for : Lists → ℕ → Option (List ℕ)
 path_for lists d = path_by lists.all.items (slice_index_or lists.numbers.items d None)
 
--- the number that a declaration has is that of a list
+-- each index of a declaration's list is in range
 abbrev pub AreWithin : Lists → Type 0
 AreWithin lists = (d k : ℕ) → slice_index_or lists.numbers.items d None ≡ Some k → k < length lists.all.items
 
--- a list without a place was added
+-- an empty list with this path was appended
 pub record AddsList (old new : List Qualified) (path : List ℕ) : Type 0 where
   pub list : Qualified
   pub new_is : new ≡ old ++ (list ∷ [])
   pub of_path : path_of list ≡ path
   pub empty : list.places.items ≡ []
 
--- the next declaration was added, with that path, if it has one
+-- one more declaration was appended; it has a list with this path, or no list where there is no path
 pub record AddsDeclaration (old new : Lists) (path : Option (List ℕ)) : Type 0 where
   pub within : AreWithin new
   pub size : length new.numbers.items ≡ length old.numbers.items + 1
@@ -46,7 +47,7 @@ pub record AddsDeclaration (old new : Lists) (path : Option (List ℕ)) : Type 0
   pub kept : (d : ℕ) → d < length old.numbers.items → path_for new d ≡ path_for old d
   pub listed : (p : List ℕ) (at : Position) → IsListed new.all.items p at → IsListed old.all.items p at
 
--- a place was added to the list of a number
+-- the position was appended to the list at this index
 pub record AddsPlace (old new : List Qualified) (number : ℕ) (at : Position) : Type 0 where
   pub before : Qualified
   pub after : Qualified
@@ -57,6 +58,6 @@ pub record AddsPlace (old new : List Qualified) (number : ℕ) (at : Position) :
   pub size : length new ≡ length old
   pub elsewhere : (k : ℕ) → (k ≡ number → ⊥) → slice_get new k ≡ slice_get old k
 
--- a place was listed under a path, if there is one, and nothing else was
+-- the position was added under the path, if there is one, and nothing else was
 abbrev pub AddsUnder : (old new : List Qualified) → Option (List ℕ) → Position → Type 0
 AddsUnder old new under at = (path : List ℕ) (x : Position) → IsListed new path x ↔ (IsListed old path x ⊎ ((under ≡ Some path) × (at ≡ x)))

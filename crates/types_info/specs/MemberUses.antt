@@ -1,4 +1,4 @@
--- The member uses of a package's files.
+-- The uses of members in a package's files.
 use Rattle.std.specs.Prelude.{ℕ, ◌≡◌, List, [], ◌∷◌, ◌++◌, map, Some, length, slice_get}
 use Rattle.std.specs.Global.{Vec}
 use Rattle.go_ast.specs.SourceFile.{SourceFile}
@@ -10,7 +10,7 @@ use Rattle.types_stmt.specs.Declarations.{check_file}
 use Rattle.types_declared.specs.Package.{Package}
 use Rattle.types_info.specs.Worlds.{IsWorldOf, is_init}
 
--- the member uses of a file, in the order in which its expressions are judged
+-- uses are the member uses of the file, in the order in which its expressions are checked
 pub record AreUsesIn (p : Package) (file : ℕ) (uses : List MemberUse) : Type 0 where
   pub source : SourceFile
   pub in_file : slice_get p.files file ≡ Some source
@@ -18,23 +18,23 @@ pub record AreUsesIn (p : Package) (file : ℕ) (uses : List MemberUse) : Type 0
   pub judged_by : IsWorldOf p file source world
   pub found : uses ≡ (check_file world (is_init source) source.tree).uses
 
--- the member uses of each file below n, by the file's rank
+-- members has the member uses of each file below n, by the file's rank
 pub record AreMemberUsesBelow (p : Package) (n : ℕ) (members : List (List MemberUse)) : Type 0 where
   pub all : length members ≡ n
   pub each : (file : ℕ) (uses : List MemberUse) → slice_get members file ≡ Some uses → AreUsesIn p file uses
 
--- the member uses of each file of a package
+-- members has the member uses of each file of the package, by the file's rank
 abbrev pub AreMemberUses : Package → List (List MemberUse) → Type 0
 AreMemberUses p members = AreMemberUsesBelow p (length p.files) members
 
--- the member uses that the program has
+-- the member uses in a list of the program
 abbrev pub uses_in : Vec FoundUse → List MemberUse
 uses_in uses = map use_of uses.items
 
--- the uses of one more file were added
+-- the member uses of one more file were appended
 abbrev pub AddsUses : List (Vec FoundUse) → List (Vec FoundUse) → List MemberUse → Type 0
 AddsUses old new uses = map uses_in new ≡ map uses_in old ++ (uses ∷ [])
 
--- those of the file of that rank
+-- the member uses of the file of this rank were appended
 abbrev pub AddsFile : Package → (file : ℕ) → List (Vec FoundUse) → List (Vec FoundUse) → Type 0
 AddsFile p file old new = (uses : List MemberUse) × (AddsUses old new uses × AreUsesIn p file uses)

@@ -1,4 +1,4 @@
--- The names of a file, as they are found.
+-- The names of a file and their meanings, as the program has them.
 use Rattle.std.specs.Prelude.{ℕ, ◌≡◌, ◌<◌, List, [], Option, Some, None, length, slice_get, MatchOption}
 use Rattle.go_scanner.specs.declared.piece.Piece.{Piece}
 use Rattle.go_scanner.specs.CutText.{tokens_in}
@@ -15,42 +15,42 @@ use Rattle.types_declared.specs.Written.{BindsToken}
 use Rattle.types_declared.specs.Bound.{IsMeantBy}
 use Rattle.types_info.specs.Worlds.{IsName}
 
--- the tokens of a file
+-- the tokens of a file; none where there is no file
 abbrev pub tokens_at : Option SourceFile → List Piece
 tokens_at None = []
 tokens_at (Some s) = tokens_in s.cut
 
--- what the name at a place in the list of meanings is bound to
+-- the meaning at an index of the list; Broken where there is no index
 abbrev pub bound_by : List Bound → Option ℕ → plain.Bound
 bound_by list place = bound_or_broken (bound_at list place)
 
--- a name behind a dot stands at the token
+-- the token is a name after a dot
 pub record IsBehindDot (p : Package) (file token : ℕ) : Type 0 where
   pub identifier : ℕ
   pub found : IsFoundAt p.layout p.size (record { file = file; index = token }) identifier
   pub selected : p.layout.role identifier ≡ NotLexical purpose.Selected
 
--- the scopes of the package bind the name at the token so
+-- scopes bind the name at the token to a declaration with the meaning b
 pub record IsBoundInScope (p : Package) (file token : ℕ) (b : plain.Bound) : Type 0 where
   pub declaration : ℕ
   pub binds : BindsToken p file token declaration
   pub means : IsMeantBy p declaration b
 
--- what the scopes of the package bind the name at the token to; none where they bind it to nothing
+-- found is the meaning to which scopes bind the name at the token, or none where there is none
 abbrev pub IsScopeFound : Package → (file token : ℕ) → Option plain.Bound → Type 0
 IsScopeFound p file token found = MatchOption found ((b : plain.Bound) → IsBoundInScope p file token b → ⊥) (λ b. IsBoundInScope p file token b)
 
--- the place in a list of meanings of what the name at a token is bound to
+-- place is the index in the list of the meaning of the name at the token
 pub record IsPlaced (p : Package) (file token : ℕ) (list : List Bound) (place : Option ℕ) : Type 0 where
   pub bound : IsName p file token (bound_by list place)
   pub within : (i : ℕ) → place ≡ Some i → i < length list
 
--- the name at a token
+-- the program's name has the spelling and the meaning of the token
 pub record IsNameAt (p : Package) (file token : ℕ) (list : List Bound) (name : Name) : Type 0 where
   pub placed : IsPlaced p file token list name.bound
   pub spelling : name.spelling.now ≡ spelled p file token
 
--- the names at all tokens of a file
+-- the names are those at all tokens of the file
 pub record AreNames (p : Package) (file : ℕ) (list : List Bound) (names : List Name) : Type 0 where
   pub bound : (token : ℕ) → IsName p file token (bound_by list (bound_index (slice_get names token)))
   pub spelling : (token : ℕ) → spelling_of (slice_get names token) ≡ spelled p file token

@@ -1,11 +1,11 @@
--- The package of a path and of files.
+-- The package of a path and files.
 use Rattle.std.specs.Prelude.{ℕ, ◌≡◌, List, Option, length, map}
 use Rattle.go_ast.specs.SourceFile.{SourceFile, FileParts, source_of}
 use Rattle.go_scope.specs.Scoped.{ScopedPackage, scoped, layout_in, names_in}
 use Rattle.types_declared.specs.PackageNames.{IsLaidOver}
 use Rattle.types_declared.specs.Package.{Package, Interface}
 
--- the package of a path and of files, with the identifiers of a table and with the interfaces of other packages
+-- the package of a path and files, with the identifiers of a scope table and the export data of other packages
 abbrev pub package_in : (path : List ℕ) → List SourceFile → ScopedPackage → (List ℕ → Interface) → Package
 package_in path files table interface_of = record {
   path = path;
@@ -16,8 +16,8 @@ package_in path files table interface_of = record {
   interface_of = interface_of;
 }
 
--- The package that is checked, given the names of other packages, by their paths, and what it sees of them: in its table each
--- import without a name declares the name of the imported package. There is one such package at most.
+-- p is the package to check of this path and these files, given the names and the export data of other packages. Each of its imports
+-- without a name declares the name of the imported package. There is at most one such package.
 pub record IsPackageOf (path : List ℕ) (files : List FileParts) (name_of : List ℕ → Option (List ℕ)) (interface_of : List ℕ → Interface) (p : Package) :
     Type 0 where
   pub laid : ScopedPackage

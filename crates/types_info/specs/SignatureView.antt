@@ -1,4 +1,4 @@
--- The types of lists of Types, as they are found.
+-- The types of lists of type expressions, as the program has them.
 use Rattle.std.specs.Prelude.{ℕ, List, Option, map, MatchOption}
 use Rattle.std.specs.Borrow.{Bor}
 use Rattle.std.specs.Global.{Vec}
@@ -11,12 +11,14 @@ use Rattle.types_expr.specs.View.{type_of}
 use Rattle.types_declared.specs.Package.{Package}
 use Rattle.types_declared.specs.Bound.{AreTypesOf}
 
+-- the program's type expression, as the definitions see it
 abbrev pub tree_of : Bor TypeExpr → TypeTree
 tree_of t = type_view t.now
 
+-- the types in a list of the program
 abbrev pub types_in : Vec GoType → List PlainType
 types_in ts = map type_of ts.items
 
--- the types of some Types; none where one of them has none
+-- found has the types of the type expressions, or is none where one of them has no type
 abbrev pub AreTypesFound : Package → ℕ → List TypeTree → Option (List PlainType) → Type 0
 AreTypesFound p file trees found = MatchOption found ((ts : List PlainType) → AreTypesOf p file trees ts → ⊥) (λ ts. AreTypesOf p file trees ts)

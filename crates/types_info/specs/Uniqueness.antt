@@ -1,4 +1,4 @@
--- A declaration means one thing at most, and a file is judged by one world at most.
+-- A declaration has at most one meaning, and a file at most one world.
 use Rattle.std.specs.Prelude.{ℕ, ◌≡◌, List, Some, slice_get}
 use Rattle.go_ast.specs.Flatten.{flatten}
 use Rattle.go_ast.specs.SourceFile.{SourceFile}
@@ -8,14 +8,14 @@ use Rattle.types_declared.specs.Package.{Package}
 use Rattle.types_declared.specs.Bound.{IsMeantBy}
 use Rattle.types_info.specs.Worlds.{IsWorldOf}
 
--- the tokens of each tree are numbered in their order
+-- the tokens in the tree of each file are in order
 abbrev pub AreInOrder : List SourceFile → Type 0
 AreInOrder files = (file : ℕ) (s : SourceFile) → slice_get files file ≡ Some s → AreRising 0 (flatten s.tree)
 
--- a declaration means one thing at most
+-- each declaration of the package has at most one meaning
 abbrev pub IsOneMeaning : Package → Type 0
 IsOneMeaning p = (d : ℕ) (b c : Bound) → IsMeantBy p d b → IsMeantBy p d c → b ≡ c
 
--- a file is judged by one world at most
+-- each file of the package has at most one world
 abbrev pub IsOneWorld : Package → Type 0
 IsOneWorld p = (file : ℕ) (s : SourceFile) (v w : World) → IsWorldOf p file s v → IsWorldOf p file s w → v ≡ w

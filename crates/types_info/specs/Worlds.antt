@@ -1,4 +1,4 @@
--- What the names of a file are bound to, and what a file is judged by.
+-- The meanings of a file's names, and the world that a file is checked in.
 use Rattle.std.specs.Prelude.{ℕ, suc, ◌≡◌, ◌==◌, Bool}
 use Rattle.std.specs.Cmp.Lexicographic.{pointwise}
 use Rattle.go_ast.specs.SourceFile.{SourceFile, spelling_of}
@@ -15,7 +15,7 @@ use Rattle.types_declared.specs.Written.{BindsToken, IsExportAt}
 use Rattle.types_declared.specs.Bound.{IsMeantBy}
 use Rattle.types_declared.specs.Definitions.{AreDefinitions}
 
--- the name at a token stands behind the name of an imported package, which exports it so
+-- the token is the name N of a qualified identifier `p.N` that denotes the export e
 pub record IsSelected (p : Package) (file token : ℕ) (e : Export) : Type 0 where
   pub before : ℕ
   pub behind_dot : token ≡ suc (suc before)
@@ -24,17 +24,18 @@ pub record IsSelected (p : Package) (file token : ℕ) (e : Export) : Type 0 whe
   pub selected : p.layout.role identifier ≡ NotLexical purpose.Selected
   pub exported : IsExportAt p file before token e
 
--- what the name at a token is bound to
+-- the name at the token has this meaning: by scopes, or as the name of a qualified identifier
 pub data IsBoundAt (p : Package) (file token : ℕ) : Bound → Type 0 where
   by_scope : {declaration : ℕ} {b : Bound} → BindsToken p file token declaration → IsMeantBy p declaration b → IsBoundAt p file token b
   by_package : {e : Export} → IsSelected p file token e → IsBoundAt p file token (Stands e.meaning)
 
--- what the name at a token is bound to; one that is bound to nothing means Broken
+-- the meaning of the name at the token; Broken where it has none
 pub data IsName (p : Package) (file token : ℕ) : Bound → Type 0 where
   is_bound : {b : Bound} → IsBoundAt p file token b → IsName p file token b
   is_unbound : ((b : Bound) → IsBoundAt p file token b → ⊥) → IsName p file token (Stands Broken)
 
--- what a file of a package is judged by; there is one at most
+-- The world that the file is checked in: the meanings of its names, the members of types and the underlying types of definitions. There is
+-- at most one.
 pub record IsWorldOf (p : Package) (file : ℕ) (s : SourceFile) (w : World) : Type 0 where
   pub names : (token : ℕ) → IsName p file token (w.bound token)
   pub definitions : Symbol → Definition
@@ -42,6 +43,6 @@ pub record IsWorldOf (p : Package) (file : ℕ) (s : SourceFile) (w : World) : T
   pub member : (token : ℕ) (t : PlainType) → w.member token t ≡ member_by definitions p.path (spelling_of s token) t
   pub definition : (symbol : Symbol) → w.definition symbol ≡ (definitions symbol).underlying
 
--- whether the name at a token is `init`
+-- whether the name at the token is `init`
 abbrev pub is_init : SourceFile → ℕ → Bool
 is_init s token = pointwise ◌==◌ (spelling_of s token) init_name

@@ -1,4 +1,4 @@
-//! Names behind the names of packages.
+//! Finds the package that qualifies a name after a dot, as `p` does in `p.N`.
 ghost use Rattle.std.specs.Prelude.{◌≡◌, ◌<◌, ◌↔◌, length, IsTrue, MatchOption};
 ghost use Rattle.go_scope.specs.declared.model.Role.TheVariants.{NotLexical};
 ghost use Rattle.go_scope.specs.declared.model.Purpose.TheVariants as purpose;
@@ -8,7 +8,7 @@ ghost use Rattle.types_info.specs.Qualified.{IsBehindPackage, IsOnePath, IsDecla
 use go_scope::model::{Purpose, Role};
 use types_declared::{Index, Package};
 
-/// Whether a role is that of a name behind a dot.
+/// Whether a role is that of a name after a dot.
 fn is_selected(role: Role) -> bool
     ensures { IsTrue result ↔ (role ≡ NotLexical purpose.Selected) }
 {
@@ -18,7 +18,7 @@ fn is_selected(role: Role) -> bool
     }
 }
 
-/// The declaration to which the name is bound that stands before a dot and an identifier.
+/// The declaration to which the name before the dot is bound, as `x` in `x.u`; `u` is a name after a dot.
 fn declaration_named(unit: Package<'_>, index: &Index<'_>, u: usize) -> Option<usize>
     requires index { IsIndexOf (package_of unit) index.now }
     requires in_range { u < length unit.table.now.sites }
@@ -34,7 +34,7 @@ fn declaration_named(unit: Package<'_>, index: &Index<'_>, u: usize) -> Option<u
     }
 }
 
-/// The declaration to which the name is bound behind which, and a dot, an identifier stands.
+/// The declaration to which the name before the dot is bound, as `x` in `x.u`; none where `u` is no name after a dot.
 pub(crate) fn declaration_before(unit: Package<'_>, index: &Index<'_>, u: usize) -> Option<usize>
     requires index { IsIndexOf (package_of unit) index.now }
     requires in_range { u < length unit.table.now.sites }
@@ -48,7 +48,7 @@ pub(crate) fn declaration_before(unit: Package<'_>, index: &Index<'_>, u: usize)
     }
 }
 
-/// The path of the package behind whose name an identifier stands.
+/// The path of the package that qualifies `u`, as `p` does in `p.u`; none where no package does.
 pub fn package_before<'a>(unit: Package<'_>, index: &'a Index<'_>, u: usize) -> Option<&'a [u8]>
     requires index { IsIndexOf (package_of unit) index.now }
     requires in_range { u < length unit.table.now.sites }

@@ -1,4 +1,4 @@
-//! What each declaration of a package means where it is used.
+//! Finds the meaning of each declaration of a package where it is used.
 ghost use Rattle.std.specs.Prelude.{◌≡◌, ◌<◌, ℕ, Some, length, slice_get, slice_index_or, None, option_map, IfOk, OnOk};
 ghost use Rattle.go_scope.specs.declared.model.Block.TheVariants.{Universe, File};
 ghost use Rattle.go_scope.specs.Bindings.{IsPackageLevel, block_of};
@@ -17,15 +17,15 @@ use std::alloc::{AllocError, Global};
 use types_declared::{Index, Package, defined_type};
 use types_expr::world::Bound;
 
-/// What declarations mean: a list of meanings, and for each identifier of a package, by its number, the place in the list of
-/// what it means. More may stand in the list.
+/// The meanings of declarations: a list, and for each identifier of a package, by number, the index of its meaning in the list. The list
+/// may have more entries.
 #[derive(Drop)]
 pub struct Bounds {
     list: Vec<Bound>,
     of: Vec<Option<usize>>,
 }
 
-/// What a variable means.
+/// The meaning of the package-level variable `d`.
 #[tactic(auto, unfolding(types_expr::specs::WorldView::bound_of))]
 fn variable_bound(
     alloc: Global,
@@ -48,7 +48,7 @@ fn variable_bound(
     }
 }
 
-/// What a function means.
+/// The meaning of the function `d`.
 #[tactic(auto, unfolding(types_expr::specs::WorldView::bound_of))]
 fn function_bound(
     alloc: Global,
@@ -71,7 +71,7 @@ fn function_bound(
     }
 }
 
-/// What a type definition means.
+/// The meaning of the type definition `d`.
 #[tactic(auto, unfolding(types_expr::specs::WorldView::bound_of))]
 fn definition_bound(
     unit: Package<'_>,
@@ -91,7 +91,7 @@ fn definition_bound(
     Ok(Bound::TypeName(own))
 }
 
-/// What a declaration of the package's block means that is neither a variable nor a function.
+/// The meaning of a package-level declaration that is neither a variable nor a function; none where it has none.
 fn type_bound(
     unit: Package<'_>,
     index: &Index<'_>,
@@ -112,7 +112,7 @@ fn type_bound(
     }
 }
 
-/// What a declaration of the package's block means that is no variable.
+/// The meaning of a package-level declaration that is no variable; none where it has none.
 fn constant_bound(
     alloc: Global,
     unit: Package<'_>,
@@ -133,7 +133,7 @@ fn constant_bound(
     }
 }
 
-/// What a declaration of the package's block means.
+/// The meaning of a package-level declaration; none where it has none.
 fn package_bound(
     alloc: Global,
     unit: Package<'_>,
@@ -153,7 +153,7 @@ fn package_bound(
     }
 }
 
-/// What a declaration of no block of the program means.
+/// The meaning of a declaration of the universe block; none where it has none.
 fn universe_bound(unit: Package<'_>, d: usize) -> Option<Bound>
     requires in_range { d < length unit.table.now.sites }
     requires universe { block_of ((package_of unit).layout.role d) ≡ Universe }
@@ -166,7 +166,7 @@ fn universe_bound(unit: Package<'_>, d: usize) -> Option<Bound>
     }
 }
 
-/// What a declaration of a file's block means.
+/// The meaning of an import: the name of a package; none where it has no path.
 #[tactic(auto, unfolding(types_expr::specs::WorldView::bound_of))]
 fn import_bound(unit: Package<'_>, index: &Index<'_>, d: usize, file: usize) -> Option<Bound>
     requires index { IsIndexOf (package_of unit) index.now }
@@ -180,7 +180,7 @@ fn import_bound(unit: Package<'_>, index: &Index<'_>, d: usize, file: usize) -> 
     }
 }
 
-/// What a declaration means where it is used.
+/// The meaning of the declaration `d` where it is used; none where it has none.
 #[tactic(auto, unfolding(types_expr::specs::WorldView::bound_of))]
 fn meaning(
     alloc: Global,
@@ -203,21 +203,21 @@ fn meaning(
 }
 
 impl Bounds {
-    /// The place in the list of what a declaration means.
+    /// The index in the list of the meaning of the declaration `d`; none where it has none.
     pub fn get(&self, d: usize) -> Option<usize>
         ensures { result ≡ slice_index_or self.now.of.items d None }
     {
         *self.of.get(d)?
     }
 
-    /// All that stands in the list.
+    /// The list of meanings.
     pub fn list(&self) -> &[Bound]
         ensures { result.now ≡ self.now.list.items }
     {
         &self.list
     }
 
-    /// Adds a meaning to the list, and says where it stands.
+    /// Appends a meaning to the list and returns its index.
     pub fn add(&mut self, bound: Bound) -> Result<usize, AllocError>
         ensures extends { OnOk result (Extends self.old.list.items self.new.list.items) }
         ensures placed { IfOk result (λ i. slice_get self.new.list.items i ≡ Some bound) }
@@ -228,7 +228,7 @@ impl Bounds {
         Ok(place)
     }
 
-    /// Adds what the next declaration means.
+    /// Appends the meaning of the next declaration, if it has one.
     fn note(&mut self, bound: Option<Bound>) -> Result<(), AllocError>
         ensures { OnOk result (AddsMeaning self.old.list.items self.old.of.items (option_map bound_of bound) self.new.list.items self.new.of.items) }
     {
@@ -246,7 +246,7 @@ impl Bounds {
     }
 }
 
-/// What the declarations of a package mean.
+/// Finds the meanings of all declarations of a package.
 pub fn bounds_of(
     alloc: Global,
     unit: Package<'_>,

@@ -1,4 +1,4 @@
-//! Copies of what exported names mean.
+//! Copies the meanings of exports.
 ghost use Rattle.std.specs.Prelude.{◌≡◌, map, IfOk};
 ghost use Rattle.types_expr.specs.World.{Means};
 ghost use Rattle.types_expr.specs.View.{type_of, signature_of};
@@ -10,7 +10,7 @@ use types_declared::ExportMeaning;
 use types_expr::types::{GoType, Signature};
 use types_expr::world::Bound;
 
-/// The same types, in other memory.
+/// Returns a copy of a list of types.
 fn copy_types(alloc: Global, types: &[GoType]) -> Result<Vec<GoType>, AllocError>
     ensures { IfOk result (λ copy. map type_of copy.items ≡ map type_of types.now) }
 {
@@ -21,7 +21,7 @@ fn copy_types(alloc: Global, types: &[GoType]) -> Result<Vec<GoType>, AllocError
     Ok(copy)
 }
 
-/// The same signature, in other memory.
+/// Returns a copy of a signature.
 pub fn copy_signature(alloc: Global, signature: &Signature) -> Result<Signature, AllocError>
     ensures { IfOk result (λ copy. signature_of copy ≡ signature_of signature.now) }
 {
@@ -33,7 +33,7 @@ pub fn copy_signature(alloc: Global, signature: &Signature) -> Result<Signature,
     })
 }
 
-/// What an exported name is bound to.
+/// The meaning, in an importing package, of a qualified identifier that denotes this export.
 #[tactic(auto, unfolding(types_expr::specs::WorldView::bound_of, types_declared::specs::InterfacesView::meaning_of))]
 pub fn exported_bound(alloc: Global, meaning: &ExportMeaning) -> Result<Bound, AllocError>
     ensures { IfOk result (λ b. bound_of b ≡ Means (meaning_of meaning.now)) }

@@ -1,4 +1,4 @@
-//! The qualified identifiers of a package, by the paths of the packages behind whose names they stand.
+//! Lists the qualified identifiers of a package, by the paths of the packages that qualify them.
 ghost use Rattle.std.specs.Prelude.{ℕ, ◌≡◌, ◌<◌, List, length, IfOk, OnOk};
 ghost use Rattle.go_scope.specs.declared.model.Position.{Position};
 ghost use Rattle.types_declared.specs.PackageView.{package_of, IsIndexOf};
@@ -10,7 +10,7 @@ use crate::lists::{Lists, Qualified};
 use std::alloc::{AllocError, Global};
 use types_declared::{Index, Package};
 
-/// A list for each import of a package, with no place.
+/// Makes an empty list for each import of a package.
 fn empty_lists(alloc: Global, unit: Package<'_>, index: &Index<'_>) -> Result<Lists, AllocError>
     requires { IsIndexOf (package_of unit) index.now }
     ensures lists { IfOk result (AreListsBelow (package_of unit.entry) (length unit.entry.table.now.sites)) }
@@ -23,7 +23,7 @@ fn empty_lists(alloc: Global, unit: Package<'_>, index: &Index<'_>) -> Result<Li
     Ok(lists)
 }
 
-/// Lists the place of an identifier, if it stands behind the name of a package.
+/// Adds the position of `u` to the list of its import, if it is a qualified identifier.
 fn list_identifier(
     lists: &mut Lists,
     unit: Package<'_>,
@@ -41,8 +41,8 @@ fn list_identifier(
     Ok(())
 }
 
-/// The qualified identifiers of a package: the place of each, under the path of the package behind whose name it stands. Each
-/// import has a list of its own, so that a path may have several.
+/// Lists the qualified identifiers of a package: the positions of their names, under the path of the qualifying package. Each import has a
+/// list of its own, so that a path may have several.
 pub fn qualified_identifiers(
     alloc: Global,
     unit: Package<'_>,

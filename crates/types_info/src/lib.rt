@@ -1,4 +1,4 @@
-//! What identifiers and qualified identifiers denote.
+//! The meanings of a package's declarations and names, and its qualified identifiers.
 #![tactic(auto)]
 
 mod behind;

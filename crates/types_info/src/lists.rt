@@ -1,4 +1,4 @@
-//! Places that are listed under the paths of imports: a list for each import, found in one step by the number of its declaration.
+//! Lists of positions under the paths of imports: one list for each import, found by the number of the import's declaration.
 ghost use Rattle.std.specs.Prelude.{ℕ, ◌≡◌, ◌<◌, List, None, length, slice_index_or, OnOk};
 ghost use Rattle.go_scope.specs.Named.{name_value};
 ghost use Rattle.go_scope.specs.declared.model.Position.{Position as Place};
@@ -7,21 +7,21 @@ ghost use Rattle.types_info.specs.Lists.{IsListed, path_for, AreWithin, AddsDecl
 use go_scope::model::Position;
 use std::alloc::{AllocError, Global};
 
-/// The path of an import, and the places of the identifiers behind its name, in order.
+/// The path of an import, and the positions of the names that it qualifies, in order.
 #[derive(Drop)]
 pub struct Qualified {
     pub path: Vec<u8>,
     pub places: Vec<Position>,
 }
 
-/// A list for each import; and for each declaration, by its number, the number of its list, if it is an import.
+/// A list for each import, and for each declaration, by number, the index of its list if it is an import.
 #[derive(Drop)]
 pub(crate) struct Lists {
     pub(crate) all: Vec<Qualified>,
     pub(crate) numbers: Vec<Option<usize>>,
 }
 
-/// Adds a list for a path, with no place.
+/// Appends an empty list for a path.
 fn add_list(alloc: Global, all: &mut Vec<Qualified>, path: &[u8]) -> Result<(), AllocError>
     ensures { OnOk result (AddsList all.old.items all.new.items path.now) }
 {
@@ -33,7 +33,7 @@ fn add_list(alloc: Global, all: &mut Vec<Qualified>, path: &[u8]) -> Result<(), 
     Ok(())
 }
 
-/// Adds a place to the list of a number.
+/// Appends a position to the list at an index.
 fn add_place(all: &mut Vec<Qualified>, number: usize, at: Position) -> Result<(), AllocError>
     requires { number < length all.old.items }
     ensures { OnOk result (AddsPlace all.old.items all.new.items number at) }
@@ -43,7 +43,7 @@ fn add_place(all: &mut Vec<Qualified>, number: usize, at: Position) -> Result<()
 }
 
 impl Lists {
-    /// No list, and no declaration.
+    /// No list and no declaration.
     pub(crate) fn new(alloc: Global) -> Lists
         ensures within { AreWithin result }
         ensures size { length result.numbers.items ≡ 0 }
@@ -55,7 +55,7 @@ impl Lists {
         }
     }
 
-    /// Adds the next declaration, with a list for its path, if it has one.
+    /// Appends the next declaration, with an empty list if it has a path.
     pub(crate) fn add(&mut self, alloc: Global, path: Option<&[u8]>) -> Result<(), AllocError>
         requires { AreWithin self.old }
         ensures { OnOk result (AddsDeclaration self.old self.new (name_value path.entry)) }
@@ -71,14 +71,14 @@ impl Lists {
         Ok(())
     }
 
-    /// The number of the list of a declaration.
+    /// The index of the list of a declaration; none where it is no import.
     fn number(&self, d: usize) -> Option<usize>
         ensures { result ≡ slice_index_or self.now.numbers.items d None }
     {
         *self.numbers.get(d)?
     }
 
-    /// Lists a place under the path of a declaration, if it has one.
+    /// Appends a position to the list of a declaration, if it has one.
     pub(crate) fn list(&mut self, d: usize, at: Position) -> Result<(), AllocError>
         requires { AreWithin self.old }
         ensures within { OnOk result (AreWithin self.new) }

@@ -1,4 +1,4 @@
-//! The names of a file: what each is bound to, by the scopes of its package or by the package before the dot.
+//! Finds the meaning of each name of a file: by the scopes of its package, or as a qualified identifier.
 ghost use Rattle.std.specs.Prelude.{◌≡◌, ◌≤◌, ◌<◌, ◌↔◌, ℕ, [], Some, None, length, slice_get, option_map, IsTrue, IfOk, OnOk};
 ghost use Rattle.go_scope.specs.declared.model.Role.TheVariants.{NotLexical};
 ghost use Rattle.go_scope.specs.declared.model.Purpose.TheVariants as purpose;
@@ -19,7 +19,7 @@ use std::alloc::{AllocError, Global};
 use types_declared::{Export, Index, Package, export_at};
 use types_expr::world::Name;
 
-/// Whether a role is that of a name behind a dot.
+/// Whether a role is that of a name after a dot.
 fn is_selected(role: Role) -> bool
     ensures { IsTrue result ↔ (role ≡ NotLexical purpose.Selected) }
 {
@@ -29,7 +29,7 @@ fn is_selected(role: Role) -> bool
     }
 }
 
-/// Whether a name behind a dot stands at a token.
+/// Whether the token is a name after a dot.
 pub fn is_behind_dot(unit: Package<'_>, index: &Index<'_>, file: usize, token: usize) -> bool
     requires { IsIndexOf (package_of unit) index.now }
     ensures { IsTrue result ↔ IsBehindDot (package_of unit.entry) file token }
@@ -40,7 +40,7 @@ pub fn is_behind_dot(unit: Package<'_>, index: &Index<'_>, file: usize, token: u
     }
 }
 
-/// What the name at a token is behind the name of an imported package and the dot, two tokens behind it.
+/// The export that the name at a token denotes as the `N` of a qualified identifier `p.N`, where `p` is two tokens before.
 fn selected_behind<'a>(
     unit: Package<'a>,
     index: &Index<'_>,
@@ -58,7 +58,7 @@ fn selected_behind<'a>(
     }
 }
 
-/// What the name at a token is behind the name of an imported package.
+/// The export that the name at a token denotes as the `N` of a qualified identifier `p.N`; none where it denotes none.
 fn selected<'a>(
     unit: Package<'a>,
     index: &Index<'_>,
@@ -75,7 +75,7 @@ fn selected<'a>(
     }
 }
 
-/// What the scopes of the package bind the name at a token to, by its place in the list of meanings.
+/// The index of the meaning of the declaration to which scopes bind the name at a token; none where there is none.
 fn scope_place(
     unit: Package<'_>,
     index: &Index<'_>,
@@ -94,7 +94,7 @@ fn scope_place(
     }
 }
 
-/// What the name at a token is bound to, by its place in the list of meanings. What another package exports is added there.
+/// The index of the meaning of the name at a token. The meaning of a qualified identifier is appended to the list.
 fn place_at(
     alloc: Global,
     unit: Package<'_>,
@@ -118,7 +118,7 @@ fn place_at(
     }
 }
 
-/// The name at a token.
+/// The name at a token: its spelling and the index of its meaning.
 fn name_at<'a>(
     alloc: Global,
     unit: Package<'a>,
@@ -140,7 +140,7 @@ fn name_at<'a>(
     })
 }
 
-/// The tokens of a file.
+/// The tokens of a file; none where the package has no such file.
 fn tokens_of<'a>(unit: Package<'a>, file: usize) -> &'a [Piece]
     ensures { result.now ≡ tokens_at (slice_get (package_of unit.entry).files file) }
 {
@@ -150,14 +150,14 @@ fn tokens_of<'a>(unit: Package<'a>, file: usize) -> &'a [Piece]
     }
 }
 
-/// How many tokens of a file are spelled.
+/// The number of tokens of a file.
 fn spelled_tokens(unit: Package<'_>, file: usize) -> usize
     ensures { (token : ℕ) → result ≤ token → spelled (package_of unit.entry) file token ≡ [] }
 {
     tokens_of(unit, file).len()
 }
 
-/// A number of tokens of a file, behind which there is no name.
+/// A number of tokens of a file after which no identifier comes.
 fn token_count(unit: Package<'_>, index: &Index<'_>, file: usize) -> usize
     ensures spelled { (token : ℕ) → result ≤ token → spelled (package_of unit.entry) file token ≡ [] }
     ensures identified { (token : ℕ) → result ≤ token → number_at index.now.identifiers file token ≡ None }
@@ -171,7 +171,7 @@ fn token_count(unit: Package<'_>, index: &Index<'_>, file: usize) -> usize
     }
 }
 
-/// The names of a file, one for each token. What other packages export is added to the list of meanings.
+/// Returns the names of a file, one for each token. The meanings of qualified identifiers are appended to `bounds`.
 pub fn file_names<'a>(
     alloc: Global,
     unit: Package<'a>,

@@ -1,4 +1,4 @@
-//! What the predeclared names mean.
+//! The meanings of predeclared identifiers (the Go specification, "Predeclared identifiers").
 ghost use Rattle.std.specs.Prelude.{◌≡◌, ◌↔◌, codes, option_map, IsTrue, MatchOption};
 ghost use Rattle.types_expr.specs.declared.types.Basic.{Basic};
 ghost use Rattle.types_expr.specs.declared.types.Builtin.{Builtin};
@@ -10,7 +10,7 @@ ghost use Rattle.types_info.specs.BoundsView.{IsTruthName, IsUniversalFound, IsV
 use types_expr::types::{Basic, Builtin, GoType};
 use types_expr::world::Bound;
 
-/// The predeclared type of a name.
+/// The predeclared type of a name; none where it is another name.
 fn basic_of(name: &[u8]) -> Option<Basic>
     ensures { MatchOption result ((b : Basic) → name.now ≡ basic_name b → ⊥) (λ b. name.now ≡ basic_name b) }
 {
@@ -25,7 +25,7 @@ fn basic_of(name: &[u8]) -> Option<Basic>
     }
 }
 
-/// The predeclared function of a name.
+/// The predeclared function of a name; none where it is another name.
 fn builtin_of(name: &[u8]) -> Option<Builtin>
     ensures { MatchOption result ((b : Builtin) → name.now ≡ builtin_name b → ⊥) (λ b. name.now ≡ builtin_name b) }
 {
@@ -44,7 +44,7 @@ fn builtin_of(name: &[u8]) -> Option<Builtin>
     }
 }
 
-/// Whether a name is that of a truth value.
+/// Whether a name is `true` or `false`.
 fn is_truth(name: &[u8]) -> bool
     ensures { IsTrue result ↔ IsTruthName name.now }
 {
@@ -58,7 +58,7 @@ fn is_nil(name: &[u8]) -> bool
     name == b"nil".as_slice()
 }
 
-/// What a name means that is no truth value.
+/// The meaning of a name that is neither `true` nor `false`, if it is `nil`.
 fn nil_of(name: &[u8]) -> Option<Bound>
     requires { IsTruthName name.now → ⊥ }
     ensures { IsValueFound name.now (option_map bound_of result) }
@@ -66,7 +66,7 @@ fn nil_of(name: &[u8]) -> Option<Bound>
     if is_nil(name) { Some(Bound::Nil) } else { None }
 }
 
-/// What a name means that is neither a type's nor a function's.
+/// The meaning of a name as a predeclared value: `true`, `false` or `nil`; none where it is another name.
 fn value_of(name: &[u8]) -> Option<Bound>
     ensures { IsValueFound name.now (option_map bound_of result) }
 {
@@ -77,7 +77,7 @@ fn value_of(name: &[u8]) -> Option<Bound>
     }
 }
 
-/// What a name means that is no type's.
+/// The meaning of a name that is no predeclared type; none where it isn't predeclared.
 fn operand_of(name: &[u8]) -> Option<Bound>
     requires { (b : Basic) → name.now ≡ basic_name b → ⊥ }
     ensures { IsUniversalFound name.now (option_map bound_of result) }
@@ -88,7 +88,7 @@ fn operand_of(name: &[u8]) -> Option<Bound>
     }
 }
 
-/// What a name means where it is predeclared.
+/// The meaning of a predeclared name; none where it isn't predeclared.
 pub fn predeclared(name: &[u8]) -> Option<Bound>
     ensures { IsUniversalFound name.now (option_map bound_of result) }
 {

@@ -1,4 +1,4 @@
-//! The types of parameters and results.
+//! Finds the signatures of functions.
 ghost use Rattle.std.specs.Prelude.{◌≡◌, map, option_map, IfOk, OnOk};
 ghost use Rattle.go_ast.specs.View.{list_view};
 ghost use Rattle.go_ast.specs.FileView.{param_view, results_view};
@@ -17,7 +17,7 @@ use std::alloc::{AllocError, Global};
 use types_declared::{Function, Index, Package};
 use types_expr::types::{GoType, Signature};
 
-/// The types of some Types; none where one of them has none.
+/// The types of type expressions, in order; none where one of them names no type or mentions a broken definition.
 pub fn whole_types(
     alloc: Global,
     unit: Package<'_>,
@@ -40,7 +40,7 @@ pub fn whole_types(
     Ok(Some(types))
 }
 
-/// Adds the Type of parameters, once for each name.
+/// Appends the type expression of a parameter declaration, once for each name.
 #[tactic(auto, unfolding(go_ast::specs::FileView::param_view))]
 fn add_param<'a>(found: &mut Vec<&'a TypeExpr>, param: &'a Param) -> Result<(), AllocError>
     ensures { OnOk result (Appends tree_of found.old.items found.new.items (map (λ n. (param_view param.now).type_use) (param_view param.now).names)) }
@@ -51,7 +51,7 @@ fn add_param<'a>(found: &mut Vec<&'a TypeExpr>, param: &'a Param) -> Result<(), 
     Ok(())
 }
 
-/// The Types of parameters, once for each name.
+/// The type expressions of parameters, once for each name.
 fn param_types<'a>(
     alloc: Global,
     params: &'a [Item<Param>],
@@ -65,7 +65,7 @@ fn param_types<'a>(
     Ok(found)
 }
 
-/// Adds the Types of results.
+/// Appends the type expressions of results.
 fn add_results<'a>(found: &mut Vec<&'a TypeExpr>, results: &'a Results) -> Result<(), AllocError>
     ensures { OnOk result (Appends tree_of found.old.items found.new.items (result_types (results_view results.now))) }
 {
@@ -84,7 +84,7 @@ fn add_results<'a>(found: &mut Vec<&'a TypeExpr>, results: &'a Results) -> Resul
     }
 }
 
-/// The parameters and results of a function; none where one of their Types has no type.
+/// The signature of a function; none where a type expression in it names no type or mentions a broken definition.
 #[tactic(auto, unfolding(go_ast::specs::FileView::func_view))]
 pub fn signature(
     alloc: Global,

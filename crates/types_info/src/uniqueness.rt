@@ -1,4 +1,4 @@
-//! What a package's names mean, and what its files are judged by: one thing at most.
+//! Laws: a declaration has at most one meaning, and a file at most one world.
 ghost use Rattle.std.specs.Prelude.{map};
 ghost use Rattle.go_ast.specs.SourceFile.{source_of};
 ghost use Rattle.types_info.specs.Uniqueness.{AreInOrder, IsOneMeaning, IsOneWorld};
@@ -7,7 +7,7 @@ ghost use Rattle.types_declared.specs.PackageView.{package_of};
 use go_ast::FileTree;
 use types_declared::Package;
 
-/// The tokens of parsed files are numbered in their order.
+/// The tokens in the trees of parsed files are in order.
 fn are_in_order(files: &[FileTree])
     ensures { AreInOrder (map source_of files.now) }
 {
@@ -16,7 +16,7 @@ fn are_in_order(files: &[FileTree])
     }
 }
 
-/// A declaration means one thing at most.
+/// A declaration has at most one meaning.
 pub fn one_meaning(unit: Package<'_>)
     ensures { IsOneMeaning (package_of unit.entry) }
 {
@@ -24,7 +24,7 @@ pub fn one_meaning(unit: Package<'_>)
     are_in_order(unit.files);
 }
 
-/// A file is judged by one world at most.
+/// A file has at most one world.
 pub fn one_world(unit: Package<'_>)
     ensures { IsOneWorld (package_of unit.entry) }
 {

@@ -1,4 +1,4 @@
-//! The types of Types that are written in a package and are not broken.
+//! Finds the types of type expressions that are not broken.
 ghost use Rattle.std.specs.Prelude.{◌↔◌, option_map, IsTrue, IfOk};
 ghost use Rattle.go_ast.specs.View.{type_view};
 ghost use Rattle.types_expr.specs.View.{type_of};
@@ -11,7 +11,7 @@ use std::alloc::{AllocError, Global};
 use types_declared::{Index, Package, mentioned, named_type};
 use types_expr::types::GoType;
 
-/// Whether a Type mentions a broken definition.
+/// Whether a type expression mentions a broken definition.
 fn mentions_broken(
     unit: Package<'_>,
     index: &Index<'_>,
@@ -29,7 +29,7 @@ fn mentions_broken(
     }
 }
 
-/// The type of a Type; none where it names none, or a broken one.
+/// The type of a type expression; none where it names no type or mentions a broken definition.
 pub fn whole_type(
     alloc: Global,
     unit: Package<'_>,

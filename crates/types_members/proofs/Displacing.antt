@@ -16,7 +16,7 @@ use Rattle.types_members.proofs.FieldNames.{one_name}
 use Rattle.types_members.proofs.Owning.{HasOwner}
 use Rattle.types_members.proofs.MethodNames.{one_owner, one_method_name}
 
--- the faults of members by the ranks of fields, functions and type definitions
+-- The faults of members, by the ranks of fields, functions and type definitions
 
 pub record IsFieldFault (p : Package) (rank : ℕ) (f : Fault) : Type 0 where
   pub field : PlacedField
@@ -38,7 +38,7 @@ pub record IsRecursionFault (p : Package) (rank : ℕ) (f : Fault) : Type 0 wher
   pub holds_itself : Holds p rank rank
   pub at : f ≡ record { file = definition.file; token = definition.spec.name; kind = kind.Recursive }
 
--- a fault that is added by a test
+-- A fault that a test adds
 
 pub by_test : (old new : List Fault) (test : Bool) (fault : Fault) (P : Fault → Type 0) → Adds old new (λ f. IsTrue test × (f ≡ fault)) →
     (test ≡ true → P fault) → ((f : Fault) → P f → (test ≡ true) × (f ≡ fault)) →
@@ -177,6 +177,6 @@ all_recursion_faults p old new count e h =
       record { definition = k.definition; has_rank = k.has_rank; holds_itself = k.holds_itself; at = k.at },
     ))
 
--- faults of three sorts
+-- the faults of three properties are added
 pub three_added : (P Q R : Fault → Type 0) (a b c : List Fault) → Adds [] a P → Adds a b Q → Adds b c R → Adds [] c (λ f. P f ⊎ (Q f ⊎ R f))
 three_added P Q R a b c h k l = adds_then [] a c P (λ f. Q f ⊎ R f) h (adds_then a b c Q R k l)

@@ -1,4 +1,4 @@
--- The names of fields, each at its rank.
+-- The names of fields, by rank.
 use Rattle.std.proofs.Common.{ℕ, ◌≡◌, ◌<◌, Bool, List, length, ap, sym, subst, refl, ◌∙◌}
 use Rattle.std.specs.Prelude.{Some, slice_get}
 use Rattle.std.proofs.lemmas.Option.{same_Some}

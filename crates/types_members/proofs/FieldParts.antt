@@ -1,4 +1,4 @@
--- The fields of a package, by the parts that the program goes over.
+-- The fields of a package, part by part as the program goes over them.
 use Rattle.std.proofs.Common.{ℕ, suc, ◌≡◌, ◌+◌, List, [], ◌∷◌, ◌++◌, ap, sym, ◌∙◌, refl, arith}
 use Rattle.std.specs.Prelude.{map}
 use Rattle.std.specs.List.{flat_map, enumerate_from}
@@ -46,7 +46,7 @@ unfolding body_view
 struct_from definition file b k o fs c xs eb ex =
     ap (flat_map (field_part definition file)) ex ∙ fields_of_items definition file fs.items ∙ ap (λ z. body_fields definition file (body_view z)) (sym eb)
 
--- a type that is no struct
+-- a definition that is no struct has no fields
 pub none_from : (definition file : ℕ) (b : TypeBody) (t : _) → b ≡ body.Type t → [] ≡ body_fields definition file (body_view b)
 unfolding body_view
 none_from definition file b t e = ap (λ z. body_fields definition file (body_view z)) (sym e)

@@ -1,4 +1,4 @@
--- Whether the values of a definition have a field of a name, by their underlying type.
+-- Whether the underlying type of a definition is a struct with a field of a name.
 use Rattle.std.proofs.Common.{ℕ, ◌≡◌, Bool, true, List, length, ap, sym, subst, refl, ◌∙◌}
 use Rattle.std.specs.Prelude.{Option, Some, None, ◌↔◌}
 use Rattle.std.proofs.lemmas.Bool.{false≢true}
@@ -19,7 +19,7 @@ use Rattle.types_members.specs.MembersView.{IsUnderlyingFound}
 use Rattle.types_members.specs.MethodsView.{exported_field, StructHas, own, imported, UnderlyingHas}
 use Rattle.types_declared.proofs.OneUnderlying.{one_underlying}
 
--- a struct of the package
+-- A struct of the package
 
 pub own_has : (p : Package) (b : Bool) (noted : ℕ → List ℕ → Bool) (s : Symbol) (name : List ℕ) → b ≡ noted s.rank name →
     AreNamesBelow (IsFieldNamed p) (length (package_fields p)) noted →
@@ -43,7 +43,7 @@ other_has p b s name ne e = (
   ]),
 )
 
--- a type that is no struct
+-- the symbol of a struct, or another one where the underlying type is no struct
 abbrev symbol_or : Symbol → Underlying → Symbol
 symbol_or s (StructOf t) = t
 symbol_or s u = s
@@ -60,7 +60,7 @@ unfolding underlying_of
 underlying_had p v s name b e h = subst (λ w. (b ≡ true) ↔ UnderlyingHas p (underlying_of w) name) (sym e)
     ((λ t. has_struct p s name (h.0 t)), (λ u. h.1 (struct_had p s name u)))
 
--- the exported field of a definition
+-- The exported field of a definition
 
 field_exported : (o : Option Field) → exported_field o ≡ true → (f : Field) × ((o ≡ Some f) × (f.exported ≡ true))
 field_exported None e = absurd (false≢true e)
@@ -69,7 +69,7 @@ field_exported (Some f) e = (f, (refl, e))
 symbol_from : (s : Symbol) (path : List ℕ) → s.package ≡ path → s ≡ record { «package» = path; rank = s.rank }
 symbol_from s path e = ap (λ z. record { «package» = z; rank = s.rank }) e
 
--- by the underlying type
+-- By the underlying type
 
 named_if : (p : Package) (definition : ℕ) (u : Underlying) (name : List ℕ) → HasUnderlying p (Defined (symbol_in p definition)) u → UnderlyingHas p u name →
     HasFieldNamed p definition name
@@ -104,7 +104,7 @@ field_named_by p w definition o u name b found e h =
     let is : HasUnderlying p (Defined (symbol_in p definition)) u = subst (IsUnderlyingFound p definition) e found in
     ((λ t. named_if p definition u name is (h.0 t)), (λ f. h.1 (only_if p w definition u name is f)))
 
--- a definition that has no underlying type
+-- a definition without an underlying type has no field
 underlying_of_named : (p : Package) (definition : ℕ) (name : List ℕ) → HasFieldNamed p definition name → (u : Underlying) ×
     HasUnderlying p (Defined (symbol_in p definition)) u
 underlying_of_named p definition name (of_own has at) = (_, has)

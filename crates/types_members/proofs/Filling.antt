@@ -1,4 +1,4 @@
--- Underlying types that are found, one definition after the other in an order of their steps.
+-- Underlying types, found definition by definition in the order of their steps.
 use Rattle.std.proofs.Common.{ℕ, ◌≡◌, ◌+◌, ◌<◌, inl, inr, List, [], length, get_or, ap, sym, subst, refl, ◌∙◌, arith}
 use Rattle.std.specs.Prelude.{Option, Some, None, option_map, slice_get, slice_index_or}
 use Rattle.std.proofs.Math.ListN.{set}
@@ -20,13 +20,13 @@ use Rattle.types_members.specs.MembersView.{IsUnderlyingFound, AreUnderlying}
 use Rattle.types_members.specs.Steps.{NamesDefinition, IsStep, AreSteps, IsBehind, IsInOrder, IsStepOrder, taken}
 use Rattle.types_declared.proofs.Naming.{one_named}
 
--- the underlying types of the first so many definitions of an order
+-- found has the underlying types of the first count definitions of the order
 pub record AreFilled (p : Package) (order : List ℕ) (count : ℕ) (found : List (Option Underlying)) : Type 0 where
   pub size : length found ≡ length (package_types p)
   pub sound : (rank : ℕ) (u : Underlying) → slice_index_or found rank None ≡ Some u → HasUnderlying p (Defined (symbol_in p rank)) (underlying_of u)
   pub filled : (i : ℕ) → i < count → slice_index_or found (slice_index_or order i 0) None ≡ None → ⊥
 
--- what a step leads to is an underlying type
+-- The type that a step leads to is an underlying type
 
 mapped_some : {X Y : Type 0} (f : X → Y) (o : Option X) (y : Y) → option_map f o ≡ Some y → (x : X) × ((o ≡ Some x) × (f x ≡ y))
 mapped_some f None y e = absurd (none-some y e)
@@ -63,7 +63,7 @@ none_filled p order found size none = record {
       absurd (omega arith);
 }
 
--- the definition at a place of the order is filled
+-- the underlying type of the next definition of the order is set
 pub next_filled : (p : Package) (steps : List Step) (order : List ℕ) (count rank : ℕ) (s : Step) (found : List (Option Underlying))
     (v : Option Underlying) → AreSteps p steps → IsStepOrder steps order →
     count < length order → rank ≡ get_or order count 0 → slice_get steps rank ≡ Some s → option_map underlying_of v ≡ taken s found →
@@ -92,7 +92,7 @@ next_filled p steps order count rank s found v are o lt at is e h =
       ];
     }
 
--- a definition that has an underlying type stands in the order
+-- Each definition with an underlying type is in the order
 
 place_by_step : (p : Package) (steps : List Step) (order : List ℕ) → IsStepOrder steps order → (rank : ℕ) (s : Step) → slice_get steps rank ≡ Some s →
     IsStep p rank s → (u : types.Underlying) →

@@ -1,4 +1,4 @@
--- What definitions hold, as it is found, and the cycles of links that follow.
+-- The definitions that a definition contains directly, and the cycles among them.
 use Rattle.std.proofs.Common.{ℕ, ◌≡◌, ◌+◌, ◌<◌, ◌⊎◌, inl, inr, Bool, List, [], ◌∷◌, ◌++◌, length, ap, sym, subst, refl, ◌∙◌, arith}
 use Rattle.std.specs.Prelude.{Option, Some, None, slice_get, MatchOption, Contains, ◌↔◌}
 use Rattle.std.specs.Global.{Vec}
@@ -17,7 +17,7 @@ use Rattle.types_members.specs.Cycles.{IsOnCycle}
 use Rattle.types_members.proofs.Owning.{bound_definition}
 use Rattle.types_declared.proofs.DeclaredPaths.{get_before, get_last}
 
--- what a Type is by name
+-- The definition that a type expression is an unqualified name of
 
 abbrev name_or : ℕ → TypeTree → ℕ
 name_or n (Local m) = m
@@ -45,7 +45,7 @@ no_pointer_held p file s r t h = let e = h.is_name in let z : ⊥ = cc in z
 pub no_slice_held : (p : Package) (file o c r : ℕ) (t : TypeTree) → IsHeldAs p file (Slice o c t) r → ⊥
 no_slice_held p file o c r t h = let e = h.is_name in let z : ⊥ = cc in z
 
--- items that were added
+-- Added items
 
 pub items_none : (a : List ℕ) (P : ℕ → Type 0) → ((q : ℕ) → P q → ⊥) → AddsItems a a P
 items_none a P none = record { keeps = λ q h. h; holds = λ q h. absurd (none q h); only = λ q h. inl h }
@@ -81,7 +81,7 @@ items_all a b P e h q = (
   (λ k. h.holds q k),
 )
 
--- one of some Types
+-- One of some type expressions
 
 pub one_of_none : (p : Package) (file r : ℕ) → IsHeldAsOne p file [] r → ⊥
 one_of_none p file r h = let lt : h.1.0.0 < 0 = h.1.0.1 in absurd (omega arith)
@@ -106,7 +106,7 @@ one_alone p file t r s = elim (one_cases p file [] (t ∷ []) t r refl s) [ inl 
 pub alone_one : (p : Package) (file : ℕ) (t : TypeTree) (r : ℕ) → IsHeldAs p file t r → IsHeldAsOne p file (t ∷ []) r
 alone_one p file t r is = one_push p file [] (t ∷ []) t r refl (inr is)
 
--- what the definition of a rank holds
+-- The definitions that the definition of a rank contains
 
 direct_from : (p : Package) (a b : ℕ) (d : PlacedType) → slice_get (package_types p) a ≡ Some d → IsHeldAsOne p d.file (written_types d.spec.body) b →
     HoldsDirectly p a b
@@ -127,7 +127,7 @@ direct_to p a b d e h =
     subst (λ x. IsHeldAsOne p x.file (written_types x.spec.body) b) same
     (Local h.name, (h.written, record { name = h.name; is_name = refl; declaration = h.declaration; binds = h.binds; names = h.names }))
 
--- what the definitions below a rank hold
+-- the links lead exactly from each definition below count to those that it contains directly
 pub record HeldBelow (p : Package) (links : List (Vec ℕ)) (count : ℕ) : Type 0 where
   pub size : length links ≡ count
   pub holds : (a b : ℕ) → a < count → HoldsDirectly p a b → Leads links a b
@@ -191,7 +191,7 @@ held_linked p links h a b l =
     let lt : b < length (package_types p) = slice_get_within (package_types p) b k.names.item k.names.has_rank in
     omega (arith, h.size)
 
--- cycles
+-- Cycles
 
 holds_then : (p : Package) (a b c : ℕ) → Holds p a b → HoldsDirectly p b c → Holds p a c
 holds_then p a b c (directly h) k = through h (directly k)

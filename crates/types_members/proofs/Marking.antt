@@ -1,4 +1,4 @@
--- Marks for numbers: of those below one, of those that one leads to, and of what is reached from there.
+-- Marks of numbers: those below a bound, those that a number links to, and those reached from there.
 use Rattle.std.proofs.Common.{ℕ, ◌≡◌, ◌+◌, ◌<◌, inl, inr, Bool, true, false, List, [], ◌∷◌, ◌++◌, length, get_or, ap, sym, subst, ◌∙◌, arith}
 use Rattle.std.specs.Prelude.{Contains, ◌↔◌}
 use Rattle.std.specs.Global.{Vec}
@@ -9,7 +9,7 @@ use Rattle.types_declared.specs.Spread.{IsMarked, Leads, IsReached, first, behin
 use Rattle.types_members.specs.Cycles.{IsOnCycle}
 use Rattle.types_declared.proofs.Spreading.{marked_within, marked_stays, marked_before, IsPassed, passed_next, passed_more, passed_held, passed_all}
 
--- marks for the items below a number
+-- the list marks exactly the items below count with the property P
 pub record MarksBelow (P : ℕ → Type 0) (marks : List Bool) (count : ℕ) : Type 0 where
   pub all : length marks ≡ count
   pub each : (item : ℕ) → item < count → IsMarked marks item ↔ P item
@@ -35,13 +35,13 @@ marks_next P old new count b e is h =
       ];
     }
 
--- no mark is set
+-- a list of false values marks no number
 unmarked : (n : ℕ) (marks : List Bool) → marks ≡ replicate n false → (q : ℕ) → IsMarked marks q → ⊥
 unmarked n marks e q m =
     let lt : q < length (replicate n false) = subst (λ xs. q < length xs) e (marked_within marks q m) in
     false≢true (sym (ap (λ xs. get_or xs q false) e ∙ get_or-replicate n q false false (subst (λ k. q < k) (length-replicate n false) lt)) ∙ m)
 
--- a search from what a number leads to
+-- A search from the numbers that a number links to
 
 reached_as : (links : List (Vec ℕ)) (B C : ℕ → Type 0) (q : ℕ) → ((x : ℕ) → B x → C x) → IsReached links B q → IsReached links C q
 reached_as links B C q to (first b) = first (to q b)
@@ -57,7 +57,7 @@ cycle_found links given begins marks n b e led found lt is =
       (λ k. same ∙ (found n).1 (reached_as links (Leads links n) (IsMarked given) n (λ x l. (led_by x).1 l) k)),
     )
 
--- the marks of a row, as far as a loop has come
+-- the list marks exactly the first count numbers of the row
 pub record MarksPassed (row : List ℕ) (count size : ℕ) (marks : List Bool) : Type 0 where
   pub all : length marks ≡ size
   pub each : (q : ℕ) → IsMarked marks q ↔ IsPassed row count q

@@ -1,4 +1,4 @@
--- The names of methods, each at its rank, and which of them count.
+-- The names of methods, by rank, and which of them count.
 use Rattle.std.proofs.Common.{ℕ, ◌≡◌, ◌+◌, ◌<◌, Bool, true, false, not, List, length, ap, sym, subst, ◌∙◌}
 use Rattle.std.specs.Prelude.{Option, Some, None, slice_get, MatchOption, ◌↔◌}
 use Rattle.std.proofs.lemmas.Bool.{false≢true, true≢false, false_from_ne_true, not-true, not_from_false}
@@ -16,7 +16,7 @@ use Rattle.types_members.proofs.Marking.{MarksBelow}
 use Rattle.types_members.proofs.Noting.{names_next, names_skip}
 use Rattle.types_members.proofs.Owning.{HasOwner}
 
--- the function of that rank is a method of that name of that definition
+-- the function of this rank is a method of this name of the definition
 pub record IsMethodNamed (p : Package) (rank definition : ℕ) (name : List ℕ) : Type 0 where
   pub method : PlacedFunction
   pub is_method : IsMethodOf p definition name rank method
@@ -25,7 +25,7 @@ pub same_function : (p : Package) (rank : ℕ) (f g : PlacedFunction) → slice_
     slice_get (package_functions p) rank ≡ Some g → g ≡ f
 same_function p rank f g e h = same_Some g f (sym h ∙ e)
 
--- a method belongs to one definition
+-- a method belongs to at most one definition
 pub one_owner : (p : Package) → WellFormed p.layout → (rank d e : ℕ) (m n : List ℕ) (f g : PlacedFunction) → IsMethodOf p d m rank f →
     IsMethodOf p e n rank g → e ≡ d
 one_owner p w rank d e m n f g a b =
@@ -36,11 +36,11 @@ one_owner p w rank d e m n f g a b =
     let bound : b.declaration ≡ a.declaration = one_binding p w f.file a.receiver.type_name b.declaration a.declaration binds a.binds in
     one_rank type_place (package_types p) p.layout a.declaration e d (subst (λ x. DeclaresType p x e) bound b.of_type) a.of_type
 
--- and has one name
+-- a method has at most one name
 pub one_method_name : (p : Package) (rank d e : ℕ) (m n : List ℕ) (f g : PlacedFunction) → IsMethodOf p d m rank f → IsMethodOf p e n rank g → n ≡ m
 one_method_name p rank d e m n f g a b = sym b.named ∙ ap (λ x. spelled p x.file x.function.name) (same_function p rank f g a.has_rank b.has_rank) ∙ a.named
 
--- the definition that a method belongs to is one of the package
+-- the definition of a method is one of the package
 pub owner_within : (p : Package) (rank d : ℕ) → IsMethodOn p rank d → d < length (package_types p)
 owner_within p rank d m = slice_get_within (package_types p) d m.is_method.of_type.item m.is_method.of_type.has_rank
 
@@ -48,7 +48,7 @@ pub owner_in_range : (p : Package) (rank : ℕ) (o : Option ℕ) → HasOwner p 
 owner_in_range p rank None h = tt
 owner_in_range p rank (Some d) h = owner_within p rank d h
 
--- one more function
+-- One more function
 
 method_here : (p : Package) (rank d : ℕ) (f : PlacedFunction) → slice_get (package_functions p) rank ≡ Some f → IsMethodOn p rank d →
     IsMethodOf p d (spelled p f.file f.function.name) rank f
@@ -112,14 +112,14 @@ pub are_counting_methods : (p : Package) (marks : List Bool) (count : ℕ) → c
     MarksBelow (CountsAsMethod p) marks count → AreCountingMethods p marks
 are_counting_methods p marks count e h = record { all = h.all ∙ e; each = λ rank lt. h.each rank (subst (λ n. rank < n) (sym e) lt) }
 
--- a method whose name was noted
+-- a method whose name was added
 pub noted_method : (p : Package) (f : PlacedFunction) (o : Option ℕ) (d : ℕ) (name : List ℕ) (old new : ℕ → List ℕ → Bool) (counts : Bool) → o ≡ Some d →
     name ≡ spelled p f.file f.function.name →
     NotesName old new d name → ((counts ≡ true) ↔ ((old d name ≡ false) × (HasFieldNamed p d name → ⊥))) → NotesMethod p f o old new counts
 noted_method p f o d name old new counts some e notes says =
     method {definition = d} some (subst (NotesName old new d) e notes) (subst (λ n. (counts ≡ true) ↔ ((old d n ≡ false) × (HasFieldNamed p d n → ⊥))) e says)
 
--- whether a method counts whose name was noted
+-- whether a method whose name was added counts
 pub counts_if : (p : Package) (d : ℕ) (name : List ℕ) (noted is_new has : Bool) → is_new ≡ not noted → is_new ≡ true → (has ≡ true) ↔ HasFieldNamed p d name →
     (not has ≡ true) ↔ ((noted ≡ false) × (HasFieldNamed p d name → ⊥))
 counts_if p d name noted is_new has e t h = (

@@ -1,4 +1,4 @@
--- Sets of borrowed names, asked for any bytes; and one set for each definition.
+-- Sets of borrowed names, searched for any bytes, one set for each definition.
 use Rattle.std.proofs.Common.{ℕ, ◌≡◌, ◌<◌, inl, inr, true, Ordering, List, length, ap, sym, subst, ◌∙◌}
 use Rattle.std.specs.Prelude.{Some, slice_get}
 use Rattle.std.specs.Borrow.{Bor}
@@ -33,7 +33,7 @@ pub sets_name : (old new : BTreeSet (Bor (List ℕ))) (key : Bor (List ℕ)) →
 unfolding KeepsOthers
 sets_name old new key u = record { here = u.1; elsewhere = λ n ne. u.3 (is_at (finds n)) (finds_one n) (finds_other n key ne) }
 
--- a name that is noted in the row of a definition
+-- a name is added to the set of a definition
 pub notes_in_row : (rows : List (BTreeSet (Bor (List ℕ)))) (definition : ℕ) (old new : BTreeSet (Bor (List ℕ))) (name : List ℕ) → definition < length rows →
     slice_get rows definition ≡ Some old →
     SetsName (has_name old) (has_name new) name → NotesName (λ d n. row_has (slice_get rows d) n) (λ d n. row_has (slice_get (set rows definition new) d) n)

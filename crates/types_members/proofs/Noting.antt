@@ -1,11 +1,11 @@
--- Names noted one item after the other.
+-- Names added item by item.
 use Rattle.std.proofs.Common.{ℕ, ◌≡◌, ◌+◌, ◌<◌, inl, inr, Bool, true, false, not, List, sym, subst, ◌∙◌, arith}
 use Rattle.std.specs.Prelude.{◌↔◌}
 use Rattle.std.proofs.lemmas.Bool.{cases_lt, cases_eq, true≢false, false≢true, not-true, not_from_false, false_from_ne_true}
 use Rattle.types_members.specs.MemberNames.{Naming, NotesName, AreNamesBelow}
 use Rattle.types_declared.proofs.ByteKeys.{cases_bytes}
 
--- an item whose name no earlier item has for the same definition
+-- no earlier item has the item's name in its definition
 pub record IsFirstNamed (K : Naming) (item : ℕ) : Type 0 where
   pub definition : ℕ
   pub name : List ℕ
@@ -15,7 +15,7 @@ pub record IsFirstNamed (K : Naming) (item : ℕ) : Type 0 where
 pub names_none : (K : Naming) (noted : ℕ → List ℕ → Bool) → ((d : ℕ) (n : List ℕ) → noted d n ≡ false) → AreNamesBelow K 0 noted
 names_none K noted none = record { holds = λ i d n lt k. absurd (omega arith); only = λ d n e. absurd (false≢true (sym (none d n) ∙ e)) }
 
--- one more item, which has just that name
+-- one more item has exactly this name
 pub names_next : (K : Naming) (count d : ℕ) (n : List ℕ) (old new : ℕ → List ℕ → Bool) → K count d n →
     ((e : ℕ) (m : List ℕ) → K count e m → (e ≡ d) × (m ≡ n)) → NotesName old new d n →
     AreNamesBelow K count old → AreNamesBelow K (count + 1) new
@@ -41,7 +41,7 @@ names_next K count d n old new is only notes h = record {
   ];
 }
 
--- one more item, which has no name
+-- one more item has no name
 pub names_skip : (K : Naming) (count : ℕ) (noted : ℕ → List ℕ → Bool) → ((e : ℕ) (m : List ℕ) → K count e m → ⊥) → AreNamesBelow K count noted →
     AreNamesBelow K (count + 1) noted
 names_skip K count noted none h = record {
@@ -52,7 +52,7 @@ names_skip K count noted none h = record {
   only = λ e m t. let w = h.only e m t in let lt : w.0 < count = w.1.0 in (w.0, (omega arith, w.1.1));
 }
 
--- a name that was not noted is the first
+-- an item whose name is new is the first of its name
 pub first_if_new : (K : Naming) (count d : ℕ) (n : List ℕ) (noted : ℕ → List ℕ → Bool) (added : Bool) → K count d n →
     ((e : ℕ) (m : List ℕ) → K count e m → (e ≡ d) × (m ≡ n)) → added ≡ not (noted d n) →
     AreNamesBelow K count noted → (added ≡ true) ↔ IsFirstNamed K count

@@ -1,4 +1,4 @@
--- Methods and the definitions that they belong to.
+-- Methods and their definitions.
 use Rattle.std.proofs.Common.{ℕ, ◌≡◌, ◌+◌, ◌<◌, inl, inr, List, [], ◌∷◌, ◌++◌, length, get_or, ap, sym, subst, refl, ◌∙◌, arith}
 use Rattle.std.specs.Prelude.{Option, Some, None, slice_get, slice_index_or, MatchOption}
 use Rattle.std.proofs.lemmas.Bool.{cases_lt}
@@ -12,7 +12,7 @@ use Rattle.types_declared.specs.Definitions.{IsMethodOf}
 use Rattle.types_members.specs.MembersView.{IsMethodOn, AreOwners}
 use Rattle.types_members.specs.MethodsView.{IsOwner, IsOwnedBy}
 
--- what a name alone mentions
+-- the definition that an unqualified name is bound to
 pub bound_definition : (p : Package) (file name rank : ℕ) → Mentions p file (Local name) rank → (d : ℕ) × (BindsToken p file name d × DeclaresType p d rank)
 bound_definition p file name rank (by_name {d = d} binds declares) = (d, (binds, declares))
 
@@ -33,7 +33,7 @@ owned_by p f r (Some rank) e h =
       λ d own. h.1 d (owner_mentions p f r e d own),
     )
 
--- the function of a rank
+-- The function of a rank
 
 method_from : (p : Package) (rank d : ℕ) (f : PlacedFunction) → slice_get (package_functions p) rank ≡ Some f → IsOwner p f d →
     IsMethodOf p d (spelled p f.file f.function.name) rank f
@@ -62,7 +62,7 @@ pub has_owner : (p : Package) (rank : ℕ) (f : PlacedFunction) (o : Option ℕ)
 has_owner p rank f None e h = λ d m. h d (owner_from p rank d m.name f m.method e m.is_method)
 has_owner p rank f (Some d) e h = record { name = spelled p f.file f.function.name; method = f; is_method = method_from p rank d f e h.0 }
 
--- the owners of the functions below a rank
+-- owners has for each function below count the definition of which it is a method, or none
 pub record OwnersBelow (p : Package) (owners : List (Option ℕ)) (count : ℕ) : Type 0 where
   pub all : length owners ≡ count
   pub each : (rank : ℕ) → rank < count → HasOwner p rank (slice_index_or owners rank None)

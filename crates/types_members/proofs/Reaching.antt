@@ -1,4 +1,4 @@
--- What numbers reach along links, and the cycles that follow.
+-- Reachability of numbers along links, and cycles.
 use Rattle.std.proofs.Common.{Bool, not, ℕ, ◌≡◌, ◌+◌, ◌<◌, ◌≤◌, inl, inr, true, List, [], ◌∷◌, ◌++◌, length, get_or, refl, sym, ap, subst, ◌∙◌, arith}
 use Rattle.std.specs.Prelude.{slice_get, ◌↔◌}
 use Rattle.std.specs.Global.{Vec}
@@ -9,7 +9,7 @@ use Rattle.types_declared.specs.Spread.{Leads, IsReached, first, behind, row_of,
 use Rattle.types_declared.specs.Broken.{AddsLinks}
 use Rattle.types_members.specs.Cycles.{IsOnCycle, Reaches, AreOrigins, IsTurned, AreAtMost, Falls, HasAlike, Tells}
 
--- one way behind another
+-- Joining two ways
 
 reached_then : (links : List (Vec ℕ)) (B C : ℕ → Type 0) (q : ℕ) → ((x : ℕ) → B x → IsReached links C x) → IsReached links B q → IsReached links C q
 reached_then links B C q to (first b) = to q b
@@ -23,12 +23,12 @@ reaches_turned links back turned a q (first e) = first (sym e)
 reaches_turned links back turned a q (behind {a = m} reached leads) =
     reaches_then links q m a (behind (first refl) (turned m q leads)) (reaches_turned links back turned a m reached)
 
--- a way from a number over one that it leads to, and back
+-- a way over a number that n links to, and back to n, is a cycle
 cycle_over : (links : List (Vec ℕ)) (n q t : ℕ) → Leads links n q → Reaches links q t → Reaches links t n → IsOnCycle links n
 cycle_over links n q t leads out home =
     reached_then links (λ x. x ≡ q) (Leads links n) n (λ x e. first (subst (Leads links n) (sym e) leads)) (reaches_then links q t n out home)
 
--- what is reached from what a number leads to has no greater value than one of these
+-- along links whose values don't rise, a number reached has no greater value than the first number linked to
 fallen : (links : List (Vec ℕ)) (values : List ℕ) → Falls links values → (n q : ℕ) → IsReached links (Leads links n) q →
     (b : ℕ) × (Leads links n b × (get_or values q 0 ≤ get_or values b 0))
 fallen links values falls n q (first leads) = (q, (leads, omega arith))
@@ -36,7 +36,7 @@ fallen links values falls n q (behind {a = a} reached leads) =
     let above = fallen links values falls n a reached in
     (above.0, (above.1.0, omega (arith, falls a q leads, above.1.1)))
 
--- what the values of a number and of those that it leads to tell
+-- What the values of a number and of those that it links to say
 
 pub clear_by_values : (links : List (Vec ℕ)) (values : List ℕ) (n : ℕ) → Falls links values →
     (HasAlike values (row_of (slice_get links n)) (get_or values n 0) → ⊥) → IsOnCycle links n → ⊥
@@ -52,7 +52,7 @@ shown_by_ends links values falls origins ends n linked within told alike =
     let t : ℕ = get_or origins n 0 in
     cycle_over links n q t alike.1.0 (subst (Reaches links q) alike.1.1 (told.end q (linked n q alike.1.0))) (told.origin n within)
 
--- origins
+-- Origins
 
 pub record OwnBelow (own : List ℕ) (count : ℕ) : Type 0 where
   pub size : length own ≡ count
@@ -94,7 +94,7 @@ origins_next links origins a b v leads from to is h = record {
   ];
 }
 
--- links the other way round, as far as a loop has come
+-- Reversed links, before a loop's index
 
 pub turned_none : (links back : List (Vec ℕ)) → length back ≡ length links + 1 → ((a b : ℕ) → Leads back a b → ⊥) → IsTurned links back
 turned_none links back size none = record { size = omega arith; only = λ a b l. absurd (none a b l) }
@@ -109,7 +109,7 @@ turned_next links old new from to leads more h = record {
   ];
 }
 
--- components
+-- Components
 
 pub told : (links back : List (Vec ℕ)) (values origins ends : List ℕ) (falls : _) → (falls ≡ true → Falls links values) → IsTurned links back →
     AreOrigins links origins → AreOrigins back ends → Tells links values falls origins ends
@@ -119,12 +119,12 @@ told links back values origins ends falls falling turned from to = record {
   end = λ q lt. reaches_turned links back turned.only (get_or ends q 0) q (to.each q (omega (arith, to.size, turned.size)));
 }
 
--- values along links, as far as a loop has come
+-- Values along links, before a loop's index
 
 abbrev pub FallsBelow : List (Vec ℕ) → List ℕ → ℕ → Type 0
 FallsBelow links values count = (q : ℕ) → q < count → AreAtMost values (row_of (slice_get links q)) (get_or values q 0)
 
--- what tests of values tell
+-- What tests of values say
 
 alike_as : (vs ws xs ys : List ℕ) (v w : ℕ) → vs ≡ ws → xs ≡ ys → v ≡ w → HasAlike vs xs v → HasAlike ws ys w
 alike_as vs ws xs ys v w e f g h = subst (HasAlike ws ys) g (subst (λ z. HasAlike ws z v) f (subst (λ z. HasAlike z xs v) e h))

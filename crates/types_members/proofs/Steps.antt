@@ -1,4 +1,4 @@
--- Steps from definitions to their underlying types, from their parts.
+-- Steps from definitions to their underlying types, part by part.
 use Rattle.std.proofs.Common.{ℕ, zero, suc, ◌≡◌, ◌+◌, ◌<◌, ◌≤◌, inl, inr, Bool, true, false, List, [], ◌∷◌, ◌++◌, length, get_or, ap, sym, subst, refl, ◌∙◌}
 use Rattle.std.proofs.Common.{arith}
 use Rattle.std.specs.Prelude.{Option, Some, None, slice_get, map}
@@ -25,7 +25,7 @@ use Rattle.types_declared.proofs.Naming.{one_named}
 use Rattle.types_declared.proofs.DeclaredPaths.{get_before, get_last}
 use Rattle.types_declared.proofs.OneUnderlying.{BodyHas, of_body, none_beyond}
 
--- one step from a definition, of this package or another
+-- The step from a definition of this package or another
 
 pub from_imported : (p : Package) (s : Symbol) (u : types.Underlying) → (s.package ≡ p.path → ⊥) →
     u ≡ ((p.interface_of s.package).definition s.rank).underlying → HasUnderlying p (Defined s) u
@@ -41,7 +41,7 @@ pub from_own : (p : Package) (s : Symbol) → s.package ≡ p.path → (step : S
     IsStepFrom p (Defined s) step
 from_own p s e step h = subst (λ t. IsStepFrom p t step) (sym (own_symbol p s e)) h
 
--- one step from a definition that is written as a Type
+-- The step from a definition whose body is a type expression
 
 pub by_nothing : (p : Package) (file : ℕ) (tree : TypeTree) → ((t : PlainType) → Names p file tree t → ⊥) → IsStepBy p file tree Nothing
 by_nothing p file tree none = λ t u names h. none t names
@@ -65,7 +65,7 @@ pub of_struct : (p : Package) (rank : ℕ) (d : PlacedType) (k o c : ℕ) (fs : 
     HasUnderlying p (Defined (symbol_in p rank)) u
 of_struct p rank d k o c fs u is written e = subst (HasUnderlying p (Defined (symbol_in p rank))) (sym e) (struct is written)
 
--- what holds of each item, where one more is pushed
+-- each item of a list has a property after one more is pushed
 pub each_push : {X : Type 0} (P : ℕ → X → Type 0) (old new : List X) (n : ℕ) (x : X) → new ≡ old ++ (x ∷ []) → length old ≡ n →
     ((r : ℕ) (y : X) → slice_get old r ≡ Some y → P r y) → P n x →
     (r : ℕ) (y : X) → slice_get new r ≡ Some y → P r y
@@ -80,7 +80,7 @@ each_push P old new n x is size each last r y h =
           subst (λ k. P k y) (sym (same ∙ size)) (subst (P n) at last))
     ]
 
--- links, as far as a loop has come
+-- Links, before a loop's index
 
 pub record LinksBelow (steps : List Step) (links : List (Vec ℕ)) (count : ℕ) : Type 0 where
   pub size : length links ≡ suc (length steps)
@@ -113,7 +113,7 @@ all_links steps links count e h = record {
 pub links_within : (steps : List Step) (links : List (Vec ℕ)) → AreStepLinks steps links → (a b : ℕ) → Leads links a b → b < length links
 links_within steps links h a b l = let lt : b < length steps = slice_get_within steps b (Continues a) (h.only a b l) in omega (arith, h.size)
 
--- the marks of steps that end
+-- The marks of steps that end
 
 abbrev ends_at : Option Step → Bool
 ends_at None = false
@@ -134,7 +134,7 @@ end_found : (o : Option Step) → ends_at o ≡ true → (u : Underlying) × (o 
 end_found None e = absurd (false≢true e)
 end_found (Some s) e = let found = end_there s e in (found.0, ap Some found.1)
 
--- the order of steps
+-- The order of steps
 
 step_at : (steps : List Step) (links : List (Vec ℕ)) (marks : List Bool) (order : List ℕ) → AreStepLinks steps links →
     marks ≡ map is_end steps ++ (false ∷ []) → IsOrderOf links (IsMarked marks) order →
@@ -163,6 +163,6 @@ ends_size steps links marks l m =
     let e : length marks ≡ length (map is_end steps ++ (false ∷ [])) = ap length m in
     omega (arith, l.size)
 
--- where a step continues to, there is a definition
+-- a step continues only to a definition of the package
 pub step_within : (p : Package) (steps : List Step) → AreSteps p steps → (rank to : ℕ) → slice_get steps rank ≡ Some (Continues to) → to < length steps
 step_within p steps are rank to e = let lt : to < length (package_types p) = (are.each rank (Continues to) e).1 in omega (arith, are.all)

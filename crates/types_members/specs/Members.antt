@@ -1,4 +1,4 @@
--- The faults of members: fields and methods that do not count, and type definitions that contain themselves.
+-- The faults of members: repeated fields and methods, and type definitions that contain themselves.
 use Rattle.std.specs.Prelude.{ℕ, ◌≡◌, ◌⊎◌, List, Some, slice_get, Contains}
 use Rattle.base_files.specs.declared.fault_kind.FaultKind.TheVariants as kind
 use Rattle.types_declared.specs.declared.fault.Fault.{Fault}
@@ -7,7 +7,7 @@ use Rattle.types_declared.specs.Package.{Package, PlacedType, PlacedFunction, pa
 use Rattle.types_declared.specs.Written.{BindsToken, DeclaresType, written_types}
 use Rattle.types_declared.specs.Definitions.{PlacedField, IsFieldOf, IsCountingField, IsMethodOf, IsCountingMethod}
 
--- a field that does not count
+-- the fault, at its name, of a field that doesn't count
 pub record IsRepeatedField (p : Package) (f : Fault) : Type 0 where
   pub definition : ℕ
   pub name : List ℕ
@@ -17,7 +17,7 @@ pub record IsRepeatedField (p : Package) (f : Fault) : Type 0 where
   pub displaced : IsCountingField p definition name rank field → ⊥
   pub at : f ≡ record { file = field.file; token = field.name; kind = kind.Repeated }
 
--- a method that does not count
+-- the fault, at its name, of a method that doesn't count
 pub record IsRepeatedMethod (p : Package) (f : Fault) : Type 0 where
   pub definition : ℕ
   pub name : List ℕ
@@ -27,7 +27,7 @@ pub record IsRepeatedMethod (p : Package) (f : Fault) : Type 0 where
   pub displaced : IsCountingMethod p definition name rank method → ⊥
   pub at : f ≡ record { file = method.file; token = method.function.name; kind = kind.Repeated }
 
--- the definition of one rank holds that of another, as its own type or as a field, and not behind a pointer or slice
+-- the definition outer contains the definition inner as its own type or as the type of a field, not under a pointer or slice
 pub record HoldsDirectly (p : Package) (outer inner : ℕ) : Type 0 where
   pub definition : PlacedType
   pub has_rank : slice_get (package_types p) outer ≡ Some definition
@@ -37,12 +37,15 @@ pub record HoldsDirectly (p : Package) (outer inner : ℕ) : Type 0 where
   pub binds : BindsToken p definition.file name declaration
   pub names : DeclaresType p declaration inner
 
--- the same, directly or through others
+-- the definition of the first rank contains that of the second, directly or through other definitions
 pub data Holds (p : Package) : ℕ → ℕ → Type 0 where
   directly : {a b : ℕ} → HoldsDirectly p a b → Holds p a b
   through : {a b c : ℕ} → HoldsDirectly p a b → Holds p b c → Holds p a c
 
--- a type definition that contains itself
+-- The fault, at its name, of a type definition that contains itself:
+--
+--   type A struct { b B }
+--   type B struct { a A }
 pub record IsRecursive (p : Package) (f : Fault) : Type 0 where
   pub rank : ℕ
   pub definition : PlacedType
@@ -50,5 +53,6 @@ pub record IsRecursive (p : Package) (f : Fault) : Type 0 where
   pub holds_itself : Holds p rank rank
   pub at : f ≡ record { file = definition.file; token = definition.spec.name; kind = kind.Recursive }
 
+-- f is a fault of the package's members
 abbrev pub IsMemberFault : Package → Fault → Type 0
 IsMemberFault p f = IsRepeatedField p f ⊎ (IsRepeatedMethod p f ⊎ IsRecursive p f)

@@ -1,4 +1,4 @@
--- Which type definitions hold themselves, as it is found: along links from each to those that it holds.
+-- The type definitions that contain themselves, by links from each definition to those that it contains directly.
 use Rattle.std.specs.Prelude.{ℕ, ◌≡◌, ◌<◌, ◌↔◌, ◌⊎◌, Bool, List, length, Contains}
 use Rattle.std.specs.Global.{Vec}
 use Rattle.go_ast.specs.Tree.{TypeTree, Local}
@@ -7,13 +7,13 @@ use Rattle.types_declared.specs.Written.{BindsToken, DeclaresType}
 use Rattle.types_members.specs.Members.{HoldsDirectly, Holds}
 use Rattle.types_declared.specs.Spread.{Leads, IsMarked}
 
--- the items of which P holds were added, and no other
+-- the items with the property P were added, and no other
 pub record AddsItems (old new : List ℕ) (P : ℕ → Type 0) : Type 0 where
   pub keeps : (q : ℕ) → Contains old q → Contains new q
   pub holds : (q : ℕ) → P q → Contains new q
   pub only : (q : ℕ) → Contains new q → Contains old q ⊎ P q
 
--- a Type is, by name, the definition of that rank
+-- the type expression is an unqualified name that is bound to the definition of this rank
 pub record IsHeldAs (p : Package) (file : ℕ) (tree : TypeTree) (rank : ℕ) : Type 0 where
   pub name : ℕ
   pub is_name : tree ≡ Local name
@@ -21,16 +21,16 @@ pub record IsHeldAs (p : Package) (file : ℕ) (tree : TypeTree) (rank : ℕ) : 
   pub binds : BindsToken p file name declaration
   pub names : DeclaresType p declaration rank
 
--- one of some Types is
+-- one of the type expressions is an unqualified name that is bound to the definition of this rank
 abbrev pub IsHeldAsOne : Package → ℕ → List TypeTree → ℕ → Type 0
 IsHeldAsOne p file ts rank = (t : TypeTree) × (Contains ts t × IsHeldAs p file t rank)
 
--- the links from definitions to those that they hold
+-- the links lead exactly from each definition to those that it contains directly
 pub record AreHeld (p : Package) (links : List (Vec ℕ)) : Type 0 where
   pub size : length links ≡ length (package_types p)
   pub each : (a b : ℕ) → Leads links a b ↔ HoldsDirectly p a b
 
--- a mark for each definition of a package, by its rank: whether it holds itself
+-- the list marks exactly the definitions of the package that contain themselves, by rank
 pub record AreRecursive (p : Package) (marks : List Bool) : Type 0 where
   pub all : length marks ≡ length (package_types p)
   pub each : (rank : ℕ) → rank < length (package_types p) → IsMarked marks rank ↔ Holds p rank rank

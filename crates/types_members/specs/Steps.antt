@@ -1,4 +1,4 @@
--- Where following the names that type definitions write leads, one step at a time.
+-- The way from a type definition to its underlying type, one step at a time.
 use Rattle.std.specs.Prelude.{ℕ, suc, ◌≡◌, ◌<◌, Bool, true, false, List, Option, Some, None, length, option_map, slice_get, slice_index_or}
 use Rattle.std.specs.Global.{Vec}
 use Rattle.go_ast.specs.Tree.{TypeTree, Other}
@@ -13,7 +13,7 @@ use Rattle.types_declared.specs.Written.{Names}
 use Rattle.types_declared.specs.Definitions.{HasUnderlying}
 use Rattle.types_declared.specs.Spread.{Leads}
 
--- one definition is written as the name of another of the package
+-- the definition from has as its body a type expression that names the definition to, as in `type A B`
 pub record NamesDefinition (p : Package) (from to : ℕ) : Type 0 where
   pub definition : PlacedType
   pub has_rank : slice_get (package_types p) from ≡ Some definition
@@ -21,61 +21,64 @@ pub record NamesDefinition (p : Package) (from to : ℕ) : Type 0 where
   pub written : definition.spec.body ≡ Other tree
   pub names : Names p definition.file tree (Defined (symbol_in p to))
 
--- one step from a type: to its underlying type, or to the definition of the package that it is
+-- the step from the type t: to its underlying type, to the definition of the package that it is, or nowhere
 abbrev pub IsStepFrom : Package → PlainType → Step → Type 0
 IsStepFrom p t (Ends u) = HasUnderlying p t (underlying_of u)
 IsStepFrom p t (Continues to) = (t ≡ Defined (symbol_in p to)) × (to < length (package_types p))
 IsStepFrom p t Nothing = (u : types.Underlying) → HasUnderlying p t u → ⊥
 
--- one step from a definition that is written as a Type
+-- the step from a definition whose body is this type expression
 abbrev pub IsStepBy : Package → ℕ → TypeTree → Step → Type 0
 IsStepBy p file tree (Ends u) = (t : PlainType) × (Names p file tree t × HasUnderlying p t (underlying_of u))
 IsStepBy p file tree (Continues to) = Names p file tree (Defined (symbol_in p to)) × (to < length (package_types p))
 IsStepBy p file tree Nothing = (t : PlainType) (u : types.Underlying) → Names p file tree t → HasUnderlying p t u → ⊥
 
--- one step from the definition of that rank
+-- the step from the definition of this rank
 abbrev pub IsStep : Package → ℕ → Step → Type 0
 IsStep p rank (Ends u) = HasUnderlying p (Defined (symbol_in p rank)) (underlying_of u)
 IsStep p rank (Continues to) = NamesDefinition p rank to × (to < length (package_types p))
 IsStep p rank Nothing = (u : types.Underlying) → HasUnderlying p (Defined (symbol_in p rank)) u → ⊥
 
--- the steps from the definitions of a package, by their ranks
+-- steps has the steps from the definitions of the package, by rank
 pub record AreSteps (p : Package) (steps : List Step) : Type 0 where
   pub all : length steps ≡ length (package_types p)
   pub each : (rank : ℕ) (s : Step) → slice_get steps rank ≡ Some s → IsStep p rank s
 
--- links from definitions to those that are written as their names
+-- the links lead exactly from each definition to those whose step continues to it
 pub record AreStepLinks (steps : List Step) (links : List (Vec ℕ)) : Type 0 where
   pub size : length links ≡ suc (length steps)
   pub holds : (to rank : ℕ) → slice_get steps rank ≡ Some (Continues to) → Leads links to rank
   pub only : (to rank : ℕ) → Leads links to rank → slice_get steps rank ≡ Some (Continues to)
 
+-- whether a step ends at an underlying type
 abbrev pub is_end : Step → Bool
 is_end (Ends u) = true
 is_end (Continues to) = false
 is_end Nothing = false
 
+-- the order contains the definition of this rank
 abbrev pub IsInOrder : List ℕ → ℕ → Type 0
 IsInOrder order rank = (i : ℕ) × ((i < length order) × (slice_index_or order i 0 ≡ rank))
 
--- a step that ends, or continues to a definition that stands before
+-- the step ends, or continues to a definition that comes before index i in the order
 abbrev pub IsBehind : Step → List ℕ → ℕ → Type 0
 IsBehind (Ends u) order i = Unit {0}
 IsBehind (Continues to) order i = (j : ℕ) × ((j < i) × (slice_index_or order j 0 ≡ to))
 IsBehind Nothing order i = ⊥
 
--- the definitions from which steps lead to an end, each behind the one that its step continues to
+-- The order contains exactly the definitions from which steps lead to an end, each after the one that its step continues to.
 pub record IsStepOrder (steps : List Step) (order : List ℕ) : Type 0 where
   pub each : (i : ℕ) → i < length order → (s : Step) × ((slice_get steps (slice_index_or order i 0) ≡ Some s) × IsBehind s order i)
   pub ends : (rank : ℕ) (u : Underlying) → slice_get steps rank ≡ Some (Ends u) → IsInOrder order rank
   pub continues : (rank to : ℕ) → slice_get steps rank ≡ Some (Continues to) → IsInOrder order to → IsInOrder order rank
 
--- the underlying type that a step leads to, by those that were found
+-- the underlying type that a step leads to, by those already found
 abbrev pub taken : Step → List (Option Underlying) → Option types.Underlying
 taken (Ends u) found = Some (underlying_of u)
 taken (Continues to) found = option_map underlying_of (slice_index_or found to None)
 taken Nothing found = None
 
+-- the underlying type that a step, if there is one, leads to, by those already found
 abbrev pub taken_at : Option Step → List (Option Underlying) → Option types.Underlying
 taken_at None found = None
 taken_at (Some s) found = taken s found

@@ -1,6 +1,5 @@
-//! The components of links, in each of which every number leads to every other: by a search along links in the order in which
-//! one against them left numbers, and one against them in the order of that. That these are the components is not proved:
-//! what is told by them is checked for each number.
+//! Finds the strongly connected components of links by two depth-first searches: against the links, and then along them in the reverse
+//! order in which the first left numbers. That these are the components is not proved: what they say of a number is checked.
 ghost use Rattle.std.specs.Prelude.{IfOk};
 ghost use Rattle.types_declared.specs.Spread.{AreLinked};
 ghost use Rattle.types_members.specs.Cycles.{AreOrigins, IsTurned, Tells};
@@ -11,20 +10,20 @@ use crate::values::falls;
 use std::alloc::{AllocError, Global};
 use types_declared::{no_links, note, row};
 
-/// What tells of numbers whether they lead back to themselves.
+/// What two searches found of links: enough to decide for each number whether it lies on a cycle.
 #[derive(Drop)]
 pub(crate) struct Components {
-    /// The turn in which the component of each number was found.
+    /// The turn of the search along links in which each number was found.
     pub(crate) turns: Vec<usize>,
-    /// Whether no number leads to one of a later turn.
+    /// Whether no number links to one of a later turn.
     pub(crate) falls: bool,
-    /// For each number itself, or one that leads to it.
+    /// For each number, itself or a number that leads to it.
     pub(crate) origins: Vec<usize>,
-    /// For each number itself, or one that it leads to.
+    /// For each number, itself or a number that it leads to.
     pub(crate) ends: Vec<usize>,
 }
 
-/// The same links the other way round.
+/// Returns the links reversed.
 fn reversed(alloc: Global, links: &[Vec<usize>]) -> Result<Vec<Vec<usize>>, AllocError>
     requires { AreLinked links.now }
     ensures { IfOk result (λ back. IsTurned links.now back.items) }
@@ -38,7 +37,7 @@ fn reversed(alloc: Global, links: &[Vec<usize>]) -> Result<Vec<Vec<usize>>, Allo
     Ok(back)
 }
 
-/// A search along links, in the order in which one against them left numbers.
+/// Searches along links, from the numbers in the reverse order in which a search against the links left them.
 fn along(
     alloc: Global,
     links: &[Vec<usize>],
@@ -49,7 +48,7 @@ fn along(
     search_from(alloc, links, &against.left)
 }
 
-/// For each number one that links the other way round led to it from, in an order.
+/// Returns for each number the one from which a search along the reversed links found it.
 fn ends(alloc: Global, back: &[Vec<usize>], order: &[usize]) -> Result<Vec<usize>, AllocError>
     ensures { IfOk result (λ ends. AreOrigins back.now ends.items) }
 {
@@ -57,7 +56,7 @@ fn ends(alloc: Global, back: &[Vec<usize>], order: &[usize]) -> Result<Vec<usize
     origins(alloc, back, &against.followed)
 }
 
-/// The components of links that are given both ways round.
+/// Finds the components of links, given the links and the reversed links.
 fn components_of(
     alloc: Global,
     links: &[Vec<usize>],
@@ -78,7 +77,7 @@ fn components_of(
     })
 }
 
-/// The components of links.
+/// Finds the components of links.
 pub(crate) fn find_components(alloc: Global, links: &[Vec<usize>]) -> Result<Components, AllocError>
     requires { AreLinked links.now }
     ensures { IfOk result (λ c. Tells links.now c.turns.items c.falls c.origins.items c.ends.items) }

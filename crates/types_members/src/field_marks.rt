@@ -1,4 +1,4 @@
-//! Which fields count: of two fields of one name in one struct the first.
+//! Decides which fields count: the first of each name in a struct.
 ghost use Rattle.std.specs.Prelude.{◌≡◌, length, map, not, IfOk, OnOk};
 ghost use Rattle.types_declared.specs.Package.{spelled};
 ghost use Rattle.types_declared.specs.Definitions.{package_fields};
@@ -12,7 +12,7 @@ use crate::struct_fields::FieldDef;
 use std::alloc::{AllocError, Global};
 use types_declared::Package;
 
-/// Notes the name of a field for the definition that writes it, and tells whether it is new there.
+/// Adds the name of a field to those of its definition; returns whether it is new there.
 fn note_field<'a>(
     alloc: Global,
     unit: Package<'a>,
@@ -29,7 +29,7 @@ fn note_field<'a>(
     )
 }
 
-/// The names of the fields of each definition.
+/// Collects the names of the fields of each definition.
 pub(crate) fn struct_names<'a>(
     alloc: Global,
     unit: Package<'a>,
@@ -45,7 +45,7 @@ pub(crate) fn struct_names<'a>(
     Ok(names)
 }
 
-/// Which fields of a package count, by their ranks.
+/// Marks the fields of a package that count, by rank.
 pub fn counting_fields(
     alloc: Global,
     unit: Package<'_>,

@@ -1,4 +1,4 @@
-//! What is found of the members of a package, all of it.
+//! The underlying types, fields and methods of a package's type definitions.
 ghost use Rattle.std.specs.Prelude.{◌≡◌, map, IfOk};
 ghost use Rattle.types_declared.specs.Definitions.{package_fields};
 ghost use Rattle.types_declared.specs.PackageView.{package_of, IsIndexOf};
@@ -15,21 +15,21 @@ use std::alloc::{AllocError, Global};
 use types_declared::{Index, Package};
 use types_expr::world::Underlying;
 
-/// The fields of a package, and a mark for each: whether it counts.
+/// The fields of a package, and a mark for each that counts.
 #[derive(Drop)]
 pub struct Fields<'a> {
     pub all: Vec<FieldDef<'a>>,
     pub counting: Vec<bool>,
 }
 
-/// For each function of a package the definition whose method it is, and a mark: whether it is a method that counts.
+/// For each function of a package the definition of which it is a method, if any. A mark for each method that counts.
 #[derive(Drop)]
 pub struct Methods {
     pub owners: Vec<Option<usize>>,
     pub counting: Vec<bool>,
 }
 
-/// The underlying types of a package's definitions, by their ranks, its fields and its methods.
+/// The underlying types of a package's definitions, by rank, its fields and its methods.
 #[derive(Drop)]
 pub struct Members<'a> {
     pub underlying: Vec<Option<Underlying>>,
@@ -37,7 +37,7 @@ pub struct Members<'a> {
     pub methods: Methods,
 }
 
-/// The fields of a package, and which of them count.
+/// Collects the fields of a package and marks those that count.
 fn fields_found<'a>(
     alloc: Global,
     unit: Package<'_>,
@@ -51,7 +51,7 @@ fn fields_found<'a>(
     Ok(Fields { all, counting })
 }
 
-/// The methods of a package, and which of them count.
+/// Finds the methods of a package and marks those that count.
 fn methods_found(
     alloc: Global,
     unit: Package<'_>,
@@ -69,7 +69,7 @@ fn methods_found(
     Ok(Methods { owners, counting })
 }
 
-/// What is found of the members of a package, given the underlying types of its definitions.
+/// Finds the fields and methods of a package, given the underlying types of its definitions.
 fn members_found<'a>(
     alloc: Global,
     unit: Package<'_>,
@@ -90,7 +90,7 @@ fn members_found<'a>(
 }
 
 impl<'a> Members<'a> {
-    /// What is found of the members of a package.
+    /// Finds the underlying types, fields and methods of a package.
     pub fn of(
         alloc: Global,
         unit: Package<'_>,

@@ -1,4 +1,4 @@
-//! Which numbers lead back to themselves: told by components, and where these tell nothing, which is never, by a search.
+//! Marks the numbers that lie on a cycle of links: decided by components, or by a search where those don't decide.
 ghost use Rattle.std.specs.Prelude.{◌≡◌, ◌<◌, ◌↔◌, ℕ, length, IsTrue, IfOk};
 ghost use Rattle.types_declared.specs.Spread.{AreLinked, IsMarked, Leads};
 ghost use Rattle.types_members.specs.Cycles.{IsOnCycle, Tells};
@@ -8,7 +8,7 @@ use crate::values::{has_alike, value_at};
 use std::alloc::{AllocError, Global};
 use types_declared::{reached, row};
 
-/// Whether all that a number leads to was found in an earlier turn, so that none leads back.
+/// Whether all that a number links to was found in an earlier turn, which shows that it lies on no cycle.
 fn is_clear(links: &[Vec<usize>], told: &Components, number: usize) -> bool
     requires { Tells links.now told.now.turns.items told.now.falls told.now.origins.items told.now.ends.items }
     ensures { IsTrue result → IsOnCycle links.now number → ⊥ }
@@ -20,7 +20,7 @@ fn is_clear(links: &[Vec<usize>], told: &Components, number: usize) -> bool
     !has_alike(&told.turns, row(links, number), turn)
 }
 
-/// Whether a number that a number leads to has its origin as its end, so that it leads back.
+/// Whether some number that this one links to leads to this one's origin, which shows that it lies on a cycle.
 fn is_shown(links: &[Vec<usize>], told: &Components, number: usize) -> bool
     requires linked { AreLinked links.now }
     requires in_range { number < length links.now }
@@ -31,7 +31,7 @@ fn is_shown(links: &[Vec<usize>], told: &Components, number: usize) -> bool
     has_alike(&told.ends, row(links, number), origin)
 }
 
-/// A mark for each number that one leads to.
+/// Marks the numbers that `from` links to.
 fn led_to(alloc: Global, links: &[Vec<usize>], from: usize) -> Result<Vec<bool>, AllocError>
     requires { AreLinked links.now }
     ensures size { IfOk result (λ marks. length marks.items ≡ length links.now) }
@@ -44,7 +44,7 @@ fn led_to(alloc: Global, links: &[Vec<usize>], from: usize) -> Result<Vec<bool>,
     Ok(marks)
 }
 
-/// Whether a number leads back to itself, by a search from it.
+/// Whether a number lies on a cycle, decided by a search from it.
 fn is_on_cycle(alloc: Global, links: &[Vec<usize>], number: usize) -> Result<bool, AllocError>
     requires linked { AreLinked links.now }
     requires in_range { number < length links.now }
@@ -55,7 +55,7 @@ fn is_on_cycle(alloc: Global, links: &[Vec<usize>], number: usize) -> Result<boo
     Ok(marks[number])
 }
 
-/// Whether a number leads back to itself.
+/// Whether a number lies on a cycle.
 fn leads_back(
     alloc: Global,
     links: &[Vec<usize>],
@@ -76,7 +76,7 @@ fn leads_back(
     is_on_cycle(alloc, links, number)
 }
 
-/// A mark for each number that leads back to itself.
+/// Marks each number that lies on a cycle of links.
 pub fn cycles(alloc: Global, links: &[Vec<usize>]) -> Result<Vec<bool>, AllocError>
     requires { AreLinked links.now }
     ensures size { IfOk result (λ marks. length marks.items ≡ length links.now) }

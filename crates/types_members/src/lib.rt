@@ -1,4 +1,4 @@
-//! Cycles of declarations, and the fields and methods of types.
+//! The underlying types, fields and methods of a package's type definitions, and the faults of these.
 #![tactic(auto)]
 
 mod components;

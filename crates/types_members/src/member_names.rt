@@ -1,17 +1,17 @@
-//! Names that were noted, for each definition those of its own.
+//! Sets of names, one for each type definition.
 ghost use Rattle.std.specs.Prelude.{◌≡◌, ◌<◌, ℕ, List, false, not, length, IfOk, OnOk};
 ghost use Rattle.types_members.specs.MemberNames.{has_name, is_noted, SetsName, NotesName};
 
 use std::alloc::{AllocError, Global};
 use std::collections::BTreeSet;
 
-/// For each definition, by its rank, the names that were noted. They are borrowed.
+/// A set of borrowed names for each definition, by rank.
 #[derive(Drop)]
 pub(crate) struct MemberNames<'a> {
     rows: Vec<BTreeSet<&'a [u8]>>,
 }
 
-/// Adds a name to those of one definition, and tells whether it is new.
+/// Adds a name to a set; returns whether it is new.
 fn add_name<'a>(row: &mut BTreeSet<&'a [u8]>, name: &'a [u8]) -> Result<bool, AllocError>
     ensures added { IfOk result (λ added. added ≡ not (has_name row.old name.now)) }
     ensures set { OnOk result (SetsName (has_name row.old) (has_name row.new) name.now) }
@@ -21,7 +21,7 @@ fn add_name<'a>(row: &mut BTreeSet<&'a [u8]>, name: &'a [u8]) -> Result<bool, Al
 }
 
 impl<'a> MemberNames<'a> {
-    /// No name noted.
+    /// An empty set for each definition.
     pub(crate) fn new(alloc: Global) -> MemberNames<'a>
         ensures { (definition : ℕ) (name : List ℕ) → is_noted result definition name ≡ false }
     {
@@ -30,7 +30,7 @@ impl<'a> MemberNames<'a> {
         }
     }
 
-    /// Whether a name was noted for a definition.
+    /// Whether a name is in the set of a definition.
     pub(crate) fn has(&self, definition: usize, name: &[u8]) -> bool
         ensures { result ≡ is_noted self.now definition name.now }
     {
@@ -40,7 +40,7 @@ impl<'a> MemberNames<'a> {
         }
     }
 
-    /// Makes the rows reach to a definition.
+    /// Adds empty rows up to a definition's.
     fn reach(&mut self, alloc: Global, definition: usize) -> Result<(), AllocError>
         ensures kept { OnOk result ((d : ℕ) (n : List ℕ) → is_noted self.new d n ≡ is_noted self.old d n) }
         ensures reached { OnOk result (definition < length self.new.rows.items) }
@@ -51,7 +51,7 @@ impl<'a> MemberNames<'a> {
         Ok(())
     }
 
-    /// Notes a name for a definition, and tells whether it is new there.
+    /// Adds a name to the set of a definition; returns whether it is new there.
     pub(crate) fn note(
         &mut self,
         alloc: Global,

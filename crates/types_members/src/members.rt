@@ -1,4 +1,4 @@
-//! The faults of members: fields and methods that do not count, and type definitions that contain themselves.
+//! Finds the faults of members: repeated fields and methods, and type definitions that contain themselves.
 ghost use Rattle.std.specs.Prelude.{◌≡◌, ◌&&◌, is_some, not, map, IfOk, OnOk};
 ghost use Rattle.std.specs.List.Sorted.{IsStrictlySortedBy};
 ghost use Rattle.types_declared.specs.contracts.fault.FaultOrd.TheImpl as order;
@@ -18,7 +18,7 @@ use base_files::FaultKind;
 use std::alloc::{AllocError, Global};
 use types_declared::{Fault, Index, Package, push_if, sort};
 
-/// Adds the faults of fields that do not count.
+/// Adds the faults of fields that don't count.
 fn add_fields(
     found: &mut Vec<Fault>,
     unit: Package<'_>,
@@ -42,14 +42,14 @@ fn add_fields(
     Ok(())
 }
 
-/// Whether a function is a method that does not count.
+/// Whether a function is a method that doesn't count.
 fn is_displaced(owner: Option<usize>, counts: bool) -> bool
     ensures { result ≡ (is_some owner && not counts) }
 {
     owner.is_some() && !counts
 }
 
-/// Adds the faults of methods that do not count.
+/// Adds the faults of methods that don't count.
 #[tactic(auto, unfolding(go_ast::specs::FileView::func_view))]
 fn add_methods(
     found: &mut Vec<Fault>,
@@ -105,7 +105,7 @@ fn add_recursive(
     Ok(())
 }
 
-/// The faults of a package's members, in the order of their finding, given the definitions that hold themselves.
+/// Returns the faults of a package's members, unsorted, given the marks of the definitions that contain themselves.
 fn faults_found(
     alloc: Global,
     unit: Package<'_>,
@@ -127,7 +127,7 @@ fn faults_found(
     Ok(found)
 }
 
-/// The faults of a package's members by file and token: fields and methods that do not count, and type definitions that
+/// Returns the faults of a package's members, sorted by file and token: fields and methods that don't count, and type definitions that
 /// contain themselves.
 pub fn member_faults(
     alloc: Global,

@@ -1,4 +1,4 @@
-//! Which methods count: those whose name no field of their type's struct has, and no earlier method of the type.
+//! Decides which methods count: those with a name that no field of their type and no earlier method of their definition has.
 ghost use Rattle.std.specs.Prelude.{◌≡◌, ◌<◌, ◌↔◌, false, length, map, IsTrue, IfOk, MatchOption};
 ghost use Rattle.types_expr.specs.WorldView.{definition_of, underlying_of};
 ghost use Rattle.types_declared.specs.Package.{package_types};
@@ -18,7 +18,7 @@ use types_declared::{Function, Index, Package};
 use types_expr::symbol::Symbol;
 use types_expr::world::{Definition, Underlying};
 
-/// Whether a struct of another package has an exported field of that name, by the definition that writes it.
+/// Whether a definition of another package has an exported field of this name.
 fn definition_has(definition: &Definition, name: &[u8]) -> bool
     ensures { result ≡ exported_field ((definition_of definition.now).field name.now) }
 {
@@ -28,7 +28,7 @@ fn definition_has(definition: &Definition, name: &[u8]) -> bool
     }
 }
 
-/// Whether a struct of another package has an exported field of that name.
+/// Whether the struct of another package that `symbol` identifies has an exported field of this name.
 fn imported_has(unit: Package<'_>, symbol: &Symbol, name: &[u8]) -> bool
     ensures { result ≡ exported_field ((((package_of unit.entry).interface_of symbol.now.package).definition symbol.now.rank).field name.now) }
 {
@@ -38,14 +38,14 @@ fn imported_has(unit: Package<'_>, symbol: &Symbol, name: &[u8]) -> bool
     }
 }
 
-/// Whether a definition is one of the package.
+/// Whether a symbol is of the package.
 fn is_own(unit: Package<'_>, symbol: &Symbol) -> bool
     ensures { IsTrue result ↔ (symbol.now.package ≡ unit.entry.path.now) }
 {
     symbol.package.path() == unit.path.path()
 }
 
-/// Whether a struct has a field of that name. Names of another package are the same only where they are exported.
+/// Whether the struct that `symbol` identifies has a field of this name. In another package's struct only exported fields count.
 fn struct_has(unit: Package<'_>, structs: &MemberNames<'_>, symbol: &Symbol, name: &[u8]) -> bool
     requires { AreNamesBelow (IsFieldNamed (package_of unit)) (length (package_fields (package_of unit))) (is_noted structs.now) }
     ensures { IsTrue result ↔ StructHas (package_of unit.entry) symbol.now name.now }
@@ -57,7 +57,7 @@ fn struct_has(unit: Package<'_>, structs: &MemberNames<'_>, symbol: &Symbol, nam
     }
 }
 
-/// Whether an underlying type is a struct that has a field of that name.
+/// Whether an underlying type is a struct with a field of this name.
 #[tactic(auto, unfolding(types_expr::specs::WorldView::underlying_of))]
 fn underlying_has(
     unit: Package<'_>,
@@ -74,7 +74,7 @@ fn underlying_has(
     }
 }
 
-/// Whether the values of a definition have a field of that name.
+/// Whether the underlying type of a definition is a struct with a field of this name.
 fn has_field(
     unit: Package<'_>,
     structs: &MemberNames<'_>,
@@ -94,21 +94,21 @@ fn has_field(
     }
 }
 
-/// The name of a method, and the definition that it belongs to.
+/// The name of a method, with the rank of its definition.
 #[derive(Clone, Copy)]
 struct MethodName<'a> {
     definition: usize,
     name: &'a [u8],
 }
 
-/// A function, and the definition that it belongs to, if it is a method.
+/// A function, with the rank of the definition of which it is a method, if any.
 #[derive(Clone, Copy)]
 struct OwnedFunction<'a> {
     function: Function<'a>,
     owner: Option<usize>,
 }
 
-/// Notes the name of a method for the definition that it belongs to, and tells whether it counts.
+/// Adds the name of a method to those of its definition; returns whether the method counts.
 fn note_method<'a>(
     alloc: Global,
     unit: Package<'a>,
@@ -131,7 +131,7 @@ fn note_method<'a>(
     }
 }
 
-/// Notes the name of a function that is a method, and tells whether it counts.
+/// Adds the name of a function that is a method; returns whether the function is a method that counts.
 fn note_function<'a>(
     alloc: Global,
     unit: Package<'a>,
@@ -156,7 +156,7 @@ fn note_function<'a>(
     }
 }
 
-/// Which functions of a package are methods that count, by their ranks, given the names of its fields.
+/// Marks the functions of a package that are methods that count, by rank, given the names of its fields.
 fn method_marks(
     alloc: Global,
     unit: Package<'_>,
@@ -185,7 +185,7 @@ fn method_marks(
     Ok(marks)
 }
 
-/// Which functions of a package are methods that count, by their ranks.
+/// Marks the functions of a package that are methods that count, by rank.
 pub fn counting_methods(
     alloc: Global,
     unit: Package<'_>,

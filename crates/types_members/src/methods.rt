@@ -1,4 +1,4 @@
-//! Methods: for each function of a package the definition whose method it is.
+//! Finds for each function of a package the definition of which it is a method.
 ghost use Rattle.std.specs.Prelude.{IfOk};
 ghost use Rattle.types_declared.specs.DeclaredView.{function_of};
 ghost use Rattle.types_members.specs.MethodsView.{IsOwnedBy};
@@ -8,7 +8,7 @@ ghost use Rattle.types_declared.specs.PackageView.{package_of, IsIndexOf};
 use std::alloc::{AllocError, Global};
 use types_declared::{Function, Index, Package, local_definition};
 
-/// The definition whose method a function is, by the name that its receiver has for a type.
+/// The rank of the definition to which a function's receiver type is bound; none where the function is no method.
 #[tactic(auto, unfolding(go_ast::specs::FileView::func_view, go_ast::specs::FileView::receiver_view))]
 fn owner(unit: Package<'_>, index: &Index<'_>, function: Function<'_>) -> Option<usize>
     requires { IsIndexOf (package_of unit) index.now }
@@ -20,7 +20,7 @@ fn owner(unit: Package<'_>, index: &Index<'_>, function: Function<'_>) -> Option
     }
 }
 
-/// For each function of a package the rank of the definition whose method it is; none where it is no method.
+/// Returns for each function of a package the rank of the definition of which it is a method; none where it is no method.
 pub fn owners(
     alloc: Global,
     unit: Package<'_>,

@@ -1,4 +1,4 @@
-//! For each number one that it was reached from: itself, or one that leads to it.
+//! Finds for each number an origin: itself, or a number that leads to it.
 ghost use Rattle.std.specs.Prelude.{◌≡◌, ◌<◌, ℕ, length, slice_index_or, IfOk};
 ghost use Rattle.types_members.specs.Cycles.{AreOrigins};
 
@@ -6,7 +6,7 @@ use crate::search::SearchLink;
 use std::alloc::{AllocError, Global};
 use types_declared::row;
 
-/// The numbers below one.
+/// The numbers from 0 up to `size`, exclusive.
 pub(crate) fn numbers(alloc: Global, size: usize) -> Result<Vec<usize>, AllocError>
     ensures size { IfOk result (λ own. length own.items ≡ size) }
     ensures own { IfOk result (λ own. (q : ℕ) → q < size → slice_index_or own.items q 0 ≡ q) }
@@ -18,7 +18,7 @@ pub(crate) fn numbers(alloc: Global, size: usize) -> Result<Vec<usize>, AllocErr
     Ok(own)
 }
 
-/// Gives the number that a link leads to the origin of the one that it leads from.
+/// Gives the target of a link the origin of its source.
 fn follow(links: &[Vec<usize>], origins: &mut [usize], link: SearchLink)
     requires { AreOrigins links.now origins.old }
     ensures { AreOrigins links.now origins.new }
@@ -33,7 +33,7 @@ fn follow(links: &[Vec<usize>], origins: &mut [usize], link: SearchLink)
     }
 }
 
-/// Where links that were followed began, for each number that they led to; the others are their own origins.
+/// The origins of numbers after these links were followed in order. A number that no link leads to is its own origin.
 pub(crate) fn origins(
     alloc: Global,
     links: &[Vec<usize>],

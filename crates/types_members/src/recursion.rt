@@ -1,4 +1,4 @@
-//! Recursive type definitions: those that hold themselves, by name or in fields, and not behind a pointer or slice.
+//! Finds the type definitions that contain themselves, by name or in fields, and not under a pointer or slice.
 ghost use Rattle.std.specs.Prelude.{◌≡◌, ◌↔◌, ℕ, map, Contains, IfOk, OnOk, MatchOption};
 ghost use Rattle.go_ast.specs.View.{type_view, list_view};
 ghost use Rattle.go_ast.specs.FileView.{field_view, body_view};
@@ -11,7 +11,7 @@ use go_ast::tree::{FieldDecl, Item, TypeBody, TypeExpr};
 use std::alloc::{AllocError, Global};
 use types_declared::{Index, Package, TypeDef, local_definition};
 
-/// The definition that a Type is by name.
+/// The definition that a type expression is an unqualified name of; none where it is another type expression.
 fn held_as(unit: Package<'_>, index: &Index<'_>, file: usize, written: &TypeExpr) -> Option<usize>
     requires { IsIndexOf (package_of unit) index.now }
     ensures { MatchOption result ((r : ℕ) → IsHeldAs (package_of unit.entry) file (type_view written.now) r → ⊥)
@@ -25,7 +25,7 @@ fn held_as(unit: Package<'_>, index: &Index<'_>, file: usize, written: &TypeExpr
     }
 }
 
-/// Adds the definition that a Type is by name.
+/// Adds the definition that a type expression is an unqualified name of, if any.
 fn add_type(
     found: &mut Vec<usize>,
     unit: Package<'_>,
@@ -45,7 +45,7 @@ fn add_type(
     }
 }
 
-/// Adds the definitions that the types of fields are by name.
+/// Adds the definitions that the types of fields are unqualified names of.
 fn add_fields(
     found: &mut Vec<usize>,
     unit: Package<'_>,
@@ -62,7 +62,7 @@ fn add_fields(
     Ok(())
 }
 
-/// Adds the definitions that a definition holds.
+/// Adds the definitions that a definition's body contains directly.
 fn add_body(
     found: &mut Vec<usize>,
     unit: Package<'_>,
@@ -79,7 +79,7 @@ fn add_body(
     }
 }
 
-/// The definitions that a definition holds.
+/// Returns the definitions that a definition contains directly.
 #[tactic(auto, unfolding(go_ast::specs::FileView::type_spec_view))]
 fn held_by(
     alloc: Global,
@@ -101,7 +101,7 @@ fn held_by(
     Ok(found)
 }
 
-/// The links from each definition to those that it holds.
+/// Returns the links from each definition to those that it contains directly.
 fn held(alloc: Global, unit: Package<'_>, index: &Index<'_>) -> Result<Vec<Vec<usize>>, AllocError>
     requires { IsIndexOf (package_of unit) index.now }
     ensures { IfOk result (λ links. AreHeld (package_of unit.entry) links.items) }
@@ -115,7 +115,7 @@ fn held(alloc: Global, unit: Package<'_>, index: &Index<'_>) -> Result<Vec<Vec<u
     Ok(links)
 }
 
-/// Which type definitions of a package hold themselves, by their ranks.
+/// Marks the type definitions of a package that contain themselves, by rank.
 pub fn recursive_definitions(
     alloc: Global,
     unit: Package<'_>,

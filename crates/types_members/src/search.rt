@@ -1,29 +1,29 @@
-//! Searches along links, depth first. Nothing rests on them but how soon it is told which numbers lead back to themselves.
+//! Depth-first searches along links. What they find is checked, so only the speed of finding cycles depends on it.
 use std::alloc::{AllocError, Global};
 use types_declared::row;
 
-/// A link: the number that it leads from, and its place among those that lead from there.
+/// A link: the number that it leads from, and its index among the links from there.
 #[derive(Clone, Copy)]
 pub(crate) struct SearchLink {
     pub(crate) from: usize,
     pub(crate) place: usize,
 }
 
-/// What a search has found.
+/// A depth-first search under way.
 #[derive(Drop)]
 pub(crate) struct RingSearch {
-    /// For each number from which beginning it was found, counted from one: zero for none.
+    /// For each number the turn in which it was found, counted from 1; 0 for a number not found.
     pub(crate) turns: Vec<usize>,
-    /// The links by which numbers were found, in that order.
+    /// The links by which numbers were found, in order.
     pub(crate) followed: Vec<SearchLink>,
-    /// The numbers that the search left, with all that they lead to behind it, in that order.
+    /// The numbers that the search left after all that they link to, in order.
     pub(crate) left: Vec<usize>,
-    /// The links to look at next, of each number from the beginning to where the search stands.
+    /// The next link to look at of each number on the path from the beginning of the turn.
     path: Vec<SearchLink>,
 }
 
 impl RingSearch {
-    /// Nothing found yet, of so many numbers.
+    /// A search over `size` numbers that has found none.
     fn new(alloc: Global, size: usize) -> Result<RingSearch, AllocError> {
         Ok(RingSearch {
             turns: vec![in alloc; 0; size]?,
@@ -33,7 +33,7 @@ impl RingSearch {
         })
     }
 
-    /// Enters a number, unless it was found; whether it does.
+    /// Enters a number, unless it was found before; returns whether it does.
     fn enter(&mut self, number: usize, turn: usize) -> Result<bool, AllocError> {
         if number >= self.turns.len() || self.turns[number] > 0 {
             return Ok(false);
@@ -46,7 +46,7 @@ impl RingSearch {
         Ok(true)
     }
 
-    /// Looks at a link to a number.
+    /// Goes over a link to a number.
     fn pass(&mut self, link: SearchLink, to: usize, turn: usize) -> Result<(), AllocError> {
         self.path.push(SearchLink {
             from: link.from,
@@ -58,7 +58,7 @@ impl RingSearch {
         Ok(())
     }
 
-    /// Looks at a link, or leaves the number that it would lead from.
+    /// Goes over a link, or leaves its number where there is no such link.
     fn look(
         &mut self,
         links: &[Vec<usize>],
@@ -72,7 +72,7 @@ impl RingSearch {
         Ok(())
     }
 
-    /// Searches from a number.
+    /// Searches from one number.
     fn begin(
         &mut self,
         links: &[Vec<usize>],
@@ -90,7 +90,7 @@ impl RingSearch {
     }
 }
 
-/// Searches from each of some numbers, from the last of them to the first.
+/// Searches from each number of a list, from the last to the first, in turns counted from 1.
 pub(crate) fn search_from(
     alloc: Global,
     links: &[Vec<usize>],

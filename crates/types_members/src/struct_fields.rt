@@ -1,4 +1,4 @@
-//! The fields of a package's structs, in the order of path and offset.
+//! Collects the fields of a package's structs, in the order of path and offset.
 ghost use Rattle.std.specs.Prelude.{◌≡◌, IfOk, OnOk, map};
 ghost use Rattle.go_ast.specs.FileView.{field_view, body_view};
 ghost use Rattle.types_declared.specs.Appending.{Appends};
@@ -11,8 +11,8 @@ use go_ast::tree::{FieldDecl, TypeBody, TypeExpr, TypeSpec};
 use std::alloc::{AllocError, Global};
 use types_declared::{Index, Package, TypeDef};
 
-/// A field: the rank of the definition that writes its struct, the rank of its file, the token of its name, and its type as
-/// it is written. Names that share a type are fields of their own.
+/// A field: the rank of the definition of its struct, the rank of its file, the token of its name, and its type expression. Each name of a
+/// field declaration is a field.
 #[derive(Clone, Copy)]
 pub struct FieldDef<'a> {
     pub definition: usize,
@@ -21,7 +21,7 @@ pub struct FieldDef<'a> {
     pub field_type: &'a TypeExpr,
 }
 
-/// Adds the fields of one type.
+/// Appends the fields of one field declaration, such as `a, b int`.
 #[tactic(auto, unfolding(go_ast::specs::FileView::field_view))]
 fn add_names<'a>(
     found: &mut Vec<FieldDef<'a>>,
@@ -42,7 +42,7 @@ fn add_names<'a>(
     Ok(())
 }
 
-/// Adds the fields that a definition writes.
+/// Appends the fields of a type definition.
 fn add_fields<'a>(
     found: &mut Vec<FieldDef<'a>>,
     definition: usize,
@@ -62,7 +62,7 @@ fn add_fields<'a>(
     }
 }
 
-/// The fields that some definitions write.
+/// Returns the fields of some type definitions.
 fn fields_of<'a>(alloc: Global, types: &[TypeDef<'a>]) -> Result<Vec<FieldDef<'a>>, AllocError>
     ensures { IfOk result (λ found. map field_of found.items ≡ fields_from 0 (map type_of types.now)) }
 {
@@ -74,7 +74,7 @@ fn fields_of<'a>(alloc: Global, types: &[TypeDef<'a>]) -> Result<Vec<FieldDef<'a
     Ok(found)
 }
 
-/// The fields of a package's structs, in the order of path and offset. A field's place in the list is its rank.
+/// Returns the fields of a package's structs, in the order of path and offset. The rank of a field is its index in the list.
 pub fn fields<'a>(
     alloc: Global,
     unit: Package<'_>,

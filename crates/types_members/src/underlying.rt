@@ -1,4 +1,4 @@
-//! The underlying types of the type definitions of a package.
+//! Finds the underlying types of a package's type definitions (the Go specification, "Underlying types").
 ghost use Rattle.std.specs.Prelude.{◌≡◌, ◌<◌, ◌++◌, ◌∷◌, [], ℕ, false, Some, None, length, map, option_map, slice_get, slice_index_or, IfOk, OnOk};
 ghost use Rattle.types_expr.specs.View.{type_of as plain_type};
 ghost use Rattle.types_expr.specs.WorldView.{underlying_of};
@@ -19,8 +19,8 @@ use types_expr::symbol::Symbol;
 use types_expr::types::GoType;
 use types_expr::world::Underlying;
 
-/// Where following a type's name leads in one step: to its underlying type, to another definition of the package by its
-/// rank, or to nothing where it has no underlying type.
+/// One step towards the underlying type of a definition: the underlying type, another definition of the package by rank, or nothing where
+/// there is no underlying type.
 #[derive(Drop)]
 enum Step {
     Ends(Underlying),
@@ -28,7 +28,7 @@ enum Step {
     Nothing,
 }
 
-/// The same underlying type, in other memory.
+/// Returns a copy of an underlying type.
 #[tactic(auto, unfolding(types_expr::specs::WorldView::underlying_of))]
 pub fn copy(alloc: Global, underlying: &Underlying) -> Result<Underlying, AllocError>
     ensures { IfOk result (λ u. underlying_of u ≡ underlying_of underlying.now) }
@@ -41,7 +41,7 @@ pub fn copy(alloc: Global, underlying: &Underlying) -> Result<Underlying, AllocE
     }
 }
 
-/// The underlying type of a definition of another package. One that is not there is a struct of its own.
+/// The underlying type of a definition of another package. An unknown definition counts as a struct of its own.
 #[tactic(auto, unfolding(types_expr::specs::WorldView::underlying_of))]
 fn imported_underlying(
     alloc: Global,
@@ -56,7 +56,7 @@ fn imported_underlying(
     }
 }
 
-/// One step to a definition of the package, if it is there.
+/// The step to a definition of the package; nothing where it has no such definition.
 fn own_step(unit: Package<'_>, index: &Index<'_>, rank: usize) -> Step
     requires { IsIndexOf (package_of unit) index.now }
     ensures { IsStepFrom (package_of unit.entry) (Defined (symbol_in (package_of unit.entry) rank)) result }
@@ -68,7 +68,7 @@ fn own_step(unit: Package<'_>, index: &Index<'_>, rank: usize) -> Step
     }
 }
 
-/// One step from a definition, of this package or another.
+/// The step from a defined type, of this package or another.
 fn step_from_defined(
     alloc: Global,
     unit: Package<'_>,
@@ -85,7 +85,7 @@ fn step_from_defined(
     }
 }
 
-/// One step from a type.
+/// The step from a type.
 #[tactic(auto, unfolding(types_expr::specs::View::type_of, types_expr::specs::WorldView::underlying_of))]
 fn step_from(
     alloc: Global,
@@ -104,7 +104,7 @@ fn step_from(
     }
 }
 
-/// A struct that the definition of a rank writes.
+/// The struct that the definition of this rank is identified by.
 #[tactic(auto, unfolding(types_expr::specs::WorldView::underlying_of))]
 pub fn own_struct(unit: Package<'_>, rank: usize) -> Result<Underlying, AllocError>
     ensures { IfOk result (λ u. underlying_of u ≡ Struct (symbol_in (package_of unit.entry) rank)) }
@@ -113,7 +113,7 @@ pub fn own_struct(unit: Package<'_>, rank: usize) -> Result<Underlying, AllocErr
     Ok(Underlying::Struct(Symbol { package, rank }))
 }
 
-/// One step from a definition that is written as a Type.
+/// The step from a definition whose body is a type expression.
 fn step_by(
     alloc: Global,
     unit: Package<'_>,
@@ -131,7 +131,7 @@ fn step_by(
     }
 }
 
-/// One step from a definition.
+/// The step from a definition.
 #[tactic(auto, unfolding(go_ast::specs::FileView::type_spec_view))]
 fn step_of(
     alloc: Global,
@@ -150,7 +150,7 @@ fn step_of(
     }
 }
 
-/// The steps from all definitions, by their ranks.
+/// Returns the steps from all definitions of a package, by rank.
 fn steps(alloc: Global, unit: Package<'_>, index: &Index<'_>) -> Result<Vec<Step>, AllocError>
     requires { IsIndexOf (package_of unit) index.now }
     ensures { IfOk result (λ steps. AreSteps (package_of unit.entry) steps.items) }
@@ -163,7 +163,7 @@ fn steps(alloc: Global, unit: Package<'_>, index: &Index<'_>) -> Result<Vec<Step
     Ok(steps)
 }
 
-/// Links a definition to the one that a step continues from.
+/// Adds a link to a definition from the one that its step continues to.
 fn note_step(links: &mut Vec<Vec<usize>>, step: &Step, rank: usize) -> Result<(), AllocError>
     requires { (to : ℕ) → step.now ≡ Continues to → to < length links.old.items }
     ensures { OnOk result (AddsLinks links.old.items links.new.items rank (λ to. step.now ≡ Continues to)) }
@@ -174,7 +174,7 @@ fn note_step(links: &mut Vec<Vec<usize>>, step: &Step, rank: usize) -> Result<()
     }
 }
 
-/// Links from definitions to those that are written as their names.
+/// Returns the links from each definition to those whose step continues to it.
 fn step_links(alloc: Global, steps: &[Step]) -> Result<Vec<Vec<usize>>, AllocError>
     requires { (rank to : ℕ) → slice_get steps.now rank ≡ Some (Continues to) → to < length steps.now }
     ensures { IfOk result (λ links. AreStepLinks steps.now links.items) }
@@ -186,14 +186,14 @@ fn step_links(alloc: Global, steps: &[Step]) -> Result<Vec<Vec<usize>>, AllocErr
     Ok(links)
 }
 
-/// Whether a step leads to an underlying type.
+/// Whether a step ends at an underlying type.
 fn is_end(step: &Step) -> bool
     ensures { result ≡ is_end step.now }
 {
     matches!(step, Step::Ends(_))
 }
 
-/// Which definitions have an underlying type after one step, with a mark more for the number behind the last rank.
+/// Marks the definitions whose step ends at an underlying type, by rank. The list has one more entry, which isn't marked.
 fn ends(alloc: Global, steps: &[Step]) -> Result<Vec<bool>, AllocError>
     ensures { IfOk result (λ marks. marks.items ≡ map is_end steps.now ++ (false ∷ [])) }
 {
@@ -205,7 +205,7 @@ fn ends(alloc: Global, steps: &[Step]) -> Result<Vec<bool>, AllocError>
     Ok(marks)
 }
 
-/// The underlying type of a definition that was found.
+/// A copy of the underlying type found for a definition; none where none is found.
 fn found_at(
     alloc: Global,
     found: &[Option<Underlying>],
@@ -220,7 +220,7 @@ fn found_at(
     }
 }
 
-/// The underlying type that a step leads to.
+/// The underlying type that a step leads to, by those already found.
 fn take(
     alloc: Global,
     step: &Step,
@@ -235,7 +235,7 @@ fn take(
     }
 }
 
-/// The underlying type that the step from a definition leads to.
+/// The underlying type that the step from a definition leads to, by those already found.
 fn take_at(
     alloc: Global,
     steps: &[Step],
@@ -250,7 +250,7 @@ fn take_at(
     }
 }
 
-/// No underlying type yet, of so many definitions.
+/// A list of `size` definitions with no underlying type found.
 fn none_found(alloc: Global, size: usize) -> Result<Vec<Option<Underlying>>, AllocError>
     ensures size { IfOk result (λ found. length found.items ≡ size) }
     ensures none { IfOk result (λ found. (rank : ℕ) → slice_index_or found.items rank None ≡ None) }
@@ -262,7 +262,7 @@ fn none_found(alloc: Global, size: usize) -> Result<Vec<Option<Underlying>>, All
     Ok(found)
 }
 
-/// The definitions from which steps lead to an end, each behind the one that its step continues to.
+/// Lists the definitions with an underlying type, each after the one that its step continues to.
 fn step_order(alloc: Global, steps: &[Step]) -> Result<Vec<usize>, AllocError>
     requires { (rank to : ℕ) → slice_get steps.now rank ≡ Some (Continues to) → to < length steps.now }
     ensures { IfOk result (λ order. IsStepOrder steps.now order.items) }
@@ -272,7 +272,7 @@ fn step_order(alloc: Global, steps: &[Step]) -> Result<Vec<usize>, AllocError>
     reached_in_order(alloc, &links, &ends)
 }
 
-/// The underlying types of definitions, from those that have one after one step to those that are written as their names.
+/// Finds the underlying types of definitions in this order.
 fn fill(
     alloc: Global,
     unit: Package<'_>,
@@ -292,7 +292,7 @@ fn fill(
     Ok(found)
 }
 
-/// The underlying type of each type definition of a package, by its rank.
+/// Returns the underlying type of each type definition of a package, by rank; none where it has none.
 pub fn underlying_types(
     alloc: Global,
     unit: Package<'_>,

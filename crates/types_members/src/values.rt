@@ -1,10 +1,10 @@
-//! Values of numbers, and what of them holds along links.
+//! Comparisons of numbers' values along links.
 ghost use Rattle.std.specs.Prelude.{◌≡◌, ◌↔◌, slice_index_or, IsTrue};
 ghost use Rattle.types_members.specs.Cycles.{AreAtMost, Falls, HasAlike};
 
 use types_declared::row;
 
-/// The value of a number, or zero.
+/// The value of a number; 0 where it has none.
 pub(crate) fn value_at(values: &[usize], number: usize) -> usize
     ensures { result ≡ slice_index_or values.now number 0 }
 {
@@ -14,7 +14,7 @@ pub(crate) fn value_at(values: &[usize], number: usize) -> usize
     }
 }
 
-/// Whether the values of some numbers are at most one value.
+/// Whether the values of some numbers are at most `most`.
 fn are_at_most(values: &[usize], numbers: &[usize], most: usize) -> bool
     ensures { IsTrue result → AreAtMost values.now numbers.now most }
 {
@@ -26,7 +26,7 @@ fn are_at_most(values: &[usize], numbers: &[usize], most: usize) -> bool
     true
 }
 
-/// Whether no number leads to one with a greater value.
+/// Whether no number links to one with a greater value.
 pub(crate) fn falls(links: &[Vec<usize>], values: &[usize]) -> bool
     ensures { IsTrue result → Falls links.now values.now }
 {
@@ -38,7 +38,7 @@ pub(crate) fn falls(links: &[Vec<usize>], values: &[usize]) -> bool
     true
 }
 
-/// Whether one of some numbers has a value.
+/// Whether one of the numbers has this value.
 pub(crate) fn has_alike(values: &[usize], numbers: &[usize], value: usize) -> bool
     ensures { IsTrue result ↔ HasAlike values.now numbers.now value }
 {

@@ -1,4 +1,4 @@
--- Examples of marks, computed: where a `break` is stray, and which `:=` there are.
+-- Computed examples of marks: stray `break` statements, and `:=` statements.
 use Rattle.std.proofs.Common.{◌≡◌, false, List, [], ◌∷◌, refl}
 use Rattle.std.specs.Prelude.{Some, None}
 use Rattle.go_ast.specs.Tree.{Item, ExprTree, Name, Number, Define, forever, clauses, StatementTree, If, For, Break, Continue, BlockTree, block}
@@ -11,7 +11,7 @@ use Rattle.types_resolve.specs.Marks.{Defines, Stray, statement_marks, statement
 abbrev lone : StatementTree → BlockTree
 lone s = block 10 (statement s None no_statement) 20
 
--- `break` outside of a `for`
+-- `break` outside a `for`
 break_alone : statement_marks false (Break 5) ≡ Stray 5 ∷ []
 unfolding statement_marks
 break_alone = refl
@@ -40,7 +40,7 @@ define_in_header : statement_marks false (For 3 (clauses (Some (Define (one (Nam
 unfolding statement_marks statements_marks block_marks simple_marks for_marks
 define_in_header = refl
 
--- what each state of an import is
+-- the fault of each state of an imported path
 missing_is : import_fault states.Missing ≡ Some kind.Missing
 missing_is = refl
 

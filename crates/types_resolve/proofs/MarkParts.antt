@@ -1,4 +1,4 @@
--- The marks of statements, by the parts that the program goes over.
+-- The marks of statements, part by part as the program goes over them.
 use Rattle.std.proofs.Common.{ℕ, suc, zero, ◌≡◌, ◌+◌, ◌<◌, inl, inr, Bool, List, [], ◌∷◌, ◌++◌, length, take, get_or, ap, sym, subst, ◌∙◌, refl, arith}
 use Rattle.std.specs.List.{flat_map}
 use Rattle.std.proofs.Math.Seq.{take-suc}
@@ -42,7 +42,7 @@ if_from b (IfStmt' p init e body rest) =
     ap (λ r. init_marks (option_view init_view r.init) ++ (block_marks b (block_view r.body) ++ else_marks b (else_view r.otherwise)))
     (outs-IfStmt' p init e body rest)
 
--- left sides
+-- Left operands
 
 pub not_a_name : (p : Laid) (file : ℕ) (e : Expr) → ((n : ℕ) → e ≡ expr.Name n → ⊥) → DeclaresName p file (expr_view e) → ⊥
 unfolding expr_view

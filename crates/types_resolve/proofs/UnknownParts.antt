@@ -1,4 +1,4 @@
--- The faults of names behind a package's, from their parts.
+-- The faults of qualified identifiers, part by part.
 use Rattle.std.proofs.Common.{ℕ, suc, ◌≡◌, List, Bool, Option, ap, sym, ◌∙◌, subst, arith}
 use Rattle.std.specs.Prelude.{Result, OnOk}
 use Rattle.base_files.specs.declared.fault_kind.FaultKind.{FaultKind}
@@ -13,7 +13,7 @@ use Rattle.types_resolve.specs.Scoping.{IsUnknown, qualified_fault}
 use Rattle.types_declared.specs.Laid.{Laid, IsPathOf, is_exported}
 use Rattle.types_resolve.specs.Unknown.{IsFaultOfKind, IsUnknownOf, IsQualifiedBy}
 
--- the fault of a name of the package of a path
+-- the fault of a name qualified by the package at a path is added
 pub name_added : {E : Type 0} (one : (bytes v w : List ℕ) → HasStringValue bytes v → HasStringValue bytes w → v ≡ w) (files : List SourceFile)
     (exports : (path name : List ℕ) → Bool) (p : Laid) (d u : ℕ)
     (path : List ℕ) (kind : Option FaultKind) (a b : List Fault) (r : Result (Unit {0}) E) → IsPathOf files p d path →
@@ -28,7 +28,7 @@ name_added one files exports p d u path kind a b r of_path is k =
 before_one : (u a b : ℕ) → u ≡ suc a → u ≡ suc b → a ≡ b
 before_one u a b e h = omega arith
 
--- the fault of a name behind that of the one import to which the use before it is bound
+-- the fault of the name after the dot is added, where the use before the dot is bound to one import
 pub unknown_added : {E : Type 0} (files : List SourceFile) (exports : (path name : List ℕ) → Bool) (p : Laid) (d u : ℕ) (a b : List Fault)
     (r : Result (Unit {0}) E) →
     ((v x y : ℕ) → IsBoundTo p.layout p.names v x → IsBoundTo p.layout p.names v y → x ≡ y) → IsQualifiedBy p u d →

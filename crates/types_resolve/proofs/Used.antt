@@ -1,4 +1,4 @@
--- Which identifiers are used, one user after the other.
+-- Which declarations have a use, identifier by identifier.
 use Rattle.std.proofs.Common.{ℕ, ◌≡◌, ◌≢◌, ◌+◌, ◌<◌, ◌⊎◌, ◌↔◌, inl, inr, Bool, true, false, List, length, get_or, ap, sym, ◌∙◌, subst, refl, arith}
 use Rattle.std.proofs.Common.{MatchOption, get_or-set_same, get_or-set_other}
 use Rattle.std.specs.Prelude.{Option, Some, None}
@@ -33,7 +33,7 @@ same_or_not d k = elim (cases_lt d k) [
   | inr ge ↦ elim (cases_lt k d) [ inl gt ↦ inr (λ e. let z : ⊥ = omega arith in z) | inr le ↦ inl (omega arith) ]
 ]
 
--- a test that says the same as before, of a number that the new user does not use
+-- the mark of a declaration that the new use isn't bound to stays
 kept : (p : Laid) (n d : ℕ) (b c : Bool) → c ≡ b → ((b ≡ true) ↔ IsUsedBelow p n d) → (IsUse p.layout p.names n → IsBoundTo p.layout p.names n d → ⊥) →
     (c ≡ true) ↔ IsUsedBelow p (n + 1) d
 kept p n d b c e h no_use = (

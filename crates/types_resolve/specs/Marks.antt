@@ -1,5 +1,4 @@
--- What of a file's statements may be a fault without any type: a `:=` that declares nothing, and a `break` or `continue`
--- outside of a `for`.
+-- The faults of statements that need no types: a `:=` that declares no new variable, and a `break` or `continue` outside a `for`.
 use Rattle.std.specs.Prelude.{ℕ, ◌≡◌, ◌⊎◌, Bool, true, false, List, [], ◌∷◌, ◌++◌, Option, Some, None}
 use Rattle.std.specs.List.{flat_map}
 use Rattle.base_files.specs.declared.fault_kind.FaultKind.TheVariants as kind
@@ -15,11 +14,12 @@ use Rattle.go_scope.specs.Table.{IsFoundAt}
 use Rattle.types_declared.specs.Files.{Ranked, ranked}
 use Rattle.types_declared.specs.Laid.{Laid}
 
--- a `:=` with its left sides and its place, or a `break` or `continue` outside of a `for`
+-- a `:=`, with its left operands and its token, or the token of a `break` or `continue` outside a `for`
 pub data Mark : Type 0 where
   Defines : List (Item ExprTree) → ℕ → Mark
   Stray : ℕ → Mark
 
+-- the marks of a simple statement
 unfoldable pub simple_marks : SimpleTree → List Mark
 simple_marks (Alone e) = []
 simple_marks (Step e op p) = []
@@ -27,23 +27,28 @@ simple_marks (Update e op p f) = []
 simple_marks (Assign es p fs) = []
 simple_marks (Define es p fs) = Defines es p ∷ []
 
+-- the marks of an optional simple statement
 abbrev pub optional_marks : Option SimpleTree → List Mark
 optional_marks None = []
 optional_marks (Some s) = simple_marks s
 
+-- the marks of the header of a `for`
 unfoldable pub for_marks : ForTree → List Mark
 for_marks forever = []
 for_marks (while e) = []
 for_marks (clauses init p condition q post) = optional_marks init ++ optional_marks post
 
+-- the marks of the statement before an `if` condition
 abbrev pub init_marks : Option InitTree → List Mark
 init_marks None = []
 init_marks (Some i) = optional_marks i.simple
 
+-- the mark of a `break` or `continue` at a token; none in a `for`
 abbrev pub stray : (in_for : Bool) → ℕ → List Mark
 stray true p = []
 stray false p = Stray p ∷ []
 
+-- the marks of statements and blocks; in_for: whether they are in the body of a `for`
 unfoldable mutual
   pub statement_marks : (in_for : Bool) → StatementTree → List Mark
   statement_marks in_for Empty = []
@@ -71,21 +76,23 @@ unfoldable mutual
   else_marks in_for (else_if p i) = if_marks in_for i
   else_marks in_for (else_block p b) = block_marks in_for b
 
+-- the marks of a top-level declaration: those of a function's body
 unfoldable pub decl_marks : DeclTree → List Mark
 decl_marks (VarDecl k g s) = []
 decl_marks (TypeDecl k g s) = []
 decl_marks (FuncDecl k f s) = block_marks false f.body
 
+-- the marks of a file
 abbrev pub file_marks : FileTree → List Mark
 file_marks t = flat_map decl_marks t.decls
 
--- the identifier at a token declares
+-- the identifier at the token declares a variable, type, function or import
 pub record DeclaresAt (p : Laid) (file token : ℕ) : Type 0 where
   pub identifier : ℕ
   pub found : IsFoundAt p.layout p.size (record { file = file; index = token }) identifier
   pub declares : Declares p.layout p.names identifier
 
--- a left side is a name that declares
+-- the left operand is a name that declares
 abbrev pub DeclaresName : Laid → ℕ → ExprTree → Type 0
 DeclaresName p file (Name n) = DeclaresAt p file n
 DeclaresName p file (Number n) = ⊥
@@ -98,18 +105,20 @@ DeclaresName p file (Address at l) = ⊥
 DeclaresName p file (Chain e ls) = ⊥
 DeclaresName p file (Binary e os) = ⊥
 
--- some left side is
+-- some left operand is a name that declares
 abbrev pub SomeDeclares : Laid → ℕ → List (Item ExprTree) → Type 0
 SomeDeclares p file [] = ⊥
 SomeDeclares p file (x ∷ xs) = DeclaresName p file x.value ⊎ SomeDeclares p file xs
 
+-- the fault of a mark: a `:=` none of whose left operands declares, or a stray `break` or `continue`
 abbrev pub IsFaultOfMark : Laid → ℕ → Mark → Fault → Type 0
 IsFaultOfMark p file (Defines es at) f = (f ≡ record { file = file; token = at; kind = kind.NoNew }) × (SomeDeclares p file es → ⊥)
 IsFaultOfMark p file (Stray at) f = f ≡ record { file = file; token = at; kind = kind.Loop }
 
--- a fault of some mark of a file
+-- a fault of the marks of a file
 abbrev pub IsFaultOfMarks : Laid → Ranked → Fault → Type 0
 IsFaultOfMarks p r = SomeOf (IsFaultOfMark p r.0) (file_marks r.1.tree)
 
+-- a fault of the marks of a package's files
 abbrev pub IsMarkFault : List SourceFile → Laid → Fault → Type 0
 IsMarkFault files p = SomeOf (IsFaultOfMarks p) (ranked files)

@@ -1,4 +1,4 @@
-//! The faults of package clauses.
+//! Finds the faults of package clauses: names that differ from that of the package's first file.
 ghost use Rattle.std.specs.Prelude.{◌≡◌, ◌↔◌, IsTrue, OnOk, map};
 ghost use Rattle.types_declared.specs.Listing.{Adds};
 ghost use Rattle.go_ast.specs.SourceFile.{source_of};
@@ -10,14 +10,14 @@ use go_ast::FileTree;
 use std::alloc::AllocError;
 use types_declared::{Fault, clause_name, clause_token, push};
 
-/// Whether the name in a file's package clause is that one.
+/// Whether a file's package clause has this name.
 fn is_named(file: &FileTree, name: &[u8]) -> bool
     ensures { IsTrue result ↔ (clause_name (source_of file.now) ≡ name.now) }
 {
     clause_name(file) == name
 }
 
-/// Adds the fault of a file's package clause, where it has another name.
+/// Adds the fault of a file's package clause, if it has another name.
 fn add_clause(
     found: &mut Vec<Fault>,
     name: &[u8],
@@ -37,7 +37,7 @@ fn add_clause(
     push(found, fault)
 }
 
-/// Adds the faults of package clauses.
+/// Adds the faults of the package clauses of a package's files.
 pub(crate) fn add_clauses(found: &mut Vec<Fault>, files: &[FileTree]) -> Result<(), AllocError>
     ensures { OnOk result (Adds found.old.items found.new.items (IsClauseFault (map source_of files.now))) }
 {

@@ -1,4 +1,4 @@
-//! The faults of imports.
+//! Finds the faults of imports: paths that are missing, on a cycle or of a package with faults.
 ghost use Rattle.std.specs.Prelude.{OnOk, map};
 ghost use Rattle.types_declared.specs.Listing.{Adds, AddsEach};
 ghost use Rattle.go_ast.specs.FileView.{import_view, imports_view};
@@ -12,7 +12,7 @@ use go_ast::tree::{Group, ImportDecl, ImportSpec};
 use std::alloc::{AllocError, Global};
 use types_declared::{Fault, ImportState, ImportStates, literal, push};
 
-/// Adds the fault of an import of a path of that state.
+/// Adds the fault of an import whose path is in this state, if that is a fault.
 fn add_state(
     found: &mut Vec<Fault>,
     rank: usize,
@@ -34,7 +34,7 @@ fn add_state(
     }
 }
 
-/// Adds the fault of an import.
+/// Adds the fault of one import spec, if any, at its string literal.
 fn add_import(
     alloc: Global,
     found: &mut Vec<Fault>,
@@ -74,7 +74,7 @@ fn add_import_decl(
     }
 }
 
-/// Adds the faults of the imports of a file.
+/// Adds the faults of a file's imports.
 fn add_file(
     alloc: Global,
     found: &mut Vec<Fault>,

@@ -1,4 +1,4 @@
-//! The faults of a package that its trees, its imports and its scopes tell.
+//! The faults that a package's clauses, imports and scopes show, before any type is checked.
 #![tactic(auto)]
 
 mod clauses;

@@ -1,5 +1,4 @@
-//! The faults of statements that need no types: a `:=` that declares nothing, and a `break` or `continue` outside of a
-//! `for`.
+//! Finds the faults of statements that need no types: a `:=` that declares no new variable, and a `break` or `continue` outside a `for`.
 ghost use Rattle.std.specs.Prelude.{◌↔◌, ◌∷◌, [], IsTrue, OnOk, map};
 ghost use Rattle.types_declared.specs.Listing.{Adds, AddsEach};
 ghost use Rattle.go_ast.specs.View.{expr_view, exprs_view, option_view};
@@ -18,14 +17,14 @@ use go_scope::table::ScopeTable;
 use std::alloc::AllocError;
 use types_declared::{Fault, push, push_if};
 
-/// A file of a package of which the identifiers are known.
+/// A file by its rank, with the scope table of its package.
 #[derive(Clone, Copy)]
 pub struct FileScope<'a> {
     pub table: &'a ScopeTable<'a>,
     pub rank: usize,
 }
 
-/// Whether a left side is a name that declares.
+/// Whether a left operand of `:=` is a name that declares a variable.
 fn declares_name(scope: FileScope<'_>, left: &Expr) -> bool
     ensures { IsTrue result ↔ DeclaresName (laid_in scope.entry.table.now) scope.entry.rank (expr_view left.now) }
 {
@@ -35,7 +34,7 @@ fn declares_name(scope: FileScope<'_>, left: &Expr) -> bool
     }
 }
 
-/// Whether no left side is a name that declares.
+/// Whether no left operand of `:=` declares a variable.
 fn is_old(scope: FileScope<'_>, left: &[ExprItem]) -> bool
     ensures { IsTrue result ↔ (SomeDeclares (laid_in scope.entry.table.now) scope.entry.rank (exprs_view left.now) → ⊥) }
 {
@@ -47,7 +46,7 @@ fn is_old(scope: FileScope<'_>, left: &[ExprItem]) -> bool
     true
 }
 
-/// Adds the fault of a `:=` that declares nothing.
+/// Adds the fault of a `:=` that declares no variable.
 fn add_define(
     found: &mut Vec<Fault>,
     scope: FileScope<'_>,
@@ -64,6 +63,7 @@ fn add_define(
     push_if(found, is_old(scope, left), fault)
 }
 
+/// Adds the fault of a simple statement, if it is a `:=` that declares no variable.
 fn add_simple(
     found: &mut Vec<Fault>,
     scope: FileScope<'_>,
@@ -80,6 +80,7 @@ fn add_simple(
     }
 }
 
+/// Adds the fault of a simple statement, if there is one.
 fn add_optional(
     found: &mut Vec<Fault>,
     scope: FileScope<'_>,
@@ -93,7 +94,7 @@ fn add_optional(
     }
 }
 
-/// Adds the fault of a `break` or `continue`.
+/// Adds the fault of a `break` or `continue`, unless it is in a `for`.
 fn add_stray(
     found: &mut Vec<Fault>,
     scope: FileScope<'_>,
@@ -113,6 +114,7 @@ fn add_stray(
     push(found, fault)
 }
 
+/// Adds the faults of the statement before an `if` condition.
 fn add_init(
     found: &mut Vec<Fault>,
     scope: FileScope<'_>,
@@ -126,6 +128,7 @@ fn add_init(
     }
 }
 
+/// Adds the faults of the init and post statements of a `for`.
 fn add_header(
     found: &mut Vec<Fault>,
     scope: FileScope<'_>,
@@ -143,7 +146,7 @@ fn add_header(
     }
 }
 
-/// Adds the faults of a statement, inside of a `for` or outside.
+/// Adds the faults of a statement, which is in the body of a `for` where `in_for` is true.
 #[cycle(statement)]
 fn add_statement(
     found: &mut Vec<Fault>,
@@ -169,6 +172,7 @@ fn add_statement(
     }
 }
 
+/// Adds the faults of the statements of a block.
 #[cycle(statement)]
 fn add_block(
     found: &mut Vec<Fault>,
@@ -184,6 +188,7 @@ fn add_block(
     Ok(())
 }
 
+/// Adds the faults of an `if` statement with its branches.
 #[cycle(statement)]
 fn add_if(
     found: &mut Vec<Fault>,
@@ -198,6 +203,7 @@ fn add_if(
     add_else(found, scope, in_for, &branch.otherwise)
 }
 
+/// Adds the faults of an `else` branch.
 #[cycle(statement)]
 fn add_else(
     found: &mut Vec<Fault>,
@@ -214,6 +220,7 @@ fn add_else(
     }
 }
 
+/// Adds the faults of a function's body; other declarations have none.
 fn add_decl(found: &mut Vec<Fault>, scope: FileScope<'_>, decl: &Decl) -> Result<(), AllocError>
     ensures { OnOk result (AddsEach (IsFaultOfMark (laid_in scope.entry.table.now) scope.entry.rank) found.old.items found.new.items (decl_marks (decl_view decl.now))) }
 {
@@ -224,7 +231,7 @@ fn add_decl(found: &mut Vec<Fault>, scope: FileScope<'_>, decl: &Decl) -> Result
     }
 }
 
-/// Adds the faults of a file's statements.
+/// Adds the faults of the statements of a file.
 fn add_file(found: &mut Vec<Fault>, scope: FileScope<'_>, file: &FileTree) -> Result<(), AllocError>
     ensures { OnOk result (Adds found.old.items found.new.items (IsFaultOfMarks (laid_in scope.entry.table.now) (scope.entry.rank, source_of file.now))) }
 {

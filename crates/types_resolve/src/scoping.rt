@@ -1,4 +1,4 @@
-//! The faults of scopes that a package's identifiers tell.
+//! Finds the faults of scopes: undeclared names, redeclarations and unused imports.
 ghost use Rattle.std.specs.Prelude.{◌<◌, ◌↔◌, IsTrue, OnOk};
 ghost use Rattle.types_declared.specs.Listing.{Adds};
 ghost use Rattle.go_scope.specs.Bindings.{IsImport};
@@ -12,7 +12,7 @@ use go_scope::table::ScopeTable;
 use std::alloc::{AllocError, Global};
 use types_declared::{Fault, is_import, literal_of, push_if};
 
-/// Adds the fault of a use that is bound to nothing.
+/// Adds the fault of `u`, if it is a use that is bound to no declaration.
 fn add_undeclared(found: &mut Vec<Fault>, table: &ScopeTable, u: usize) -> Result<(), AllocError>
     requires { u < (laid_in table.now).size }
     ensures { OnOk result (Adds found.old.items found.new.items (IsUndeclared (laid_in table.now) u)) }
@@ -21,7 +21,7 @@ fn add_undeclared(found: &mut Vec<Fault>, table: &ScopeTable, u: usize) -> Resul
     push_if(found, is_undeclared(table, u), fault)
 }
 
-/// Adds the fault of a declaration that does not count.
+/// Adds the fault of `u`, if it is a redeclaration, or a package-level variable or type named `init`.
 fn add_repeated(found: &mut Vec<Fault>, table: &ScopeTable, u: usize) -> Result<(), AllocError>
     requires { u < (laid_in table.now).size }
     ensures { OnOk result (Adds found.old.items found.new.items (IsRepeated (laid_in table.now) u)) }
@@ -30,7 +30,7 @@ fn add_repeated(found: &mut Vec<Fault>, table: &ScopeTable, u: usize) -> Result<
     push_if(found, is_repetition(table, u), fault)
 }
 
-/// Whether no use is bound to an identifier.
+/// Whether no use is bound to the declaration `d`.
 fn is_idle(table: &ScopeTable, used: &[bool], d: usize) -> bool
     requires in_range { d < (laid_in table.now).size }
     requires used { AreUsed (laid_in table.now) (laid_in table.now).size used.now }
@@ -39,7 +39,7 @@ fn is_idle(table: &ScopeTable, used: &[bool], d: usize) -> bool
     !used[d]
 }
 
-/// Whether an identifier is an import to which no use is bound.
+/// Whether `d` is an unused import.
 fn is_unused(table: &ScopeTable, used: &[bool], d: usize) -> bool
     requires in_range { d < (laid_in table.now).size }
     requires used { AreUsed (laid_in table.now) (laid_in table.now).size used.now }
@@ -48,7 +48,7 @@ fn is_unused(table: &ScopeTable, used: &[bool], d: usize) -> bool
     is_import(table, d) && is_idle(table, used, d)
 }
 
-/// Adds the fault of an import to which no use is bound.
+/// Adds the fault of `d`, if it is an unused import, at the import's string literal.
 fn add_unused(
     found: &mut Vec<Fault>,
     table: &ScopeTable,
@@ -63,7 +63,7 @@ fn add_unused(
     push_if(found, is_unused(table, used, d), fault)
 }
 
-/// Adds the faults of one identifier.
+/// Adds the scope faults of one identifier.
 fn add_identifier(
     found: &mut Vec<Fault>,
     table: &ScopeTable,
@@ -79,8 +79,7 @@ fn add_identifier(
     add_unused(found, table, used, u)
 }
 
-/// Adds the faults of a package's identifiers: uses that are bound to nothing, declarations that do not count, and imports
-/// without a use.
+/// Adds the scope faults of a package: undeclared names, redeclarations and unused imports.
 pub(crate) fn add_scopes(
     alloc: Global,
     found: &mut Vec<Fault>,

@@ -1,4 +1,5 @@
-//! The stages of a package's faults: a later one has faults only where the earlier ones have none.
+//! Finds the faults of a package's first stages: package clauses, imports, scopes. A stage is reported only where the earlier ones have no
+//! fault.
 ghost use Rattle.std.specs.Prelude.{◌≡◌, ◌↔◌, [], IsTrue, IfOk, map};
 ghost use Rattle.std.specs.List.Sorted.{IsStrictlySortedBy};
 ghost use Rattle.types_declared.specs.contracts.fault.FaultOrd.TheImpl as order;
@@ -18,14 +19,14 @@ use go_scope::table::ScopeTable;
 use std::alloc::{AllocError, Global};
 use types_declared::{Exports, Fault, ImportStates, sort};
 
-/// Whether no fault was found.
+/// Whether the list of faults is empty.
 fn has_none(found: &[Fault]) -> bool
     ensures { IsTrue result ↔ (found.now ≡ []) }
 {
     found.is_empty()
 }
 
-/// The faults of a package's clauses, or without one those of its imports.
+/// Returns the faults of package clauses, or where there are none those of imports, unsorted.
 fn first_found(
     alloc: Global,
     states: &ImportStates,
@@ -41,7 +42,7 @@ fn first_found(
     Ok(found)
 }
 
-/// The faults of a package's clauses, or without one those of its imports, by file and token. The files are those of one
+/// Returns the faults of package clauses, or where there are none those of imports, sorted by file and token. The files are those of one
 /// package in the order of their paths.
 pub fn outer_faults(
     alloc: Global,
@@ -56,7 +57,7 @@ pub fn outer_faults(
     Ok(found)
 }
 
-/// The faults that a package's own scopes tell, in the order of their finding.
+/// Returns the faults of scopes and statements, without qualified identifiers, unsorted.
 fn own_found(
     alloc: Global,
     table: &ScopeTable,
@@ -70,7 +71,7 @@ fn own_found(
     Ok(found)
 }
 
-/// The faults that scopes tell, in the order of their finding.
+/// Returns the faults of scopes, statements and qualified identifiers, unsorted.
 fn inner_found<E: Exports>(
     alloc: Global,
     table: &ScopeTable,
@@ -84,9 +85,8 @@ fn inner_found<E: Exports>(
     Ok(found)
 }
 
-/// The faults that scopes tell, by file and token: those of the package's own scopes, and those of names behind the names of
-/// packages, of which `exports` tells what they declare. In the table each import without a name declares the name of the
-/// imported package.
+/// Returns the faults of scopes, statements and qualified identifiers, sorted by file and token. `exports` gives the exported names of
+/// imported packages. In `table` each import without a name declares the name of the imported package.
 pub fn inner_faults<E: Exports>(
     alloc: Global,
     table: &ScopeTable,

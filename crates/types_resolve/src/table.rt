@@ -1,4 +1,4 @@
-//! What a table says of an identifier, by its number.
+//! Questions about one identifier of a scope table, by its number.
 ghost use Rattle.std.specs.Prelude.{ℕ, ◌≡◌, ◌<◌, ◌↔◌, IsTrue, MatchOption};
 ghost use Rattle.go_scope.specs.Bindings.{IsUse, IsBoundTo, IsPackageLevel, Declares, Counts};
 ghost use Rattle.types_resolve.specs.Scoping.{fault_at, IsRepetition};
@@ -10,7 +10,7 @@ use go_scope::model::{Block, Position};
 use go_scope::table::ScopeTable;
 use types_declared::Fault;
 
-/// A fault at an identifier.
+/// A fault of this kind at the identifier `u`.
 pub(crate) fn fault_at(table: &ScopeTable, u: usize, kind: FaultKind) -> Fault
     requires { u < (laid_in table.now).size }
     ensures { result ≡ fault_at (laid_in table.now).layout u kind }
@@ -23,7 +23,7 @@ pub(crate) fn fault_at(table: &ScopeTable, u: usize, kind: FaultKind) -> Fault
     }
 }
 
-/// Whether an identifier is a lexical use.
+/// Whether `u` is a use that scopes resolve.
 pub(crate) fn is_name_use(table: &ScopeTable, u: usize) -> bool
     requires { u < (laid_in table.now).size }
     ensures { IsTrue result ↔ IsUse (laid_in table.now).layout (laid_in table.now).names u }
@@ -31,7 +31,7 @@ pub(crate) fn is_name_use(table: &ScopeTable, u: usize) -> bool
     table.is_use(u)
 }
 
-/// The declaration to which an identifier is bound.
+/// The declaration to which `u` is bound; none where it is unbound.
 pub(crate) fn binding(table: &ScopeTable, u: usize) -> Option<usize>
     requires { u < (laid_in table.now).size }
     ensures { let l = (laid_in table.now).layout in
@@ -41,7 +41,7 @@ pub(crate) fn binding(table: &ScopeTable, u: usize) -> Option<usize>
     table.binding(u)
 }
 
-/// Whether an identifier is bound to nothing.
+/// Whether `u` is bound to no declaration.
 fn is_unbound(table: &ScopeTable, u: usize) -> bool
     requires { u < (laid_in table.now).size }
     ensures { IsTrue result ↔ ((d : ℕ) → IsBoundTo (laid_in table.now).layout (laid_in table.now).names u d → ⊥) }
@@ -52,7 +52,7 @@ fn is_unbound(table: &ScopeTable, u: usize) -> bool
     }
 }
 
-/// Whether an identifier is a use that is bound to nothing.
+/// Whether `u` is a use that is bound to no declaration.
 pub(crate) fn is_undeclared(table: &ScopeTable, u: usize) -> bool
     requires { u < (laid_in table.now).size }
     ensures { let l = (laid_in table.now).layout in
@@ -62,7 +62,7 @@ pub(crate) fn is_undeclared(table: &ScopeTable, u: usize) -> bool
     table.is_use(u) && is_unbound(table, u)
 }
 
-/// Whether a declaration does not count.
+/// Whether `u` redeclares a name that its block already declares.
 fn is_displaced(table: &ScopeTable, u: usize) -> bool
     requires { u < (laid_in table.now).size }
     ensures { let l = (laid_in table.now).layout in
@@ -72,7 +72,7 @@ fn is_displaced(table: &ScopeTable, u: usize) -> bool
     table.is_repeated(u)
 }
 
-/// Whether an identifier is declared in the package's block under the name `init`.
+/// Whether `u` is a package-level declaration named `init`.
 fn is_init(table: &ScopeTable, u: usize) -> bool
     requires { u < (laid_in table.now).size }
     ensures { IsTrue result ↔ (IsPackageLevel (laid_in table.now).layout u × ((laid_in table.now).names u ≡ init_name)) }
@@ -80,7 +80,7 @@ fn is_init(table: &ScopeTable, u: usize) -> bool
     table.role(u).block().same(Block::Package) && table.name(u) == b"init".as_slice()
 }
 
-/// Whether an identifier repeats a declaration, or is a variable or type of a name that is no variable's and no type's.
+/// Whether `u` redeclares a name of its block, or is a package-level variable or type named `init`.
 pub(crate) fn is_repetition(table: &ScopeTable, u: usize) -> bool
     requires { u < (laid_in table.now).size }
     ensures { IsTrue result ↔ IsRepetition (laid_in table.now) u }
@@ -88,7 +88,7 @@ pub(crate) fn is_repetition(table: &ScopeTable, u: usize) -> bool
     is_displaced(table, u) || is_init(table, u)
 }
 
-/// Whether the identifier at a token declares.
+/// Whether the identifier at a token is a declaring one.
 pub(crate) fn declares_at(table: &ScopeTable, file: usize, token: usize) -> bool
     ensures { IsTrue result ↔ DeclaresAt (laid_in table.now) file token }
 {

@@ -1,4 +1,4 @@
-//! The faults of names behind a package's: not exported, or not declared there.
+//! Finds the faults of qualified identifiers `p.N`: `N` is not exported, or the package doesn't declare it.
 ghost use Rattle.std.specs.Prelude.{ℕ, ◌≡◌, ◌<◌, ◌↔◌, IsTrue, OnOk, MatchOption, map};
 ghost use Rattle.types_declared.specs.Listing.{Adds};
 ghost use Rattle.go_ast.specs.SourceFile.{source_of};
@@ -16,7 +16,7 @@ use go_scope::table::ScopeTable;
 use std::alloc::{AllocError, Global};
 use types_declared::{Exports, Fault, is_exported, is_import, path_of, push};
 
-/// Whether a role is that of a name behind a dot.
+/// Whether a role is that of a name after a dot.
 fn is_selected(role: Role) -> bool
     ensures { IsTrue result ↔ (role ≡ NotLexical purpose.Selected) }
 {
@@ -26,7 +26,7 @@ fn is_selected(role: Role) -> bool
     }
 }
 
-/// Whether an identifier stands behind a dot behind another one.
+/// Whether `u` is the name after the dot that follows the identifier `b`, as in `b.u`.
 fn is_behind(table: &ScopeTable, b: usize, u: usize) -> bool
     requires before { b < (laid_in table.now).size }
     requires behind { u < (laid_in table.now).size }
@@ -40,7 +40,7 @@ fn is_behind(table: &ScopeTable, b: usize, u: usize) -> bool
         && at.index - 2 == before.index
 }
 
-/// The import that an identifier is bound to.
+/// The import to which the identifier `b` is bound; none where it is bound to no import.
 fn import_of(table: &ScopeTable, b: usize) -> Option<usize>
     requires { b < (laid_in table.now).size }
     ensures bound { MatchOption result ((d : ℕ) → IsOfImport (laid_in table.now) b d → ⊥) (λ d. IsOfImport (laid_in table.now) b d) }
@@ -54,7 +54,7 @@ fn import_of(table: &ScopeTable, b: usize) -> Option<usize>
     }
 }
 
-/// The import behind whose name an identifier stands.
+/// The import that qualifies `u`, as `p` does in `p.u`; none where no import does.
 fn qualifier_of(table: &ScopeTable, u: usize) -> Option<usize>
     requires { u < (laid_in table.now).size }
     ensures qualified { MatchOption result ((d : ℕ) → IsQualifiedBy (laid_in table.now) u d → ⊥) (λ d. IsQualifiedBy (laid_in table.now) u d) }
@@ -67,7 +67,7 @@ fn qualifier_of(table: &ScopeTable, u: usize) -> Option<usize>
     }
 }
 
-/// What is wrong with a name of the package of a path.
+/// The kind of fault of a qualified identifier: the name isn't exported, or the package at `path` doesn't declare it.
 fn qualified_fault<E: Exports>(exports: &E, path: &[u8], name: &[u8]) -> Option<FaultKind>
     ensures { result ≡ qualified_fault (is_exported name.now) (E.exported exports.now path.now name.now) }
 {
@@ -80,7 +80,7 @@ fn qualified_fault<E: Exports>(exports: &E, path: &[u8], name: &[u8]) -> Option<
     }
 }
 
-/// Adds an identifier's fault, if there is one.
+/// Adds a fault of this kind at `u`, if there is one.
 fn add_kind(
     found: &mut Vec<Fault>,
     table: &ScopeTable,
@@ -96,14 +96,14 @@ fn add_kind(
     }
 }
 
-/// The identifiers of a package, and its files.
+/// The scope table of a package, with its files.
 #[derive(Clone, Copy)]
 struct Identified<'a> {
     table: &'a ScopeTable<'a>,
     files: &'a [FileTree],
 }
 
-/// Adds the fault of a name of the package that an import names.
+/// Adds the fault of the name `u` qualified by an import, if any.
 fn add_name<E: Exports>(
     alloc: Global,
     found: &mut Vec<Fault>,
@@ -126,7 +126,7 @@ fn add_name<E: Exports>(
     }
 }
 
-/// Adds the fault of an identifier that stands behind a package's name.
+/// Adds the fault of `u`, if it is the name of a qualified identifier.
 fn add_unknown<E: Exports>(
     alloc: Global,
     found: &mut Vec<Fault>,
@@ -149,7 +149,7 @@ fn add_unknown<E: Exports>(
     }
 }
 
-/// Adds the faults of names behind packages' names.
+/// Adds the faults of a package's qualified identifiers.
 pub(crate) fn add_unknowns<E: Exports>(
     alloc: Global,
     found: &mut Vec<Fault>,

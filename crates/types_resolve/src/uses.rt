@@ -1,4 +1,4 @@
-//! Which identifiers of a table are used.
+//! Finds the declarations of a scope table that have a use.
 ghost use Rattle.std.specs.Prelude.{ℕ, ◌≡◌, ◌<◌, true, slice_set, IfOk, MatchOption};
 ghost use Rattle.go_scope.specs.Bindings.{IsUse, IsBoundTo};
 ghost use Rattle.types_resolve.specs.Scoping.{AreUsed};
@@ -8,7 +8,7 @@ use crate::table::{binding, is_name_use};
 use go_scope::table::ScopeTable;
 use std::alloc::{AllocError, Global};
 
-/// The declaration that an identifier is a use of.
+/// The declaration to which `u` is bound, if `u` is a use; none otherwise.
 fn used_by(table: &ScopeTable, u: usize) -> Option<usize>
     requires { u < (laid_in table.now).size }
     ensures { let l = (laid_in table.now).layout in
@@ -23,7 +23,7 @@ fn used_by(table: &ScopeTable, u: usize) -> Option<usize>
     }
 }
 
-/// Marks a number, where there is one.
+/// Sets the entry of `d`, if there is one.
 fn mark(used: &mut Vec<bool>, d: Option<usize>)
     ensures { MatchOption d (used.new.items ≡ used.old.items) (λ k. used.new.items ≡ slice_set used.old.items k true) }
 {
@@ -34,7 +34,7 @@ fn mark(used: &mut Vec<bool>, d: Option<usize>)
     }
 }
 
-/// Whether each identifier is used.
+/// Returns for each identifier whether a use is bound to it.
 pub(crate) fn uses(alloc: Global, table: &ScopeTable) -> Result<Vec<bool>, AllocError>
     ensures { IfOk result (λ used. AreUsed (laid_in table.now) (laid_in table.now).size used.items) }
 {

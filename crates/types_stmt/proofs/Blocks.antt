@@ -1,4 +1,4 @@
--- Blocks and ifs, by the parts that the program goes over.
+-- The check of blocks and ifs, by the parts that the program goes over.
 use Rattle.std.proofs.Common.{◌≡◌, List, [], ◌∷◌, ap, ◌∙◌, refl}
 use Rattle.go_ast.specs.View.{expr_view, option_view}
 use Rattle.go_ast.specs.FileView.{init_view, stmt_view, block_view, statements_view, if_view, else_view}

@@ -1,4 +1,4 @@
--- What the definitions are on the forms of expressions that the program does not tell apart.
+-- The values of the definitions on the forms of expressions that the program does not distinguish.
 use Rattle.std.proofs.Common.{ℕ, ◌≡◌, refl, None}
 use Rattle.go_ast.specs.View.{expr_view}
 use Rattle.go_ast.specs.declared.tree.Expr.{Expr}

@@ -1,4 +1,4 @@
--- Chains, by the links before the last and the last.
+-- Chains, split into the last link and the links before it.
 use Rattle.std.proofs.Common.{ℕ, ◌≡◌, Bool, true, false, ◌||◌, ◌&&◌, length, arith, List, [], ◌∷◌, ◌++◌, ap, sym, ◌∙◌, refl, if◌then◌else◌}
 use Rattle.go_ast.specs.Tree.{ExprTree, Chain, LinkTrees, selector, index, call, no_link}
 use Rattle.go_ast.specs.View.{expr_view, link_view, arguments_view}
@@ -19,7 +19,7 @@ use Rattle.types_stmt.specs.Simple.{is_end, is_statement, may_stand, ends_in_cal
 use Rattle.types_expr.proofs.Adding.{adds_then}
 use Rattle.types_stmt.proofs.Growing.{adds_as}
 
--- links that end in one are not at their end
+-- links that end in a given link are not empty
 not_end : (xs : List Link) (l : Link) → is_end (links_in (xs ++ (l ∷ []))) ≡ false
 unfolding links_in link_view
 not_end [] (link.Selector d n) = refl
@@ -44,7 +44,7 @@ without_last_links (link.Call' o shape row c ∷ xs) l =
     ap (λ (b : Bool). if b then no_link else call o (arguments_view row) c (without_last (links_in (xs ++ (l ∷ []))))) (not_end xs l) ∙
     ap (λ x. call o (arguments_view row) c x) (without_last_links xs l)
 
--- whether a chain ends in a call is told by its last link
+-- whether a chain ends in a call depends on its last link alone
 pub ends_as_last : (xs : List Link) (l : Link) → ends_in_call (links_in (xs ++ (l ∷ []))) ≡ ends_in_call (links_in (l ∷ []))
 unfolding links_in link_view ends_in_call
 ends_as_last [] l = refl
@@ -52,7 +52,7 @@ ends_as_last (link.Selector d n ∷ xs) l = ends_as_last xs l
 ends_as_last (link.Index o e c ∷ xs) l = ends_as_last xs l
 ends_as_last (link.Call' o shape row c ∷ xs) l = ap (λ b. b || ends_in_call (links_in (xs ++ (l ∷ [])))) (not_end xs l) ∙ ends_as_last xs l
 
--- what is found in links, behind what is found in those before
+-- the judgement of links, continued from that of the links before them
 pub links_append : (w : World) (ls : Locals) (start here : ℕ) (j : Judged) (xs ys : List Link) →
     judge_links w ls start here j (links_in (xs ++ ys)) ≡ judge_links w ls start (place_of_links start here (links_in xs))
     (judge_links w ls start here j (links_in xs)) (links_in ys)
@@ -64,7 +64,7 @@ links_append w ls start here j (link.Index o e c ∷ xs) ys =
 links_append w ls start here j (link.Call' o shape row c ∷ xs) ys =
     links_append w ls start start (followed j (call_rule w start here (judge_arguments w ls (arguments_view row)))) xs ys
 
--- where a fault of links stands is told by the last
+-- the token at which links report their faults depends on the last link alone
 pub place_behind_last : (start here : ℕ) (xs : List Link) (l : Link) →
     place_of_links start here (links_in (xs ++ (l ∷ []))) ≡ place_behind start (link_view l no_link)
 unfolding links_in link_view place_of_links
@@ -79,7 +79,7 @@ unfolding links_in place_of_links
 no_links start here [] e = refl
 no_links start here (x ∷ xs) e = absurd (omega (arith, e))
 
--- the chain that ends in a link, by what is before it and the link
+-- the judgement of a chain, by that of the links before the last and the last link
 last_judged : (w : World) (ls : Locals) (start here : ℕ) (j : Judged) (xs : List Link) (l : Link) →
     judge_links w ls start here j (links_in (xs ++ (l ∷ []))) ≡ followed (judge_links w ls start here j (links_in xs))
     (judge_link w ls start (place_of_links start here (links_in xs)) (link_view l no_link))

@@ -1,4 +1,4 @@
--- What the definitions give on small statements and declarations, by computation.
+-- The check of small statements and declarations, by computation.
 use Rattle.std.proofs.Common.{ℕ, ◌≡◌, ◌==◌, List, [], ◌∷◌, Option, Some, None, true, false, refl, if◌then◌else◌}
 use Rattle.go_ast.specs.declared.syntax.StepOp.TheVariants as step
 use Rattle.go_ast.specs.declared.syntax.UpdateOp.TheVariants as update

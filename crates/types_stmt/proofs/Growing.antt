@@ -1,4 +1,4 @@
--- What loops over values, left sides and faults have found so far, with what is still to come.
+-- The progress of loops over values, left sides, faults and results: what was found so far, with what is still to come.
 use Rattle.std.proofs.Common.{ℕ, ◌≡◌, List, [], ◌∷◌, ◌++◌, ap, sym, ◌∙◌, refl, subst, append_assoc, append-nil, map, Option}
 use Rattle.types_expr.specs.declared.found.FoundInFile.{FoundInFile}
 use Rattle.types_expr.specs.Types.{Meaning, PlainType, Results}

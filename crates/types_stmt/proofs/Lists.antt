@@ -9,7 +9,7 @@ pub list_all_map : {X Y : Type 0} (p : Y → Bool) (f : X → Y) (xs : List X) �
 list_all_map p f [] = refl
 list_all_map p f (x ∷ xs) = ap (λ b. p (f x) && b) (list_all_map p f xs)
 
--- the item at an index and those behind it, where the items are plain numbers or enums
+-- the item at an index and those after it, where the items are plain numbers or enums
 pub next_plain : {X : Type 0} (xs : List X) (i : ℕ) (d : X) → i < length xs → drop i xs ≡ get_or xs i d ∷ drop (i + 1) xs
 next_plain xs i d h = rw add-one (drop-cons xs i d h)
 

@@ -1,4 +1,4 @@
--- What is known behind a statement, from what its parts add.
+-- The check of a statement, from what its parts add.
 use Rattle.std.proofs.Common.{ℕ, ◌≡◌, List, [], ◌++◌, ap, sym, ◌∙◌, refl, subst, append_assoc, append-nil, map, Option}
 use Rattle.go_ast.specs.Tree.{Item, IdentTree}
 use Rattle.types_expr.specs.declared.found.FoundInFile.{FoundInFile}
@@ -70,7 +70,7 @@ adds_written names {old} {new} a e = record {
   uses = ap (map use_of) a.uses ∙ sym (append-nil (map use_of old.uses.items));
 }
 
--- results and then faults
+-- results, followed by faults
 pub signed : {j : ResultsJudged} (ls : Locals) {old mid new : FoundInFile} {ts : List Target} {places : List ℕ} → AddsResults j old mid ts →
     Notes places mid new →
     checked_with ls new ≡ noting (checked_with ls old) (j.faults ++ places) []

@@ -1,4 +1,4 @@
--- The definitions of several items, by the first and the others.
+-- The definitions on lists, by the first item and the others.
 use Rattle.std.proofs.Common.{ℕ, ◌≡◌, Bool, List, [], ◌∷◌, ◌++◌, ap, refl, map, Option}
 use Rattle.go_ast.specs.View.{expr_view, exprs_view, list_view, type_view}
 use Rattle.go_ast.specs.FileView.{field_view, decl_view}
@@ -18,7 +18,7 @@ use Rattle.types_stmt.specs.Declarations.{field_faults, check_decl, check_decls}
 use Rattle.types_stmt.specs.Sides.{judge_each, assigned, assigned_one, defined, defined_one, lefts_then, Target, refused, all_refused, with_locals}
 use Rattle.types_stmt.specs.Sides.{declared_if, head_or_none, tail_of}
 
--- values in turn are the arguments of a call
+-- the values of expressions in turn are those of the arguments of a call
 pub arguments_each : (w : World) (ls : Locals) (xs : List ExprItem) → judge_arguments w ls (arguments_in xs) ≡ judge_each w ls (exprs_view xs)
 unfolding judge_arguments arguments_in judge_each
 arguments_each w ls [] = refl

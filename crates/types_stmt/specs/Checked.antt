@@ -1,35 +1,37 @@
--- What is known after some statements or declarations, and how it grows from one to the next.
+-- What a check has found after some statements or declarations, and how it grows from one to the next.
 use Rattle.std.specs.Prelude.{ℕ, Bool, if◌then◌else◌, List, [], ◌∷◌, ◌++◌}
 use Rattle.go_ast.specs.Tree.{Item, Group, single, several}
 use Rattle.types_expr.specs.World.{Locals}
 use Rattle.types_expr.specs.Judge.{Judged, MemberUse}
 
--- the types of the locals declared so far, the faults and the member uses
+-- the types of the locals declared so far, and the faults and member uses found so far
 pub record Checked : Type 0 where
   pub locals : Locals
   pub faults : List ℕ
   pub uses : List MemberUse
 
--- the same behind what leads to those locals, and in which that is found
+-- s, after a part that changes the locals to `locals` and has these faults and member uses
 abbrev pub reaching : Checked → Locals → List ℕ → List MemberUse → Checked
 reaching s locals faults uses = record { locals = locals; faults = s.faults ++ faults; uses = s.uses ++ uses }
 
--- the same behind what declares none
+-- s, after a part that declares no local and has these faults and member uses
 abbrev pub noting : Checked → List ℕ → List MemberUse → Checked
 noting s faults uses = reaching s s.locals faults uses
 
--- the same behind an expression, with those faults besides
+-- s, after an expression judged as j, with more faults behind its own
 abbrev pub finding : Checked → Judged → List ℕ → Checked
 finding s j faults = noting s (j.faults ++ faults) j.uses
 
+-- a fault at `place`, if `test` is true
 abbrev pub fault_if : Bool → ℕ → List ℕ
 fault_if test place = if test then place ∷ [] else []
 
--- the items of a list in turn, and those of a group
+-- the check of the items of a list in turn
 unfoldable pub check_items : {X : Type 0} → (Checked → X → Checked) → Checked → List (Item X) → Checked
 check_items check s [] = s
 check_items check s (i ∷ is) = check_items check (check s i.value) is
 
+-- the check of one declaration, or of all in parentheses: `var x int`, `var ( .. )`
 unfoldable pub check_group : {X : Type 0} → (Checked → X → Checked) → Checked → Group X → Checked
 check_group check s (single x) = check s x
 check_group check s (several o xs c) = check_items check s xs

@@ -1,5 +1,5 @@
--- Statements and blocks. Declarations are met in source order; the locals of an inner block stay, since a name is bound
--- to one by its place.
+-- The check of statements and blocks, in source order. The locals of an inner block stay known after it: a name is bound to a local by its
+-- token, so none of them can be mistaken for another.
 use Rattle.std.specs.Prelude.{ℕ, ◌==◌, if◌then◌else◌, List, ◌++◌, Option, Some, None, length}
 use Rattle.go_ast.specs.Tree.{Item, ExprTree, InitTree, ForTree, forever, while, clauses, StatementTree, Empty, Var, Simple, Inner, If, For, Break}
 use Rattle.go_ast.specs.Tree.{Continue, Return, BlockTree, block, StatementTrees, no_statement, statement, IfTree, if_tree, ElseTree, no_else, else_if}
@@ -10,28 +10,31 @@ use Rattle.types_stmt.specs.Checked.{Checked, noting, fault_if, check_group}
 use Rattle.types_stmt.specs.Sides.{Target, rights, all_refused}
 use Rattle.types_stmt.specs.Simple.{check_simple, check_optional, check_condition, check_optional_condition, check_local}
 
--- The values of a `return`, given to the function's results. A wrong count is a fault also where a result is broken,
--- since results are no part of the statement.
+-- The faults of the values of a `return`, given to the function's results. A wrong count is a fault at `place`, also where a result is
+-- broken, since results are no part of the statement.
 unfoldable pub returned : World → ℕ → List Argued → List Target → List ℕ
 returned w place vs ts = if length vs == length ts then all_refused w vs ts else fault_if (all_whole vs) place
 
+-- the check of a `return` whose values are judged as r
 abbrev pub returning : World → Checked → ℕ → List Target → JudgedList → Checked
 returning w s place results r = noting s (r.faults ++ returned w place r.values results) r.uses
 
+-- the check of a `return` at token `place`
 unfoldable pub check_return : World → Checked → ℕ → List Target → List (Item ExprTree) → Checked
 check_return w s place results es = returning w s place results (rights w s.locals es)
 
+-- the check of the statement before the condition of an `if`, if there is one
 abbrev pub check_init : World → Checked → Option InitTree → Checked
 check_init w s None = s
 check_init w s (Some i) = check_optional w s i.simple
 
--- what stands between `for` and its block
+-- the check of the header of a `for`: the part before its block
 unfoldable pub check_header : World → Checked → ForTree → Checked
 check_header w s forever = s
 check_header w s (while e) = check_condition w s e
 check_header w s (clauses init p condition q post) = check_optional w (check_optional_condition w (check_optional w s init) condition) post
 
--- results: what the function's results want
+-- results: the targets of the function's returned values
 unfoldable mutual
   pub check_statement : World → List Target → Checked → StatementTree → Checked
   check_statement w results s Empty = s

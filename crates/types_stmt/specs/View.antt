@@ -1,4 +1,4 @@
--- The values of src/ without where they lie in memory, and what calls add to what was found.
+-- Views of `CheckedBody` and `Target`, and relations that say what one call adds to what was found.
 use Rattle.std.specs.Prelude.{ℕ, ◌≡◌, ◌==◌, Bool, List, ◌++◌, option_map, map, codes}
 use Rattle.std.specs.Cmp.Lexicographic.{pointwise}
 use Rattle.types_expr.specs.declared.world.World.{World}
@@ -14,9 +14,11 @@ use Rattle.types_stmt.specs.Checked as pure
 use Rattle.types_stmt.specs.Sides as sides
 use Rattle.types_stmt.specs.Headers.{ResultsJudged}
 
+-- the plain value of some locals and of what was found
 abbrev pub checked_with : Locals → FoundInFile → pure.Checked
 checked_with ls f = record { locals = ls; faults = f.faults.items; uses = map use_of f.uses.items }
 
+-- the plain value of a `CheckedBody`
 abbrev pub checked_of : CheckedBody → pure.Checked
 checked_of s = checked_with (locals_of s.locals) s.found
 
@@ -24,19 +26,19 @@ unfoldable pub target_of : Target → sides.Target
 target_of target.Takes = sides.Takes
 target_of (target.Wants t) = sides.Wants (option_map type_of t)
 
--- what a call added: left sides, with their targets as the result
+-- A call appended the faults and member uses of the left sides l, and returned their targets.
 pub record AddsLefts (l : sides.Lefts) (old new : FoundInFile) (ts : List sides.Target) : Type 0 where
   pub targets : ts ≡ l.targets
   pub faults : new.faults.items ≡ old.faults.items ++ l.faults
   pub uses : map use_of new.uses.items ≡ map use_of old.uses.items ++ l.uses
 
--- results, with what they want as the result
+-- A call appended the faults of the results j, and returned them as targets.
 pub record AddsResults (j : ResultsJudged) (old new : FoundInFile) (ts : List sides.Target) : Type 0 where
   pub wanted : ts ≡ j.wanted
   pub faults : new.faults.items ≡ old.faults.items ++ j.faults
   pub uses : new.uses.items ≡ old.uses.items
 
--- faults at those places, and nothing else
+-- A call appended faults at `places` and no member use.
 pub record Notes (places : List ℕ) (old new : FoundInFile) : Type 0 where
   pub faults : new.faults.items ≡ old.faults.items ++ places
   pub uses : new.uses.items ≡ old.uses.items

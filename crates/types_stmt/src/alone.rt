@@ -1,4 +1,4 @@
-//! Expressions that are statements: calls.
+//! Expression statements: calls.
 ghost use Rattle.std.specs.Prelude.{◌≡◌, ◌∷◌, ◌++◌, [], ◌&&◌, IfOk, OnOk};
 ghost use Rattle.go_ast.specs.Tree.{Chain, no_link};
 ghost use Rattle.go_ast.specs.View.{expr_view, link_view};
@@ -20,14 +20,14 @@ use types_expr::places::{FaultPlaces, first_token, place_behind, place_of};
 use types_expr::types::Builtin;
 use types_expr::world::World;
 
-/// What an expression stands for, and whether it may stand as a statement.
+/// The meaning of an expression, and whether the expression may be a statement.
 #[derive(Drop)]
 struct Alone<'w> {
     meaning: Meaning<'w>,
     stands: bool,
 }
 
-/// Whether a call of what means that may stand as a statement.
+/// Whether a call of an operand of this meaning may be a statement.
 #[tactic(auto, unfolding(types_expr::specs::Found::meaning_of, crate::specs::Simple::may_stand))]
 fn may_stand(meaning: &Meaning<'_>) -> bool
     ensures { result ≡ may_stand (meaning_of meaning.now) }
@@ -50,7 +50,8 @@ fn is_call(link: &Link) -> bool
     matches!(link, Link::Call { .. })
 }
 
-/// Where a fault of a chain stands that begins at `start`, and has its faults at `place` without these links.
+/// Returns the token at which a chain with these links reports its faults. The chain begins at `start`, and without the links it reports
+/// them at `place`.
 #[tactic(auto, using(crate::proofs::Chains::place_behind_last))]
 fn place_behind_all(start: usize, place: usize, links: &[Link]) -> usize
     ensures { result ≡ place_of_links start place (links_in links.now) }
@@ -61,14 +62,14 @@ fn place_behind_all(start: usize, place: usize, links: &[Link]) -> usize
     }
 }
 
-/// Whether a link calls what may stand as a statement when it is called.
+/// Whether the link is a call that may be a statement, where the operand before it has this meaning.
 fn calls_statement(link: &Link, meaning: &Meaning<'_>) -> bool
     ensures { result ≡ (ends_in_call (link_view link.now no_link) && may_stand (meaning_of meaning.now)) }
 {
     is_call(link) && may_stand(meaning)
 }
 
-/// What a chain that ends in that link stands for, and whether it may stand as a statement.
+/// Returns the meaning of a chain that ends in the link `last`, and whether it may be a statement.
 fn judge_last<'w>(
     alloc: Global,
     scope: LocalNames<'w>,
@@ -95,7 +96,7 @@ fn judge_last<'w>(
     Ok(Alone { meaning, stands })
 }
 
-/// What a chain stands for, and whether it may stand as a statement.
+/// Returns the meaning of a chain, and whether it may be a statement.
 fn judge_chain<'w>(
     alloc: Global,
     scope: LocalNames<'w>,
@@ -118,7 +119,7 @@ fn judge_chain<'w>(
     }
 }
 
-/// What an expression stands for, and whether it may stand as a statement.
+/// Returns the meaning of an expression, and whether it may be a statement.
 #[tactic(auto, unfolding(go_ast::specs::View::expr_view, crate::specs::Simple::is_statement))]
 fn judge_alone<'w>(
     alloc: Global,
@@ -141,7 +142,7 @@ fn judge_alone<'w>(
     }
 }
 
-/// Notes what may not stand as a statement; nothing again where it is broken.
+/// Notes a fault where the expression may not be a statement, unless it is broken already.
 #[tactic(auto, unfolding(types_expr::specs::Found::meaning_of, crate::specs::Simple::stands_faults))]
 fn require_statement(
     place: usize,
@@ -158,7 +159,7 @@ fn require_statement(
 }
 
 impl CheckedBody {
-    /// Checks an expression that is a statement.
+    /// Checks an expression statement.
     pub(crate) fn check_alone(
         &mut self,
         alloc: Global,

@@ -1,4 +1,4 @@
-//! What is known after some statements.
+//! What a check has found after some statements.
 use types_expr::found::FoundInFile;
 use types_expr::locals::Locals;
 

@@ -1,4 +1,4 @@
-//! Package-level declarations of variables and types.
+//! The check of package-level declarations of variables and types.
 ghost use Rattle.std.specs.Prelude.{◌≡◌, IfOk, OnOk, map, option_map};
 ghost use Rattle.go_ast.specs.View.{list_view, group_view};
 ghost use Rattle.go_ast.specs.FileView.{same_place, basic_view, global_view, field_view, body_view, type_spec_view};
@@ -20,7 +20,7 @@ use types_expr::meaning::Argued;
 use types_expr::types::{Basic, GoType, ValueKind};
 use types_expr::world::World;
 
-/// The value of a literal.
+/// Returns the value of a literal.
 #[tactic(auto, unfolding(types_expr::specs::View::kind_of))]
 fn literal_value(literal: &BasicLit) -> Argued
     ensures { argued_of result ≡ literal_value (basic_view literal.now) }
@@ -37,7 +37,7 @@ fn literal_value(literal: &BasicLit) -> Argued
     }
 }
 
-/// The values of literals.
+/// Returns the values of literals.
 fn literal_values(alloc: Global, literals: &[Item<BasicLit>]) -> Result<Vec<Argued>, AllocError>
     ensures { IfOk result (λ vs. map argued_of vs.items ≡ map (λ i. literal_value i.value) (list_view basic_view literals.now)) }
 {
@@ -48,7 +48,7 @@ fn literal_values(alloc: Global, literals: &[Item<BasicLit>]) -> Result<Vec<Argu
     Ok(values)
 }
 
-/// What variables of one type take.
+/// Returns the targets of variables of the type `own`, one for each name.
 fn global_targets(
     alloc: Global,
     names: &[Item<usize>],
@@ -63,7 +63,7 @@ fn global_targets(
     Ok(targets)
 }
 
-/// The place of the first of several names; 0 where there is none.
+/// Returns the token of the first name, 0 where there is none.
 #[tactic(auto, unfolding(crate::specs::Declarations::first_name))]
 fn first_name(names: &[Item<usize>]) -> usize
     ensures { result ≡ first_name (list_view same_place names.now) }
@@ -74,7 +74,7 @@ fn first_name(names: &[Item<usize>]) -> usize
     }
 }
 
-/// Notes literals that do not fit the type of the variables, or a wrong count of them.
+/// Notes each literal that does not fit the type of the variables, or a wrong count of them at the first name.
 #[tactic(auto, unfolding(crate::specs::Declarations::literal_faults))]
 fn note_value_faults(
     alloc: Global,
@@ -95,7 +95,7 @@ fn note_value_faults(
     refuse_all(world, &values, &targets, found)
 }
 
-/// Notes the faults of package-level variables of one type.
+/// Notes the faults of a declaration of package-level variables of one type.
 fn note_global_faults(
     alloc: Global,
     world: &World<'_>,
@@ -126,7 +126,7 @@ fn note_field_faults(
     Ok(())
 }
 
-/// Notes the faults of what a type is defined as.
+/// Notes the faults of the type that a definition writes.
 fn note_body_faults(
     alloc: Global,
     world: &World<'_>,
@@ -145,7 +145,7 @@ fn note_body_faults(
 }
 
 impl CheckedBody {
-    /// Checks package-level variables of one type.
+    /// Checks a declaration of package-level variables of one type.
     fn check_global(
         &mut self,
         alloc: Global,

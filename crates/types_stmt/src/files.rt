@@ -1,4 +1,4 @@
-//! Whole files: all that is declared in one, in turn.
+//! The check of whole files, declaration by declaration.
 ghost use Rattle.std.specs.Prelude.{◌≡◌, [], IfOk, OnOk};
 ghost use Rattle.go_ast.specs.FileView.{decl_view, file_view};
 ghost use Rattle.types_expr.specs.World.{no_locals};
@@ -21,7 +21,7 @@ fn is_init(world: &World<'_>, place: usize) -> bool
 }
 
 impl CheckedBody {
-    /// Nothing known yet.
+    /// Nothing found yet.
     fn new(alloc: Global) -> CheckedBody
         ensures { checked_of result ≡ record { locals = no_locals; faults = []; uses = [] } }
     {
@@ -35,7 +35,7 @@ impl CheckedBody {
         }
     }
 
-    /// Checks what one keyword declares.
+    /// Checks a declaration.
     fn check_decl(
         &mut self,
         alloc: Global,
@@ -55,7 +55,7 @@ impl CheckedBody {
     }
 }
 
-/// The types of the locals of a file, its faults of types and its member uses.
+/// Checks a file. Returns the types of its locals, its type faults and its member uses.
 pub fn check_file(alloc: Global, world: &World<'_>, file: &File) -> Result<CheckedBody, AllocError>
     ensures { IfOk result (λ checked. checked_of checked ≡ check_file (world_of world.now) (is_init_in world.now) (file_view file.now)) }
 {

@@ -1,4 +1,4 @@
-//! Function headers and whole functions.
+//! The check of function headers and of whole functions.
 ghost use Rattle.std.specs.Prelude.{◌≡◌, IfOk, OnOk, map, option_map};
 ghost use Rattle.go_ast.specs.View.{list_view, option_view, type_view};
 ghost use Rattle.go_ast.specs.FileView.{receiver_view, param_view, results_view, func_view};
@@ -18,7 +18,7 @@ use types_expr::found::FoundInFile;
 use types_expr::types::GoType;
 use types_expr::world::World;
 
-/// Whether a receiver may be of that type: a definition whose underlying type is no pointer.
+/// Whether a method may have a receiver of this type or of pointers to it: it is a definition whose underlying type is no pointer.
 #[tactic(auto, unfolding(crate::specs::Headers::may_receive, types_expr::specs::View::type_of, types_expr::specs::WorldView::shape_of))]
 fn may_receive(world: &World<'_>, own: &GoType) -> bool
     ensures { result ≡ may_receive (world_of world.now) (type_of own.now) }
@@ -29,7 +29,7 @@ fn may_receive(world: &World<'_>, own: &GoType) -> bool
     }
 }
 
-/// The type that a receiver names; none where it is broken.
+/// Returns the type T of a receiver T or `*T`, none where it is broken. A type that methods may not have is a fault.
 #[tactic(auto, unfolding(crate::specs::Headers::receiver_base, crate::specs::Headers::receiving))]
 fn receiver_base(
     alloc: Global,
@@ -49,7 +49,7 @@ fn receiver_base(
     Ok(None)
 }
 
-/// The type of a receiver; none where it is broken.
+/// Returns the type of a receiver, none where it is broken.
 #[tactic(auto, unfolding(crate::specs::Headers::judge_receiver, go_ast::specs::FileView::receiver_view, types_expr::specs::View::type_of))]
 fn receiver_type(
     alloc: Global,
@@ -66,7 +66,7 @@ fn receiver_type(
     }
 }
 
-/// The types of results, each as what is returned as it wants.
+/// Returns result types, each as a target of returned values.
 fn result_types(
     alloc: Global,
     world: &World<'_>,
@@ -83,7 +83,7 @@ fn result_types(
     Ok(targets)
 }
 
-/// The results of a function.
+/// Returns the results of a function as targets of returned values.
 fn results_of(
     alloc: Global,
     world: &World<'_>,
@@ -104,7 +104,7 @@ fn results_of(
     }
 }
 
-/// Whether a function is an `init` with parameters or results.
+/// Whether the function is an `init` without a receiver that has parameters or results.
 #[tactic(auto, unfolding(crate::specs::Headers::is_bad_init, go_ast::specs::FileView::func_view))]
 fn is_bad_init(is_init: bool, func: &FuncDecl, results: &[Target]) -> bool
     ensures { result ≡ is_bad_init is_init (func_view func.now) (map target_of results.now) }
@@ -113,7 +113,7 @@ fn is_bad_init(is_init: bool, func: &FuncDecl, results: &[Target]) -> bool
 }
 
 impl CheckedBody {
-    /// Declares a receiver, and notes what its type may not be.
+    /// Declares a receiver's name, and notes the faults of its type.
     fn check_receiver(
         &mut self,
         alloc: Global,
@@ -126,6 +126,7 @@ impl CheckedBody {
         declare_if(&mut self.locals, named(&receiver.ident), own)
     }
 
+    /// Checks the receiver, if there is one.
     fn check_optional_receiver(
         &mut self,
         alloc: Global,
@@ -140,7 +141,7 @@ impl CheckedBody {
         }
     }
 
-    /// Declares parameters of one type.
+    /// Declares parameters of one type, and notes the faults of that type.
     fn check_param(
         &mut self,
         alloc: Global,
@@ -153,7 +154,7 @@ impl CheckedBody {
         declare_written(alloc, &mut self.locals, &param.names, &own)
     }
 
-    /// Declares all parameters.
+    /// Declares all parameters, and notes the faults of their types.
     fn check_params(
         &mut self,
         alloc: Global,

@@ -1,4 +1,4 @@
-//! Statements, function bodies and declarations: the types of locals, and the faults of types.
+//! The check of statements, function bodies and declarations: the types of locals, the type faults and the member uses of a file.
 #![tactic(auto)]
 
 mod alone;

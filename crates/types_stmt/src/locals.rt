@@ -1,4 +1,4 @@
-//! The names that statements declare, and the types that these take.
+//! The names that statements declare, and the types that their locals take.
 ghost use Rattle.std.specs.Prelude.{◌≡◌, [], length, IfOk, OnOk, map, option_map};
 ghost use Rattle.go_ast.specs.View.{expr_view, exprs_view, list_view, ident_view};
 ghost use Rattle.types_expr.specs.View.{type_of, kind_of};
@@ -16,7 +16,7 @@ use types_expr::places::first_token;
 use types_expr::types::{GoType, ValueKind};
 use types_expr::world::{Bound, World};
 
-/// Whether a left name of `:=` declares: where it is bound to itself.
+/// Whether the name at a token, on the left of `:=`, declares a local: it is bound to itself.
 #[tactic(auto, unfolding(types_expr::specs::WorldView::bound_of))]
 pub(crate) fn declares(world: &World<'_>, place: usize) -> bool
     ensures { result ≡ declares (world_of world.now) place }
@@ -27,7 +27,7 @@ pub(crate) fn declares(world: &World<'_>, place: usize) -> bool
     }
 }
 
-/// The type that a local takes from a value.
+/// Returns the type that a local takes from a value, none where the value is broken or nil.
 #[tactic(auto, unfolding(crate::specs::Sides::taken_type, crate::specs::Sides::default_type, types_expr::specs::View::kind_of, types_expr::specs::View::type_of))]
 fn taken_type(alloc: Global, kind: &Option<ValueKind>) -> Result<Option<GoType>, AllocError>
     ensures { IfOk result (λ t. option_map type_of t ≡ taken_type (option_map kind_of kind.now)) }
@@ -39,7 +39,7 @@ fn taken_type(alloc: Global, kind: &Option<ValueKind>) -> Result<Option<GoType>,
     }
 }
 
-/// The name that a left side of `:=` declares.
+/// Returns the name that a left side of `:=` declares, by its token.
 #[tactic(auto, unfolding(crate::specs::Sides::defined_name, go_ast::specs::View::expr_view))]
 fn defined_name(world: &World<'_>, expr: &Expr) -> Option<usize>
     ensures { result ≡ defined_name (world_of world.now) (expr_view expr.now) }
@@ -56,7 +56,7 @@ fn defined_name(world: &World<'_>, expr: &Expr) -> Option<usize>
     }
 }
 
-/// The names that left sides of `:=` declare.
+/// Returns the names that the left sides of `:=` declare.
 pub(crate) fn defined_names(
     alloc: Global,
     world: &World<'_>,
@@ -71,7 +71,7 @@ pub(crate) fn defined_names(
     Ok(names)
 }
 
-/// The name that an identifier declares.
+/// Returns the name that an identifier in a declaration declares; `_` declares none.
 #[tactic(auto, unfolding(crate::specs::Sides::named))]
 pub(crate) fn named(ident: &Ident) -> Option<usize>
     ensures { result ≡ named (ident_view ident.now) }
@@ -82,7 +82,7 @@ pub(crate) fn named(ident: &Ident) -> Option<usize>
     }
 }
 
-/// The names that identifiers declare.
+/// Returns the names that identifiers in a declaration declare.
 pub(crate) fn all_named(
     alloc: Global,
     idents: &[Item<Ident>],
@@ -96,7 +96,7 @@ pub(crate) fn all_named(
     Ok(names)
 }
 
-/// The place of the first of several expressions; 0 where there is none.
+/// Returns the first token of a list of expressions, 0 where it is empty.
 #[tactic(auto, unfolding(crate::specs::Sides::first_of_exprs))]
 pub(crate) fn first_of_exprs(exprs: &[ExprItem]) -> usize
     ensures { result ≡ first_of_exprs (exprs_view exprs.now) }
@@ -107,7 +107,7 @@ pub(crate) fn first_of_exprs(exprs: &[ExprItem]) -> usize
     }
 }
 
-/// The place of an identifier.
+/// Returns the token of an identifier.
 #[tactic(auto, unfolding(crate::specs::Sides::ident_place))]
 fn ident_place(ident: &Ident) -> usize
     ensures { result ≡ ident_place (ident_view ident.now) }
@@ -117,7 +117,7 @@ fn ident_place(ident: &Ident) -> usize
     }
 }
 
-/// The place of the first of several identifiers; 0 where there is none.
+/// Returns the token of the first of several identifiers, 0 where there is none.
 #[tactic(auto, unfolding(crate::specs::Sides::first_of_idents))]
 pub(crate) fn first_of_idents(idents: &[Item<Ident>]) -> usize
     ensures { result ≡ first_of_idents (list_view ident_view idents.now) }
@@ -128,7 +128,7 @@ pub(crate) fn first_of_idents(idents: &[Item<Ident>]) -> usize
     }
 }
 
-/// Declares a local, where there is a name.
+/// Declares a local of the type `own`, if there is a name.
 pub(crate) fn declare_if(
     locals: &mut Locals,
     name: Option<usize>,
@@ -142,7 +142,7 @@ pub(crate) fn declare_if(
     }
 }
 
-/// Declares broken locals.
+/// Declares locals whose types are broken.
 pub(crate) fn declare_broken(locals: &mut Locals, names: &[Option<usize>]) -> Result<(), AllocError>
     ensures { OnOk result (locals_of locals.new ≡ with_locals (locals_of locals.old) names.now []) }
 {
@@ -152,7 +152,7 @@ pub(crate) fn declare_broken(locals: &mut Locals, names: &[Option<usize>]) -> Re
     Ok(())
 }
 
-/// Declares locals of the types that they take from values in turn.
+/// Declares locals, each of the type that it takes from the value at its position.
 fn declare_each(
     alloc: Global,
     locals: &mut Locals,
@@ -169,7 +169,7 @@ fn declare_each(
     Ok(())
 }
 
-/// Declares locals of the types that they take from values; under a wrong count they are broken.
+/// Declares locals, each of the type that it takes from the value at its position. Under a wrong count all are broken.
 #[tactic(auto, unfolding(crate::specs::Sides::taken))]
 pub(crate) fn declare_taken(
     alloc: Global,
@@ -186,7 +186,7 @@ pub(crate) fn declare_taken(
     }
 }
 
-/// The same type, in other memory.
+/// Copies a type, if there is one.
 pub(crate) fn copied(alloc: Global, own: &Option<GoType>) -> Result<Option<GoType>, AllocError>
     ensures { IfOk result (λ t. option_map type_of t ≡ option_map type_of own.now) }
 {
@@ -196,7 +196,7 @@ pub(crate) fn copied(alloc: Global, own: &Option<GoType>) -> Result<Option<GoTyp
     }
 }
 
-/// Declares locals of one written type.
+/// Declares locals of the type `own`, which is none where it is broken.
 pub(crate) fn declare_written(
     alloc: Global,
     locals: &mut Locals,

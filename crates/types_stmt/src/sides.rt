@@ -1,4 +1,4 @@
-//! The two sides of assignments and declarations of locals.
+//! The two sides of assignments and local declarations: values and their targets.
 ghost use Rattle.std.specs.Prelude.{◌≡◌, ◌∷◌, [], IfOk, OnOk, map, option_map};
 ghost use Rattle.std.specs.List.{list_all};
 ghost use Rattle.go_ast.specs.View.{expr_view, exprs_view};
@@ -22,15 +22,15 @@ use types_expr::places::place_of;
 use types_expr::types::{GoType, ValueKind};
 use types_expr::world::World;
 
-/// What a left side takes: a new name or `_` a value of any type, any other one that fits its own type, which is none
-/// where it is broken.
+/// A target of a value: a left side, or a result. A new name or `_` takes a value of any type. Any other target wants one that fits its own
+/// type, which is none where it is broken.
 #[derive(Drop)]
 pub enum Target {
     Takes,
     Wants(Option<GoType>),
 }
 
-/// The values of right sides: those of each, or the results of a lone call.
+/// Returns the values of right sides: one of each, or the results of a single call.
 #[tactic(auto, unfolding(crate::specs::Sides::rights))]
 pub(crate) fn rights(
     alloc: Global,
@@ -46,7 +46,7 @@ pub(crate) fn rights(
     }
 }
 
-/// The values of an expression that is the only right side.
+/// Returns the values of the only right side: the results of a call, or one value.
 fn lone(
     alloc: Global,
     scope: LocalNames<'_>,
@@ -63,7 +63,7 @@ fn lone(
     }
 }
 
-/// A value alone, where one is wanted.
+/// Returns the value of an expression of this meaning, where a value is required.
 fn one_value(
     alloc: Global,
     place: usize,
@@ -78,7 +78,7 @@ fn one_value(
     Ok(values)
 }
 
-/// Results of a call, each at the place of the call.
+/// Returns the results of a call as values, each at the place of the call.
 fn results_at(alloc: Global, place: usize, types: &[GoType]) -> Result<Vec<Argued>, AllocError>
     ensures { IfOk result (λ vs. map argued_of vs.items ≡ results_at place (map type_of types.now)) }
 {
@@ -90,7 +90,7 @@ fn results_at(alloc: Global, place: usize, types: &[GoType]) -> Result<Vec<Argue
     Ok(values)
 }
 
-/// The values of expressions, each one value.
+/// Returns the values of expressions, each of which has to be one value.
 fn each_value(
     alloc: Global,
     scope: LocalNames<'_>,
@@ -102,7 +102,7 @@ fn each_value(
     arguments(alloc, scope, exprs, found)
 }
 
-/// Whether the left side is not broken.
+/// Whether the target is not broken.
 #[tactic(auto, unfolding(crate::specs::View::target_of))]
 fn is_sound(target: &Target) -> bool
     ensures { result ≡ is_sound (target_of target.now) }
@@ -110,21 +110,21 @@ fn is_sound(target: &Target) -> bool
     !matches!(target, Target::Wants(None))
 }
 
-/// Whether no left side is broken.
+/// Whether each target is sound.
 fn each_sound(targets: &[Target]) -> bool
     ensures { result ≡ list_all (λ t. is_sound (target_of t)) targets.now }
 {
     targets.iter().all(|target| is_sound(target))
 }
 
-/// The same, of the left sides as they are told.
+/// Whether no target is broken.
 fn all_sound(targets: &[Target]) -> bool
     ensures { result ≡ all_sound (map target_of targets.now) }
 {
     each_sound(targets)
 }
 
-/// Notes a value that its target refuses.
+/// Notes a fault where the target refuses the value.
 #[tactic(auto, unfolding(crate::specs::View::target_of, crate::specs::Sides::refused, types_expr::specs::View::kind_of))]
 fn refuse(
     world: &World<'_>,
@@ -144,7 +144,7 @@ fn refuse(
     }
 }
 
-/// Notes nil, which has no type of its own.
+/// Notes a fault where the value is nil, which has no type of its own.
 #[tactic(auto, unfolding(crate::specs::Sides::nil_refused, types_expr::specs::View::kind_of))]
 fn refuse_nil(value: &Argued, found: &mut FoundInFile) -> Result<(), AllocError>
     ensures { OnOk result (Notes (nil_refused value.now.place (option_map kind_of value.now.kind)) found.old found.new) }
@@ -155,7 +155,7 @@ fn refuse_nil(value: &Argued, found: &mut FoundInFile) -> Result<(), AllocError>
     Ok(())
 }
 
-/// Notes the values that their targets refuse, in turn.
+/// Notes each value that the target at its position refuses.
 pub(crate) fn refuse_all(
     world: &World<'_>,
     values: &[Argued],
@@ -172,7 +172,7 @@ pub(crate) fn refuse_all(
     Ok(())
 }
 
-/// Notes a fault at a place, if there is one.
+/// Notes a fault at `place`, if `test` is true.
 pub(crate) fn note_if(test: bool, place: usize, found: &mut FoundInFile) -> Result<(), AllocError>
     ensures { OnOk result (Notes (fault_if test place) found.old found.new) }
 {
@@ -182,7 +182,7 @@ pub(crate) fn note_if(test: bool, place: usize, found: &mut FoundInFile) -> Resu
     Ok(())
 }
 
-/// Notes where values do not go with the left sides that they are given to; a wrong count at that place.
+/// Notes the values that their targets refuse, or a wrong count of values at `place`.
 #[tactic(auto, unfolding(crate::specs::Sides::given_to))]
 pub(crate) fn given_to(
     world: &World<'_>,
@@ -200,7 +200,7 @@ pub(crate) fn given_to(
     note_if(whole, place, found)
 }
 
-/// An operand that can be assigned; any other is a fault.
+/// Returns `meaning` where it is addressable or broken. Any other operand that is assigned is a fault.
 #[tactic(auto, unfolding(crate::specs::Sides::assignable, types_expr::specs::Found::meaning_of))]
 pub(crate) fn assignable<'w>(
     place: usize,
@@ -219,7 +219,7 @@ pub(crate) fn assignable<'w>(
     }
 }
 
-/// What an expression stands for that is assigned.
+/// Returns the meaning of an expression that is assigned.
 pub(crate) fn operand<'w>(
     alloc: Global,
     scope: LocalNames<'w>,
@@ -233,7 +233,7 @@ pub(crate) fn operand<'w>(
     assignable(place, meaning, found)
 }
 
-/// The type of a value that has one.
+/// Returns the type of a value, none for one without a type.
 #[tactic(auto, unfolding(crate::specs::Sides::own_type, types_expr::specs::Found::meaning_of, types_expr::specs::View::kind_of))]
 fn own_type(meaning: Meaning<'_>) -> Option<GoType>
     ensures { option_map type_of result ≡ own_type (meaning_of meaning.entry) }
@@ -247,7 +247,7 @@ fn own_type(meaning: Meaning<'_>) -> Option<GoType>
     }
 }
 
-/// A left side of `=`.
+/// Judges a left side of `=`.
 fn assigned_one(
     alloc: Global,
     scope: LocalNames<'_>,
@@ -265,7 +265,7 @@ fn assigned_one(
     }
 }
 
-/// The left sides of `=`.
+/// Judges the left sides of `=`.
 pub(crate) fn assigned(
     alloc: Global,
     scope: LocalNames<'_>,
@@ -282,7 +282,7 @@ pub(crate) fn assigned(
     Ok(targets)
 }
 
-/// Notes what is no identifier on the left of `:=`.
+/// Notes a left side of `:=` that is no identifier, unless it is broken already.
 #[tactic(auto, unfolding(crate::specs::Sides::no_name, types_expr::specs::Found::meaning_of))]
 fn no_name<'w>(
     place: usize,
@@ -297,7 +297,7 @@ fn no_name<'w>(
     }
 }
 
-/// A left side of `:=`.
+/// Judges a left side of `:=`.
 fn defined_one(
     alloc: Global,
     scope: LocalNames<'_>,
@@ -324,7 +324,7 @@ fn defined_one(
     }
 }
 
-/// The left sides of `:=`.
+/// Judges the left sides of `:=`.
 pub(crate) fn defined(
     alloc: Global,
     scope: LocalNames<'_>,
@@ -341,7 +341,7 @@ pub(crate) fn defined(
     Ok(targets)
 }
 
-/// Notes where values do not go with the results that they are returned as; a wrong count at that place.
+/// Notes the returned values that the results refuse, or a wrong count of values at `place`.
 #[tactic(auto, unfolding(crate::specs::Statements::returned))]
 pub(crate) fn returned(
     world: &World<'_>,

@@ -1,4 +1,4 @@
-//! Simple statements, conditions, and declarations of locals.
+//! The check of simple statements, of conditions, and of declarations of locals.
 ghost use Rattle.std.specs.Prelude.{◌≡◌, IfOk, OnOk, map, option_map};
 ghost use Rattle.go_ast.specs.View.{expr_view, exprs_view, option_view, list_view, ident_view, type_view};
 ghost use Rattle.go_ast.specs.FileView.{simple_view, local_view, values_view};
@@ -62,7 +62,7 @@ fn require_int(
     Ok(())
 }
 
-/// The operator of which an assignment with an operator has the result.
+/// Returns the binary operator op of an assignment `op=`.
 fn binary_of(op: UpdateOp) -> BinaryOp
     ensures { result ≡ binary_of op }
 {
@@ -75,7 +75,7 @@ fn binary_of(op: UpdateOp) -> BinaryOp
     }
 }
 
-/// Notes an operation that breaks a rule.
+/// Notes a binary operation that breaks a rule.
 #[tactic(auto, unfolding(crate::specs::Simple::update_faults))]
 fn require_operation(
     world: &World<'_>,
@@ -136,7 +136,7 @@ impl CheckedBody {
         require_int(world, place, &kind, &mut self.found)
     }
 
-    /// Checks `+=` and its kin.
+    /// Checks an assignment `x op= y`.
     fn check_update(
         &mut self,
         alloc: Global,
@@ -292,7 +292,7 @@ impl CheckedBody {
     }
 }
 
-/// The names of a declaration with a written type, as what takes its values.
+/// Returns the targets of a declaration with a written type, one for each name.
 fn written_targets(
     alloc: Global,
     names: &[Item<Ident>],
@@ -307,7 +307,7 @@ fn written_targets(
     Ok(targets)
 }
 
-/// The names of a declaration without a written type, as what takes its values.
+/// Returns the targets of a declaration without a written type, one for each name.
 fn name_targets(alloc: Global, names: &[Item<Ident>]) -> Result<Vec<Target>, AllocError>
     ensures { IfOk result (λ ts. map target_of ts.items ≡ map (λ i. Takes) (list_view ident_view names.now)) }
 {

@@ -1,4 +1,4 @@
-//! Statements and blocks.
+//! The check of statements and blocks.
 ghost use Rattle.std.specs.Prelude.{◌≡◌, OnOk, map};
 ghost use Rattle.go_ast.specs.View.{expr_view, exprs_view, option_view, group_view};
 ghost use Rattle.go_ast.specs.FileView.{simple_view, local_view, init_view, for_view, stmt_view, block_view, if_view, else_view};
@@ -18,7 +18,7 @@ use types_expr::found::LocalNames;
 use types_expr::world::World;
 
 impl CheckedBody {
-    /// Checks a `return`.
+    /// Checks a `return` at token `place`.
     fn check_return(
         &mut self,
         alloc: Global,
@@ -37,6 +37,7 @@ impl CheckedBody {
         returned(world, place, &given, results, &mut self.found)
     }
 
+    /// Checks a simple statement, if there is one.
     fn check_optional(
         &mut self,
         alloc: Global,
@@ -51,6 +52,7 @@ impl CheckedBody {
         }
     }
 
+    /// Checks a condition, if there is one.
     fn check_optional_condition(
         &mut self,
         alloc: Global,
@@ -65,7 +67,7 @@ impl CheckedBody {
         }
     }
 
-    /// Checks what stands before the condition of an `if`.
+    /// Checks the statement before the condition of an `if`, if there is one.
     #[tactic(auto, unfolding(go_ast::specs::FileView::init_view))]
     fn check_init(
         &mut self,
@@ -81,7 +83,7 @@ impl CheckedBody {
         }
     }
 
-    /// Checks what stands between `for` and its block.
+    /// Checks the header of a `for`: the part before its block.
     fn check_header(
         &mut self,
         alloc: Global,
@@ -126,7 +128,7 @@ impl CheckedBody {
         }
     }
 
-    /// Checks a statement of a function with those results.
+    /// Checks a statement of a function with these results.
     #[cycle(statement)]
     fn check_statement(
         &mut self,
@@ -153,7 +155,7 @@ impl CheckedBody {
         }
     }
 
-    /// Checks a block of a function with those results.
+    /// Checks a block of a function with these results.
     #[cycle(statement)]
     pub(crate) fn check_block(
         &mut self,
@@ -170,7 +172,7 @@ impl CheckedBody {
         Ok(())
     }
 
-    /// Checks an `if` of a function with those results.
+    /// Checks an `if` of a function with these results.
     #[cycle(statement)]
     fn check_if(
         &mut self,
@@ -187,7 +189,7 @@ impl CheckedBody {
         self.check_else(alloc, world, results, &branch.otherwise)
     }
 
-    /// Checks what stands behind the block of an `if`.
+    /// Checks the `else` of an `if`, if there is one.
     #[cycle(statement)]
     fn check_else(
         &mut self,

@@ -1,4 +1,4 @@
--- What is found in packages, one package further.
+-- Findings of packages, with one package more.
 use Rattle.std.proofs.Common.{ℕ, ◌≡◌, ◌<◌, inl, inr, true, false, List, [], take, sym, ap, subst, ◌∙◌, arith, MatchOption}
 use Rattle.std.specs.Prelude.{Contains, Option, Some, None, slice_get}
 use Rattle.std.specs.Global.{Vec}

@@ -1,4 +1,4 @@
--- What follows for a package, where of all packages that it builds on the same is known.
+-- If two verdict tables agree on all packages that a package builds on, its verdicts by both tables agree.
 use Rattle.std.proofs.Common.{ℕ, inl, inr, List, sym, subst, ◌∙◌}
 use Rattle.std.specs.Prelude.{Option, Some, map}
 use Rattle.base_files.specs.Workspace.{Workspace}
@@ -13,7 +13,7 @@ use Rattle.workspace_check.specs.Verdicts.{BuildsOn, Verdict, Verdicts, IsStateO
 use Rattle.workspace_check.specs.Verdicts.{unseen, IsPackageIn, IsInnerFault, IsReadFault, IsFaultBy, HasInterface, IsVerdictBy}
 use Rattle.workspace_check.specs.Laws.{IsSameVerdict}
 
--- the same is known of all that p builds on
+-- Both verdict tables agree on all packages that `p` builds on.
 abbrev pub KnowsAlike : Workspace → List ℕ → Verdicts → Verdicts → Type 0
 KnowsAlike w p a b = (q : List ℕ) → BuildsOn w p q → IsSameVerdict (a q) (b q)
 
@@ -79,7 +79,7 @@ module _ (w : Workspace) (p : List ℕ) (a b : Verdicts) (same : KnowsAlike w p 
   pub interface_as : (i : Interface) → HasInterface w a p i → HasInterface w b p i
   interface_as i h = record { checked = h.checked; is_package = package_as h.checked h.is_package; is_interface = h.is_interface }
 
--- the verdict on p is the same
+-- A verdict on `p` by one table is a verdict on `p` by the other.
 pub verdict_as : (w : Workspace) (p : List ℕ) (a b : Verdicts) → KnowsAlike w p a b → (v : Verdict) → IsVerdictBy w a p v → IsVerdictBy w b p v
 verdict_as w p a b same v h = record {
   has_faults = (

@@ -1,4 +1,4 @@
--- What lies in the closure of a package.
+-- Closures of packages.
 use Rattle.std.proofs.Common.{ℕ, ◌≡◌, List, sym, subst}
 use Rattle.std.specs.Prelude.{Contains}
 use Rattle.base_files.specs.Workspace.{Workspace}

@@ -1,4 +1,4 @@
--- What is known of packages holds the same where it is copied, with places more.
+-- A copy of known verdicts with more places is right too.
 use Rattle.std.proofs.Common.{◌≡◌, inl, inr, List, [], ◌∷◌, ◌++◌, sym, subst, ◌∙◌}
 use Rattle.std.specs.Prelude.{Option, Some, None, slice_get}
 use Rattle.std.proofs.lemmas.Option.{none-some, slice_get_within}
@@ -10,7 +10,7 @@ use Rattle.workspace_check.proofs.Taking.{before_or_last}
 pub same_verdicts : (old : List (Option KnownVerdict)) → HoldSameVerdicts old old
 same_verdicts old n one = (λ is. is, λ is. is)
 
--- a place of which nothing is known
+-- A place without a verdict is added.
 pub same_padded : (old more new : List (Option KnownVerdict)) → new ≡ more ++ None ∷ [] → HoldSameVerdicts old more → HoldSameVerdicts old new
 same_padded old more new e h n one = (
   λ is. elim (before_or_last more None n (Some one) (subst (λ l. slice_get l n ≡ Some (Some one)) e is)) [

@@ -1,4 +1,4 @@
--- Numbers that packages on one cycle share, and those that tell all cycles.
+-- Cycle numbers of packages, and lists of them that decide all cycles.
 use Rattle.std.proofs.Common.{ℕ, ◌≡◌, ◌<◌, ◌≤◌, inl, inr, List, length, get_or, sym, ap, subst, ◌∙◌, arith}
 use Rattle.std.specs.Prelude.{Some, slice_get}
 use Rattle.std.proofs.Math.ListN.{set}
@@ -42,7 +42,8 @@ renumbered w numbers m given q at_m has are = record {
   ];
 }
 
--- where each package's number stands behind those of what it imports, or is the same, no other number's package imports it
+-- If each package's cycle number comes later than those of its imports or equals them, an import leads back only where the numbers are
+-- equal.
 
 module _ (w : Workspace) (places numbers : List ℕ) (behind : StandBehindImports w places numbers) where
   abbrev place : ℕ → ℕ

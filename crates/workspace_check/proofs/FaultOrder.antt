@@ -1,4 +1,4 @@
--- Faults that the order does not tell apart are the same.
+-- Faults that compare as equal are equal.
 use Rattle.std.proofs.Common.{ℕ, ◌≡◌, true, if◌then◌else◌, List, refl, sym, ap, ◌∙◌}
 use Rattle.std.specs.Prelude.{codes, bytes_eq}
 use Rattle.std.specs.FinMap.{IsAntisymmetric, nat_cmp-IsAntisymmetric, slice_cmp-IsAntisymmetric}

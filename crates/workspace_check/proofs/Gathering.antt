@@ -1,4 +1,4 @@
--- What is known of packages, with one more judged; and what is found in all of them.
+-- Findings of packages, with one more package judged, and with all packages judged.
 use Rattle.std.proofs.Common.{ℕ, ◌≡◌, ◌+◌, ◌<◌, ◌⊎◌, inl, inr, List, [], ◌∷◌, ◌++◌, length, take, get_or, sym, ap, subst, ◌∙◌}
 use Rattle.std.specs.Prelude.{Contains, Option, Some, slice_get, option_map}
 use Rattle.std.proofs.Math.ListN.{set}

@@ -1,4 +1,4 @@
--- What a package imports, by its trees; and that its faults of clauses and imports ask for no other path.
+-- The paths that a package imports are those of the path literals in its trees. Faults of clauses and imports depend on no other path.
 use Rattle.std.proofs.Common.{ℕ, ◌≡◌, ◌+◌, inl, inr, List, [], ◌∷◌, ◌++◌, length, map, refl, sym, ap, subst, ◌∙◌}
 use Rattle.std.specs.Prelude.{Contains}
 use Rattle.std.specs.List.{flat_map, enumerate_from}
@@ -83,7 +83,7 @@ package_imports w p ts parsed s i path among h l =
     let at = file_among parsed s among in
     record { entry = at.0; of_package = at.1.0; file = s; parsed = at.1.1; imports = literal_path s i.path path (literal_there s.tree i h) l }
 
--- two tables of states that say the same of what is imported
+-- Both tables of states agree on all imported paths.
 
 abbrev SameStates : (state other : List ℕ → ImportState) → List SourceFile → Type 0
 SameStates state other files = (s : SourceFile) (i : ImportTree) (path : List ℕ) → Contains files s → Contains (imports_in s.tree) i →
@@ -119,7 +119,7 @@ of_files state other k (s ∷ ss) f same h =
     of_file state other (k, s) (imports_in s.tree) (flat_map placed_imports (enumerate_from (k + 1) ss)) f (λ i path c l. same s i path (first_in s ss) c l)
     (of_files state other (k + 1) ss f (λ t i path at c l. same t i path (later_in s ss t at) c l)) h
 
--- so both tell the same faults of clauses and imports
+-- So the faults of clauses and imports are equal by both tables.
 pub outer_as : (w : Workspace) (known : Verdicts) (p : List ℕ) (ts : List FileParts) → AreParsed (package_files w p) ts [] →
     (state other : List ℕ → ImportState) → AreStates w known p state → AreStates w known p other →
     (f : Fault) → IsOuterFault state (map source_of ts) f → IsOuterFault other (map source_of ts) f

@@ -1,4 +1,4 @@
--- What is found of a package each of whose files has a tree.
+-- The faults of a package each of whose files has a tree.
 use Rattle.std.proofs.Common.{ℕ, ◌≡◌, ◌<◌, ◌↔◌, inl, inr, List, [], length, map, refl, sym, ap, subst, ◌∙◌, MatchOption}
 use Rattle.std.specs.Prelude.{Contains, Option, Some, None, slice_get}
 use Rattle.std.specs.Global.{Vec}
@@ -35,7 +35,7 @@ use Rattle.workspace_check.proofs.OnePackage.{one_sources, one_checked}
 use Rattle.workspace_check.proofs.PackageFiles.{package_file, some_tree}
 use Rattle.workspace_check.proofs.Unread.{none_unread}
 
--- what is placed in files that stand for the same
+-- Placed faults are equal for two lists of parsed files with equal sources.
 pub placed_as : (ts us : List FileParts) (faults : List Fault) (y : FileFault) → map source_of ts ≡ map source_of us → IsPlacedOf ts faults y →
     IsPlacedOf us faults y
 placed_as ts us faults y e h = record {
@@ -67,7 +67,7 @@ module _ (w : Workspace) (known : Verdicts) (p : List ℕ) (own : Contains (pack
       let y = in_some_file f lt in
       not_empty_by found y.0 ((each y.0).1 (record { fault = f; among = c; is_placed = y.1 }))
 
-  -- the faults of a package that is read otherwise are the same
+  -- The faults of a package don't depend on which trees and states its fault was found with.
 
   outer_here : (h : FileFault) (r : IsReadFault w known p h) → (f : Fault) → IsOuterFault r.state (map source_of r.files) f → Outer f
   outer_here h r f is =

@@ -1,4 +1,4 @@
--- Where the verdicts are known of packages alone on which one builds, what is known is what it sees of others.
+-- If the verdicts of just the packages that `p` builds on are known, these are just the packages that `p` sees.
 use Rattle.std.proofs.Common.{ℕ, ◌≡◌, ◌⊎◌, inl, inr, List, refl, sym, ap, subst, ◌∙◌}
 use Rattle.std.specs.Prelude.{Contains, Option, Some, None, slice_get}
 use Rattle.std.proofs.lemmas.Option.{none-some, same_Some}

@@ -1,4 +1,4 @@
--- What was known of a package stands, where its files are the same and it sees the same.
+-- A verdict from before a change stays right if the package's files are equal and it sees equal export data.
 use Rattle.std.proofs.Common.{ℕ, ◌≡◌, ◌<◌, inl, inr, Bool, true, false, List, length, sym, ap, subst, ◌∙◌}
 use Rattle.std.specs.Prelude.{Option, Some, slice_get}
 use Rattle.std.proofs.Math.ListN.{set}

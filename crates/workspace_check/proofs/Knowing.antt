@@ -1,4 +1,4 @@
--- What is known of packages, one package further.
+-- Known verdicts, with one package more.
 use Rattle.std.proofs.Common.{ℕ, ◌≡◌, ◌⊎◌, inl, inr, Bool, List, refl, sym, ap, subst, ◌∙◌}
 use Rattle.std.specs.Prelude.{Contains, Option, Some, None, slice_get}
 use Rattle.std.proofs.Math.Path.{ap₂}

@@ -1,4 +1,4 @@
--- The fault list of a workspace from what is found in its packages.
+-- The fault list of a workspace is made of the findings of its packages.
 use Rattle.std.proofs.Common.{ℕ, zero, suc, ◌≡◌, ◌<◌, ◌↔◌, inl, inr, List, [], ◌∷◌, length, refl, sym, subst}
 use Rattle.std.specs.Prelude.{Contains, Some, slice_get}
 use Rattle.std.specs.List.{flat_map}

@@ -1,4 +1,4 @@
--- Where the closure of a package has the same texts in two workspaces, the package has the same verdict and fault list in both.
+-- If the closure of a package has the same texts in two workspaces, the package has equal verdicts and fault lists in both.
 use Rattle.std.proofs.Common.{ℕ, ◌≡◌, List, sym, subst, ◌∙◌}
 use Rattle.std.specs.Prelude.{Contains}
 use Rattle.std.specs.Cmp.{IsTotalOrder, on_total}

@@ -1,4 +1,4 @@
--- What each path is that a package imports, noted one import after another.
+-- The state of each path that a package imports, noted one import after the other.
 use Rattle.std.proofs.Common.{ℕ, ◌≡◌, ◌⊎◌, inl, inr, true, false, List, [], sym, ap, subst, ◌∙◌}
 use Rattle.std.specs.Prelude.{Contains, Some, None, slice_get}
 use Rattle.std.proofs.lemmas.Option.{same_Some}

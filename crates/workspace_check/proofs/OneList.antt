@@ -1,4 +1,4 @@
--- A package has one fault list at most, and so has a workspace; and what follows where a workspace has no fault.
+-- A package has at most one fault list, and so has a workspace. In a workspace without faults each package has none.
 use Rattle.std.proofs.Common.{ℕ, ◌≡◌, inl, inr, false, List, []}
 use Rattle.std.specs.Prelude.{Contains}
 use Rattle.std.proofs.lemmas.Bool.{cases_Bool}

@@ -1,4 +1,4 @@
--- A package is checked as one thing at most, and has one interface at most.
+-- A package is checked as at most one `Package`, and has at most one export data.
 use Rattle.std.proofs.Common.{ℕ, zero, suc, ◌≡◌, List, [], ◌∷◌, length, map, refl, sym, ap, subst, ◌∙◌}
 use Rattle.std.specs.Prelude.{Option, Some, None, slice_get, MatchOption}
 use Rattle.std.proofs.Math.Path.{ap₂, fun_ext}

@@ -1,4 +1,4 @@
--- What a path is to a package, and what the package sees of it: one thing each.
+-- A path has at most one state for its importer, and a package sees at most one export data of it.
 use Rattle.std.proofs.Common.{ℕ, ◌≡◌, List, refl, sym, ◌∙◌}
 use Rattle.std.specs.Prelude.{Option}
 use Rattle.std.proofs.Math.Path.{fun_ext}

@@ -1,4 +1,4 @@
--- Packages that were passed: what of them is stirred stirs all that reach it.
+-- Marks on packages that are passed in order: each package that imports a `stirred` one is `stirred`.
 use Rattle.std.proofs.Common.{ℕ, ◌≡◌, ◌<◌, ◌⊎◌, inl, inr, Bool, true, false, List, length, sym, subst, ◌∙◌}
 use Rattle.std.specs.Prelude.{Contains, Some, slice_get}
 use Rattle.std.proofs.Math.ListN.{set}

@@ -1,4 +1,4 @@
--- The same of declarations.
+-- If something holds of the identifier at each token of a file, it holds of the identifiers of its declarations.
 use Rattle.std.proofs.Common.{ℕ, List, [], ◌∷◌, ◌++◌}
 use Rattle.std.specs.Prelude.{Option, Some, None}
 use Rattle.std.specs.List.{flat_map}

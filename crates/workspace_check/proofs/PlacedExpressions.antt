@@ -1,4 +1,4 @@
--- What holds of the identifier at each token of a file holds of the identifiers of its expressions.
+-- If something holds of the identifier at each token of a file, it holds of the identifiers of its expressions.
 use Rattle.std.proofs.Common.{ℕ, List, [], ◌∷◌, ◌++◌}
 use Rattle.std.specs.Prelude.{Option, Some, None}
 use Rattle.std.specs.List.{flat_map}

@@ -1,4 +1,5 @@
--- What holds of the identifier at each token of a file holds of all its identifiers; so each stands in one of the package's files.
+-- If something holds of the identifier at each token of a file, it holds of all its identifiers. So each identifier is in one of the
+-- package's files.
 use Rattle.std.proofs.Common.{ℕ, suc, ◌+◌, ◌<◌, ◌≤◌, List, [], ◌∷◌, length, arith}
 use Rattle.std.specs.Prelude.{map}
 use Rattle.go_scope.specs.Site.{Site, Source}

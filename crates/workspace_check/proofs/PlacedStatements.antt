@@ -1,4 +1,4 @@
--- The same of statements.
+-- If something holds of the identifier at each token of a file, it holds of the identifiers of its statements.
 use Rattle.std.proofs.Common.{ℕ, List, ◌++◌}
 use Rattle.std.specs.Option.{unwrap_or}
 use Rattle.go_ast.specs.Tree.{Item, Group, single, several, IdentTree, Named, Underscore, ExprTree, Number, Text, Name, Blank, Composite, Paren, Prefix}

@@ -1,4 +1,4 @@
--- The paths of packages rise with their numbers: where these are taken one after the other, the next path stands behind all.
+-- The paths of packages rise with their numbers: if packages are taken by number, each next path comes after all before it.
 use Rattle.std.proofs.Common.{ℕ, ◌≡◌, ◌<◌, List, [], get_or, ap, subst, ◌∙◌}
 use Rattle.std.specs.Prelude.{Some, slice_get}
 use Rattle.std.specs.Ordering.{ordering_reverse}

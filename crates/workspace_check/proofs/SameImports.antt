@@ -1,4 +1,4 @@
--- Two workspaces with the same packages, which import the same.
+-- Two workspaces with equal packages and equal imports.
 use Rattle.std.proofs.Common.{ℕ, ◌≡◌, List, [], ◌∷◌, map, refl, sym, subst, ◌∙◌}
 use Rattle.std.specs.Prelude.{Contains, slice_get, Some}
 use Rattle.std.proofs.Math.Path.{ap₂}

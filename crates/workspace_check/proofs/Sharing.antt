@@ -1,4 +1,4 @@
--- What a package sees of others, shared with what all know, one package further.
+-- The export data that a package sees of others, shared from a table of all, with one package more.
 use Rattle.std.proofs.Common.{ℕ, ◌≡◌, ◌⊎◌, inl, inr, List, [], refl, sym, ap, subst, ◌∙◌}
 use Rattle.std.specs.Prelude.{Contains, Option, Some, None, slice_get}
 use Rattle.std.proofs.lemmas.Option.{same_Some}

@@ -1,4 +1,4 @@
--- What is found in a package that stands alike in two workspaces: it has the same files, and its imports are the same to it.
+-- The finding of a package that has equal files in two workspaces, and whose imports have equal states in both.
 use Rattle.std.proofs.Common.{ℕ, ◌≡◌, inl, inr, List, [], sym, subst}
 use Rattle.std.specs.Prelude.{Option, Contains, map}
 use Rattle.base_files.specs.Packages.{package_paths, package_files}
@@ -19,7 +19,7 @@ use Rattle.workspace_check.specs.FaultLists.{AreListed}
 use Rattle.workspace_check.specs.Told.{IsFinding}
 use Rattle.workspace_check.proofs.Alike.{first_as}
 
--- p has the same files in both workspaces, and what it imports is in x to it what it is in w
+-- `p` has equal files in both workspaces, and each state of a path that it imports in `w` is one in `x`.
 pub record StandsAlike (w x : Workspace) (p : List ℕ) : Type 0 where
   pub files : package_files w p ≡ package_files x p
   pub missing : (q : List ℕ) → PackageImports w p q → (Contains (package_paths w) q → ⊥) → Contains (package_paths x) q → ⊥

@@ -1,4 +1,4 @@
--- Where a package imports one with faults, its imports have a fault, so its check goes no further than to them.
+-- If a package imports one with faults, one of its imports has a fault, so its check stops at faults of imports.
 use Rattle.std.proofs.Common.{ℕ, ◌≡◌, ◌+◌, inl, inr, true, List, [], ◌∷◌, ◌++◌, map, refl, sym, subst, ◌∙◌}
 use Rattle.std.specs.Prelude.{Contains, Option, Some}
 use Rattle.std.specs.List.{flat_map, enumerate_from}

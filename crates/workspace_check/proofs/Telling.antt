@@ -1,4 +1,4 @@
--- What is known of packages is told, one package further.
+-- Known verdicts with one package more.
 use Rattle.std.proofs.Common.{ℕ, ◌≡◌, ◌+◌, ◌<◌, inl, inr, List, [], ◌∷◌, ◌++◌, length, sym, ap, subst, ◌∙◌, arith, length-append}
 use Rattle.std.specs.Prelude.{Option, Some, slice_get}
 use Rattle.std.specs.Global.{Vec}
@@ -28,11 +28,11 @@ nothing_known known e w n p one at is = absurd (none-some (Some one) (subst (λ 
 pub nothing_told : (known : Known) → known.verdicts.items ≡ [] → (w : Workspace) → AreKnownNext w 0 known
 nothing_told known e w = record { size = ap length e; verdicts = nothing_known known e w }
 
--- what is known stays right where the verdicts are the same
+-- Known verdicts stay right if the list of verdicts stays.
 pub known_still : (w : Workspace) (old new : Known) → new.verdicts ≡ old.verdicts → KnowsVerdicts w old → KnowsVerdicts w new
 known_still w old new e h n p one at is = h n p one at (subst (λ (v : Vec (Option KnownVerdict)). slice_get v.items n ≡ Some (Some one)) e is)
 
--- and where both hold the same
+-- Known verdicts stay right if both tables hold the same verdicts.
 pub known_same : (w : Workspace) (old new : Known) → HoldSameVerdicts old.verdicts.items new.verdicts.items → KnowsVerdicts w old → KnowsVerdicts w new
 known_same w old new same h n p one at is = h n p one at ((same n one).0 is)
 
@@ -76,7 +76,7 @@ module _ (w : Workspace) (n : ℕ) (old new : Known) (found : Option KnownVerdic
   pub told_next : OfPackage w n (λ p. MayTell w p found) → AreKnownNext w (n + 1) new
   told_next tells = record { size = ap length e ∙ length-append old.verdicts.items (found ∷ []) ∙ ap (λ k. k + 1) h.size; verdicts = told_then tells }
 
--- a verdict that all tell, told alone
+-- The verdict on one package, taken from the table of all.
 
 pub told_alone : (w : Workspace) (p : List ℕ) (all : Interfaces) (one : KnownVerdict) → one.known ≡ known_at all.definitions p →
     IsVerdict w p (known_by all p) → IsFindingOf w p one.finding → TellsVerdict w p one

@@ -1,4 +1,4 @@
--- Where a package is judged behind those that it builds on: just these are known before, and it is known then.
+-- The findings of just the packages that one builds on are known before it is judged, and its own is known after.
 use Rattle.std.proofs.Common.{ℕ, ◌≡◌, ◌<◌, ◌⊎◌, inl, inr, List, [], ◌∷◌, ◌++◌, length, take, get_or, refl, sym, subst, ◌∙◌, arith}
 use Rattle.std.specs.Prelude.{Contains, Option, Some, None, slice_get}
 use Rattle.std.specs.List.Sorted.{IsStrictlyIncreasing}

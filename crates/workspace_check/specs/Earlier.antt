@@ -1,5 +1,5 @@
--- What was known of the packages of a workspace before it changed, and what of it stays: the verdict on a package whose own files
--- are the same, and of whose imports the same is seen.
+-- Verdicts on the packages of a workspace before a change, and which of them are right after it. A verdict stays right if the package has
+-- equal files and sees equal export data.
 use Rattle.std.specs.Prelude.{ℕ, ◌≡◌, ◌↔◌, Bool, List, Option, Some, slice_get, Contains}
 use Rattle.base_files.specs.Workspace.{Workspace}
 use Rattle.base_files.specs.Packages.{package_paths, package_files}
@@ -14,37 +14,37 @@ use Rattle.workspace_check.specs.Verdicts.{BuildsOn}
 use Rattle.workspace_check.specs.Told.{TellsVerdict}
 use Rattle.workspace_check.specs.Steps.{IsGathered}
 
--- what is known of packages, by their numbers, is right
+-- Each known verdict, by package number, is right.
 abbrev pub AreTold : Workspace → List (Option KnownVerdict) → Type 0
 AreTold w verdicts = (n : ℕ) (p : List ℕ) (one : KnownVerdict) → slice_get (package_paths w) n ≡ Some p → slice_get verdicts n ≡ Some (Some one) →
     TellsVerdict w p one
 
--- both workspaces have the same packages, and these import the same
+-- Both workspaces have the same packages, and each package imports the same ones.
 pub record HaveSameImports (v w : Workspace) : Type 0 where
   pub paths : package_paths v ≡ package_paths w
   pub imports : (p q : List ℕ) → Contains (package_paths v) q → PackageImports v p q ↔ PackageImports w p q
 
--- a parsed file by its path and its text
+-- The path and the text of a parsed file.
 abbrev pub tree_file : FileParts → List ℕ × List ℕ
 tree_file t = (t.path, t.cut.text)
 
--- all that the package p builds on is marked
+-- All packages that `p` builds on are marked.
 abbrev pub AreMarkedBelow : Workspace → List ℕ → List Bool → Type 0
 AreMarkedBelow w p marks = (n : ℕ) (q : List ℕ) → slice_get (package_paths w) n ≡ Some q → BuildsOn w p q → IsMarked marks n
 
--- what was known of the package p, which has the same files, and of which all that it builds on is marked
+-- The verdict on `p` before the change: `p` has the same files in both workspaces, and all packages that it builds on are marked.
 pub record StandsWith (v w : Workspace) (marks : List Bool) (p : List ℕ) (one : KnownVerdict) : Type 0 where
   pub files : package_files v p ≡ package_files w p
   pub told : TellsVerdict v p one
   pub below : AreMarkedBelow w p marks
 
--- the same was known of the package q of that number
+-- The package `q` of this number had before the change the export data that it has in `all`.
 pub record WasKnown (old : List (Option KnownVerdict)) (all : Interfaces) (n : ℕ) (q : List ℕ) : Type 0 where
   pub verdict : KnownVerdict
   pub was : slice_get old n ≡ Some (Some verdict)
   pub alike : IsKnownAlike verdict.known all q
 
--- of a marked package the verdict is known, and the same was known of it
+-- A marked package has a known finding, and the export data that it had before the change.
 abbrev pub AreSteady : Workspace → List (Option KnownVerdict) → Gathered → List Bool → Type 0
 AreSteady w old all marks = (n : ℕ) (q : List ℕ) → slice_get (package_paths w) n ≡ Some q → IsMarked marks n →
     IsGathered all.findings.items n × WasKnown old all.interfaces n q

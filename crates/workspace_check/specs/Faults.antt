@@ -12,15 +12,15 @@ use Rattle.types_declared.specs.declared.fault.Fault.{Fault}
 use Rattle.go_ast.specs.SourceFile.{SourceFile, offset_of}
 use Rattle.workspace_check.specs.declared.fault.FileFault.{FileFault}
 
--- a fault of a text, in the file of a path
+-- A fault of a text, placed in the file of this path.
 abbrev pub placed : List ℕ → TextFault → FileFault
 placed path fault = record { place = record { path = path; offset = fault.offset }; kind = fault.kind }
 
--- a fault at a token of a file, at the byte at which the token begins
+-- A fault at a token of a file, placed at the first byte of the token.
 abbrev pub placed_in : SourceFile → Fault → FileFault
 placed_in s fault = record { place = record { path = s.path; offset = offset_of s fault.token }; kind = fault.kind }
 
--- by the bytes of the package's path, of the file's path, by offset, and by the bytes of the kind's name
+-- Compares faults by the bytes of the package's path, by those of the file's path, by offset, and by the bytes of the kind's name.
 abbrev pub fault_cmp : FileFault → FileFault → Ordering
 fault_cmp f g = ordering_then (path_cmp (folder f.place.path) (folder g.place.path))
     (ordering_then (path_cmp f.place.path g.place.path)

@@ -1,5 +1,5 @@
--- What is found on the way: an order of the packages, what one of them sees, its faults with their places, and what is found
--- with one package more.
+-- Steps of checking a workspace: an order of packages, what a package sees, faults with their places, and the finding of each package after
+-- the other.
 use Rattle.std.specs.Prelude.{ℕ, ◌≡◌, ◌<◌, ◌↔◌, ◌⊎◌, true, List, [], ◌∷◌, ◌++◌, length, map, Option, Some, None}
 use Rattle.std.specs.Prelude.{slice_get, slice_index_or, MatchOption, Contains, IsTrue}
 use Rattle.std.specs.List.Sorted.{IsStrictlyIncreasing}
@@ -37,19 +37,19 @@ use Rattle.workspace_check.specs.declared.progress.Progress.{Progress}
 
 -- An order
 
--- how many packages the closure of p holds
+-- `size` is the number of packages in the closure of `p`.
 pub record IsSize (w : Workspace) (p : List ℕ) (size : ℕ) : Type 0 where
   pub numbers : List ℕ
   pub rising : IsStrictlyIncreasing numbers
   pub holds : HoldsPackages w (IsInClosure w p) numbers
   pub is : size ≡ length numbers
 
--- that of each of the first packages
+-- The sizes of the closures of the first `count` packages.
 pub record AreSizes (w : Workspace) (count : ℕ) (sizes : List ℕ) : Type 0 where
   pub size : length sizes ≡ count
   pub each : (i : ℕ) (p : List ℕ) → i < count → slice_get (package_paths w) i ≡ Some p → IsSize w p (slice_index_or sizes i 0)
 
--- all packages, each once, behind those that it builds on
+-- All packages, each once and after those that it builds on.
 pub record IsBuildOrder (w : Workspace) (order : List ℕ) : Type 0 where
   pub each : (n : ℕ) → Contains order n ↔ (n < length (package_paths w))
   pub once : (i j n : ℕ) → slice_get order i ≡ Some n → slice_get order j ≡ Some n → i ≡ j
@@ -59,40 +59,40 @@ pub record IsBuildOrder (w : Workspace) (order : List ℕ) : Type 0 where
 
 -- What a package sees
 
--- the names and the interfaces stay
+-- The names and the export data of packages are the same in both tables.
 pub record KnowsSameOfOthers (old new : Interfaces) : Type 0 where
   pub names : (q : List ℕ) → name_in new q ≡ name_in old q
   pub interfaces : (q : List ℕ) → interface_in new q ≡ interface_in old q
 
--- what is known where these interfaces are is just what p sees of others
+-- `all` has the export data of just the packages that `p` sees.
 abbrev pub IsSeenIn : Workspace → List ℕ → Interfaces → Type 0
 IsSeenIn w p all = AreSeen w (known_by all) p (name_in all) (interface_in all)
 
 -- Faults with their places
 
--- the faults of files that have no tree
+-- The faults of files that have no tree, with their places.
 abbrev pub unread_faults : List FaultyParts → List FileFault
 unread_faults files = map (λ f. placed f.path f.fault) files
 
--- a fault of one of the files
+-- `f` is `fault` with its place in its file, which is among `files`.
 pub record IsPlacedAs (files : List FileParts) (fault : Fault) (f : FileFault) : Type 0 where
   pub source : SourceFile
   pub in_file : slice_get (map source_of files) fault.file ≡ Some source
   pub at : f ≡ placed_in source fault
 
--- one of some faults
+-- `f` is one of `faults` with its place.
 pub record IsPlacedOf (files : List FileParts) (faults : List Fault) (f : FileFault) : Type 0 where
   pub fault : Fault
   pub among : Contains faults fault
   pub is_placed : IsPlacedAs files fault f
 
--- the fault was added, if it is one of the files
+-- The fault was added with its place, if its file is among `files`.
 abbrev pub AddsPlaced : List FileParts → Fault → List FileFault → List FileFault → Type 0
 AddsPlaced files fault old new = (f : FileFault) → Contains new f ↔ (Contains old f ⊎ IsPlacedAs files fault f)
 
 -- One package
 
--- what checking found in p, each of whose files has a tree, by what p sees of others
+-- The result of checking `p`, each of whose files has a tree, by what `p` sees of others.
 pub record IsCheckedIn (w : Workspace) (known : Verdicts) (p : List ℕ) (c : Checked) : Type 0 where
   pub files : List FileParts
   pub parsed : AreParsed (package_files w p) files []
@@ -103,13 +103,13 @@ pub record IsCheckedIn (w : Workspace) (known : Verdicts) (p : List ℕ) (c : Ch
   pub are_seen : AreSeen w known p name_of interface_of
   pub is_found : IsFoundIn p files state name_of interface_of c
 
--- p imports a package with faults
+-- `p` imports a package with faults.
 pub record ImportsFaulty (w : Workspace) (known : Verdicts) (p : List ℕ) : Type 0 where
   pub path : List ℕ
   pub imports : PackageImports w p path
   pub is_faulty : (known path).faulty ≡ true
 
--- what checking found in p, each of whose files has a tree, where it went no further than to faults of clauses or imports
+-- The result of checking `p` that stopped at faults of clauses or imports. Each file of `p` has a tree.
 pub record IsStoppedIn (w : Workspace) (known : Verdicts) (p : List ℕ) (c : Checked) : Type 0 where
   pub files : List FileParts
   pub parsed : AreParsed (package_files w p) files []
@@ -119,124 +119,125 @@ pub record IsStoppedIn (w : Workspace) (known : Verdicts) (p : List ℕ) (c : Ch
   pub faults : Lists (IsOuterFault state (map source_of files)) c.faults.items
   pub interface : c.interface ≡ None
 
--- the faults of p, or what others see of it, its uses of members and its qualified identifiers
+-- The faults of `p`, or else its export data, its uses of members and its qualified identifiers.
 pub record IsJudged (w : Workspace) (known : Verdicts) (p : List ℕ) (j : Judged) : Type 0 where
   pub listed : AreListed (IsFaultBy w known p) j.faults.items
   pub has_interface : MatchOption j.interface (j.faults.items ≡ [] → ⊥) (λ i. (j.faults.items ≡ []) × HasInterface w known p (interface_of p i))
   pub uses : j.faults.items ≡ [] → AreUsesOf w known p j.members.items
   pub qualified : j.faults.items ≡ [] → AreQualifiedOf w known p j.qualified.items
 
--- an interface was added, if there is one
+-- The export data of `path` was added, if there is any.
 abbrev pub MayAdd : (old new : Interfaces) (path : List ℕ) → Option Interface → Type 0
 MayAdd old new path None = new ≡ old
 MayAdd old new path (Some i) = AddsInterface old new path i
 
--- Of the packages of these numbers the verdicts are known, and of any other package, and of a path that is none, nothing is.
+-- `all` has the right verdicts on the packages whose numbers satisfy `Is`, and no names of other packages or of paths that are no package.
 pub record AreKnown (w : Workspace) (Is : ℕ → Type 0) (all : Interfaces) : Type 0 where
   pub right : (n : ℕ) (p : List ℕ) → Is n → slice_get (package_paths w) n ≡ Some p → IsVerdict w p (known_by all p)
   pub fresh : (n : ℕ) (p : List ℕ) → (Is n → ⊥) → slice_get (package_paths w) n ≡ Some p → name_in all p ≡ None
   pub outside : (q : List ℕ) → (Contains (package_paths w) q → ⊥) → name_in all q ≡ None
   pub whole : AreWhole all
 
--- the package p was judged by what was known, and this was found in it
+-- `finding` was found in `p` by the verdicts in `all`, and `more` is `all` with the verdict on `p`.
 pub record Learns (w : Workspace) (p : List ℕ) (finding : Finding) (all more : Interfaces) : Type 0 where
   pub is_finding : IsFinding w (known_by all) p finding
   pub is_verdict : IsVerdictBy w (known_by all) p (known_by more p)
   pub elsewhere : (q : List ℕ) → (q ≡ p → ⊥) → KnowsSame all more q
   pub whole : AreWhole more
 
--- Where some are known
+-- Known findings of some packages
 
--- it is known what is found in the package of that number
+-- The finding of the package `n` is known.
 abbrev pub IsGathered : List (Option Finding) → ℕ → Type 0
 IsGathered findings n = (f : Finding) × (slice_get findings n ≡ Some (Some f))
 
--- What is known of the first packages, as many as are told, is right: what is found in some of them and the verdicts on these.
+-- The known findings are right, and so are the verdicts on their packages. There is a place for each of the first `count` packages.
 pub record AreGathered (w : Workspace) (count : ℕ) (all : Gathered) : Type 0 where
   pub size : length all.findings.items ≡ count
   pub verdicts : AreKnown w (IsGathered all.findings.items) all.interfaces
   pub each : (n : ℕ) (p : List ℕ) (f : Finding) → slice_get (package_paths w) n ≡ Some p → slice_get all.findings.items n ≡ Some (Some f) → IsFindingOf w p f
 
--- the package p of that number was judged, and is known now
+-- The package `p` of this number was judged, and its finding and verdict were added.
 pub record LearnsOf (w : Workspace) (p : List ℕ) (number : ℕ) (old new : Gathered) : Type 0 where
   pub finding : Finding
   pub is_set : new.findings.items ≡ set old.findings.items number (Some finding)
   pub learns : Learns w p finding old.interfaces new.interfaces
 
--- p, which was not known, was judged; or it was known, and nothing was judged
+-- The finding of `p` was missing and is added, or it was known and nothing changed.
 abbrev pub MayLearn : Workspace → List ℕ → ℕ → (old new : Gathered) → Type 0
 MayLearn w p n old new = ((IsGathered old.findings.items n → ⊥) × LearnsOf w p n old new) ⊎ (IsGathered old.findings.items n × (new ≡ old))
 
--- it is known of each of these packages, by their numbers, what is found in it
+-- The findings of all packages of `numbers` are known, and every known finding is right.
 pub record AreAllGathered (w : Workspace) (numbers : List ℕ) (all : Gathered) : Type 0 where
   pub right : AreGathered w (length (package_paths w)) all
   pub each : (m : ℕ) → Contains numbers m → IsGathered all.findings.items m
 
--- each finding, as one that is there
+-- The findings as a list of options in which none is missing.
 abbrev pub somes : List Finding → List (Option Finding)
 somes findings = map (λ (f : Finding). Some f) findings
 
--- it is known of each package what is found in it
+-- The findings of all packages are known and right.
 pub record KnowsAll (w : Workspace) (all : Gathered) : Type 0 where
   pub right : AreGathered w (length (package_paths w)) all
   pub each : (n : ℕ) → n < length (package_paths w) → IsGathered all.findings.items n
 
--- Where a package is judged behind those that it builds on
+-- A package is judged after those that it builds on
 
--- of all that p builds on the verdicts are known
+-- The findings of all packages that `p` builds on are known.
 abbrev pub AreKnownBelow : Workspace → List ℕ → Gathered → Type 0
 AreKnownBelow w p all = (q : List ℕ) → BuildsOn w p q → (n : ℕ) × (IsGathered all.findings.items n × (slice_get (package_paths w) n ≡ Some q))
 
--- some packages, by their numbers, and with each all that it builds on
+-- Numbers of packages in rising order, with each package also all that it builds on.
 pub record HoldAllBelow (w : Workspace) (numbers : List ℕ) : Type 0 where
   pub rising : IsStrictlyIncreasing numbers
   pub in_range : (n : ℕ) → Contains numbers n → n < length (package_paths w)
   pub below : (n m : ℕ) (p q : List ℕ) → Contains numbers n → slice_get (package_paths w) n ≡ Some p → slice_get (package_paths w) m ≡ Some q →
       BuildsOn w p q → Contains numbers m
 
--- what is known of some of these packages is right, and nothing is known of any other
+-- Known findings are right, and only of packages of `numbers`.
 pub record AreGatheredOf (w : Workspace) (numbers : List ℕ) (all : Gathered) : Type 0 where
   pub right : AreGathered w (length (package_paths w)) all
   pub just : (n : ℕ) → IsGathered all.findings.items n → Contains numbers n
 
--- and where it is told that it was known of each of them, it is
+-- Known findings are right, and only of packages of `numbers`; if `knew_each` is true, all of these have one.
 pub record AreTakenOf (w : Workspace) (numbers : List ℕ) (taken : Taken) : Type 0 where
   pub gathered : AreGatheredOf w numbers taken.all
   pub each : IsTrue taken.knew_each → (n : ℕ) → Contains numbers n → IsGathered taken.all.findings.items n
 
--- what was known still is; and where it is told that it was known of each package, it was told so before, and it is known of that number
+-- Known findings are kept. If `knew_each` is true after, it was true before, and the finding of the package `number` is known.
 pub record KnewOneMore (number : ℕ) (old new : Taken) : Type 0 where
   pub kept : (n : ℕ) → IsGathered old.all.findings.items n → IsGathered new.all.findings.items n
   pub before : IsTrue new.knew_each → IsTrue old.knew_each
   pub here : IsTrue new.knew_each → IsGathered new.all.findings.items number
 
--- what is known is right, of no other package, and it is known of each of them
+-- Findings are known of just the packages of `numbers`, and they are right.
 pub record KnowsJust (w : Workspace) (numbers : List ℕ) (all : Gathered) : Type 0 where
   pub gathered : AreGatheredOf w numbers all
   pub each : (n : ℕ) → Contains numbers n → IsGathered all.findings.items n
 
--- p was judged, if it is one of these and was not known; else nothing was judged
+-- If `n` is among `numbers`, `MayLearn` relates both tables; else nothing changed.
 abbrev pub MayLearnAmong : Workspace → List ℕ → List ℕ → ℕ → (old new : Gathered) → Type 0
 MayLearnAmong w numbers p n old new = (Contains numbers n × MayLearn w p n old new) ⊎ ((Contains numbers n → ⊥) × (new ≡ old))
 
--- what is found in the package p of that number is known, and of all that it builds on
+-- The findings of the package `p` and of all packages that it builds on are known and right.
 pub record IsKnownWithBelow (w : Workspace) (p : List ℕ) (number : ℕ) (all : Gathered) : Type 0 where
   pub right : AreGathered w (length (package_paths w)) all
   pub own : IsGathered all.findings.items number
   pub below : AreKnownBelow w p all
 
--- a verdict was added, if there is one
+-- A verdict was added at the end, if there is one.
 abbrev pub MayPush : (old new : List KnownVerdict) → Option KnownVerdict → Type 0
 MayPush old new None = new ≡ old
 MayPush old new (Some one) = new ≡ old ++ one ∷ []
 
--- what was found in the package of that number, with all interfaces, and these verdicts
+-- The finding of the package `number`, with all export data and these verdicts.
 pub record IsMadeOf (number : ℕ) (all : Gathered) (verdicts : List KnownVerdict) (made : FoundPackage) : Type 0 where
   pub finding : slice_get all.findings.items number ≡ Some (Some made.finding)
   pub interfaces : made.interfaces ≡ all.interfaces
   pub found : made.found.items ≡ verdicts
 
--- what the package of a number builds on, with the verdicts on these, and the marks of what imports it
+-- The findings of all packages that the package `number` builds on are known; `progress` has the numbers of these, and marks on the
+-- packages that import it.
 pub record IsUnderway (w : Workspace) (number : ℕ) (progress : Progress) : Type 0 where
   pub right : AreGathered w (length (package_paths w)) progress.all
   pub below : OfPackage w number (λ p. AreKnownBelow w p progress.all)

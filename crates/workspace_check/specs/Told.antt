@@ -1,4 +1,4 @@
--- What is found in a package, and what is known of one.
+-- The finding of a package, and a known verdict on a package.
 use Rattle.std.specs.Prelude.{ℕ, ◌≡◌, Bool, true, false, List, [], Option, Some, None, map}
 use Rattle.std.specs.Global.{Vec}
 use Rattle.base_files.specs.Workspace.{Workspace}
@@ -19,48 +19,48 @@ abbrev pub is_unknown : Option (List ℕ) → Bool
 is_unknown None = true
 is_unknown (Some name) = false
 
--- what is known of packages where these interfaces are: one without a name has faults
+-- The verdicts that `all` gives: a package without a name there has faults.
 abbrev pub known_by : Interfaces → Verdicts
 known_by all q = record { faulty = is_unknown (name_in all q); interface = interface_in all q }
 
--- the same of one package, by what is known of its interface
+-- The verdict on one package that follows from its entry: without a name it has faults.
 abbrev pub verdict_known : (path : List ℕ) → Option Interface → Verdict
 verdict_known path known = record { faulty = is_unknown (known_name known); interface = interface_known path known }
 
--- of a package without a name nothing is known
+-- `all` has nothing else of a package without a name.
 abbrev pub AreWhole : Interfaces → Type 0
 AreWhole all = (q : List ℕ) → name_in all q ≡ None → interface_in all q ≡ no_interface q
 
--- the uses of members in the files of p
+-- The uses of members in the files of `p`, in one list for each file.
 pub record AreUsesOf (w : Workspace) (known : Verdicts) (p : List ℕ) (members : List (Vec MemberUse)) : Type 0 where
   pub checked : Package
   pub is_package : IsPackageIn w known p checked
   pub are_uses : AreMemberUses checked (map uses_in members)
 
--- the qualified identifiers of p
+-- The qualified identifiers of `p`.
 pub record AreQualifiedOf (w : Workspace) (known : Verdicts) (p : List ℕ) (qualified : List Qualified) : Type 0 where
   pub checked : Package
   pub is_package : IsPackageIn w known p checked
   pub are_qualified : AreQualified checked qualified
 
--- the faults of p, and where it has none its uses of members and its qualified identifiers
+-- `f` has the faults of `p`, and if there are none, its uses of members and its qualified identifiers.
 pub record IsFinding (w : Workspace) (known : Verdicts) (p : List ℕ) (f : Finding) : Type 0 where
   pub has_path : f.path ≡ p
   pub listed : AreListed (IsFaultBy w known p) f.faults.items
   pub members : f.faults.items ≡ [] → AreUsesOf w known p f.members.items
   pub qualified : f.faults.items ≡ [] → AreQualifiedOf w known p f.qualified.items
 
--- what is found in p, by the verdicts on the packages that it builds on
+-- `f` is the finding of `p`, by the right verdicts on the packages that it builds on.
 pub record IsFindingOf (w : Workspace) (p : List ℕ) (f : Finding) : Type 0 where
   pub known : Verdicts
   pub right : AreVerdictsBelow w p known
   pub finding : IsFinding w known p f
 
--- what is known of p: what is found in it, and the verdict on it
+-- `one` has the finding of `p` and the verdict on `p`.
 pub record TellsVerdict (w : Workspace) (p : List ℕ) (one : KnownVerdict) : Type 0 where
   pub right : IsVerdict w p (verdict_known p one.known)
   pub finding : IsFindingOf w p one.finding
 
--- what is known of p, if anything is
+-- If there is a known verdict, it is that on `p`.
 abbrev pub MayTell : Workspace → List ℕ → Option KnownVerdict → Type 0
 MayTell w p found = (one : KnownVerdict) → found ≡ Some one → TellsVerdict w p one

@@ -1,5 +1,5 @@
--- The verdict on a package of a workspace: whether it has faults, and if not what other packages see of it. It follows from the
--- verdicts on the packages that it builds on.
+-- The verdict on a package: whether it has faults, and if not, its export data. It follows from the verdicts on the packages that it builds
+-- on: those that it imports, directly or indirectly, and that don't so import it.
 use Rattle.std.specs.Prelude.{ℕ, ◌≡◌, ◌⊎◌, ◌↔◌, Bool, true, false, List, [], Option, Some, None, slice_get, Contains, map}
 use Rattle.base_files.specs.Workspace.{Workspace}
 use Rattle.base_files.specs.Packages.{package_paths, package_files}
@@ -22,37 +22,37 @@ use Rattle.types_check.specs.Check.{IsLaterFault}
 use Rattle.workspace_check.specs.declared.fault.FileFault.{FileFault}
 use Rattle.workspace_check.specs.Faults.{placed, placed_in}
 
--- whether a package has faults, and what other packages see of it where it has none
+-- Whether a package has faults, and its export data if it has none.
 pub record Verdict : Type 0 where
   pub faulty : Bool
   pub interface : Interface
 
--- what is known of packages, by their paths
+-- Verdicts on packages, by package path.
 abbrev pub Verdicts : Type 0
 Verdicts = List ℕ → Verdict
 
--- What a path is that p imports: the path of no package; of one whose closure holds p; of one that p builds on, with faults or
--- without.
+-- The state of a path `q` that `p` imports. The path is missing if no package has it, and on a cycle if the closure of `q` holds `p`. Else
+-- `p` builds on `q`, which has faults or has none.
 pub data IsStateOf (w : Workspace) (known : Verdicts) (p q : List ℕ) : ImportState → Type 0 where
   is_missing : (Contains (package_paths w) q → ⊥) → IsStateOf w known p q Missing
   is_on_cycle : IsInClosure w q p → IsStateOf w known p q OnCycle
   is_faulty : BuildsOn w p q → (known q).faulty ≡ true → IsStateOf w known p q Faulty
   is_good : BuildsOn w p q → (known q).faulty ≡ false → IsStateOf w known p q Good
 
--- what each path is that p imports
+-- The state of each path that `p` imports.
 abbrev pub AreStates : Workspace → Verdicts → List ℕ → (List ℕ → ImportState) → Type 0
 AreStates w known p state = (q : List ℕ) → PackageImports w p q → IsStateOf w known p q (state q)
 
--- What p sees of a path: the name and the interface of a package without faults that it builds on, and nothing of any other.
+-- What `p` sees of a path: the name and the export data if `p` builds on that package and it has no faults, else nothing.
 pub data IsSeenAs (w : Workspace) (known : Verdicts) (p q : List ℕ) : Option (List ℕ) → Interface → Type 0 where
   seen : BuildsOn w p q → (known q).faulty ≡ false → IsSeenAs w known p q (Some (known q).interface.name) (known q).interface
   unseen : (BuildsOn w p q → (known q).faulty ≡ true) → IsSeenAs w known p q None (no_interface q)
 
--- the names and the interfaces that p sees, by their paths
+-- The names and the export data that `p` sees, by package path.
 abbrev pub AreSeen : Workspace → Verdicts → List ℕ → (List ℕ → Option (List ℕ)) → (List ℕ → Interface) → Type 0
 AreSeen w known p name_of interface_of = (q : List ℕ) → IsSeenAs w known p q (name_of q) (interface_of q)
 
--- The package p as it is checked, by what it sees of others. Each of its files has a tree.
+-- The package `p` as it is checked, by the verdicts on others. Each of its files has a tree.
 pub record IsPackageIn (w : Workspace) (known : Verdicts) (p : List ℕ) (checked : Package) : Type 0 where
   pub files : List FileParts
   pub parsed : AreParsed (package_files w p) files []
@@ -63,7 +63,7 @@ pub record IsPackageIn (w : Workspace) (known : Verdicts) (p : List ℕ) (checke
 
 -- The faults of p, in stages
 
--- the first fault of a file that has no tree
+-- The first fault of a file of `p` that has no tree.
 pub record IsUnreadFault (w : Workspace) (p : List ℕ) (f : FileFault) : Type 0 where
   pub path : List ℕ
   pub text : List ℕ
@@ -72,13 +72,13 @@ pub record IsUnreadFault (w : Workspace) (p : List ℕ) (f : FileFault) : Type 0
   pub is_fault : IsFaultOf text fault
   pub at : f ≡ placed path fault
 
--- a fault of scopes, members or types
+-- A fault of the later stages of checking `p`: of scopes, members or types.
 pub record IsInnerFault (w : Workspace) (known : Verdicts) (p : List ℕ) (fault : Fault) : Type 0 where
   pub checked : Package
   pub is_package : IsPackageIn w known p checked
   pub is_fault : IsLaterFault checked fault
 
--- where each file has a tree, a fault of clauses or imports; where there is none either, one of the later stages
+-- A fault of `p` where each file has a tree: of clauses or imports, or if there is none of these, of scopes, members or types.
 pub record IsReadFault (w : Workspace) (known : Verdicts) (p : List ℕ) (f : FileFault) : Type 0 where
   pub files : List FileParts
   pub parsed : AreParsed (package_files w p) files []
@@ -90,32 +90,32 @@ pub record IsReadFault (w : Workspace) (known : Verdicts) (p : List ℕ) (f : Fi
   pub in_file : slice_get (map source_of files) fault.file ≡ Some source
   pub at : f ≡ placed_in source fault
 
--- a fault of p, by what is known of the packages that it builds on
+-- A fault of `p`, by the verdicts on the packages that it builds on.
 abbrev pub IsFaultBy : Workspace → Verdicts → List ℕ → FileFault → Type 0
 IsFaultBy w known p f = IsUnreadFault w p f ⊎ IsReadFault w known p f
 
 -- The verdict on p
 
--- what other packages see of p
+-- `i` is the export data of `p`.
 pub record HasInterface (w : Workspace) (known : Verdicts) (p : List ℕ) (i : Interface) : Type 0 where
   pub checked : Package
   pub is_package : IsPackageIn w known p checked
   pub is_interface : IsInterface checked i
 
--- the verdict on p, by what is known of the packages that it builds on
+-- `v` is the verdict on `p` that follows from the verdicts `known` on the packages that it builds on.
 pub record IsVerdictBy (w : Workspace) (known : Verdicts) (p : List ℕ) (v : Verdict) : Type 0 where
   pub has_faults : (v.faulty ≡ true) ↔ ((f : FileFault) × IsFaultBy w known p f)
   pub has_interface : v.faulty ≡ false → HasInterface w known p v.interface
 
--- the verdict on p: that which follows from the verdicts on the packages that it builds on
+-- `v` is the verdict on `p`: it follows from the verdicts on the packages that `p` builds on.
 pub data IsVerdict (w : Workspace) : List ℕ → Verdict → Type 0 where
   follows : {p : List ℕ} {v : Verdict} (known : Verdicts) → ((q : List ℕ) → BuildsOn w p q → IsVerdict w q (known q)) → IsVerdictBy w known p v →
       IsVerdict w p v
 
--- of each package that p builds on the verdict is known
+-- `known` has the right verdict on each package that `p` builds on.
 abbrev pub AreVerdictsBelow : Workspace → List ℕ → Verdicts → Type 0
 AreVerdictsBelow w p known = (q : List ℕ) → BuildsOn w p q → IsVerdict w q (known q)
 
--- of each package the verdict is known
+-- `known` has the right verdict on each package of the workspace.
 abbrev pub AreVerdicts : Workspace → Verdicts → Type 0
 AreVerdicts w known = (p : List ℕ) → Contains (package_paths w) p → IsVerdict w p (known p)

@@ -1,4 +1,4 @@
-//! Which packages lie on one cycle of imports, found for all of them at once.
+//! Numbers that tell which packages lie on a common import cycle, found for all packages at once.
 ghost use Rattle.std.specs.Prelude.{ℕ, ◌≡◌, ◌<◌, ◌⊎◌, ◌↔◌, length, slice_index_or, IfOk, IsTrue, OnOk};
 ghost use Rattle.base_files.specs.Packages.{package_paths};
 ghost use Rattle.workspace_graph.specs.Graphs.{HoldsPackages, OfPackage};
@@ -12,7 +12,7 @@ use crate::order::number_at;
 use std::alloc::{AllocError, Global};
 use workspace_graph::Graph;
 
-/// The place of each package in an order. Only speed rests on it.
+/// Returns the place of each package in `order`. Only speed rests on it.
 fn places(alloc: Global, order: &[usize]) -> Result<Vec<usize>, AllocError> {
     let mut places = vec![in alloc; 0usize; order.len()]?;
     for place in 0..order.len() {
@@ -24,7 +24,7 @@ fn places(alloc: Global, order: &[usize]) -> Result<Vec<usize>, AllocError> {
     Ok(places)
 }
 
-/// Whether a package imports one whose place is behind its own. Only speed rests on it.
+/// Whether a package imports a package with a later place in the order. Only speed rests on it.
 fn imports_later(graph: &Graph, places: &[usize], number: usize) -> bool
     requires { number < length (package_paths graph.now) }
 {
@@ -37,14 +37,14 @@ fn imports_later(graph: &Graph, places: &[usize], number: usize) -> bool
     false
 }
 
-/// Whether two packages have one number.
+/// Whether two packages share a cycle number.
 pub(crate) fn share_cycle(cycles: &[usize], number: usize, other: usize) -> bool
     ensures { IsTrue result ↔ (slice_index_or cycles.now number 0 ≡ slice_index_or cycles.now other 0) }
 {
     number_at(cycles, number) == number_at(cycles, other)
 }
 
-/// For each package its own number.
+/// Returns a list that gives each package its own number.
 fn own_numbers(alloc: Global, count: usize) -> Result<Vec<usize>, AllocError>
     ensures size { IfOk result (λ numbers. length numbers.items ≡ count) }
     ensures own { IfOk result (λ numbers. (i : ℕ) → i < count → slice_index_or numbers.items i 0 ≡ i) }
@@ -56,7 +56,7 @@ fn own_numbers(alloc: Global, count: usize) -> Result<Vec<usize>, AllocError>
     Ok(numbers)
 }
 
-/// The number of a package, which is another's if it lies on one cycle with that.
+/// Returns the cycle number of `other`: `number` if `other` is marked, else its number so far.
 fn cycle_number(back: &[bool], number: usize, numbers: &[usize], other: usize) -> usize
     ensures { (IsMarked back.now other × (result ≡ number)) ⊎ (result ≡ slice_index_or numbers.now other 0) }
 {
@@ -67,7 +67,8 @@ fn cycle_number(back: &[bool], number: usize, numbers: &[usize], other: usize) -
     }
 }
 
-/// Gives those that a package imports, directly or indirectly, and that so import it, its number. The marks tell which these are.
+/// Gives each marked package of `closure` the cycle number of the package `number`. A package is marked if it imports that package,
+/// directly or indirectly.
 fn give_number(
     graph: &Graph,
     number: usize,
@@ -87,7 +88,7 @@ fn give_number(
     }
 }
 
-/// Gives those that lie on one cycle with a package that one's number.
+/// Gives each package on a cycle with `number` the cycle number of `number`.
 fn add_cycle(
     alloc: Global,
     graph: &Graph,
@@ -104,7 +105,8 @@ fn add_cycle(
     Ok(())
 }
 
-/// The same, if that one may lie on a cycle that has no number.
+/// Calls `add_cycle` if the package may lie on a cycle that has no number yet: if it has its own number and imports a package with a later
+/// place.
 fn add_cycle_from(
     alloc: Global,
     graph: &Graph,
@@ -125,7 +127,7 @@ fn add_cycle_from(
     add_cycle(alloc, graph, number, numbers)
 }
 
-/// A number for each package, which those on one cycle share: all of them, if an order has been found in which a cycle's stand together.
+/// Returns a cycle number for each package. All packages of a cycle get one number if they are neighbours in the order.
 fn cycle_numbers(alloc: Global, graph: &Graph, places: &[usize]) -> Result<Vec<usize>, AllocError>
     ensures { IfOk result (λ numbers. AreCycleNumbers graph.now numbers.items) }
 {
@@ -136,7 +138,7 @@ fn cycle_numbers(alloc: Global, graph: &Graph, places: &[usize]) -> Result<Vec<u
     Ok(numbers)
 }
 
-/// Whether the number of a package stands behind those of what it imports, where these are different ones.
+/// Whether the cycle number of a package comes later in the order than each different cycle number of its imports.
 fn is_behind_imports(graph: &Graph, places: &[usize], numbers: &[usize], number: usize) -> bool
     requires { number < length (package_paths graph.now) }
     ensures { IsTrue result → OfPackage graph.now number (λ p. StandsBehindImports graph.now places.now numbers.now p number) }
@@ -150,7 +152,7 @@ fn is_behind_imports(graph: &Graph, places: &[usize], numbers: &[usize], number:
     true
 }
 
-/// Whether the place of a number is behind another's, if that is a different one.
+/// Whether two cycle numbers are equal, or `own` has the later place.
 fn is_behind(places: &[usize], own: usize, other: usize) -> bool
     ensures { IsTrue result → (other ≡ own → ⊥) → slice_index_or places.now other 0 < slice_index_or places.now own 0 }
 {
@@ -160,7 +162,7 @@ fn is_behind(places: &[usize], own: usize, other: usize) -> bool
     number_at(places, other) < number_at(places, own)
 }
 
-/// Whether that is so of each package.
+/// Whether the cycle number of each package comes later in the order than each different cycle number of its imports.
 fn are_behind_imports(graph: &Graph, places: &[usize], numbers: &[usize]) -> bool
     ensures { IsTrue result → StandBehindImports graph.now places.now numbers.now }
 {
@@ -172,8 +174,8 @@ fn are_behind_imports(graph: &Graph, places: &[usize], numbers: &[usize]) -> boo
     true
 }
 
-/// Numbers of all packages that tell which lie on one cycle, or none. They are found where the packages of each cycle stand together in
-/// the order, and behind what else they import: only speed rests on that.
+/// Returns cycle numbers of all packages, or an empty list. Numbers are found if the packages of each cycle are neighbours in the order,
+/// and later than their imports outside the cycle. An empty list costs only time.
 pub(crate) fn cycles(
     alloc: Global,
     graph: &Graph,

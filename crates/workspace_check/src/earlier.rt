@@ -1,4 +1,4 @@
-//! What was known of the packages of a workspace before it changed.
+//! The verdicts on the packages of a workspace before a change.
 ghost use Rattle.std.specs.Prelude.{◌≡◌, IfOk, MatchOption, Some, slice_get};
 ghost use Rattle.workspace_check.specs.declared.known.KnownVerdict.{KnownVerdict as Verdict};
 ghost use Rattle.workspace_check.specs.Earlier.{AreTold};
@@ -9,14 +9,14 @@ use std::marker::Model;
 use std::sync::Arc;
 use workspace_graph::Graph;
 
-/// A workspace, and what is known of its packages, by their numbers.
+/// A workspace before a change, and the known verdicts on its packages, by number.
 #[derive(Drop)]
 pub struct EarlierParts {
     graph: Graph,
     verdicts: Vec<Option<KnownVerdict>>,
 }
 
-/// What was known of the packages of a workspace before it changed. A clone shares it.
+/// The verdicts on the packages of a workspace before a change. A clone shares them.
 pub struct Earlier {
     parts: Arc<EarlierParts, Global>,
 }
@@ -45,6 +45,7 @@ impl Model for Earlier {
 }
 
 impl Earlier {
+    /// Wraps a graph and the verdicts on its packages.
     pub(crate) fn new(
         alloc: Global,
         graph: Graph,
@@ -57,14 +58,14 @@ impl Earlier {
         Ok(Earlier { parts })
     }
 
-    /// The workspace.
+    /// The graph of the workspace before the change.
     pub(crate) fn graph(&self) -> &Graph
         ensures { result.now ≡ self.now.graph }
     {
         &self.parts.graph
     }
 
-    /// What was known of the package of a number, if anything was.
+    /// Returns the verdict on the package of a number before the change, if it was known.
     pub(crate) fn verdict(&self, number: usize) -> Option<&KnownVerdict>
         ensures verdict { MatchOption result ((one : Verdict) → slice_get self.now.verdicts.items number ≡ Some (Some one) → ⊥) (λ one. slice_get self.now.verdicts.items number ≡ Some (Some one.now)) }
         ensures told { AreTold self.now.graph self.now.verdicts.items }

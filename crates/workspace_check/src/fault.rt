@@ -9,8 +9,8 @@ use base_files::{FaultKind, Place};
 use std::alloc::AllocError;
 use std::cmp::Ordering;
 
-/// A fault at a place of a file. Faults are ordered by the bytes of the package's path and of the file's, by offset, and by
-/// the bytes of the kind's name.
+/// A fault at a place of a file. Faults are ordered by package path, file path, offset and name of the kind; paths and names by their
+/// bytes.
 #[derive(Drop)]
 pub struct FileFault {
     pub place: Place,
@@ -18,6 +18,7 @@ pub struct FileFault {
 }
 
 impl FileFault {
+    /// Compares two faults by package path, file path, offset and kind.
     fn compare(&self, other: &FileFault) -> Ordering
         ensures { result ≡ fault_cmp self.now other.now }
     {
@@ -84,7 +85,7 @@ impl Ord for FileFault {
     }
 }
 
-/// Sorts faults, and keeps one of each.
+/// Sorts faults and drops duplicates.
 pub(crate) fn sort(found: &mut Vec<FileFault>)
     ensures same { (f : FileFault) → Contains found.new.items f ↔ Contains found.old.items f }
     ensures order { IsStrictlySortedBy fault_cmp found.new.items }

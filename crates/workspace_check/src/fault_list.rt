@@ -10,7 +10,7 @@ use crate::finding::SharedFinding;
 use crate::findings::Findings;
 use std::alloc::{AllocError, Global};
 
-/// Adds faults at the end.
+/// Adds copies of `faults` at the end of `found`.
 fn add_all(found: &mut Vec<FileFault>, faults: &[FileFault]) -> Result<(), AllocError>
     ensures { OnOk result (found.new.items ≡ found.old.items ++ faults.now) }
 {
@@ -20,7 +20,7 @@ fn add_all(found: &mut Vec<FileFault>, faults: &[FileFault]) -> Result<(), Alloc
     Ok(())
 }
 
-/// The faults of some packages, one package after another.
+/// Returns the faults of the packages, concatenated.
 fn all_faults(alloc: Global, packages: &[SharedFinding]) -> Result<Vec<FileFault>, AllocError>
     ensures { IfOk result (λ found. found.items ≡ flat_map (λ f. f.faults.items) packages.now) }
 {
@@ -31,7 +31,7 @@ fn all_faults(alloc: Global, packages: &[SharedFinding]) -> Result<Vec<FileFault
     Ok(found)
 }
 
-/// The faults of a workspace by what is found in its packages, by package, path, offset and kind.
+/// Returns the fault list of a workspace, sorted by package, path, offset and kind, without duplicates.
 pub fn faults(alloc: Global, found: &Findings) -> Result<Vec<FileFault>, AllocError>
     ensures { IfOk result (λ list. (w : Workspace) → AreFindings w found.now → ListsFaults w list.items) }
 {

@@ -1,4 +1,4 @@
-//! What is found in a package.
+//! A finding: what checking found in a package.
 ghost use Rattle.std.specs.Prelude.{◌≡◌, IfOk};
 
 use crate::fault::FileFault;
@@ -9,8 +9,8 @@ use types_expr::found::MemberUse;
 use types_expr::symbol::SharedPath;
 use types_info::Qualified;
 
-/// The path of a package; its faults, in their order; and where it has none, for each of its files by rank the uses of members, and
-/// the qualified identifiers.
+/// What checking found in a package: its sorted faults, or else its uses of members and its qualified identifiers. `members` has one list
+/// for each file, by file rank; it and `qualified` count only if there are no faults.
 #[derive(Drop)]
 pub struct Finding {
     pub path: SharedPath,
@@ -19,7 +19,7 @@ pub struct Finding {
     pub qualified: Vec<Qualified>,
 }
 
-/// What is found in a package. A clone shares it.
+/// A finding that clones share.
 #[derive(Drop)]
 pub struct SharedFinding {
     finding: Arc<Finding, Global>,
@@ -38,6 +38,7 @@ impl Model for SharedFinding {
 }
 
 impl SharedFinding {
+    /// Wraps a finding.
     pub(crate) fn new(alloc: Global, finding: Finding) -> Result<SharedFinding, AllocError>
         ensures { IfOk result (λ shared. shared ≡ finding) }
     {
@@ -45,7 +46,7 @@ impl SharedFinding {
         Ok(SharedFinding { finding })
     }
 
-    /// What is found.
+    /// The finding.
     pub fn get(&self) -> &Finding
         ensures { result.now ≡ self.now }
     {

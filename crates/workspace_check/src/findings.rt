@@ -1,4 +1,4 @@
-//! What is found in each package of a workspace, where it is known of some.
+//! Finds the findings of all packages of a workspace, and checks only packages without a known verdict.
 ghost use Rattle.std.specs.Prelude.{ℕ, ◌≡◌, ◌<◌, List, length, None, IfOk, OnOk};
 ghost use Rattle.base_files.specs.Packages.{package_paths};
 ghost use Rattle.base_files.specs.Workspace.{Workspace};
@@ -24,21 +24,21 @@ use types_declared::{Interface, Interfaces};
 use types_expr::symbol::SharedPath;
 use workspace_graph::Graph;
 
-/// What is found in each package of a workspace, by the packages' numbers, and the interfaces of those without faults.
+/// The findings of all packages, by package number, and the export data of packages without faults.
 #[derive(Drop)]
 pub struct Findings {
     pub packages: Vec<SharedFinding>,
     pub interfaces: Interfaces,
 }
 
-/// What is found in each package of a workspace, and what is known of packages then.
+/// The findings of all packages of a workspace, and the verdicts that are known after checking.
 #[derive(Drop)]
 pub struct Found {
     pub findings: Findings,
     pub known: Known,
 }
 
-/// Adds the interface of a package, if it has one.
+/// Adds the export data of a package, if there is any.
 fn add(
     alloc: Global,
     all: &mut Interfaces,
@@ -53,7 +53,7 @@ fn add(
     }
 }
 
-/// Adds the interface of a package that was judged, and tells what is found in it.
+/// Adds the export data of a judged package to `all`, and returns its finding.
 pub(crate) fn enter_judged(
     alloc: Global,
     path: SharedPath,
@@ -77,7 +77,7 @@ pub(crate) fn enter_judged(
     })
 }
 
-/// Judges a package by what is known of all that it builds on, and adds its interface.
+/// Judges a package by the verdicts on the packages that it builds on, adds its export data and returns its finding.
 fn judge_one(
     alloc: Global,
     graph: &Graph,
@@ -97,7 +97,7 @@ fn judge_one(
     enter_judged(alloc, path, judged, all)
 }
 
-/// Judges a package of which nothing is known yet, where all that it builds on are known.
+/// Judges a package without a known verdict. The verdicts on all packages that it builds on must be known.
 fn judge_unknown(
     alloc: Global,
     graph: &Graph,
@@ -118,7 +118,7 @@ fn judge_unknown(
     Ok(())
 }
 
-/// Judges a package, if nothing is known of it.
+/// Judges a package, unless its finding is known.
 pub(crate) fn judge_next(
     alloc: Global,
     graph: &Graph,
@@ -138,7 +138,7 @@ pub(crate) fn judge_next(
     Ok(())
 }
 
-/// Judges each package of which nothing is known, behind all that it builds on.
+/// Judges each package without a known finding, in an order in which each package comes after all that it builds on.
 fn judge_all(
     alloc: Global,
     graph: &Graph,
@@ -157,7 +157,7 @@ fn judge_all(
     Ok(())
 }
 
-/// Judges a package, if nothing is known of it, and what was known of it before does not stand.
+/// Adds the finding of a package, unless it is known: the one from before the change if that is still right, else a new one.
 fn keep_or_judge(
     alloc: Global,
     graph: &Graph,
@@ -186,7 +186,7 @@ fn keep_or_judge(
     Ok(())
 }
 
-/// Judges each package of which nothing is known, behind all that it builds on, where what was known of it before does not stand.
+/// Adds the finding of each package in order: the one from before the change where that is still right, else a new one.
 fn judge_changed(
     alloc: Global,
     graph: &Graph,
@@ -210,7 +210,7 @@ fn judge_changed(
     Ok(())
 }
 
-/// Judges what is not known yet in an order, behind all that it builds on.
+/// Adds the missing findings, in an order in which each package comes after all that it builds on.
 fn judge_in(
     alloc: Global,
     graph: &Graph,
@@ -230,7 +230,7 @@ fn judge_in(
     }
 }
 
-/// Judges what is not known yet. No order is looked for where all is known.
+/// Adds the missing findings. No order is computed if none is missing.
 fn judge_rest(
     alloc: Global,
     graph: &Graph,
@@ -248,7 +248,7 @@ fn judge_rest(
     judge_in(alloc, graph, &order, &cycles, known, all)
 }
 
-/// Findings, each of which is there.
+/// Returns the findings of a list in which none is missing.
 fn all_there(
     alloc: Global,
     findings: &[Option<SharedFinding>],
@@ -265,7 +265,7 @@ fn all_there(
     Ok(packages)
 }
 
-/// What is found in each package, where it is known of some, and the others are judged.
+/// Returns the findings of all packages: those in `gathered`, and the missing ones.
 pub(crate) fn verdicts_from(
     alloc: Global,
     graph: &Graph,
@@ -288,9 +288,8 @@ pub(crate) fn verdicts_from(
     Ok(Found { findings, known })
 }
 
-/// What is found in each package. One of which nothing is known is checked once, behind all that it builds on, unless what was known
-/// of it before the workspace changed stands, since its files are the same and what it sees of its imports; what is known of the
-/// others is shared.
+/// Returns the findings of all packages. A known finding is shared. A finding from before the change is kept if the package has the same
+/// files and sees the same export data of its imports. Every other package is checked once, after all that it builds on.
 pub fn verdicts(alloc: Global, graph: &Graph, known: &Known) -> Result<Found, AllocError>
     requires { KnowsVerdicts graph.now known.now }
     ensures { IfOk result (IsFound graph.now) }

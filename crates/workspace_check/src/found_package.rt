@@ -1,4 +1,4 @@
-//! What is found in one package, and the verdicts that were found with it.
+//! The finding of one package, with the verdicts that were found with it.
 ghost use Rattle.std.specs.Prelude.{ℕ, ◌<◌, Contains, IfOk, OnOk, length};
 ghost use Rattle.base_files.specs.Packages.{package_paths};
 ghost use Rattle.workspace_graph.specs.Graphs.{OfPackage};
@@ -14,8 +14,8 @@ use std::alloc::{AllocError, Global};
 use types_declared::Interfaces;
 use workspace_graph::Graph;
 
-/// What is found in a package; the interfaces of it and of those without faults on which it builds; and the verdicts that were found
-/// now, on it and on those, where none was known.
+/// The finding of a package; the export data of this package and of the packages without faults that it builds on; and the verdicts on all
+/// of these that were not known before.
 #[derive(Drop)]
 pub struct FoundPackage {
     pub finding: SharedFinding,
@@ -23,7 +23,7 @@ pub struct FoundPackage {
     pub found: Vec<KnownVerdict>,
 }
 
-/// Takes what is known of a package, or else judges it, if nothing was taken of it yet.
+/// Adds the finding of a package, unless it is there: the known one, or else a new one.
 pub(crate) fn take_or_judge(
     alloc: Global,
     graph: &Graph,
@@ -45,7 +45,7 @@ pub(crate) fn take_or_judge(
     Ok(())
 }
 
-/// The verdict on a package, if it was found now, and was not known before.
+/// Returns the verdict on a package if it was not known before.
 fn new_verdict(
     graph: &Graph,
     number: usize,
@@ -62,7 +62,7 @@ fn new_verdict(
     }
 }
 
-/// Adds a verdict, if there is one.
+/// Adds a verdict at the end, if there is one.
 fn push_some(
     verdicts: &mut Vec<KnownVerdict>,
     verdict: Option<KnownVerdict>,
@@ -78,7 +78,7 @@ fn push_some(
     }
 }
 
-/// The verdicts on some packages that were found now, and were not known before.
+/// Returns the verdicts on the packages of `numbers` that were not known before.
 pub(crate) fn found_now(
     alloc: Global,
     graph: &Graph,
@@ -98,7 +98,7 @@ pub(crate) fn found_now(
     Ok(found)
 }
 
-/// What is found in the package of a number, of which it is known, with the verdicts that were found.
+/// Returns the finding of the package of a number, with all export data and the verdicts that were found.
 pub(crate) fn found_package(
     number: usize,
     all: Gathered,

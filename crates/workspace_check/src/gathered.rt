@@ -1,4 +1,4 @@
-//! What is found in some packages, in one, by which others are judged.
+//! Findings of some packages, gathered in one table by which other packages are judged.
 ghost use Rattle.std.specs.Prelude.{◌≡◌, ◌<◌, ◌↔◌, ℕ, List, length, IfOk, IsTrue, MatchOption, None, OnOk, Some, slice_get};
 ghost use Rattle.std.proofs.Math.ListN.{set};
 ghost use Rattle.base_files.specs.Packages.{package_paths};
@@ -15,22 +15,21 @@ use std::alloc::{AllocError, Global};
 use types_declared::Interfaces;
 use workspace_graph::Graph;
 
-/// What is found in some packages of a workspace, by the packages' numbers, and the interfaces of those among them that have no
-/// fault.
+/// Findings of some packages, by package number, and the export data of those without faults.
 #[derive(Drop)]
 pub(crate) struct Gathered {
     pub(crate) findings: Vec<Option<SharedFinding>>,
     pub(crate) interfaces: Interfaces,
 }
 
-/// What was known of some packages, which are taken one after the other, and whether anything was known of each of them.
+/// Known findings that are taken from `Known` one after the other, and whether none was missing so far.
 #[derive(Drop)]
 pub(crate) struct Taken {
     pub(crate) all: Gathered,
     pub(crate) knew_each: bool,
 }
 
-/// No finding, for so many packages.
+/// Returns a list of `count` missing findings.
 fn no_findings(alloc: Global, count: usize) -> Result<Vec<Option<SharedFinding>>, AllocError>
     ensures size { IfOk result (λ findings. length findings.items ≡ count) }
     ensures none { IfOk result (λ findings. (n : ℕ) → IsGathered findings.items n → ⊥) }
@@ -40,7 +39,7 @@ fn no_findings(alloc: Global, count: usize) -> Result<Vec<Option<SharedFinding>>
 }
 
 impl Gathered {
-    /// Nothing, for so many packages, with room for the interfaces of some.
+    /// Returns `count` missing findings, with room for the export data of `room` packages.
     fn new(alloc: Global, count: usize, room: usize) -> Result<Gathered, AllocError>
         ensures size { IfOk result (λ all. length all.findings.items ≡ count) }
         ensures none { IfOk result (λ all. (n : ℕ) → IsGathered all.findings.items n → ⊥) }
@@ -56,7 +55,7 @@ impl Gathered {
         })
     }
 
-    /// What is found in the package of a number, if it is known.
+    /// Returns the finding of the package of a number, if it is known.
     pub(crate) fn finding(&self, number: usize) -> Option<&SharedFinding>
         ensures { MatchOption result ((f : Found) → slice_get self.now.findings.items number ≡ Some (Some f) → ⊥) (λ f. slice_get self.now.findings.items number ≡ Some (Some f.now)) }
     {
@@ -66,7 +65,7 @@ impl Gathered {
         }
     }
 
-    /// Whether it is known what is found in the package of a number.
+    /// Whether the finding of the package of a number is known.
     pub(crate) fn knows(&self, number: usize) -> bool
         ensures { IsTrue result ↔ IsGathered self.now.findings.items number }
     {
@@ -76,7 +75,7 @@ impl Gathered {
         }
     }
 
-    /// What is found in the package of a number, of which it is known.
+    /// Returns the finding of the package of a number, which must be known.
     pub(crate) fn finding_there(&self, number: usize) -> &SharedFinding
         requires { IsGathered self.now.findings.items number }
         ensures { slice_get self.now.findings.items number ≡ Some (Some result.now) }
@@ -87,7 +86,7 @@ impl Gathered {
         }
     }
 
-    /// Whether it is known of each package what is found in it.
+    /// Whether the findings of all packages are known.
     pub(crate) fn knows_all(&self) -> bool
         ensures { IsTrue result → (n : ℕ) → n < length self.now.findings.items → IsGathered self.now.findings.items n }
     {
@@ -99,7 +98,7 @@ impl Gathered {
         true
     }
 
-    /// Takes what was known of a package, of which nothing is known yet.
+    /// Sets the finding and the export data of a package from a known verdict.
     pub(crate) fn keep(&mut self, number: usize, verdict: &KnownVerdict) -> Result<(), AllocError>
         requires { number < length self.old.findings.items }
         ensures findings { OnOk result (self.new.findings.items ≡ set self.old.findings.items number (Some verdict.now.finding)) }
@@ -111,7 +110,8 @@ impl Gathered {
         Ok(())
     }
 
-    /// The same, of a package whose path stands behind those of all whose interfaces are here.
+    /// Sets the finding and the export data of a package from a known verdict. The package's path must come after all paths that have
+    /// export data here.
     fn keep_next(&mut self, number: usize, verdict: &KnownVerdict) -> Result<(), AllocError>
         requires number { number < length self.old.findings.items }
         requires behind { IsBehindAll self.old.interfaces verdict.now.finding.path }
@@ -126,7 +126,7 @@ impl Gathered {
     }
 }
 
-/// Takes what is known of a package, of which nothing was taken yet.
+/// Takes the known finding of a package, if there is one. The package must have none here.
 pub(crate) fn take_known(
     graph: &Graph,
     number: usize,
@@ -148,7 +148,8 @@ pub(crate) fn take_known(
     Ok(())
 }
 
-/// The same, of a package whose path stands behind those of all whose interfaces were taken. It is noted if nothing is known of it.
+/// Takes the known finding of a package, or clears `knew_each` if there is none. The package's path must come after all paths that have
+/// export data here.
 fn take_next(
     graph: &Graph,
     number: usize,
@@ -173,7 +174,7 @@ fn take_next(
     Ok(())
 }
 
-/// What is known of all packages. They are taken in the order of their paths, in which a table by path grows at its end.
+/// Gathers all known findings, in the order of the packages' paths: so a table by path grows at its end.
 pub(crate) fn gather(alloc: Global, graph: &Graph, known: &Known) -> Result<Gathered, AllocError>
     requires { KnowsVerdicts graph.now known.now }
     ensures { IfOk result (λ all. AreGathered graph.now (length (package_paths graph.now)) all) }
@@ -189,7 +190,7 @@ pub(crate) fn gather(alloc: Global, graph: &Graph, known: &Known) -> Result<Gath
     Ok(taken.all)
 }
 
-/// What is known of some packages, and of no other. They are taken in the order of their paths too.
+/// Gathers the known findings of the packages of `numbers` alone, in the order of their paths.
 pub(crate) fn gather_some(
     alloc: Global,
     graph: &Graph,
@@ -211,7 +212,7 @@ pub(crate) fn gather_some(
     Ok(taken)
 }
 
-/// The verdict on a package, if it is found now.
+/// Returns the verdict on a package, if its finding was gathered.
 pub(crate) fn verdict_found(
     graph: &Graph,
     number: usize,
@@ -229,7 +230,7 @@ pub(crate) fn verdict_found(
     Ok(Some(verdict))
 }
 
-/// What is known of a package, if anything was known before, or is now.
+/// Returns the verdict on a package: the one known before, or else the gathered one, if there is any.
 fn verdict_now(
     graph: &Graph,
     number: usize,
@@ -248,7 +249,7 @@ fn verdict_now(
     verdict_found(graph, number, now)
 }
 
-/// What was known of packages before, with what is found now.
+/// Returns the verdicts that were known before, together with the gathered ones.
 pub(crate) fn known_now(
     alloc: Global,
     graph: &Graph,

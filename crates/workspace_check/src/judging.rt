@@ -1,4 +1,4 @@
-//! The faults of one package, or its interface, its uses of members and its qualified identifiers.
+//! Judges one package: finds its faults, or its export data, uses of members and qualified identifiers.
 ghost use Rattle.std.specs.Prelude.{ℕ, ◌≡◌, ◌<◌, List, [], length, Contains, IfOk, IsTrue};
 ghost use Rattle.base_files.specs.Packages.{package_files, package_paths};
 ghost use Rattle.base_files.specs.Workspace.{Workspace};
@@ -20,7 +20,7 @@ use types_expr::symbol::SharedPath;
 use types_info::Qualified;
 use workspace_graph::{Graph, ParsedPackage};
 
-/// The faults of a package; where it has none its interface, for each of its files the uses of members, and its qualified identifiers.
+/// The sorted faults of a package, or else its export data, its uses of members (a list for each file), and its qualified identifiers.
 #[derive(Drop)]
 pub(crate) struct Judged {
     pub(crate) faults: Vec<FileFault>,
@@ -29,7 +29,7 @@ pub(crate) struct Judged {
     pub(crate) qualified: Vec<Qualified>,
 }
 
-/// What is found in a package of which some file has no tree.
+/// Judges a package of which some file has no tree: finds just the faults of such files.
 fn judge_unread(alloc: Global, files: &ParsedPackage) -> Result<Judged, AllocError>
     requires { files.now.faulty.items ≡ [] → ⊥ }
     ensures { IfOk result (λ j. (w : Workspace) → (number : ℕ) → (known : Verdicts) → IsPackage w number files.now → OfPackage w number (λ p. IsJudged w known p j)) }
@@ -44,7 +44,7 @@ fn judge_unread(alloc: Global, files: &ParsedPackage) -> Result<Judged, AllocErr
     })
 }
 
-/// What is found in a package each of whose files has a tree, by what checking found: its faults get their places.
+/// Gives the faults of a checked package their places, and sorts them. Each file of the package has a tree.
 pub(crate) fn place_checked(
     alloc: Global,
     files: &ParsedPackage,
@@ -69,7 +69,7 @@ pub(crate) fn place_checked(
     })
 }
 
-/// Whether a package imports one with faults, where it is known which packages lie on one cycle.
+/// Whether a package imports a package with faults. False if no cycle numbers are known.
 fn is_stopped(graph: &Graph, number: usize, cycles: &[usize], all: &Interfaces) -> bool
     requires { number < length (package_paths graph.now) }
     ensures known { IsTrue result → number < length cycles.now }
@@ -81,8 +81,7 @@ fn is_stopped(graph: &Graph, number: usize, cycles: &[usize], all: &Interfaces) 
     imports_faulty(graph, number, all)
 }
 
-/// What is found in a package each of whose files has a tree, and which imports one with faults: what those tell that it builds on is not
-/// asked for.
+/// Judges a package that imports a package with faults, and each of whose files has a tree. The export data of its imports is not gathered.
 fn judge_stopped(
     alloc: Global,
     graph: &Graph,
@@ -106,7 +105,7 @@ fn judge_stopped(
     place_checked(alloc, files, checked)
 }
 
-/// What is found in a package each of whose files has a tree.
+/// Judges a package each of whose files has a tree.
 fn judge_read(
     alloc: Global,
     graph: &Graph,
@@ -132,7 +131,7 @@ fn judge_read(
     place_checked(alloc, files, checked)
 }
 
-/// What is found in a package, by the interfaces of those that it builds on.
+/// Judges a package by the export data of the packages that it builds on.
 pub(crate) fn judge(
     alloc: Global,
     graph: &Graph,

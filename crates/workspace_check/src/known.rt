@@ -1,5 +1,4 @@
-//! What is known of packages: what is found in some of them, with the verdicts on these, and what was known of all before the
-//! workspace changed.
+//! Known verdicts on packages of a workspace, and those on all packages before a change.
 ghost use Rattle.std.specs.Prelude.{◌≡◌, ◌<◌, ◌≤◌, ◌↔◌, ◌++◌, [], ◌∷◌, length, IfOk, IfSome, IsTrue, MatchOption, None, OnOk, Some, slice_get};
 ghost use Rattle.std.proofs.Math.ListN.{set};
 ghost use Rattle.base_files.specs.Workspace.{Workspace};
@@ -17,8 +16,7 @@ use types_declared::{Interfaces, KnownInterface};
 use types_expr::symbol::SharedPath;
 use workspace_graph::Graph;
 
-/// What is found in a package, and the verdict on it: its interface is known if it has no fault, and nothing is known if it has some.
-/// A clone shares both.
+/// The finding of a package, with its export data if it has no fault. A clone shares both.
 #[derive(Drop)]
 pub struct KnownVerdict {
     pub(crate) finding: SharedFinding,
@@ -26,7 +24,7 @@ pub struct KnownVerdict {
 }
 
 impl KnownVerdict {
-    /// What is found in a package, and the verdict on it, as all tell it.
+    /// Returns the verdict on the package of a finding, with the export data that `all` has of it.
     pub(crate) fn of(finding: SharedFinding, all: &Interfaces) -> Result<KnownVerdict, AllocError>
         ensures finding { IfOk result (λ one. one.finding ≡ finding) }
         ensures known { IfOk result (λ one. one.known ≡ known_at all.now.definitions finding.path) }
@@ -42,21 +40,21 @@ impl KnownVerdict {
         &self.finding.get().path
     }
 
-    /// What is found in the package.
+    /// The finding of the package.
     pub fn finding(&self) -> &Finding
         ensures { result.now ≡ self.now.finding }
     {
         self.finding.get()
     }
 
-    /// What is known of the package's interface.
+    /// The package's export data, known only if the package has no fault.
     pub fn known(&self) -> &KnownInterface
         ensures { result.now ≡ self.now.known }
     {
         &self.known
     }
 
-    /// Tells it to interfaces, in the place of what they know of the package.
+    /// Sets the package's entry in `all` to this export data.
     pub(crate) fn share_with(&self, all: &mut Interfaces) -> Result<(), AllocError>
         ensures { OnOk result (SetsKnown all.old all.new self.now.finding.path self.now.known) }
     {
@@ -65,7 +63,7 @@ impl KnownVerdict {
         Ok(())
     }
 
-    /// The same, where the package's path stands behind those of all that are there.
+    /// Adds the package's export data at the end of `all`. The package's path must come after all paths there.
     pub(crate) fn push_to(&self, all: &mut Interfaces) -> Result<(), AllocError>
         requires { IsBehindAll all.old self.now.finding.path }
         ensures set { OnOk result (SetsKnown all.old all.new self.now.finding.path self.now.known) }
@@ -87,8 +85,7 @@ impl Clone for KnownVerdict {
     }
 }
 
-/// What is known of some packages of a workspace, by the packages' numbers; and what was known of all before it changed, if that is
-/// kept.
+/// Known verdicts on some packages of a workspace, by package number; and those on all packages before a change, if they are kept.
 pub struct Known {
     verdicts: Vec<Option<KnownVerdict>>,
     earlier: Option<Earlier>,
@@ -103,7 +100,7 @@ impl Drop for Known {
     }
 }
 
-/// What is known of the package of a number, if anything is.
+/// Returns the verdict on the package of a number, if it is known.
 pub(crate) fn verdict_at(verdicts: &[Option<KnownVerdict>], number: usize) -> Option<&KnownVerdict>
     ensures { MatchOption result ((one : Verdict) → slice_get verdicts.now number ≡ Some (Some one) → ⊥) (λ one. slice_get verdicts.now number ≡ Some (Some one.now)) }
 {
@@ -113,7 +110,7 @@ pub(crate) fn verdict_at(verdicts: &[Option<KnownVerdict>], number: usize) -> Op
     }
 }
 
-/// What is known of a package, once more.
+/// Clones a verdict, if there is one.
 fn copy_of(verdict: &Option<KnownVerdict>) -> Result<Option<KnownVerdict>, AllocError>
     ensures { IfOk result (λ copy. copy ≡ verdict.now) }
 {
@@ -123,7 +120,7 @@ fn copy_of(verdict: &Option<KnownVerdict>) -> Result<Option<KnownVerdict>, Alloc
     }
 }
 
-/// What is known of packages, once more, with room for so many.
+/// Clones a list of verdicts, with room for `room` of them.
 fn copies(
     alloc: Global,
     verdicts: &[Option<KnownVerdict>],
@@ -138,7 +135,7 @@ fn copies(
     Ok(copies)
 }
 
-/// Adds places for packages of which nothing is known, until there is one for each of so many packages at least.
+/// Adds missing verdicts at the end, until the list has at least `count` places.
 fn pad(verdicts: &mut Vec<Option<KnownVerdict>>, count: usize) -> Result<(), AllocError>
     ensures size { OnOk result (count ≤ length verdicts.new.items) }
     ensures same { OnOk result (HoldSameVerdicts verdicts.old.items verdicts.new.items) }
@@ -150,7 +147,7 @@ fn pad(verdicts: &mut Vec<Option<KnownVerdict>>, count: usize) -> Result<(), All
 }
 
 impl Known {
-    /// Nothing is known.
+    /// Returns no verdicts.
     pub fn new(alloc: Global) -> Known
         ensures nothing { result.verdicts.items ≡ [] }
         ensures right { (w : Workspace) → KnowsVerdicts w result }
@@ -161,7 +158,7 @@ impl Known {
         }
     }
 
-    /// The same, with room for so many packages.
+    /// Returns no verdicts, with room for those on `count` packages.
     pub fn with_capacity(alloc: Global, count: usize) -> Result<Known, AllocError>
         ensures nothing { IfOk result (λ known. known.verdicts.items ≡ []) }
         ensures right { IfOk result (λ known. (w : Workspace) → KnowsVerdicts w known) }
@@ -173,21 +170,21 @@ impl Known {
         })
     }
 
-    /// Whether nothing was told of any package.
+    /// Whether the list has no place for any package.
     pub fn is_empty(&self) -> bool
         ensures { IsTrue result ↔ (self.now.verdicts.items ≡ []) }
     {
         self.verdicts.is_empty()
     }
 
-    /// What is known of the package of a number, if anything is.
+    /// Returns the verdict on the package of a number, if it is known.
     pub fn get(&self, number: usize) -> Option<&KnownVerdict>
         ensures { MatchOption result ((one : Verdict) → slice_get self.now.verdicts.items number ≡ Some (Some one) → ⊥) (λ one. slice_get self.now.verdicts.items number ≡ Some (Some one.now)) }
     {
         verdict_at(&self.verdicts, number)
     }
 
-    /// Adds the next package, with what is known of it, if anything is.
+    /// Adds a place for the next package, with its verdict if one is given.
     pub fn push(&mut self, verdict: Option<KnownVerdict>) -> Result<(), AllocError>
         ensures { OnOk result (self.new.verdicts.items ≡ self.old.verdicts.items ++ verdict ∷ []) }
     {
@@ -195,7 +192,7 @@ impl Known {
         Ok(())
     }
 
-    /// The same once more, with a place for each of so many packages at least.
+    /// Clones the verdicts, and adds places until there are at least `count`.
     pub fn copy(&self, alloc: Global, count: usize) -> Result<Known, AllocError>
         ensures size { IfOk result (λ copy. count ≤ length copy.verdicts.items) }
         ensures same { IfOk result (λ copy. HoldSameVerdicts self.now.verdicts.items copy.verdicts.items) }
@@ -210,7 +207,7 @@ impl Known {
         Ok(copy)
     }
 
-    /// Sets what is known of the package of a number.
+    /// Sets the verdict on the package of a number.
     pub fn set(&mut self, number: usize, verdict: KnownVerdict)
         requires { number < length self.old.verdicts.items }
         ensures { self.new.verdicts.items ≡ set self.old.verdicts.items number (Some verdict) }
@@ -218,7 +215,7 @@ impl Known {
         self.verdicts[number] = Some(verdict);
     }
 
-    /// Whether something is known of each package. Only what is judged again rests on it.
+    /// Whether each place has a verdict. Only speed rests on it.
     fn knows_all(&self) -> bool {
         for verdict in &self.verdicts {
             if verdict.is_none() {
@@ -228,7 +225,7 @@ impl Known {
         true
     }
 
-    /// What is known, as what was known before the workspace changes, if it is known of all packages; else what was known before.
+    /// Returns what the next workspace keeps as the verdicts before its change: these verdicts if none is missing, else those kept here.
     fn then(&self, alloc: Global, graph: &Graph) -> Result<Option<Earlier>, AllocError>
         requires { KnowsVerdicts graph.now self.now }
     {
@@ -244,8 +241,8 @@ impl Known {
         }
     }
 
-    /// Keeps what was known of a workspace before it changed to this one, so that the verdict on a package may stand whose files are
-    /// the same, and whose imports are seen as before.
+    /// Keeps the verdicts on the packages of `before`, the workspace before the change. A package with the same files and the same view of
+    /// its imports needs no new check.
     pub fn keep_earlier(
         &mut self,
         alloc: Global,
@@ -259,7 +256,7 @@ impl Known {
         Ok(())
     }
 
-    /// Keeps what was known before, as it is kept elsewhere.
+    /// Keeps the verdicts from before the change that `other` keeps, if it keeps any.
     pub fn share_earlier(&mut self, other: &Known) -> Result<(), AllocError>
         ensures { self.new.verdicts ≡ self.old.verdicts }
     {
@@ -269,7 +266,7 @@ impl Known {
         Ok(())
     }
 
-    /// What was known before the workspace changed, if its packages import the same as then.
+    /// Returns the verdicts from before the change, if the workspace has the same packages with the same imports.
     pub(crate) fn earlier(&self, graph: &Graph) -> Option<&Earlier>
         ensures { IfSome result (λ earlier. HaveSameImports earlier.now.graph graph.now) }
     {

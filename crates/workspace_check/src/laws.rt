@@ -11,24 +11,24 @@ ghost use Rattle.workspace_check.specs.Laws.{
   VerdictsFollowInterfaces,
 };
 
-/// A package has one verdict at most.
+/// A package has at most one verdict.
 pub fn verdicts_are_unique()
     ensures { HaveOneVerdict }
 {}
 
-/// A package is checked as one thing at most.
+/// A package is checked as at most one `Package`.
 pub fn checked_packages_are_unique()
     ensures { AreCheckedAsOne }
 {}
 
-/// A package and a workspace have one fault list at most.
+/// A package has at most one fault list, and so has a workspace.
 pub fn fault_lists_are_unique()
     ensures of_package { HaveOneList }
     ensures of_workspace { HaveOneWholeList }
 {}
 
-/// Where the closure of a package has the same texts in two workspaces, the package has the same verdict and the same fault
-/// list in both, is checked as the same, and what is known of it in one is right of it in the other.
+/// Verdict, fault list and checked form of a package depend on the texts of its closure alone. If these are equal in two workspaces, a
+/// verdict known in one is right in the other.
 pub fn verdicts_are_local()
     ensures verdicts { AreLocalVerdicts }
     ensures lists { AreLocalLists }
@@ -36,8 +36,8 @@ pub fn verdicts_are_local()
     ensures known { AreLocallyKnown }
 {}
 
-/// Where two workspaces have the same packages, which import the same, a package with the same files in both has the same verdict in
-/// both, if it sees the same of the packages that it builds on.
+/// Takes two workspaces with equal packages and equal imports, and a package with equal files in both. If the package sees equal export
+/// data in both, its verdicts in both are equal.
 pub fn verdicts_follow_interfaces()
     ensures { VerdictsFollowInterfaces }
 {}

@@ -1,5 +1,8 @@
-//! What is found in each package of a workspace: its faults, and where it has none what other packages see of it, and its uses
-//! of members.
+//! Checks the packages of a workspace.
+//!
+//! A finding is what checking found in a package: its faults, or else its uses of members and its qualified identifiers. A verdict says
+//! whether the package has faults, and has its export data if not. A package builds on another one if it imports that one, directly or
+//! indirectly, and is not so imported by it.
 #![tactic(auto)]
 
 mod cycles;

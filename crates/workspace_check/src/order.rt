@@ -1,4 +1,4 @@
-//! An order of all packages, in which each comes behind those that it builds on.
+//! An order of all packages in which each comes after those that it builds on.
 ghost use Rattle.std.specs.Prelude.{◌≡◌, length, slice_index_or, IfOk};
 ghost use Rattle.base_files.specs.Packages.{package_paths};
 ghost use Rattle.workspace_graph.specs.Imports.{HoldsBelow};
@@ -7,7 +7,7 @@ ghost use Rattle.workspace_check.specs.Steps.{AreSizes, IsBuildOrder};
 use std::alloc::{AllocError, Global};
 use workspace_graph::Graph;
 
-/// How many packages each one reaches: one search for each.
+/// Returns the size of each package's closure, by one search from each package.
 fn sizes(alloc: Global, graph: &Graph) -> Result<Vec<usize>, AllocError>
     ensures { IfOk result (λ sizes. AreSizes graph.now (length (package_paths graph.now)) sizes.items) }
 {
@@ -19,7 +19,7 @@ fn sizes(alloc: Global, graph: &Graph) -> Result<Vec<usize>, AllocError>
     Ok(sizes)
 }
 
-/// The number that a list has at a place, or zero.
+/// Returns the number at a place of a list, or 0 where the list ends before.
 pub(crate) fn number_at(numbers: &[usize], place: usize) -> usize
     ensures { result ≡ slice_index_or numbers.now place 0 }
 {
@@ -29,7 +29,7 @@ pub(crate) fn number_at(numbers: &[usize], place: usize) -> usize
     }
 }
 
-/// The numbers below one.
+/// Returns the numbers from 0 to below `count`.
 fn numbers(alloc: Global, count: usize) -> Result<Vec<usize>, AllocError>
     ensures { IfOk result (λ numbers. HoldsBelow (λ n. Unit {0}) count numbers.items) }
 {
@@ -40,7 +40,7 @@ fn numbers(alloc: Global, count: usize) -> Result<Vec<usize>, AllocError>
     Ok(numbers)
 }
 
-/// All packages, those first that reach the fewest: what a package builds on reaches fewer than it.
+/// Returns all packages sorted by the size of their closures: a package that another builds on has a smaller closure.
 fn order_by_sizes(alloc: Global, graph: &Graph) -> Result<Vec<usize>, AllocError>
     ensures { IfOk result (λ order. IsBuildOrder graph.now order.items) }
 {
@@ -50,7 +50,8 @@ fn order_by_sizes(alloc: Global, graph: &Graph) -> Result<Vec<usize>, AllocError
     Ok(order)
 }
 
-/// All packages, each behind those that it builds on. One search finds such an order; were there none, each package is searched from.
+/// Returns all packages, each after those that it builds on. One search finds such an order; if it finds none, the packages are sorted by
+/// the sizes of their closures.
 pub(crate) fn order(alloc: Global, graph: &Graph) -> Result<Vec<usize>, AllocError>
     ensures { IfOk result (λ order. IsBuildOrder graph.now order.items) }
 {

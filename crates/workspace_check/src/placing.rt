@@ -1,4 +1,4 @@
-//! The places of faults.
+//! Gives faults their places.
 ghost use Rattle.std.specs.Prelude.{◌≡◌, ◌↔◌, Contains, IfOk, OnOk};
 ghost use Rattle.workspace_check.specs.Steps.{IsPlacedOf, AddsPlaced, unread_faults};
 
@@ -9,7 +9,7 @@ use std::alloc::{AllocError, Global};
 use types_declared::Fault;
 use workspace_graph::FaultyFile;
 
-/// The faults of files that have no tree.
+/// Returns the faults of the files that have no tree, with their places.
 pub(crate) fn unread_faults(
     alloc: Global,
     files: &[FaultyFile],
@@ -29,7 +29,7 @@ pub(crate) fn unread_faults(
     Ok(found)
 }
 
-/// Adds a fault of a package with its place.
+/// Adds a fault of a package with its place, if its file is among `files`.
 fn add_placed(
     found: &mut Vec<FileFault>,
     files: &[FileTree],
@@ -51,7 +51,7 @@ fn add_placed(
     }
 }
 
-/// The faults of a package with their places.
+/// Returns the faults of a package with their places.
 pub(crate) fn placed_faults(
     alloc: Global,
     files: &[FileTree],

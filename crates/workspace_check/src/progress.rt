@@ -1,4 +1,4 @@
-//! What is found in the packages on which one builds, while they are judged one after the other, where a caller checks that one itself.
+//! Judges the packages that one package builds on, where a caller checks that package itself.
 ghost use Rattle.std.specs.Prelude.{ℕ, ◌≡◌, ◌<◌, ◌↔◌, ◌++◌, [], ◌∷◌, length, Contains, IfOk, IsTrue, OnOk};
 ghost use Rattle.std.specs.List.Sorted.{IsStrictlyIncreasing};
 ghost use Rattle.base_files.specs.Packages.{package_paths};
@@ -39,8 +39,8 @@ use types_declared::Interfaces;
 use types_expr::symbol::SharedPath;
 use workspace_graph::{Graph, PackagesBelow, is_among};
 
-/// What is found in the packages on which one builds, and in that one once it was learnt; which these are; and whether it was known of
-/// each of them, so that nothing was found there now.
+/// The findings of the packages that one package builds on, and of this package once it was learnt. `knew_each` says that none of the
+/// former was missing at the start.
 #[derive(Drop)]
 pub struct Progress {
     pub(crate) all: Gathered,
@@ -48,7 +48,7 @@ pub struct Progress {
     pub(crate) knew_each: bool,
 }
 
-/// Judges a package, if it is among some and nothing is known of it.
+/// Judges a package if it is among `below` and its finding is missing.
 fn judge_among(
     alloc: Global,
     graph: &Graph,
@@ -70,7 +70,7 @@ fn judge_among(
     }
 }
 
-/// Judges in an order those of some packages of which nothing is known.
+/// Judges the packages of `below` whose findings are missing, in `order`.
 fn judge_ordered(
     alloc: Global,
     graph: &Graph,
@@ -91,7 +91,7 @@ fn judge_ordered(
     Ok(())
 }
 
-/// Judges those of some packages of which nothing is known.
+/// Judges the packages of `below` whose findings are missing.
 fn judge_below(
     alloc: Global,
     graph: &Graph,
@@ -107,7 +107,7 @@ fn judge_below(
     judge_ordered(alloc, graph, &order, &cycles, below, all)
 }
 
-/// What is found in some packages, where it is known of some of them. No order is looked for where it is known of each.
+/// Returns the findings of the packages of `below`: the known ones, and new ones. No order is computed if none is missing.
 fn judged(alloc: Global, graph: &Graph, below: &[usize], known: &Known) -> Result<Taken, AllocError>
     requires below { HoldAllBelow graph.now below.now }
     requires known { KnowsVerdicts graph.now known.now }
@@ -121,7 +121,7 @@ fn judged(alloc: Global, graph: &Graph, below: &[usize], known: &Known) -> Resul
     Ok(taken)
 }
 
-/// The numbers of some packages, and of one more.
+/// Returns `numbers` with `one` added at the end.
 fn with_one(alloc: Global, numbers: &[usize], one: usize) -> Result<Vec<usize>, AllocError>
     ensures { IfOk result (λ all. all.items ≡ numbers.now ++ one ∷ []) }
 {
@@ -130,7 +130,7 @@ fn with_one(alloc: Global, numbers: &[usize], one: usize) -> Result<Vec<usize>, 
     Ok(all)
 }
 
-/// The packages of which something may have been found now: one, and those on which it builds, unless it was known of each of these.
+/// Returns the packages of which a new finding is possible: `number`, and those of `below` unless all of their findings were known.
 fn maybe_found(
     alloc: Global,
     below: &[usize],
@@ -146,7 +146,7 @@ fn maybe_found(
     }
 }
 
-/// Takes in what checking found in a package, of which nothing is known yet.
+/// Adds the finding of a package from what the caller's check found.
 fn learn_checked(
     alloc: Global,
     graph: &Graph,
@@ -170,8 +170,8 @@ fn learn_checked(
 }
 
 impl Progress {
-    /// Where just those packages were judged on which one builds, by its closure, which is known. What is known of them is not found
-    /// again, and what is known of others is not looked at.
+    /// Judges just the packages that the package builds on, which it finds in `closure`. Known verdicts are taken over, and those on other
+    /// packages are ignored.
     pub fn before(
         alloc: Global,
         graph: &Graph,
@@ -197,21 +197,21 @@ impl Progress {
         })
     }
 
-    /// Whether it is known what is found in the package of a number.
+    /// Whether the finding of the package of a number is known.
     pub fn knows(&self, number: usize) -> bool
         ensures { IsTrue result ↔ IsGathered self.now.all.findings.items number }
     {
         self.all.knows(number)
     }
 
-    /// The interfaces of the packages without faults among those of which something is known.
+    /// The export data of the packages without faults among those with a known finding.
     pub fn interfaces(&self) -> &Interfaces
         ensures { result.now ≡ self.now.all.interfaces }
     {
         &self.all.interfaces
     }
 
-    /// What each path is that the package imports, as interfaces that note just that. Which packages import it was found before.
+    /// Returns the state of each path that the package imports, as a table that has nothing but these states.
     pub fn import_states(
         &self,
         alloc: Global,
@@ -225,7 +225,7 @@ impl Progress {
         import_states(alloc, graph, number, &self.below.back, &self.all.interfaces)
     }
 
-    /// Takes in what checking found in the package, of which nothing is known yet.
+    /// Adds the finding of the package from what the caller's check found. The finding must be missing.
     pub fn learn(
         &mut self,
         alloc: Global,
@@ -245,8 +245,8 @@ impl Progress {
         Ok(())
     }
 
-    /// What is found in the package, which is judged if nothing is known of it, and the verdicts that were found on it and on those on
-    /// which it builds, where none was known.
+    /// Returns the finding of the package, which is judged if its finding is missing. With it come the new verdicts, on it and on the
+    /// packages that it builds on.
     pub fn finish(
         self,
         alloc: Global,

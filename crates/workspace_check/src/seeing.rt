@@ -1,4 +1,4 @@
-//! What a package sees of others, and what each path is that it imports.
+//! What a package sees of others: the export data of the packages that it builds on, and the state of each path that it imports.
 ghost use Rattle.std.specs.Prelude.{ℕ, ◌≡◌, ◌<◌, List, length, IfOk, IsTrue, OnOk, true};
 ghost use Rattle.std.specs.List.Sorted.{IsStrictlyIncreasing};
 ghost use Rattle.base_files.specs.Packages.{package_paths};
@@ -19,9 +19,11 @@ use std::alloc::{AllocError, Global};
 use types_declared::{ImportState, Interfaces, PackageNames};
 use workspace_graph::Graph;
 
-/// What a package sees of those that it builds on. All rise by their paths, as the packages' numbers do: each package is looked for behind
-/// the one found last, where that one was found so, and else at its number, less one for each package before it of which nothing is known.
-/// What is taken stands behind all that was taken before.
+/// Returns the export data of the packages of `below` that have no faults.
+///
+/// Both `below` and `all` are sorted by path. The search for a package starts after the last hit. If the last search failed, it starts at
+/// the package's number less the count of earlier packages without export data. Only speed rests on that start. Each hit is added at the
+/// end.
 fn seen_of(
     alloc: Global,
     graph: &Graph,
@@ -54,8 +56,7 @@ fn seen_of(
     Ok(seen)
 }
 
-/// What a package sees of others: the names and the interfaces of those without faults that it builds on. What the imported
-/// paths are is not noted.
+/// Returns the names and the export data of the packages without faults that a package builds on, without the states of imported paths.
 pub fn seen(
     alloc: Global,
     graph: &Graph,
@@ -71,7 +72,7 @@ pub fn seen(
     seen_of(alloc, graph, number, below.as_slice(), all)
 }
 
-/// What an imported package is to the one that imports it. The marks tell which packages import that one.
+/// Returns the state of an imported package for its importer. A package is marked if it imports that importer, directly or indirectly.
 fn state_of(
     graph: &Graph,
     number: usize,
@@ -93,7 +94,7 @@ fn state_of(
     }
 }
 
-/// Notes what each path is that a package imports. The marks tell which packages import that one.
+/// Adds the state of each path that a package imports. A package is marked if it imports that importer, directly or indirectly.
 fn note_imports(
     alloc: Global,
     seen: &mut Interfaces,
@@ -115,7 +116,8 @@ fn note_imports(
     Ok(())
 }
 
-/// What each path is that a package imports, as interfaces that note just that. The marks tell which packages import that one.
+/// Returns the state of each path that a package imports, in a table that has nothing but these states. A package is marked if it imports
+/// that importer, directly or indirectly.
 pub(crate) fn import_states(
     alloc: Global,
     graph: &Graph,
@@ -132,7 +134,7 @@ pub(crate) fn import_states(
     Ok(noted)
 }
 
-/// Whether no name is known of a package.
+/// Whether `all` has no name of a package, as is so if the package has faults.
 fn is_unknown(graph: &Graph, number: usize, all: &Interfaces) -> bool
     requires { number < length (package_paths graph.now) }
     ensures { IsTrue result → OfPackage graph.now number (λ q. (known_by all.now q).faulty ≡ true) }
@@ -143,7 +145,7 @@ fn is_unknown(graph: &Graph, number: usize, all: &Interfaces) -> bool
     }
 }
 
-/// Whether a package imports one of which no name is known.
+/// Whether a package imports a package of which `all` has no name.
 pub(crate) fn imports_faulty(graph: &Graph, number: usize, all: &Interfaces) -> bool
     requires { number < length (package_paths graph.now) }
     ensures { IsTrue result → OfPackage graph.now number (ImportsFaulty graph.now (known_by all.now)) }
@@ -156,7 +158,7 @@ pub(crate) fn imports_faulty(graph: &Graph, number: usize, all: &Interfaces) -> 
     false
 }
 
-/// What an imported package is to the one that imports it. The numbers tell which packages lie on one cycle.
+/// Returns the state of an imported package for its importer, by cycle numbers.
 fn state_by(
     graph: &Graph,
     number: usize,
@@ -180,7 +182,7 @@ fn state_by(
     }
 }
 
-/// What each path is that a package imports, as interfaces that note just that. The numbers tell which packages lie on one cycle.
+/// Returns the state of each path that a package imports, by cycle numbers, in a table that has nothing but these states.
 pub(crate) fn states_by(
     alloc: Global,
     graph: &Graph,
@@ -201,8 +203,8 @@ pub(crate) fn states_by(
     Ok(noted)
 }
 
-/// What a package sees of others: the names and the interfaces of those without faults that it builds on, and what each path is that
-/// it imports.
+/// Returns what a package sees: the names and the export data of the packages without faults that it builds on, and the state of each
+/// imported path.
 pub fn seen_imports(
     alloc: Global,
     graph: &Graph,

@@ -1,4 +1,4 @@
-//! What is known of the packages of a workspace, as its states, its views and its changes share it.
+//! Known verdicts that the states, views and changes of a workspace share.
 ghost use Rattle.std.specs.Prelude.{◌≡◌, IfOk};
 
 use crate::known::Known;
@@ -6,7 +6,7 @@ use std::alloc::{AllocError, Global};
 use std::marker::Model;
 use std::sync::Arc;
 
-/// What is known of some packages of a workspace. A clone shares it.
+/// Known verdicts on some packages of a workspace. A clone shares them.
 pub struct SharedKnown {
     known: Arc<Known, Global>,
 }
@@ -32,6 +32,7 @@ impl Model for SharedKnown {
 }
 
 impl SharedKnown {
+    /// Wraps known verdicts.
     pub fn new(alloc: Global, known: Known) -> Result<SharedKnown, AllocError>
         ensures { IfOk result (λ shared. shared ≡ known) }
     {
@@ -39,7 +40,7 @@ impl SharedKnown {
         Ok(SharedKnown { known })
     }
 
-    /// What is known.
+    /// The known verdicts.
     pub fn get(&self) -> &Known
         ensures { result.now ≡ self.now }
     {

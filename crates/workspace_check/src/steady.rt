@@ -1,5 +1,5 @@
-//! What of an earlier workspace stays: whether packages import the same, have the same files, and see the same. Each question here may
-//! be answered with no where it could be yes: only speed rests on that.
+//! Finds which verdicts from before a change are still right: it compares the packages' imports, files and export data. Each answer may be
+//! false where true would be right: only speed rests on that.
 ghost use Rattle.std.specs.Prelude.{ℕ, ◌≡◌, ◌<◌, IsTrue, IfOk, IfSome, OnOk, length, map, slice_get, slice_set};
 ghost use Rattle.base_files.specs.Packages.{package_files, package_paths};
 ghost use Rattle.base_files.specs.Workspace.{Workspace};
@@ -17,7 +17,7 @@ use types_check::are_alike;
 use types_declared::Interfaces;
 use workspace_graph::{Graph, ImportLinks, ParsedPackage};
 
-/// Whether the packages of a number have the same path.
+/// Whether a number has one package path in both workspaces.
 fn is_same_path(before: &Graph, after: &Graph, number: usize) -> bool
     requires before { number < length (package_paths before.now) }
     requires after { number < length (package_paths after.now) }
@@ -26,7 +26,7 @@ fn is_same_path(before: &Graph, after: &Graph, number: usize) -> bool
     before.package(number).path.as_slice() == after.package(number).path.as_slice()
 }
 
-/// Whether packages are the same by their paths.
+/// Whether both workspaces have equal lists of package paths.
 fn have_same_paths(before: &Graph, after: &Graph) -> bool
     ensures { IsTrue result → package_paths before.now ≡ package_paths after.now }
 {
@@ -41,7 +41,7 @@ fn have_same_paths(before: &Graph, after: &Graph) -> bool
     true
 }
 
-/// Whether packages import those of the same numbers.
+/// Whether each package imports packages of equal numbers in both workspaces.
 fn have_same_links(before: &ImportLinks, after: &ImportLinks) -> bool
     ensures { IsTrue result → before.now ≡ after.now }
 {
@@ -56,21 +56,21 @@ fn have_same_links(before: &ImportLinks, after: &ImportLinks) -> bool
     true
 }
 
-/// Whether two workspaces have the same packages, which import the same.
+/// Whether two workspaces have equal packages with equal imports.
 pub(crate) fn have_same_imports(before: &Graph, after: &Graph) -> bool
     ensures { IsTrue result → HaveSameImports before.now after.now }
 {
     have_same_paths(before, after) && have_same_links(before.links(), after.links())
 }
 
-/// Whether a file has the same path and the same text.
+/// Whether a file has equal path and text in both workspaces.
 fn is_same_tree(before: &FileTree, after: &FileTree) -> bool
     ensures { IsTrue result → tree_file before.now ≡ tree_file after.now }
 {
     before.path() == after.path() && before.pieces().file() == after.pieces().file()
 }
 
-/// Whether files have the same paths and texts.
+/// Whether two lists of files have equal paths and texts.
 fn are_same_trees(before: &[FileTree], after: &[FileTree]) -> bool
     ensures { IsTrue result → map tree_file before.now ≡ map tree_file after.now }
 {
@@ -85,7 +85,7 @@ fn are_same_trees(before: &[FileTree], after: &[FileTree]) -> bool
     true
 }
 
-/// Whether a package has the same files. One with a file that has no tree is not asked for them: it is soon judged.
+/// Whether a package has equal files before and after the change. False if some file has no tree: such a package is checked quickly.
 fn has_same_files(before: &ParsedPackage, after: &ParsedPackage) -> bool
     ensures { IsTrue result → (v w : Workspace) → (n : ℕ) → IsPackage v n before.now → IsPackage w n after.now →
         package_files v before.now.path.items ≡ package_files w after.now.path.items }
@@ -99,8 +99,8 @@ fn has_same_files(before: &ParsedPackage, after: &ParsedPackage) -> bool
     are_same_trees(&before.trees, &after.trees)
 }
 
-/// Of the packages that were passed those are marked of which the same was known; and those are stirred that reach one of which it was
-/// not.
+/// Marks on the packages that were passed. `marks`: the package has the export data that it had before the change. `stirred`: the package
+/// imports, directly or indirectly, a package whose export data changed.
 #[derive(Drop)]
 pub(crate) struct Steady {
     pub(crate) marks: Vec<bool>,
@@ -108,7 +108,7 @@ pub(crate) struct Steady {
 }
 
 impl Steady {
-    /// No package was passed yet.
+    /// Returns no marks: no package was passed yet.
     pub(crate) fn new(alloc: Global, graph: &Graph) -> Result<Steady, AllocError>
         ensures none { IfOk result (λ steady. (n : ℕ) → IsMarked steady.marks.items n → ⊥) }
         ensures stirs { IfOk result (Stirs graph.now) }
@@ -118,7 +118,7 @@ impl Steady {
         Ok(Steady { marks, stirred })
     }
 
-    /// Passes a package.
+    /// Passes a package: marks it if `same`, else marks the packages that import it, directly or indirectly, as `stirred`.
     pub(crate) fn pass(
         &mut self,
         alloc: Global,
@@ -139,7 +139,7 @@ impl Steady {
         Ok(())
     }
 
-    /// Whether all that a package builds on is marked. All of it was passed.
+    /// Whether all that a package builds on is marked. All of these packages must have been passed.
     fn is_marked_below(&self, number: usize) -> bool
         ensures { IsTrue result → IsMarked self.now.stirred.items number → ⊥ }
     {
@@ -147,7 +147,7 @@ impl Steady {
     }
 }
 
-/// What was known of a package, if its files are the same and all that it builds on is marked.
+/// Returns the verdict from before the change, if the package's files are equal and all that it builds on is marked.
 pub(crate) fn standing<'a>(
     earlier: &'a Earlier,
     graph: &Graph,
@@ -169,7 +169,7 @@ pub(crate) fn standing<'a>(
     }
 }
 
-/// Whether the same was known of a package as is known now.
+/// Whether a package had before the change the export data that it has in `all`.
 pub(crate) fn is_steady(earlier: &Earlier, graph: &Graph, number: usize, all: &Interfaces) -> bool
     requires { number < length (package_paths graph.now) }
     ensures { IsTrue result → OfPackage graph.now number (WasKnown earlier.now.verdicts.items all.now number) }

@@ -1,4 +1,4 @@
--- What is asked of a workspace's links by number, in the words of the workspace.
+-- Queries of a workspace's links by number, in terms of the paths of its packages.
 use Rattle.std.proofs.Common.{◌≡◌, ℕ, ◌<◌, Bool, true, false, ◌&&◌, List, [], ◌∷◌, length, filter, cond, Some, slice_get, get_or, refl, sym}
 use Rattle.std.proofs.Common.{subst, ◌∙◌, arith, zero, suc, ◌==◌, ◌↔◌, inl, inr}
 use Rattle.std.specs.FinMap.{entries}

@@ -1,4 +1,4 @@
--- The packages of files of which only those in some folders changed, where no package comes and none goes.
+-- The packages after a change of files in some folders that adds and removes no package.
 use Rattle.std.proofs.Common.{◌≡◌, ℕ, zero, suc, ◌+◌, ◌<◌, ◌⊎◌, Bool, true, false, not, ◌||◌, List, [], ◌∷◌, ◌++◌, ◌↔◌, length, take, get_or, Some, slice_get}
 use Rattle.std.proofs.Common.{refl, sym, ap, subst, ◌∙◌, inl, inr, ⊎_elim, nat_eq, vec_len, arith}
 use Rattle.std.proofs.Math.ListN.{set}
@@ -70,7 +70,7 @@ paths_put [] n a at = refl
 paths_put (p ∷ ps) zero a at = ap (λ path. path ∷ paths_of ps) (sym (same_Some _ _ at))
 paths_put (p ∷ ps) (suc n) a at = ap (λ rest. p.path.items ∷ rest) (paths_put ps n a at)
 
--- a clone holds the same
+-- A list of clones is the list that was cloned.
 pub clones_are : {X : Type 0} (xs ys : List X) → AllZip (λ x y. y ≡ x) xs ys → ys ≡ xs
 clones_are [] [] are = refl
 clones_are [] (y ∷ ys) are = absurd are
@@ -128,7 +128,7 @@ module _ (before fresh packages : List ParsedPackage) (k : ℕ) (x : ParsedPacka
         (cases_eq i n);
   }
 
--- ---- what a package imports is told by its files
+-- ---- the imports of a package depend on its files alone
 pub moved : (x y : Workspace) (p q : List ℕ) → package_files x p ≡ package_files y p → PackageImports x p q → PackageImports y p q
 moved x y p q same pi = record {
   entry = pi.entry;
@@ -147,7 +147,7 @@ with_path (p ∷ ps) q (suc k, within, is) =
     let there : r.1.0 < length ps = r.1.1 in
     (r.0, (suc r.1.0, omega arith, r.1.2), r.2)
 
--- ---- the packages afterwards
+-- ---- the packages after the change
 module _ (v w : Workspace) (before fresh packages : List ParsedPackage) (g : Links) (graph : IsGraph v before g) (differs : DiffersOnlyIn (paths_of fresh) v w)
     (files : All (HasFiles w) fresh) (kept : All (KeepsPath (package_paths v)) fresh) (are : AreReplaced before fresh packages) where
   abbrev among : List ℕ → List (List ℕ) → Bool
@@ -184,7 +184,7 @@ module _ (v w : Workspace) (before fresh packages : List ParsedPackage) (g : Lin
     | false ↦ λ is. sym (ap has_some (same_files (paths_of fresh) v w differs q (λ has. true≢false (sym (any_of q (paths_of fresh) has) ∙ is))))
   ] refl
 
-  -- no package comes and none goes
+  -- No package is added or removed.
   pub same_paths : package_paths v ≡ package_paths w
   same_paths = sym (paths_are w (package_paths v) (paths_sorted v) (λ q. some_before q ∙ some_same q ∙ sym (folder_found q (entries w))))
 
@@ -201,7 +201,7 @@ module _ (v w : Workspace) (before fresh packages : List ParsedPackage) (g : Lin
       subst (λ es. AreParsed es p.trees.items p.faulty.items) (sym (stays p old.1)) (graph.each i p old.0))
       (are.each i p at)
 
-  -- and the links stay where the packages of the folders import what they did
+  -- The links stay where the packages of the changed folders keep their imports.
   module _ (rows : All (HasRow (paths_of packages) g) fresh) where
     imports_stay : (i j : ℕ) (p q : List ℕ) → slice_get (package_paths w) i ≡ Some p → slice_get (package_paths w) j ≡ Some q →
         Imports g i j ↔ PackageImports w p q

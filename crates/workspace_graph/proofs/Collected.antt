@@ -1,4 +1,4 @@
--- Numbers that are collected, and the imports that they stand for.
+-- Rows of package numbers that are being collected, and the imports that they come from.
 use Rattle.std.proofs.Common.{◌≡◌, ℕ, zero, suc, ◌<◌, ◌+◌, ◌↔◌, ◌⊎◌, List, [], ◌∷◌, ◌++◌, length, take, Option, Some, None, slice_get, get_or, refl, sym}
 use Rattle.std.proofs.Common.{ap, subst, ◌∙◌, ⊎_elim, inl, inr, arith, Global, eqb}
 use Rattle.std.specs.Prelude.{Vec}
@@ -61,7 +61,7 @@ pub one_more : {X : Type 0} (R : X → ℕ → Type 0) (xs : List X) (k : ℕ) (
 one_more R xs k item within is j = subst (λ (y : _).
     ((x : _) × Contains (take (k + 1) xs) x × R x j) ↔ (((x : _) × Contains (take k xs) x × R x j) ⊎ R y j)) (sym is) (one_more_at R xs k item within j)
 
--- ---- what stands in the other list at the same place
+-- ---- the element of the other list at an index
 abbrev pub no_import : FileImport
 no_import = record { literal = 0; path = None }
 
@@ -78,7 +78,7 @@ zip_length R [] (y ∷ ys) all = absurd all
 zip_length R (x ∷ xs) [] all = absurd all
 zip_length R (x ∷ xs) (y ∷ ys) all = ap suc (zip_length R xs ys all.1)
 
--- the path of that number is what an import's literal stands for
+-- The package of that number has the path of the import.
 abbrev pub HasNumber : {Z : Type 0} → List (List ℕ) → ℕ → Option (Vec ℕ Z) → Type 0
 HasNumber paths j None = ⊥
 HasNumber paths j (Some value) = slice_get paths j ≡ Some value.items
@@ -100,7 +100,7 @@ number_at file q paths j (Some v) i stands at = at ∙ ap Some (one_string_value
 abbrev tells : SourceFile → ℕ → FileImport → Type 0
 tells file token found = (found.literal ≡ token) × HasValue file token found.path
 
--- one of the imports is that of the package of a number
+-- One of the imports has the path of the package of that number.
 abbrev AreImported : List (List ℕ) → List FileImport → ℕ → Type 0
 AreImported paths imports j = (found : FileImport) × Contains imports found × HasNumber paths j found.path
 

@@ -1,4 +1,4 @@
--- One of a list set, paths by number, and what two facts on an answer give.
+-- Lists of which one element is set, and results of which two facts are known.
 use Rattle.std.proofs.Common.{◌≡◌, ℕ, zero, suc, List, [], ◌∷◌, Some, Result, Ok, Err, IfOk, slice_get, refl, ap, ◌∙◌}
 use Rattle.std.proofs.Math.ListN.{set}
 use Rattle.std.specs.Option.{option_map}

@@ -1,4 +1,4 @@
--- A folder has a Go file just where it is among the folders of Go files.
+-- A folder has a Go file exactly if it is among the folders of Go files.
 use Rattle.std.proofs.Common.{◌≡◌, ℕ, Bool, true, false, ◌&&◌, ◌||◌, List, [], ◌∷◌, map, filter, cond}
 use Rattle.std.proofs.Common.{refl, sym, ap, ◌∙◌, arith, ◌==◌}
 use Rattle.std.specs.Cmp.{tied_itself}

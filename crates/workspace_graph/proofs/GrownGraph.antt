@@ -1,4 +1,4 @@
--- The graph of files, by the packages before and one that comes.
+-- The graph of files, from the packages before and one new package.
 use Rattle.std.proofs.Common.{◌≡◌, ℕ, ◌≤◌, true, List, [], ◌∷◌, length, slice_get, sym, ap, subst, ◌∙◌, arith}
 use Rattle.std.specs.List.{insert}
 use Rattle.std.specs.List.Sorted.{IsStrictlySortedBy}

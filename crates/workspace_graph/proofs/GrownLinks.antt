@@ -1,4 +1,4 @@
--- The links of packages among which one came.
+-- The links of packages after one was inserted among them.
 use Rattle.std.proofs.Common.{◌≡◌, ℕ, ◌+◌, ◌<◌, ◌≤◌, ◌^◌, ◌↔◌, List, [], length, get_or, Some, slice_get, refl, sym, ap, subst, ◌∙◌}
 use Rattle.std.proofs.Common.{inl, inr, ⊎_elim, arith}
 use Rattle.std.specs.List.{All, Contains, insert}
@@ -29,7 +29,7 @@ pub small_row : (row : List ℕ) (n : ℕ) → ((q : ℕ) → Contains row q →
 small_row row n below small k d lt =
     let h = below (get_or row k d) (Contains-get_or row k d lt) in omega (arith, h, small)
 
--- ---- what files import, after a path came among others
+-- ---- the imports of files after a path was inserted
 module _ (ks : List (List ℕ)) (place : ℕ) (path : List ℕ) (files : List FileParts) (within : place ≤ length ks) where
   pub some_shifted : (i : ℕ) → SomeImports (insert ks place path) files (shifted place i) ↔ SomeImports ks files i
   some_shifted i = (
@@ -37,13 +37,13 @@ module _ (ks : List (List ℕ)) (place : ℕ) (path : List ℕ) (files : List Fi
     λ s. (s.0, s.1, (s.2.0, insert_shifted ks place path i within ∙ s.2.1, s.2.2)),
   )
 
-  -- what imports the package at the place imports the path
+  -- A package imports the package at the place exactly if it imports the path.
   some_here : (j : ℕ) → j ≡ place → SomeImports (insert ks place path) files j → SomeImport files path
   some_here j here s =
       let same = same_Some s.2.0 path (sym s.2.1 ∙ ap (slice_get (insert ks place path)) here ∙ insert_here ks place path within) in
       (s.0, (s.1, subst (ImportsPath (source_of s.0)) same s.2.2))
 
-  -- a row with the place in it just where the path is imported
+  -- A row has the place exactly if the path is imported.
   pub row_grown : (row new : List ℕ) (P : Type 0) → IsRow ks files row → ShiftsRow place P row new → (P ↔ SomeImport files path) →
       IsRow (insert ks place path) files new
   row_grown row new P is shifts told = record {
@@ -65,7 +65,7 @@ module _ (ks : List (List ℕ)) (place : ℕ) (path : List ℕ) (files : List Fi
     rising = shifts.rising is.rising;
   }
 
--- ---- packages among which one came
+-- ---- packages after one was inserted
 module _ (packages : List ParsedPackage) (links : Links) (place : ℕ) (grows : Grows packages links place) where
   abbrev ks : List (List ℕ)
   ks = paths_of grows.before
@@ -97,7 +97,7 @@ module _ (packages : List ParsedPackage) (links : Links) (place : ℕ) (grows : 
   pub imports_below : (p q : ℕ) → Imports links p q → q < length links
   imports_below p q h = All-contains (λ q. q < length links) (imports_of links p) q (links_linked p [] (importer_below links p q h)) h
 
-  -- its path stands at the place
+  -- The path of the new package belongs at the place.
   pub place_path : slice_get (paths_of packages) place ≡ Some path
   place_path = ap (λ l. slice_get l place) paths_are ∙ insert_here ks place path ks_within
 
@@ -112,7 +112,7 @@ module _ (packages : List ParsedPackage) (links : Links) (place : ℕ) (grows : 
       let count = rows_count grows.before links grows.rows in
       shifted_within place before (length links) (omega (arith, count, grows.within)) (omega (arith, is, lt, one_more))
 
-  -- the rows after it came are those of the packages
+  -- The rows after the insertion are those of the packages.
   pub rows_grown : (own importing : List ℕ) (new : Links) → AreGrown place own importing links new → length new ≡ length links + 1 →
       ((p : ParsedPackage) → slice_get packages place ≡ Some p → IsRow (paths_of packages) p.trees.items own) →
       HoldsBelow (ImportsAt packages path) (length packages) importing → AreRows packages new
@@ -146,7 +146,7 @@ module _ (packages : List ParsedPackage) (links : Links) (place : ℕ) (grows : 
           (row_grown ks place path p.trees.items ks_within (imports_of links q) (imports_of new (shifted place q)) (Contains importing (shifted place q))
           (row_at grows.before links grows.rows q p was) shifts told))
 
-  -- what is asked of the rows before, and of the importers
+  -- The requirements on the rows before the insertion, and on the importers.
   pub growing_imports : (importing : List ℕ) → HoldsBelow (ImportsAt packages path) (length packages) importing → IsGrowing links place importing
   growing_imports importing holds = record {
     within = omega (arith, place_inside, one_more);
@@ -169,7 +169,7 @@ module _ (packages : List ParsedPackage) (links : Links) (place : ℕ) (grows : 
   }
 
   module _ (g : Links) (rows : AreRows packages g) where
-    -- a package before and the same after, with their rows
+    -- A package keeps its imports, by shifted numbers.
     same_imports : (p q : ℕ) (x : ParsedPackage) → slice_get grows.before p ≡ Some x → Imports g (shifted place p) (shifted place q) ↔ Imports links p q
     same_imports p q x at =
         let old = row_at grows.before links grows.rows p x at in
@@ -195,7 +195,7 @@ module _ (packages : List ParsedPackage) (links : Links) (place : ℕ) (grows : 
           (same_imports p q (get_or grows.before p grows.one) (was_there p lt)).1 h,
     )
 
-    -- its importers are those before, shifted, and the one that came where it imports the package
+    -- The importers of a package are those before, shifted, and the new package if it imports the package.
     importers_shifted : (number before : ℕ) (P : Type 0) (found row : List ℕ) → shifted place before ≡ number → AreImporters links before found →
         ShiftsRow place P found row → (P ↔ Imports g place number) → AreImporters g number row
     importers_shifted number before P found row is are shifts told p = (
@@ -214,7 +214,7 @@ module _ (packages : List ParsedPackage) (links : Links) (place : ℕ) (grows : 
           (shifted_cases place p)),
     )
 
-    -- the importers of the one that came are the packages that import its path
+    -- The importers of the new package are the packages that import its path.
     importers_found : (found : List ℕ) → HoldsBelow (ImportsAt packages path) (length packages) found → AreImporters g place found
     importers_found found holds p = (
       λ has.
@@ -230,7 +230,7 @@ module _ (packages : List ParsedPackage) (links : Links) (place : ℕ) (grows : 
           (holds.each p).1 (lt, (x, (at, (some.0, (some.1, subst (ImportsPath (source_of some.0)) same some.2.2))))),
     )
 
-    -- the importers after it came are those of the rows
+    -- The importers after the insertion are those of the rows after it.
     pub importers_grown : (noted new : Links) (own importing : List ℕ) → HoldImporters links (length links) noted → AreGrown place importing own noted new →
         length new ≡ length noted + 1 → own ≡ imports_of g place → HoldsBelow (ImportsAt packages path) (length packages) importing →
         AreFirst g (length g) new

@@ -1,4 +1,4 @@
--- Rows after one came at a place, one run of them after another.
+-- The rows after the insertion of a package, made one run after another.
 use Rattle.std.proofs.Common.{◌≡◌, ℕ, ◌+◌, ◌-◌, ◌<◌, ◌≤◌, List, [], ◌∷◌, ◌++◌, length, map, sym, ap, subst, ◌∙◌, ⊎_elim, arith}
 use Rattle.std.specs.List.{Contains, slice_range}
 use Rattle.std.proofs.lemmas.Bool.{cases_lt}

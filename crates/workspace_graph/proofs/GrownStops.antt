@@ -1,4 +1,4 @@
--- Where the next row stands that is not just shifted.
+-- The next row after the insertion of a package that is not merely shifted.
 use Rattle.std.proofs.Common.{◌≡◌, ℕ, ◌+◌, ◌<◌, ◌≤◌, List, length, get_or, sym, subst, ⊎_elim, arith, refl}
 use Rattle.std.specs.List.{Contains}
 use Rattle.std.proofs.lemmas.Bool.{cases_lt}

@@ -1,4 +1,4 @@
--- What stands at the paths of a folder tells the files of its package, and what a set or gone file does to them.
+-- The Go files of a folder, and what setting or removing a file does to the files of its package.
 use Rattle.std.proofs.Common.{◌≡◌, ℕ, ◌⊎◌, inl, inr, true, false, List, [], ◌∷◌, map, Option, Some, None, ◌==◌, refl, sym, ap, subst, ◌∙◌, ⊎_elim}
 use Rattle.std.specs.declared.cmp.Ordering.TheVariants.{Less}
 use Rattle.std.specs.Cmp.Lexicographic.{pointwise, bytes_decides}
@@ -389,7 +389,7 @@ module _ (w v new : Workspace) (path p : List ℕ) (resets : Resets w (path ∷ 
           inr (subst (Contains (fault_paths gs)) f.2 (is_mapped fault_path gs f.0 (faulty f.0 f.1 (λ same. other (sym f.2 ∙ same))))))
           (h.all q text of (sym (at_other q other) ∙ at))
 
-      -- all files, where that of the path is told
+      -- All files of the folder are in the lists, if the file at the path is.
       files_all : ((text : List ℕ) → is_of_package p path ≡ true → get w path ≡ Some text → Contains (tree_paths us) path ⊎ Contains (fault_paths gs) path) →
           (q text : List ℕ) → is_of_package p q ≡ true → get new q ≡ Some text → Contains (tree_paths us) q ⊎ Contains (fault_paths gs) q
       files_all own q text of at = own_or_other q

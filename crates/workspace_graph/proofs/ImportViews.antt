@@ -1,4 +1,4 @@
--- What the trees of the code and those of the definitions say of imports is the same.
+-- The trees of the code and those of the definitions have the same imports.
 use Rattle.std.proofs.Common.{◌≡◌, ℕ, ◌+◌, ◌<◌, List, [], ◌∷◌, ◌++◌, length, get_or, take, map, ap, sym, ◌∙◌, refl, append_assoc, Global}
 use Rattle.std.proofs.lemmas.List.{map-append, take_more}
 use Rattle.std.specs.Prelude.{Vec}

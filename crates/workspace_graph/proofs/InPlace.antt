@@ -1,4 +1,4 @@
--- Numbers that are changed in place, from an index on.
+-- Lists of numbers that a loop changes in place, from an index on.
 use Rattle.std.proofs.Common.{◌≡◌, ◌≢◌, ℕ, ◌+◌, ◌-◌, ◌<◌, ◌≤◌, ◌⊎◌, inl, inr, ⊎_elim, List, ◌++◌, length, get_or, map, take, drop, refl, sym, ap, subst, ◌∙◌}
 use Rattle.std.proofs.Common.{arith, get_or-set_other, get_or-set_same, length-drop}
 use Rattle.std.specs.List.{All}

@@ -1,4 +1,4 @@
--- Rows that stand in one list.
+-- Rows that lie one behind another in one list.
 use Rattle.std.proofs.Common.{◌≡◌, ℕ, zero, suc, ◌+◌, ◌-◌, ◌<◌, ◌≤◌, List, [], ◌∷◌, ◌++◌, length, get_or, take, drop, refl, sym, ap, subst, ◌∙◌, inl, inr}
 use Rattle.std.proofs.Common.{arith}
 use Rattle.std.specs.List.{slice_range}
@@ -50,7 +50,7 @@ front_range ns row a b n le within =
     front_append (take n ns) row a b (omega arith)
     ∙ (sym (front_append (take n ns) (drop n ns) a b (omega arith)) ∙ ap (λ l. slice_range l a b) (take-append-drop n ns))
 
--- what stands behind a list
+-- The items appended to a list.
 back_range : (xs row : List ℕ) (n : ℕ) → length xs ≡ n → slice_range (xs ++ row) n (n + length row) ≡ row
 back_range xs row n size =
     let behind : drop n (xs ++ row) ≡ row = ap (λ k. drop k (xs ++ row)) (sym size) ∙ drop-append_seam xs row in
@@ -70,14 +70,14 @@ rows_push (a ∷ b ∷ bs) ns row n some last within below =
     ap (λ r. r ∷ rows_of (b ∷ (bs ++ (n + length row) ∷ [])) (take n ns ++ row)) (front_range ns row a b n (below 1 (omega arith)) within)
     ∙ ap (λ g. slice_range ns a b ∷ g) rest
 
--- the same of what has such bounds
+-- A row appended behind the last of valid bounds is one more row.
 pub row_added : (bs ns row : List ℕ) → AreBounds bs ns →
     rows_of (bs ++ (last_bound bs + length row) ∷ []) (take (last_bound bs) ns ++ row) ≡ rows_of bs ns ++ row ∷ []
 row_added bs ns row are =
     let some = are.some in
     rows_push bs ns row (last_bound bs) are.some refl are.within (λ i lt. are.rising i (length bs - 1) (omega arith) (omega arith))
 
--- the same, told by the numbers as they stand
+-- A row appended to the numbers is one more row, by the length of the numbers.
 pub row_ends : (bs ns new row : List ℕ) (g : Links) (end : ℕ) → AreBounds bs ns → rows_of bs ns ≡ g → new ≡ take (last_bound bs) ns ++ row → end ≡ length new →
     rows_of (bs ++ end ∷ []) new ≡ g ++ row ∷ []
 row_ends bs ns new row g end are view is at =

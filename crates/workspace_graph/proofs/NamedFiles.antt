@@ -1,4 +1,4 @@
--- Files by their paths: the folders of some, those of a package, and some that are set to what other files have there.
+-- Files by their paths: the folders of paths, the files of a package, and files that are set to those of another workspace.
 use Rattle.std.proofs.Common.{◌≡◌, ℕ, ◌||◌, Bool, true, false, List, [], ◌∷◌, ◌++◌, cond, filter, Option, Some, None, Bor, length, get_or}
 use Rattle.std.proofs.Common.{refl, sym, ap, subst, ◌∙◌, ⊎_elim, ◌+◌, ◌<◌, take}
 use Rattle.std.specs.BTreeSet.{insert_key}

@@ -1,4 +1,4 @@
--- What a package builds on where it reaches none of its importers: all that it reaches but itself.
+-- The packages on which a package builds, where it reaches none of its importers: all that it reaches but itself.
 use Rattle.std.proofs.Common.{ℕ, ◌≡◌, ◌+◌, ◌-◌, ◌<◌, ◌↔◌, ◌⊎◌, inl, inr, ⊎_elim, Bool, true, false, List, [], ◌∷◌, ◌++◌, length, get_or, take, replicate}
 use Rattle.std.proofs.Common.{refl, sym, ap, subst, ◌∙◌, arith}
 use Rattle.std.specs.List.{Contains}

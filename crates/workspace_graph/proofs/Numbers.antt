@@ -1,4 +1,4 @@
--- What a search by paths answers, among packages or files.
+-- The results of a binary search by path, among packages or files.
 use Rattle.std.proofs.Common.{◌≡◌, ℕ, ◌<◌, ◌≤◌, ◌+◌, List, [], ◌∷◌, length, map, Some, slice_get, get_or, sym, ap, subst, ◌∙◌, ⊎_elim, arith, Result, Ok, Err}
 use Rattle.std.proofs.Common.{MatchResult}
 use Rattle.std.specs.declared.cmp.Ordering.{Ordering}

@@ -1,4 +1,4 @@
--- What a search that is over says of the packages that are reached.
+-- A finished search has marked exactly the packages that are reached.
 use Rattle.std.proofs.Common.{◌≡◌, ℕ, zero, suc, ◌+◌, ◌<◌, inl, inr, ◌↔◌, Bool, false, List, [], length, get_or, sym, subst, ◌∙◌, arith}
 use Rattle.std.specs.List.{All}
 use Rattle.std.proofs.lemmas.List.Elements.{All-from_get_or, Contains-get_or}

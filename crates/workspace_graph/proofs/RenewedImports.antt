@@ -1,4 +1,4 @@
--- What files import after one of them came, or went.
+-- The paths that files import after one file was set or removed.
 use Rattle.std.proofs.Common.{None, Some, ℕ, ◌≡◌, ◌∷◌, [], List, inl, inr, ⊎_elim, sym, subst, Option}
 use Rattle.std.specs.Prelude.{IfSome, Vec}
 use Rattle.std.specs.List.{Contains}
@@ -75,7 +75,7 @@ stay_imported keys gone come trees renewed among kept = record {
   );
 }
 
--- what is told of paths, if some are told
+-- If `P` holds for the value of an option, so does a weaker `Q`.
 pub some_weaker : {X : Type 0} {P Q : X → Type 0} (o : Option X) → ((x : X) → P x → Q x) → IfSome o P → IfSome o Q
 some_weaker None gives has = tt
 some_weaker (Some x) gives has = gives x has

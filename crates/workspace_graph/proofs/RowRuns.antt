@@ -239,7 +239,7 @@ module _ (bs ns obs ons : List ℕ) (from to : ℕ) (are : AreBounds bs ns) (oth
       (ap (λ k. rows_of (k ∷ map g run_bounds) all) first ∙ ap (λ l. rows_of (map g l) all) (bounds_from obs from to up within)
       ∙ moved ∙ ap (map (map f)) (some_rows obs ons from to up within))
 
--- what holds of each number of each row holds of the numbers between two bounds
+-- If `P` holds for each number of each row, it holds for the numbers between two bounds.
 pub numbers_between : (P : ℕ → Type 0) (obs ons : List ℕ) → AreBounds obs ons → All (All P) (rows_of obs ons) → (n from : ℕ) → from + n < length obs →
     All P (slice_range ons (get_or obs from 0) (get_or obs (from + n) 0))
 numbers_between P obs ons are all zero from within = λ k d lt.

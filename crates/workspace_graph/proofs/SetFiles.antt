@@ -1,4 +1,4 @@
--- Packages while single files of them are set.
+-- Drafts of which single files are set.
 use Rattle.std.proofs.Common.{ℕ, ◌≡◌, ◌<◌, ◌∷◌, ◌++◌, ◌&&◌, ◌==◌, [], List, true, false, zero}
 use Rattle.std.proofs.Common.{suc, ⊎_elim, ap, sym, subst, ◌∙◌, refl, Some, None, slice_get, get_or, length}
 use Rattle.std.proofs.Math.ListN.{set}
@@ -36,7 +36,7 @@ use Rattle.workspace_graph.proofs.Numbers.{path_of_package, path_there}
 use Rattle.workspace_graph.proofs.PackagePaths.{none_sorted, one_number}
 use Rattle.workspace_graph.proofs.UpdatedPackages.{place_apart}
 
--- ---- the tree that is gone
+-- ---- the removed tree
 pub gone_one : (path : List ℕ) (trees : List FileParts) (n : ℕ) (gone : FileParts) → IsStrictlySortedBy path_cmp (tree_paths trees) →
     slice_get (tree_paths trees) n ≡ Some path → slice_get trees n ≡ Some gone → IsGone path trees (Some gone)
 gone_one path trees n gone sorted named at t has same =
@@ -53,7 +53,7 @@ gone_none path trees place stands t has same =
           (path_there tree_path trees has.0 t (slice_get_read trees (length trees) has.0 t refl has.1 (sym has.2))),
     )))
 
--- ---- a text that is there already
+-- ---- a text that the file has already
 text_there : (v : Workspace) (p : List ℕ) (trees : List FileParts) (faulty : List FaultyParts) (path text : List ℕ) → HoldFiles v p trees faulty →
     HasText trees faulty path text → get v path ≡ Some text
 text_there v p trees faulty path text held has = ⊎_elim
@@ -111,7 +111,7 @@ there xs k x at = (k, slice_get_within xs k x at, get_or_from_slice_get xs k x x
 pub read : {X : Type 0} (xs : List X) (x : X) (has : Contains xs x) → slice_get xs has.0 ≡ Some x
 read xs x has = slice_get_read xs (length xs) has.0 x refl has.1 (sym has.2)
 
--- ---- what stands at several paths
+-- ---- several paths, one after another
 reset_to : (w v : Workspace) (paths : List (List ℕ)) → (u : Workspace) × Resets w paths v u
 reset_to w v [] = (v, resets_none w v)
 reset_to w v (path ∷ paths) =

@@ -1,4 +1,4 @@
--- Numbers after one came among them, and lists that are passed from below.
+-- The numbers of packages after one was inserted, and increasing lists split below a number.
 use Rattle.std.proofs.Common.{◌≡◌, ℕ, ◌+◌, ◌-◌, ◌<◌, ◌≤◌, ◌⊎◌, List, [], ◌∷◌, ◌++◌, length, map, take, drop, get_or, Some, slice_get, refl, sym}
 use Rattle.std.proofs.Common.{ap, subst, ◌∙◌, inl, inr, ⊎_elim, arith, append_assoc}
 use Rattle.std.specs.List.{Contains, insert}
@@ -191,7 +191,7 @@ shifts_with place P before below holds within under over = record {
         omega (arith, over (omega (arith, e, lt)), same_at))
         (cases_lt below k)
 
--- ---- what stands in a list after one was put into it
+-- ---- the elements of a list after an insertion
 pub insert_shifted : {X : Type 0} (ks : List X) (place : ℕ) (path : X) (q : ℕ) → place ≤ length ks →
     slice_get (insert ks place path) (shifted place q) ≡ slice_get ks q
 insert_shifted ks place path q within =

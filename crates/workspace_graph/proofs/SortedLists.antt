@@ -1,4 +1,4 @@
--- Lists in order that hold the same are the same.
+-- Two increasing lists with the same elements are equal.
 use Rattle.std.proofs.Common.{zero, suc, ◌≡◌, ◌<◌, ◌⊎◌, inl, inr, List, [], ◌∷◌, length, refl, sym, ap, subst, ◌∙◌, arith}
 use Rattle.std.specs.Prelude.{Contains}
 use Rattle.std.specs.Cmp.{IsTotalOrder, tied_itself}

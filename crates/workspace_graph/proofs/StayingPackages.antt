@@ -1,4 +1,4 @@
--- Whether a path is among some, and what holds of each package by its number.
+-- Deciding whether a path is in a list, and facts on each package by its number.
 use Rattle.std.proofs.Common.{◌≡◌, ℕ, zero, suc, Bool, true, false, ◌||◌, List, [], ◌∷◌, get_or, Some, slice_get, refl, ap, ◌∙◌, arith}
 use Rattle.std.specs.Ordering.{eq_by_cmp, is_eq}
 use Rattle.std.specs.Cmp.{tied_itself}

@@ -1,4 +1,5 @@
--- An order of packages, block after block: a block is what a package reaches and is not told, where all of it reaches that package.
+-- An order of packages, built block by block. A block is all that a package reaches and that is not listed yet, if all of it reaches that
+-- package.
 use Rattle.std.proofs.Common.{ℕ, ◌≡◌, ◌+◌, ◌-◌, ◌<◌, ◌≤◌, inl, inr, ◌↔◌, Bool, false, List, ◌++◌, length, get_or, Some, sym}
 use Rattle.std.proofs.Common.{ap, subst, ◌∙◌, arith, length-append}
 use Rattle.std.specs.List.{All, Contains}
@@ -37,7 +38,7 @@ pub found_below : (g : Links) (root : ℕ) (old : List Bool) (found : List ℕ) 
     All (λ q. q < length g) found
 found_below g root old found marks s = All-from_get_or (λ q. q < length g) found 0 (λ k lt. reached_within (s.reached k lt))
 
--- nothing is told
+-- Before the first block, no package is listed.
 pub told_none : (g : Links) (b : Blocks) → length b.order.items ≡ 0 → ((q : ℕ) → IsMarked b.told.items q → ⊥) → length b.told.items ≡ length g →
     length b.barred.items ≡ length g → AreTold g b
 told_none g b none unmarked size bars = record {
@@ -97,7 +98,7 @@ module _ (g noted : Links) (linked : AreLinked g) (back : HoldImporters g (lengt
         ])
   ]
 
-  -- all that a block's package reaches is told, and what is in the block too reaches it
+  -- A package that one of the block reaches, and that does not reach it, is listed before it.
   of_block : (k : ℕ) → k < length block → (m : ℕ) → Reaches g (get_or block k 0) m → (Reaches g m (get_or block k 0) → ⊥) → IsBefore n (length o) m
   of_block k lt m r never =
       let from = s.reached k lt in
@@ -135,7 +136,7 @@ module _ (g noted : Links) (linked : AreLinked g) (back : HoldImporters g (lengt
         behind;
   }
 
--- where all are told, it is an order of all
+-- When all packages are listed, the list is an order of all.
 pub order_is : (g : Links) (b : Blocks) → AreTold g b → ((q : ℕ) → q < length b.told.items → IsMarked b.told.items q) → IsOrder g b.order.items
 order_is g b told all =
     let o = b.order.items in

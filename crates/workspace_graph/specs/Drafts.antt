@@ -1,4 +1,4 @@
--- Packages while single files of them are set.
+-- Drafts: packages of which single files are set or removed.
 use Rattle.std.specs.Prelude.{IfSome, ◌≡◌, ◌⊎◌, ℕ, true, List, [], ◌∷◌, map, Option, Some, None, Vec}
 use Rattle.std.specs.Arc.{arc_value}
 use Rattle.std.specs.FinMap as files
@@ -18,18 +18,19 @@ use Rattle.workspace_graph.specs.declared.file_imports.FileImport.{FileImport}
 use Rattle.workspace_graph.specs.declared.package.ParsedPackage.{ParsedPackage}
 use Rattle.workspace_graph.specs.declared.drafts.Draft.{Draft}
 
--- ---- what files import after one of them changed
+-- ---- the paths that a package imports, after one of its files changed
 
--- a file that is gone imported the path
+-- There is a removed tree, and its file imported the path.
 abbrev pub GoneImports : Option FileParts → List ℕ → Type 0
 GoneImports None q = ⊥
 GoneImports (Some t) q = ImportsPath (source_of t) q
 
--- a path of which P holds is that of an import that came, or one of the files imports it
+-- Each path of which `P` holds is still imported: by one of the new imports `come`, or by one of the files.
 abbrev pub AreKept : (List ℕ → Type 0) → List FileImport → List FileParts → Type 0
 AreKept P come trees = (q : List ℕ) → P q → SomeStandFor come q ⊎ SomeImport trees q
 
--- The paths are those that files imported before one came, or went: but for these, the files import the same.
+-- `keys` are the paths that the files imported before the tree `gone` was removed and a file with the imports `come` was added. All other
+-- files stayed.
 pub record IsRenewed {Z : Type 0} (keys : List (Vec ℕ Z)) (gone : Option FileParts) (come : List FileImport) (trees : List FileParts) : Type 0 where
   pub before : (q : List ℕ) → Contains (bytes_of_paths keys) q → SomeImport trees q ⊎ GoneImports gone q
   pub now : (q : List ℕ) → SomeImport trees q → Contains (bytes_of_paths keys) q ⊎ SomeStandFor come q
@@ -37,41 +38,42 @@ pub record IsRenewed {Z : Type 0} (keys : List (Vec ℕ Z)) (gone : Option FileP
 
 -- ---- a package while files are set
 
--- the tree that has the path is the one that is gone
+-- If one of the trees has the path, it is the removed tree.
 abbrev pub IsGone : List ℕ → List FileParts → Option FileParts → Type 0
 IsGone path trees gone = (t : FileParts) → Contains trees t → t.path ≡ path → gone ≡ Some t
 
--- the trees and the other files stand in the order of their paths, and the paths are those that the trees import
+-- The trees and the faulty files are sorted by path, and `keys` are exactly the paths that the trees import.
 pub record IsPackageParts {Z : Type 0} (p : ParsedPackage) (keys : List (Vec ℕ Z)) : Type 0 where
   pub trees : IsStrictlySortedBy path_cmp (tree_paths p.trees.items)
   pub faulty : IsStrictlySortedBy path_cmp (fault_paths p.faulty.items)
   pub imports : HoldsPaths (SomeImport p.trees.items) keys
 
--- where a draft tells paths, they are those that its trees import
+-- If the draft knows its import paths, they are exactly those that its trees import.
 abbrev pub HoldsImports : Draft → Type 0
 HoldsImports d = IfSome d.imports (λ paths. HoldsPaths (SomeImport d.package.trees.items) (arc_value paths).keys)
 
--- where it tells paths, they are those that its trees imported before one came, or went
+-- If the draft knows import paths, they are those before the change. The change removed the tree `gone` and added one with the imports
+-- `come`.
 abbrev pub MayBeRenewed : Draft → Option FileParts → List FileImport → Type 0
 MayBeRenewed d gone come = IfSome d.imports (λ paths. IsRenewed (arc_value paths).keys gone come d.package.trees.items)
 
--- the trees and the other files stand in the order of their paths
+-- The trees and the faulty files of the draft are sorted by path, and its import paths are right where they are known.
 pub record IsDraft (d : Draft) : Type 0 where
   pub trees : IsStrictlySortedBy path_cmp (tree_paths d.package.trees.items)
   pub faulty : IsStrictlySortedBy path_cmp (fault_paths d.package.faulty.items)
   pub imports : HoldsImports d
 
--- both have the same path and the same files
+-- Both packages have the same path and the same files.
 pub record IsSamePackage (p q : ParsedPackage) : Type 0 where
   pub path : p.path.items ≡ q.path.items
   pub trees : p.trees.items ≡ q.trees.items
   pub faulty : p.faulty.items ≡ q.faulty.items
 
--- the package has the files of its folder
+-- The draft has exactly the Go files that the workspace `w` has in the draft's folder.
 abbrev pub HoldsDraft : Workspace → Draft → Type 0
 HoldsDraft w d = HoldFiles w d.package.path.items d.package.trees.items d.package.faulty.items
 
--- a file that has a tree was put in the place of what was at its path
+-- The tree `t` replaced the file at its path, or was added.
 pub record PutsTree (t : FileParts) (old new : Draft) : Type 0 where
   pub path : new.package.path.items ≡ old.package.path.items
   pub draft : IsDraft new
@@ -79,7 +81,7 @@ pub record PutsTree (t : FileParts) (old new : Draft) : Type 0 where
   pub place : ℕ
   pub faulty : TakesOut fault_path t.path old.package.faulty.items new.package.faulty.items place
 
--- a file that has no tree was put in the place of what was at its path
+-- The faulty file `f` replaced the file at its path, or was added.
 pub record PutsFault (f : FaultyParts) (old new : Draft) : Type 0 where
   pub path : new.package.path.items ≡ old.package.path.items
   pub draft : IsDraft new
@@ -87,7 +89,7 @@ pub record PutsFault (f : FaultyParts) (old new : Draft) : Type 0 where
   pub place : ℕ
   pub trees : TakesOut tree_path f.path old.package.trees.items new.package.trees.items place
 
--- what was at a path was taken out
+-- The file at the path, if there was one, was removed.
 pub record TakesFile (path : List ℕ) (old new : Draft) : Type 0 where
   pub same_path : new.package.path.items ≡ old.package.path.items
   pub draft : IsDraft new
@@ -96,51 +98,54 @@ pub record TakesFile (path : List ℕ) (old new : Draft) : Type 0 where
   pub fault_place : ℕ
   pub faulty : TakesOut fault_path path old.package.faulty.items new.package.faulty.items fault_place
 
--- a file of the package has that path and text
+-- One of the files, with or without a tree, has the path and the text.
 abbrev pub HasText : List FileParts → List FaultyParts → List ℕ → List ℕ → Type 0
 HasText trees faulty path text = ((t : FileParts) × Contains trees t × (t.path ≡ path) × (t.cut.text ≡ text)) ⊎
     ((f : FaultyParts) × Contains faulty f × (f.path ≡ path) × (f.text ≡ text))
 
--- what is at a path is what a workspace has there
+-- The file at the path was set to that of the workspace `w`, or removed where `w` has none.
 pub record SetsFile (w : Workspace) (path : List ℕ) (old new : Draft) : Type 0 where
   pub same_path : new.package.path.items ≡ old.package.path.items
   pub draft : IsDraft new
   pub files : (v u : Workspace) → Resets w (path ∷ []) v u → HoldsDraft v old → HoldsDraft u new
 
--- the same where the workspace has a text there, and the package is of the path's folder
+-- The file at the path was set to the text, for a path of a Go file in the package's folder.
 abbrev pub SetsText : List ℕ → List ℕ → Draft → Draft → Type 0
 SetsText path text old new = (w : Workspace) → files.get w path ≡ Some text → is_of_package old.package.path.items path ≡ true → SetsFile w path old new
 
 -- ---- several packages
 
+-- The packages of drafts.
 abbrev pub packages_of : List Draft → List ParsedPackage
 packages_of drafts = map (λ d. d.package) drafts
 
+-- The path of a draft's package.
 abbrev pub draft_path : Draft → List ℕ
 draft_path d = d.package.path.items
 
+-- The paths of the packages of drafts.
 abbrev pub draft_paths : List Draft → List (List ℕ)
 draft_paths drafts = map draft_path drafts
 
--- what is at some paths is what a workspace has there
+-- In the drafts, the files at the paths were set to those of the workspace `w`, or removed where `w` has none.
 pub record SetsFiles (w : Workspace) (paths : List (List ℕ)) (old new : List Draft) : Type 0 where
   pub same_paths : draft_paths new ≡ draft_paths old
   pub drafts : All IsDraft new
   pub files : (v u : Workspace) → Resets w paths v u → All (HoldsDraft v) old → All (HoldsDraft u) new
 
--- a package with no file
+-- The draft is a package at the folder that has no file.
 pub record IsEmptyAt (folder : List ℕ) (d : Draft) : Type 0 where
   pub path : d.package.path.items ≡ folder
   pub empty : IsEmpty d.package
   pub draft : IsDraft d
 
--- the package at a folder as it is among some, or with no file
+-- The draft is the package that `packages` have at the folder. Where they have none, it has no file.
 pub record IsDraftAt (packages : List ParsedPackage) (folder : List ℕ) (d : Draft) : Type 0 where
   pub path : d.package.path.items ≡ folder
   pub draft : IsDraft d
   pub files : (v : Workspace) → ArePackages v packages → HoldsDraft v d
 
--- the packages at folders in order
+-- The drafts are the packages at the folders, which are sorted. A draft has no file where `packages` have none at its folder.
 pub record AreDraftsAt (packages : List ParsedPackage) (folders : List (List ℕ)) (ds : List Draft) : Type 0 where
   pub paths : draft_paths ds ≡ folders
   pub sorted : IsStrictlySortedBy path_cmp folders

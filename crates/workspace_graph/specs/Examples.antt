@@ -1,4 +1,4 @@
--- Small cases of the definitions. Three packages: the first two import each other, and the third imports the first.
+-- Small examples. Packages 0 and 1 import each other, and package 2 imports package 0.
 use Rattle.std.specs.Prelude.{◌≡◌, true, false, [], ◌∷◌, refl}
 use Rattle.std.proofs.Common.{lit<}
 use Rattle.base_files.specs.Packages.{is_go}
@@ -20,15 +20,16 @@ third_imports_first = (0, lit< tt, refl)
 third_reaches_second : Reaches two_and_one 2 1
 third_reaches_second = through third_imports_first (through first_imports_second (itself (lit< tt)))
 
--- of a/a.go, a/b.go, a/c.txt and b/a.go the Go files of a
+-- The Go files of package `a` among `a/a.go`, `a/b.go`, `a/c.txt` and `b/a.go`.
 go_files_of_a : files_in (97 ∷ []) ((97 ∷ 47 ∷ 97 ∷ 46 ∷ 103 ∷ 111 ∷ [], []) ∷ (97 ∷ 47 ∷ 98 ∷ 46 ∷ 103 ∷ 111 ∷ [], []) ∷
     (97 ∷ 47 ∷ 99 ∷ 46 ∷ 116 ∷ 120 ∷ 116 ∷ [], []) ∷ (98 ∷ 47 ∷ 97 ∷ 46 ∷ 103 ∷ 111 ∷ [], []) ∷ [])
     ≡ (97 ∷ 47 ∷ 97 ∷ 46 ∷ 103 ∷ 111 ∷ [], []) ∷ (97 ∷ 47 ∷ 98 ∷ 46 ∷ 103 ∷ 111 ∷ [], []) ∷ []
 go_files_of_a = refl
 
--- a name behind .go is no Go file, and .go alone is one
+-- `a/a.gox` is no Go file.
 not_go : is_go (97 ∷ 47 ∷ 97 ∷ 46 ∷ 103 ∷ 111 ∷ 120 ∷ []) ≡ false
 not_go = refl
 
+-- `a/.go` is a Go file.
 only_go : is_go (97 ∷ 47 ∷ 46 ∷ 103 ∷ 111 ∷ []) ≡ true
 only_go = refl

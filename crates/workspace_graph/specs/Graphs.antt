@@ -1,4 +1,4 @@
--- The packages of a workspace by their numbers, with their parsed files, and what of the graph is asked by number.
+-- The graph of a workspace: its packages by number, with their parsed files, and which imports which.
 use Rattle.std.specs.Prelude.{◌≡◌, ℕ, ◌<◌, ◌↔◌, List, [], map, length, Some, slice_get}
 use Rattle.std.specs.List.{Contains}
 use Rattle.std.specs.List.Sorted.{IsStrictlyIncreasing}
@@ -9,30 +9,30 @@ use Rattle.workspace_graph.specs.Packages.{AreLinksOf}
 use Rattle.workspace_graph.specs.Parsed.{AreParsed}
 use Rattle.workspace_graph.specs.declared.package.ParsedPackage.{ParsedPackage}
 
--- the paths of packages
+-- The paths of packages.
 abbrev pub paths_of : List ParsedPackage → List (List ℕ)
 paths_of packages = map (λ p. p.path.items) packages
 
--- a package with no file yet
+-- The package has no file.
 abbrev pub IsEmpty : ParsedPackage → Type 0
 IsEmpty p = (p.trees.items ≡ []) × (p.faulty.items ≡ [])
 
--- the package of that number, with the files of its folder
+-- `p` is the package of that number in the workspace, with the parsed files of its folder.
 pub record IsPackage (w : Workspace) (number : ℕ) (p : ParsedPackage) : Type 0 where
   pub path : slice_get (package_paths w) number ≡ Some p.path.items
   pub files : AreParsed (package_files w p.path.items) p.trees.items p.faulty.items
 
--- all packages of a workspace in the order of their paths, and which imports which
+-- `packages` are all packages of the workspace in the order of their paths, with their parsed files. `links` are their imports, in order.
 pub record IsGraph (w : Workspace) (packages : List ParsedPackage) (links : Links) : Type 0 where
   pub paths : paths_of packages ≡ package_paths w
   pub each : (i : ℕ) (p : ParsedPackage) → slice_get packages i ≡ Some p → AreParsed (package_files w p.path.items) p.trees.items p.faulty.items
   pub linked : AreLinksOf w links
   pub rising : (i : ℕ) → i < length links → IsStrictlyIncreasing (imports_of links i)
 
--- exactly the packages of which something holds, by their numbers
+-- The numbers are exactly those of the packages for whose paths `P` holds.
 abbrev pub HoldsPackages : Workspace → (List ℕ → Type 0) → List ℕ → Type 0
 HoldsPackages w P numbers = (i : ℕ) → Contains numbers i ↔ ((q : List ℕ) × (slice_get (package_paths w) i ≡ Some q) × P q)
 
--- what holds of the package of a number
+-- `P` holds for the path of the package of that number, if there is such a package.
 abbrev pub OfPackage : Workspace → ℕ → (List ℕ → Type 0) → Type 0
 OfPackage w number P = (p : List ℕ) → slice_get (package_paths w) number ≡ Some p → P p

@@ -1,4 +1,4 @@
--- Packages among which one came, and the numbers and links of the others before it came.
+-- The links of packages after one package was inserted among them.
 use Rattle.std.specs.Prelude.{◌≡◌, ℕ, ◌+◌, ◌<◌, ◌≤◌, true, List, [], ◌∷◌, Some, length, slice_get}
 use Rattle.std.specs.List.{All, AllZip, Contains, insert}
 use Rattle.std.specs.List.Sorted.{IsStrictlyIncreasing}
@@ -11,11 +11,11 @@ use Rattle.workspace_graph.specs.Shifts.{IsPassed, ShiftsRow, shifted}
 use Rattle.workspace_graph.specs.Updated.{IsPlace}
 use Rattle.workspace_graph.specs.declared.package.ParsedPackage.{ParsedPackage}
 
--- for each package, those that its files import
+-- For each package, the row has the numbers of those that its files import.
 abbrev pub AreRows : List ParsedPackage → Links → Type 0
 AreRows packages rows = AllZip (λ p row. IsRow (paths_of packages) p.trees.items row) packages rows
 
--- one came at the place, and the links are those of the others before it came
+-- One of the packages was inserted at `place`, and `links` are the links of the others before that.
 pub record Grows (packages : List ParsedPackage) (links : Links) (place : ℕ) : Type 0 where
   pub before : List ParsedPackage
   pub one : ParsedPackage
@@ -23,31 +23,33 @@ pub record Grows (packages : List ParsedPackage) (links : Links) (place : ℕ) :
   pub put : packages ≡ insert before place one
   pub rows : AreRows before links
 
--- some are just this one, which has a file, and its path stands at the place among those before
+-- The only fresh package is `one`. It has a file, and none of the packages before has its path, which belongs at `place` among theirs.
 pub record ComesAlone (before fresh : List ParsedPackage) (one : ParsedPackage) (place : ℕ) : Type 0 where
   pub alone : fresh ≡ one ∷ []
   pub file : has_file one ≡ true
   pub stands : IsPlace (paths_of before) one.path.items place
 
--- the package of a number imports the path
+-- The package of that number imports the path.
 abbrev pub ImportsAt : List ParsedPackage → List ℕ → ℕ → Type 0
 ImportsAt packages path number = (p : ParsedPackage) × ((slice_get packages number ≡ Some p) × SomeImport p.trees.items path)
 
--- rows before one came at a place, and the numbers, rising, of the rows that the place is put into
+-- The rows `before` belong to packages before one is inserted at `place`. `linked` are the numbers, after that, of the rows that gain
+-- `place`, in increasing order.
 pub record IsGrowing (before : Links) (place : ℕ) (linked : List ℕ) : Type 0 where
   pub within : place ≤ length before
   pub numbers : AreLinked before
   pub rising : IsStrictlyIncreasing linked
   pub inside : All (λ p. p ≤ length before) linked
 
--- the first rows after it came: its own, and those before, shifted, with the place in those of some numbers
+-- `rows` are the first rows after the package was inserted. Its own row is `own`. The others are the shifted rows of `before`, and those of
+-- `linked` gain `place`.
 pub record AreGrown (place : ℕ) (own linked : List ℕ) (before rows : Links) : Type 0 where
   pub within : length rows ≤ length before + 1
   pub own_row : place < length rows → imports_of rows place ≡ own
   pub each : (q : ℕ) → shifted place q < length rows →
       ShiftsRow place (Contains linked (shifted place q)) (imports_of before q) (imports_of rows (shifted place q))
 
--- from a number up to the stop all rows are just shifted, and that at the stop is not, or there is none
+-- The rows from `number` to before `stop` are only shifted. Row `stop` is the new package's own, or gains `place`, or is past the last row.
 pub record IsStop (place count : ℕ) (linked : List ℕ) (index number stop : ℕ) : Type 0 where
   pub from : number ≤ stop
   pub within : stop ≤ count
@@ -55,7 +57,7 @@ pub record IsStop (place count : ℕ) (linked : List ℕ) (index number stop : �
   pub passed : IsPassed linked index stop
   pub told : stop < count → (stop ≡ place → ⊥) → Contains linked stop
 
--- the importers of the first packages
+-- `importers` has the importers of the first `count` packages, in increasing order.
 pub record AreFirst (g : Links) (count : ℕ) (importers : Links) : Type 0 where
   pub size : length importers ≡ count
   pub each : (q : ℕ) → q < count → AreImporters g q (imports_of importers q)

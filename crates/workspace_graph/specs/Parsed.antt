@@ -1,4 +1,4 @@
--- The files of a package as they were parsed.
+-- The files of a package after parsing.
 use Rattle.std.specs.Prelude.{◌≡◌, ℕ, List, [], ◌∷◌}
 use Rattle.go_ast.specs.Faults.{IsFaultOf}
 use Rattle.go_ast.specs.SourceFile.{FileParts, source_of}
@@ -7,13 +7,13 @@ use Rattle.workspace_graph.specs.declared.parsed.ParsedFile.{ParsedFile}
 use Rattle.workspace_graph.specs.declared.parsed.ParsedFile.TheVariants as parsed
 use Rattle.workspace_graph.specs.Packages.{IsParsed}
 
--- a file without a tree, with its path, its text and that text's first fault
+-- `file` is a file without a tree: it has the path, the text, and the first fault of the text.
 pub record IsFaulty (path : List ℕ) (text : List ℕ) (file : FaultyParts) : Type 0 where
   pub of_path : file.path ≡ path
   pub of_text : file.text ≡ text
   pub is_fault : IsFaultOf text file.fault
 
--- Of some files with their texts, in their order: the trees of those that have one, and the others with their first faults.
+-- The files, in their order, are split into the trees of those that parse, and the others with their first faults.
 pub data AreParsed : List (List ℕ × List ℕ) → List FileParts → List FaultyParts → Type 0 where
   none : AreParsed [] [] []
   tree : {e : List ℕ × List ℕ} {es : List (List ℕ × List ℕ)} {t : FileParts} {ts : List FileParts} {fs : List FaultyParts} →
@@ -21,7 +21,7 @@ pub data AreParsed : List (List ℕ × List ℕ) → List FileParts → List Fau
   fault : {e : List ℕ × List ℕ} {es : List (List ℕ × List ℕ)} {ts : List FileParts} {f : FaultyParts} {fs : List FaultyParts} → IsFaulty e.0 e.1 f →
       AreParsed es ts fs → AreParsed (e ∷ es) ts (f ∷ fs)
 
--- the tree of a text, or its first fault
+-- The result of parsing a file with this path and text: its tree, or its first fault.
 abbrev pub IsParsedAs : List ℕ → List ℕ → ParsedFile → Type 0
 IsParsedAs path text (parsed.Sound file) = IsParsed path text (source_of file)
 IsParsedAs path text (parsed.Faulty file) = IsFaulty path text file

@@ -1,4 +1,4 @@
--- The packages that are imported, by number, while they are collected.
+-- The packages that a package imports, by number, as a row that is being collected.
 use Rattle.std.specs.Prelude.{◌≡◌, ℕ, ◌↔◌, ◌⊎◌, List, Some, slice_get}
 use Rattle.std.specs.List.{Contains}
 use Rattle.std.specs.List.Sorted.{IsStrictlyIncreasing}
@@ -6,19 +6,19 @@ use Rattle.go_ast.specs.SourceFile.{FileParts, source_of}
 use Rattle.workspace_graph.specs.Imports.{Holds}
 use Rattle.workspace_graph.specs.Packages.{ImportsPath}
 
--- the numbers of which something holds were added
+-- The list `new` has the numbers of `old` and those for which `P` holds, and no others.
 abbrev pub AddsNumbers : (ℕ → Type 0) → List ℕ → List ℕ → Type 0
 AddsNumbers P old new = (j : ℕ) → Contains new j ↔ (Contains old j ⊎ P j)
 
--- a file imports the package of a number
+-- The file imports the package of number `j`.
 abbrev pub FileImports : List (List ℕ) → FileParts → ℕ → Type 0
 FileImports paths file j = (q : List ℕ) × (slice_get paths j ≡ Some q) × ImportsPath (source_of file) q
 
--- one of the files imports the package of a number
+-- One of the files imports the package of number `j`.
 abbrev pub SomeImports : List (List ℕ) → List FileParts → ℕ → Type 0
 SomeImports paths files j = (file : FileParts) × Contains files file × FileImports paths file j
 
--- exactly the packages that some of the files import, in order
+-- `row` has exactly the packages that some of the files import, in increasing order.
 pub record IsRow (paths : List (List ℕ)) (files : List FileParts) (row : List ℕ) : Type 0 where
   pub each : Holds row (SomeImports paths files)
   pub rising : IsStrictlyIncreasing row

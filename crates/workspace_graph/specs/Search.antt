@@ -1,12 +1,13 @@
--- What a search along links finds and marks.
+-- Searches along links: the packages that a search finds, and the marks that it sets.
 use Rattle.std.specs.Prelude.{ℕ, ◌≡◌, ◌+◌, ◌<◌, ◌≤◌, ◌⊎◌, ◌↔◌, Bool, true, false, not, List, length, count_by, slice_index_or}
 use Rattle.std.specs.List.{Contains}
 use Rattle.workspace_graph.specs.Imports.{Links, Imports, Reaches, HoldsBelow}
 
+-- Package `q` is marked.
 abbrev pub IsMarked : List Bool → ℕ → Type 0
 IsMarked marks q = slice_index_or marks q false ≡ true
 
--- The list holds each package once that is marked and was not.
+-- `found` lists exactly the packages that are marked in `marks` and not in `old`, each once.
 pub record Finds (old : List Bool) (found : List ℕ) (marks : List Bool) : Type 0 where
   pub size : length marks ≡ length old
   pub counted : length found + count_by (λ m. m) old ≡ count_by (λ m. m) marks
@@ -16,7 +17,7 @@ pub record Finds (old : List Bool) (found : List ℕ) (marks : List Bool) : Type
   pub places : (q : ℕ) → IsMarked marks q → IsMarked old q ⊎ Contains found q
   pub once : (i j : ℕ) → i < j → j < length found → slice_index_or found i 0 ≡ slice_index_or found j 0 → ⊥
 
--- the packages of which P holds were marked, and no other
+-- The packages for which `P` holds were marked, and no others. The list `found` became `more`, to which only such packages were added.
 pub record Notes (found : List ℕ) (marks : List Bool) (more : List ℕ) (marked : List Bool) (P : ℕ → Type 0) : Type 0 where
   pub longer : length found ≤ length more
   pub same : (i : ℕ) → i < length found → slice_index_or more i 0 ≡ slice_index_or found i 0
@@ -25,56 +26,57 @@ pub record Notes (found : List ℕ) (marks : List Bool) (more : List ℕ) (marke
   pub only : (q : ℕ) → IsMarked marked q → IsMarked marks q ⊎ P q
   pub behind : (i : ℕ) → length found ≤ i → i < length more → P (slice_index_or more i 0)
 
--- all that the first of what was found lead to is marked
+-- Each package that one of the first `count` found packages imports is marked.
 abbrev pub IsFollowed : Links → List ℕ → List Bool → ℕ → Type 0
 IsFollowed g found marks count = (i : ℕ) → i < count → (q : ℕ) → Imports g (slice_index_or found i 0) q → IsMarked marks q
 
--- the package and what it reaches was found, as far as no marked package bars it
+-- A search from `start` that passes no package marked in `old`: it found packages that `start` reaches, and marked all imports of each of
+-- them.
 pub record Spreads (g : Links) (start : ℕ) (old : List Bool) (found : List ℕ) (marks : List Bool) : Type 0 where
   pub finds : Finds old found marks
   pub begun : IsMarked marks start
   pub followed : IsFollowed g found marks (length found)
   pub reached : (i : ℕ) → i < length found → Reaches g start (slice_index_or found i 0)
 
--- what a marked package leads to is marked
+-- Each package that a marked package imports is marked.
 abbrev pub AreClosedUnder : Links → List Bool → Type 0
 AreClosedUnder g marks = (p q : ℕ) → IsMarked marks p → Imports g p q → IsMarked marks q
 
--- the package and what it reaches was marked
+-- All packages that `start` reaches were marked, itself among them, and no others.
 pub record MarksReached (g : Links) (start : ℕ) (old new : List Bool) : Type 0 where
   pub size : length new ≡ length old
   pub each : (q : ℕ) → IsMarked new q ↔ (IsMarked old q ⊎ Reaches g start q)
 
--- a mark for each package that the marked ones of the first packages reach
+-- A package is marked exactly if one of the first `count` packages reaches it that is marked in `starts`.
 pub record AreReached (g : Links) (starts : List Bool) (count : ℕ) (marks : List Bool) : Type 0 where
   pub size : length marks ≡ length g
   pub each : (q : ℕ) → IsMarked marks q ↔ ((p : ℕ) × (p < count) × IsMarked starts p × Reaches g p q)
 
--- a mark for each package that reaches a marked one
+-- A package is marked exactly if it reaches one that is marked in `starts`.
 pub record AreReaching (g : Links) (starts marks : List Bool) : Type 0 where
   pub size : length marks ≡ length g
   pub each : (q : ℕ) → IsMarked marks q ↔ ((p : ℕ) × IsMarked starts p × Reaches g q p)
 
--- the package and all that reach it were marked
+-- All packages that reach `start` were marked, itself among them, and no others.
 pub record MarksImporting (g : Links) (start : ℕ) (old new : List Bool) : Type 0 where
   pub size : length new ≡ length old
   pub each : (q : ℕ) → IsMarked new q ↔ (IsMarked old q ⊎ Reaches g q start)
 
--- of what the package reaches just what reaches it is marked
+-- Of the packages that `p` reaches, exactly those are marked that reach `p`.
 abbrev pub MarkBack : Links → ℕ → List Bool → Type 0
 MarkBack g p marks = (q : ℕ) → Reaches g p q → IsMarked marks q ↔ Reaches g q p
 
--- what the package does not reach is marked; of what it reaches just what reaches it
+-- Of the packages that `p` reaches, exactly those are marked that reach `p`. All others are marked too.
 pub record TellBack (g : Links) (p : ℕ) (marks : List Bool) : Type 0 where
   pub size : length marks ≡ length g
   pub back : MarkBack g p marks
   pub others : (q : ℕ) → q < length g → (IsMarked marks q → ⊥) → Reaches g p q
 
--- just what had no mark has one
+-- Each package is marked in `new` exactly if it is not marked in `old`.
 pub record Flips (old new : List Bool) : Type 0 where
   pub size : length new ≡ length old
   pub each : (q : ℕ) → q < length old → slice_index_or new q false ≡ not (slice_index_or old q false)
 
--- the marked packages below a number, in order
+-- The list has exactly the marked packages below `count`, in increasing order.
 abbrev pub HoldsMarked : List Bool → ℕ → List ℕ → Type 0
 HoldsMarked marks count list = HoldsBelow (IsMarked marks) count list

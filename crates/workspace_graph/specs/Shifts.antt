@@ -1,21 +1,22 @@
--- The numbers of packages after one came among them.
+-- The numbers of packages after a new package was inserted among them.
 use Rattle.std.specs.Prelude.{◌≡◌, ℕ, ◌+◌, ◌<◌, ◌≤◌, ◌↔◌, ◌⊎◌, List, map, length, slice_index_or, nat_lt, if◌then◌else◌}
 use Rattle.std.specs.List.{Contains}
 use Rattle.std.specs.List.Sorted.{IsStrictlyIncreasing}
 
--- the number, after one came at a place, of what had a number before
+-- The number, after a package was inserted at `place`, of the package that had `number` before.
 abbrev pub shifted : ℕ → ℕ → ℕ
 shifted place number = if nat_lt number place then number else number + 1
 
+-- The numbers of a row after a package was inserted at `place`.
 abbrev pub row_shifted : ℕ → List ℕ → List ℕ
 row_shifted place row = map (shifted place) row
 
--- the numbers before, shifted, and the place itself where P holds
+-- `row` has the shifted numbers of `before`, and also `place` itself if `P` holds.
 pub record ShiftsRow (place : ℕ) (P : Type 0) (before row : List ℕ) : Type 0 where
   pub each : (p : ℕ) → Contains row p ↔ (((p ≡ place) × P) ⊎ Contains (row_shifted place before) p)
   pub rising : IsStrictlyIncreasing before → IsStrictlyIncreasing row
 
--- the numbers of a list before an index are below a number, and from there on not
+-- The first `index` numbers of the list are below `number`, and the others are not.
 pub record IsPassed (list : List ℕ) (index number : ℕ) : Type 0 where
   pub within : index ≤ length list
   pub below : (k : ℕ) → k < index → slice_index_or list k 0 < number

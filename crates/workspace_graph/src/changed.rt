@@ -1,4 +1,4 @@
-//! The packages of files of which only those in some folders changed, where no package comes and none goes.
+//! The packages after a change of files that adds and removes no package.
 ghost use Rattle.std.specs.Prelude.{◌≡◌, IfOk, IsTrue, length};
 ghost use Rattle.std.specs.List.{All};
 ghost use Rattle.std.specs.List.Sorted.{IsStrictlySortedBy};
@@ -12,6 +12,7 @@ use crate::rows::fill_row;
 use crate::shared_package::{SharedPackage, number_of};
 use std::alloc::{AllocError, Global};
 
+/// Whether a package has a file.
 pub(crate) fn has_file(one: &ParsedPackage) -> bool
     ensures { result ≡ has_file one.now }
 {
@@ -21,7 +22,7 @@ pub(crate) fn has_file(one: &ParsedPackage) -> bool
     !one.faulty.is_empty()
 }
 
-/// Whether a package is among others just where it has a file.
+/// Whether a package has a file exactly if there was a package at its path: it is neither added nor removed.
 fn keeps_path(before: &[SharedPackage], one: &SharedPackage) -> bool
     requires { IsStrictlySortedBy path_cmp (paths_of before.now) }
     ensures { IsTrue result → KeepsPath (paths_of before.now) one.now }
@@ -32,7 +33,7 @@ fn keeps_path(before: &[SharedPackage], one: &SharedPackage) -> bool
     }
 }
 
-/// Whether packages are among others just where they have files.
+/// Whether none of the packages `fresh` is added or removed.
 pub(crate) fn keep_paths(before: &[SharedPackage], fresh: &[SharedPackage]) -> bool
     requires { IsStrictlySortedBy path_cmp (paths_of before.now) }
     ensures { IsTrue result → All (KeepsPath (paths_of before.now)) fresh.now }
@@ -45,7 +46,7 @@ pub(crate) fn keep_paths(before: &[SharedPackage], fresh: &[SharedPackage]) -> b
     true
 }
 
-/// The packages before, but others in the place of those that have their paths.
+/// The packages before, each replaced by the fresh package at its path, if there is one.
 pub(crate) fn replaced(
     before: &Vec<SharedPackage>,
     fresh: &[SharedPackage],
@@ -62,7 +63,7 @@ pub(crate) fn replaced(
     Ok(packages)
 }
 
-/// Whether a package, if it is one of those, imports what the links say of it.
+/// Whether a package imports what the links say of it. True where it is not among the packages.
 fn keeps_row(
     alloc: Global,
     packages: &[SharedPackage],
@@ -82,7 +83,7 @@ fn keeps_row(
     Ok(row.as_slice() == earlier)
 }
 
-/// Whether packages, as far as they are of those, import what the links say of them.
+/// Whether each of the packages `fresh` imports what the links say of it, if it is among the packages.
 pub(crate) fn keep_rows(
     alloc: Global,
     packages: &[SharedPackage],

@@ -1,4 +1,4 @@
-//! What packages reach along links.
+//! The packages that packages reach along links, and the way back.
 ghost use Rattle.std.specs.Prelude.{◌≡◌, ◌<◌, ◌↔◌, ℕ, length, IfOk, IsTrue};
 ghost use Rattle.std.specs.List.{All, Contains};
 ghost use Rattle.std.specs.List.Sorted.{IsStrictlyIncreasing};
@@ -12,7 +12,7 @@ use crate::packages_below::PackagesBelow;
 use crate::search::{reach, spread};
 use std::alloc::{AllocError, Global};
 
-/// The marked packages, by number, with room for so many.
+/// The numbers of the marked packages, in increasing order. `room` is their expected number.
 fn marked(alloc: Global, marks: &[bool], room: usize) -> Result<PackageList, AllocError>
     ensures { IfOk result (HoldsMarked marks.now (length marks.now)) }
 {
@@ -25,14 +25,14 @@ fn marked(alloc: Global, marks: &[bool], room: usize) -> Result<PackageList, All
     Ok(PackageList::from_numbers(list))
 }
 
-/// Marks of what a package reaches, and how many are marked, by which room is made.
+/// Marks of the packages that a package reaches, and their number.
 #[derive(Drop)]
 struct Reached {
     marks: Vec<bool>,
     count: usize,
 }
 
-/// What a package imports directly or indirectly, and itself.
+/// Marks the packages that a package reaches, itself among them.
 fn reached_from(alloc: Global, imports: &LinkRows, number: usize) -> Result<Reached, AllocError>
     requires linked { AreLinked imports.now }
     requires number { number < length imports.now }
@@ -45,7 +45,7 @@ fn reached_from(alloc: Global, imports: &LinkRows, number: usize) -> Result<Reac
     Ok(Reached { marks, count })
 }
 
-/// What a package imports directly or indirectly, itself among it, by number.
+/// The packages that a package reaches, itself among them, in increasing order.
 pub(crate) fn closure_of(
     alloc: Global,
     imports: &LinkRows,
@@ -59,7 +59,7 @@ pub(crate) fn closure_of(
     marked(alloc, &reached.marks, reached.count)
 }
 
-/// Marks what has no mark, and takes the other marks off.
+/// Marks each package that has no mark, and removes the other marks.
 fn flip(marks: &mut Vec<bool>)
     ensures { Flips marks.old.items marks.new.items }
 {
@@ -68,8 +68,8 @@ fn flip(marks: &mut Vec<bool>)
     }
 }
 
-/// Marks that tell of what a package reaches whether it reaches that package, by the marks of what the package reaches. The way back is
-/// sought among that alone.
+/// Of the packages that package `number` reaches, which `marks` marks, marks those that reach it. All other packages are marked too, so
+/// that the search along importers does not enter them.
 fn back_from(
     alloc: Global,
     importers: &LinkRows,
@@ -87,7 +87,7 @@ fn back_from(
     Ok(marks)
 }
 
-/// Marks that tell of what a package reaches whether it reaches that package.
+/// Of the packages that package `number` reaches, marks exactly those that reach it. All other packages are marked too.
 pub(crate) fn back_marks(
     alloc: Global,
     imports: &LinkRows,
@@ -103,7 +103,8 @@ pub(crate) fn back_marks(
     back_from(alloc, importers, reached.marks, number)
 }
 
-/// What a package reaches and what does not reach it, by number, told by such marks.
+/// The packages without a mark in `back`, in increasing order: by the marks of `back_marks`, those that a package reaches and that do not
+/// reach it.
 fn built_on_by(alloc: Global, back: &[bool]) -> Result<PackageList, AllocError>
     ensures { IfOk result (λ below. (g : Links) (p : ℕ) → TellBack g p back.now → IsBuiltOn g p below) }
 {
@@ -112,7 +113,7 @@ fn built_on_by(alloc: Global, back: &[bool]) -> Result<PackageList, AllocError>
     marked(alloc, &marks, back.len())
 }
 
-/// Whether none of some packages is marked.
+/// Whether none of the packages is marked.
 fn none_marked(marks: &[bool], numbers: &[usize]) -> bool
     requires { All (λ q. q < length marks.now) numbers.now }
     ensures { IsTrue result → (q : ℕ) → Contains numbers.now q → IsMarked marks.now q → ⊥ }
@@ -125,7 +126,7 @@ fn none_marked(marks: &[bool], numbers: &[usize]) -> bool
     true
 }
 
-/// The marked packages but one, by number, with room for so many.
+/// The marked packages without `one`, in increasing order. `room` is their expected number.
 fn marked_but(
     alloc: Global,
     marks: Vec<bool>,
@@ -141,7 +142,7 @@ fn marked_but(
     marked(alloc, &marks, room)
 }
 
-/// Marks of so many packages, of which just one is marked.
+/// Marks for `count` packages, of which only `one` is marked.
 fn one_marked(alloc: Global, count: usize, one: usize) -> Result<Vec<bool>, AllocError>
     requires { one < count }
     ensures { IfOk result (λ marks. (q : ℕ) → IsMarked marks.items q ↔ (q ≡ one)) }
@@ -151,7 +152,7 @@ fn one_marked(alloc: Global, count: usize, one: usize) -> Result<Vec<bool>, Allo
     Ok(marks)
 }
 
-/// The marked packages but one, and as many marks, of which just that one's is set.
+/// The marked packages without `one`, and marks of all packages, of which only `one` is marked.
 fn rest_marked(alloc: Global, reached: Reached, one: usize) -> Result<PackagesBelow, AllocError>
     requires { one < length reached.marks.items }
     ensures each { IfOk result (λ found. (q : ℕ) → Contains found.built_on q ↔ (IsMarked reached.marks.items q × (q ≡ one → ⊥))) }
@@ -163,8 +164,8 @@ fn rest_marked(alloc: Global, reached: Reached, one: usize) -> Result<PackagesBe
     Ok(PackagesBelow { built_on, back })
 }
 
-/// What a package reaches and what does not reach it, by number; and marks that tell of what it reaches whether that reaches it. No way
-/// back is sought where it reaches none that imports it.
+/// The packages that package `number` reaches and that do not reach it, and marks of those that it reaches and that reach it. The way back
+/// is searched for only if the package reaches an importer of itself.
 pub(crate) fn below(
     alloc: Global,
     imports: &LinkRows,
@@ -186,7 +187,7 @@ pub(crate) fn below(
     Ok(PackagesBelow { built_on, back })
 }
 
-/// Numbers that rise, without one.
+/// The numbers, which increase, without `one`.
 fn without(alloc: Global, numbers: &[usize], one: usize) -> Result<PackageList, AllocError>
     requires { IsStrictlyIncreasing numbers.now }
     ensures each { IfOk result (λ rest. (q : ℕ) → Contains rest q ↔ (Contains numbers.now q × (q ≡ one → ⊥))) }
@@ -201,7 +202,7 @@ fn without(alloc: Global, numbers: &[usize], one: usize) -> Result<PackageList, 
     Ok(PackageList::from_numbers(rest))
 }
 
-/// A closure without its package, and marks of so many packages, of which just that one is marked.
+/// The closure of package `number` without itself, and marks for `count` packages, of which only `number` is marked.
 pub(crate) fn rest_of(
     alloc: Global,
     count: usize,
@@ -219,7 +220,7 @@ pub(crate) fn rest_of(
     Ok(PackagesBelow { built_on, back })
 }
 
-/// A mark for each package that a marked one reaches.
+/// Marks exactly the packages that a package reaches which is marked in `starts`.
 pub(crate) fn reached_by(
     alloc: Global,
     links: &LinkRows,

@@ -1,4 +1,4 @@
-//! A search in depth, for the order in which it leaves packages. Only speed rests on it.
+//! A depth-first search, for the order in which it leaves packages. Only the speed of `order` depends on that order.
 ghost use Rattle.std.specs.Prelude.{◌≡◌, ◌≤◌, ◌<◌, ◌+◌, false, length, slice_index_or, IfOk, IfSome, OnOk};
 ghost use Rattle.std.specs.List.{All};
 ghost use Rattle.workspace_graph.specs.Imports.{AreLinked};
@@ -7,14 +7,14 @@ ghost use Rattle.workspace_graph.specs.Orders.{steps_left};
 use crate::link_rows::LinkRows;
 use std::alloc::{AllocError, Global};
 
-/// A package that was entered and not left yet, and the place in its row where the search goes on.
+/// A package on the path of the search: entered and not left yet. The search goes on at place `next` of its row.
 #[derive(Clone, Copy)]
 struct Entered {
     number: usize,
     next: usize,
 }
 
-/// What was entered so far, and what was left, in this order.
+/// The state of a search: marks of the packages entered, the path, and the packages left so far, in this order.
 #[derive(Drop)]
 struct DepthFirst {
     marks: Vec<bool>,
@@ -22,7 +22,7 @@ struct DepthFirst {
     left: Vec<usize>,
 }
 
-/// The first place in a row, from one on, whose package is not marked.
+/// The first place of a row, from `from` on, whose package is not marked.
 fn unmarked_from(row: &[usize], from: usize, marks: &[bool]) -> Option<usize>
     requires { All (λ q. q < length marks.now) row.now }
     ensures within { IfSome result (λ place. place < length row.now) }
@@ -37,6 +37,7 @@ fn unmarked_from(row: &[usize], from: usize, marks: &[bool]) -> Option<usize>
 }
 
 impl DepthFirst {
+    /// The state before the search, for `count` packages.
     fn new(alloc: Global, count: usize) -> Result<DepthFirst, AllocError>
         ensures { IfOk result (λ walk. length walk.marks.items ≡ count) }
     {
@@ -47,7 +48,7 @@ impl DepthFirst {
         })
     }
 
-    /// Enters a package.
+    /// Enters a package: marks it and puts it on the path.
     fn enter(&mut self, number: usize) -> Result<(), AllocError>
         requires within { number < length self.old.marks.items }
         requires clear { slice_index_or self.old.marks.items number false ≡ false }
@@ -59,7 +60,7 @@ impl DepthFirst {
         Ok(())
     }
 
-    /// Goes on from an entered package: enters the next one of its row that is not marked, or leaves it.
+    /// Continues from an entered package: enters the next package of its row that is not marked, or leaves the package.
     fn step(&mut self, links: &LinkRows, top: Entered) -> Result<(), AllocError>
         requires linked { AreLinked links.now }
         requires size { length self.old.marks.items ≡ length links.now }
@@ -82,7 +83,7 @@ impl DepthFirst {
         self.enter(row[place])
     }
 
-    /// Enters and leaves a package and all that it leads to, as far as that was not entered.
+    /// Enters and leaves `start` and all that it reaches, except what was entered before.
     fn walk(&mut self, links: &LinkRows, start: usize) -> Result<(), AllocError>
         requires linked { AreLinked links.now }
         requires size { length self.old.marks.items ≡ length links.now }
@@ -100,7 +101,7 @@ impl DepthFirst {
     }
 }
 
-/// Packages in an order in which, where a search in depth left a package later, it stands earlier.
+/// All packages, the one that a depth-first search along `links` leaves last first.
 pub(crate) fn latest_first(alloc: Global, links: &LinkRows) -> Result<Vec<usize>, AllocError>
     requires { AreLinked links.now }
 {

@@ -1,4 +1,4 @@
-//! Packages of which single files are set, each made from the package before.
+//! Drafts: packages of which single files are set or removed, each made from the package before.
 ghost use Rattle.std.specs.Prelude.{◌≡◌, ◌∷◌, [], true, slice_get, IfOk, IsTrue, MatchOption, OnOk, Some};
 ghost use Rattle.std.specs.Option.{option_copied};
 ghost use Rattle.std.specs.List.{All, Contains};
@@ -26,7 +26,8 @@ use std::alloc::{AllocError, Global};
 use std::collections::BTreeSet;
 use std::sync::Arc;
 
-/// A package of which files are set, with the paths that its files import, unless these are to be read again, and whether a file was set.
+/// A package of which files are being set. `imports` has the paths that its files import, or is `None` where they must be read again.
+/// `changed` says whether a file was set.
 #[derive(Drop)]
 pub(crate) struct Draft {
     pub(crate) package: ParsedPackage,
@@ -34,8 +35,8 @@ pub(crate) struct Draft {
     pub(crate) changed: bool,
 }
 
-/// Whether the files of a package import what they imported before one of them was set: the one that is gone, if it had a tree, and
-/// what the one that came imports, are told.
+/// Whether the files of a package still import the paths of `draft.imports`, after one of them was set. `gone` is the removed tree, and
+/// `come` has the imports of the new one.
 fn keeps_imports(
     alloc: Global,
     draft: &Draft,
@@ -59,7 +60,7 @@ fn keeps_imports(
     }
 }
 
-/// Leaves what the files of a package import to be read again, unless just one of them was set and they import the same.
+/// Forgets the import paths of a draft, so that they are read again, unless only one file was set and the paths stayed.
 fn renew_imports(
     alloc: Global,
     draft: &mut Draft,
@@ -77,7 +78,7 @@ fn renew_imports(
     Ok(())
 }
 
-/// Puts a file that has a tree in the place of what is at its path.
+/// Sets the file at the tree's path to this tree.
 fn set_tree(alloc: Global, draft: &mut Draft, tree: FileTree) -> Result<(), AllocError>
     requires { IsDraft draft.old }
     ensures { OnOk result (PutsTree tree draft.old draft.new) }
@@ -88,7 +89,7 @@ fn set_tree(alloc: Global, draft: &mut Draft, tree: FileTree) -> Result<(), Allo
     renew_imports(alloc, draft, gone.as_ref(), &come)
 }
 
-/// Puts a file that has no tree in the place of what is at its path.
+/// Sets the file at the path of `file` to this file, which has no tree.
 fn set_fault(alloc: Global, draft: &mut Draft, file: FaultyFile) -> Result<(), AllocError>
     requires { IsDraft draft.old }
     ensures { OnOk result (PutsFault file draft.old draft.new) }
@@ -98,7 +99,7 @@ fn set_fault(alloc: Global, draft: &mut Draft, file: FaultyFile) -> Result<(), A
     renew_imports(alloc, draft, taken.tree.as_ref(), &[])
 }
 
-/// Takes out what is at a path.
+/// Removes the file at a path, if there is one.
 fn take_out(alloc: Global, draft: &mut Draft, path: &Path) -> Result<(), AllocError>
     requires { IsDraft draft.old }
     ensures { OnOk result (TakesFile path.now draft.old draft.new) }
@@ -108,7 +109,7 @@ fn take_out(alloc: Global, draft: &mut Draft, path: &Path) -> Result<(), AllocEr
     renew_imports(alloc, draft, taken.tree.as_ref(), &[])
 }
 
-/// Whether a package has a text at a path.
+/// Whether a package has a file with this path and text.
 fn has_text(draft: &Draft, path: &Path, text: &FileText) -> bool
     requires { IsDraft draft.now }
     ensures { IsTrue result → HasText draft.now.package.trees.items draft.now.package.faulty.items path.now text.now }
@@ -122,7 +123,7 @@ fn has_text(draft: &Draft, path: &Path, text: &FileText) -> bool
     }
 }
 
-/// Sets the text of a path. It is parsed, unless it is there already.
+/// Sets the text of the file at a path. It is parsed, unless the file has this text already.
 fn set_text(
     alloc: Global,
     draft: &mut Draft,
@@ -142,7 +143,7 @@ fn set_text(
     }
 }
 
-/// Sets what is at a path of the package's folder to what a workspace has there.
+/// Sets the file at a path in the package's folder to that of a workspace. Where the workspace has none, the file is removed.
 fn set_file(alloc: Global, draft: &mut Draft, files: &Files, path: &Path) -> Result<(), AllocError>
     requires draft { IsDraft draft.old }
     requires of_package { is_of_package draft.old.package.path.items path.now ≡ true }
@@ -154,7 +155,7 @@ fn set_file(alloc: Global, draft: &mut Draft, files: &Files, path: &Path) -> Res
     }
 }
 
-/// The number of the package that has a path.
+/// The number of the draft whose package has the path, if there is one.
 fn draft_number(drafts: &[Draft], path: &[u8]) -> Option<usize>
     requires { IsStrictlySortedBy path_cmp (draft_paths drafts.now) }
     ensures { MatchOption result (Contains (draft_paths drafts.now) path.now → ⊥) (λ number. slice_get (draft_paths drafts.now) number ≡ Some path.now) }
@@ -165,7 +166,8 @@ fn draft_number(drafts: &[Draft], path: &[u8]) -> Option<usize>
     }
 }
 
-/// Sets what is at a path to what a workspace has there, if it is that of a Go file in the folder of one of the packages.
+/// Sets the file at a path to that of a workspace, as `set_file` does. Other paths than those of Go files in the folders of drafts are
+/// passed over.
 fn set_in(
     alloc: Global,
     drafts: &mut Vec<Draft>,
@@ -184,7 +186,7 @@ fn set_in(
     Ok(())
 }
 
-/// The same for several paths.
+/// Sets the files at several paths to those of a workspace, as `set_in` does for one.
 fn set_all(
     alloc: Global,
     drafts: &mut Vec<Draft>,
@@ -201,7 +203,7 @@ fn set_all(
     Ok(())
 }
 
-/// A package with no file.
+/// A draft of a package without files.
 fn empty_package(alloc: Global, folder: &[u8]) -> Result<Draft, AllocError>
     ensures { IfOk result (λ made. IsEmptyAt folder.now made) }
 {
@@ -217,7 +219,7 @@ fn empty_package(alloc: Global, folder: &[u8]) -> Result<Draft, AllocError>
     })
 }
 
-/// The package at a folder, with no file where there is none.
+/// A draft of the package at a folder. It has no file where there is no such package.
 fn draft_at(alloc: Global, before: &[SharedPackage], folder: &[u8]) -> Result<Draft, AllocError>
     requires { IsStrictlySortedBy path_cmp (paths_of before.now) }
     ensures { IfOk result (IsDraftAt before.now folder.now) }
@@ -228,7 +230,7 @@ fn draft_at(alloc: Global, before: &[SharedPackage], folder: &[u8]) -> Result<Dr
     }
 }
 
-/// The packages at some folders, with no file where there is none.
+/// Drafts of the packages at some folders, in order. A draft has no file where there is no package at its folder.
 fn drafts_at(
     alloc: Global,
     before: &[SharedPackage],
@@ -244,7 +246,7 @@ fn drafts_at(
     Ok(drafts)
 }
 
-/// Packages that no longer change.
+/// The packages of the drafts, as shared packages.
 fn shared(alloc: Global, drafts: Vec<Draft>) -> Result<Vec<SharedPackage>, AllocError>
     requires { All IsDraft drafts.items }
     ensures { IfOk result (λ packages. packages.items ≡ packages_of drafts.items) }
@@ -256,7 +258,8 @@ fn shared(alloc: Global, drafts: Vec<Draft>) -> Result<Vec<SharedPackage>, Alloc
     Ok(packages)
 }
 
-/// The packages at some folders, with what a workspace has at some paths, and with no file where there is none.
+/// The packages in the folders of `paths`, with the files that the workspace `files` has at `paths`. A package without files stands for one
+/// that does not exist.
 pub(crate) fn packages_with(
     alloc: Global,
     before: &[SharedPackage],

@@ -1,4 +1,4 @@
-//! A file that has no tree, with its first fault.
+//! Files that have no tree.
 ghost use Rattle.std.specs.Prelude.{◌≡◌, IfOk};
 ghost use Rattle.go_ast.specs.Faults.{IsFaultOf};
 
@@ -7,7 +7,7 @@ use go_scanner::TextFault;
 use std::alloc::AllocError;
 use std::marker::Model;
 
-/// A Go file with the first fault of its text. A clone shares the text.
+/// A Go file without a tree, with the first fault of its text. A clone shares the text.
 #[derive(Drop)]
 pub struct FaultyFile {
     path: Path,
@@ -27,6 +27,7 @@ impl Model for FaultyFile {
 }
 
 impl FaultyFile {
+    /// The file with this path and text, whose first fault is `fault`.
     pub(crate) fn new(
         path: &Path,
         text: &FileText,
@@ -42,12 +43,14 @@ impl FaultyFile {
         Ok(FaultyFile { path, text, fault })
     }
 
+    /// The path of the file.
     pub fn path(&self) -> &Path
         ensures { result.now ≡ self.now.path }
     {
         &self.path
     }
 
+    /// The text of the file.
     pub fn text(&self) -> &FileText
         ensures { result.now ≡ self.now.text }
     {

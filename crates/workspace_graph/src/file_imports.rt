@@ -1,4 +1,4 @@
-//! What a file imports.
+//! Reads the imports of a file.
 ghost use Rattle.std.specs.Prelude.{◌≡◌, ◌++◌, map, IfOk, OnOk};
 ghost use Rattle.workspace_graph.specs.FileImports.{paths_in, import_literals, HasValue, ListsImports};
 ghost use Rattle.go_ast.specs.SourceFile.{source_of};
@@ -9,14 +9,14 @@ use go_ast::FileTree;
 use go_ast::tree::{File, Group, ImportSpec, Item};
 use std::alloc::{AllocError, Global};
 
-/// An import of a file: the number of its path literal among the file's tokens, and what that stands for.
+/// An import of a file: the token index of its string literal, and the value of the literal, which is its import path.
 #[derive(Drop)]
 pub struct FileImport {
     pub literal: usize,
     pub path: Option<Vec<u8>>,
 }
 
-/// Adds the path literals of imports in parentheses.
+/// Adds the string literals of import specs in parentheses, by token index.
 fn add_items(literals: &mut Vec<usize>, items: &[Item<ImportSpec>]) -> Result<(), AllocError>
     ensures { OnOk result (literals.new.items ≡ literals.old.items ++ map (λ item. item.value.path) items.now) }
 {
@@ -26,6 +26,7 @@ fn add_items(literals: &mut Vec<usize>, items: &[Item<ImportSpec>]) -> Result<()
     Ok(())
 }
 
+/// Adds the string literals of an import declaration, by token index.
 fn add_group(literals: &mut Vec<usize>, group: &Group<ImportSpec>) -> Result<(), AllocError>
     ensures { OnOk result (literals.new.items ≡ literals.old.items ++ paths_in (group_view import_view group.now)) }
 {
@@ -38,7 +39,7 @@ fn add_group(literals: &mut Vec<usize>, group: &Group<ImportSpec>) -> Result<(),
     }
 }
 
-/// The path literals of all imports.
+/// The string literals of all import specs of a file, by token index.
 fn import_literals(alloc: Global, file: &File) -> Result<Vec<usize>, AllocError>
     ensures { IfOk result (λ literals. literals.items ≡ import_literals (file_view file.now)) }
 {
@@ -49,7 +50,7 @@ fn import_literals(alloc: Global, file: &File) -> Result<Vec<usize>, AllocError>
     Ok(literals)
 }
 
-/// What a token stands for if it is a string literal.
+/// The value of a token if it is a string literal, and otherwise `None`.
 fn token_value(alloc: Global, file: &FileTree, token: usize) -> Result<Option<Vec<u8>>, AllocError>
     ensures { IfOk result (HasValue (source_of file.now) token) }
 {

@@ -1,4 +1,4 @@
-//! The graph of a workspace: its packages with their parsed files, and which imports which.
+//! `Graph`: the packages of a workspace with their parsed files, and which imports which.
 ghost use Rattle.std.specs.FinMap as map;
 ghost use Rattle.std.specs.Prelude.{◌≡◌, ◌<◌, ℕ, [], ◌∷◌, true, length, IfOk, OnOk, MatchOption, Some, slice_get};
 ghost use Rattle.std.specs.List.{All, Contains};
@@ -37,7 +37,7 @@ use std::alloc::{AllocError, Global};
 use std::marker::Model;
 use std::sync::Arc;
 
-/// What the owners of a graph share.
+/// The files, packages and links that clones of a graph share.
 #[derive(Drop)]
 struct Parts {
     files: Files,
@@ -45,13 +45,13 @@ struct Parts {
     links: SharedLinks,
 }
 
-/// The graph of a workspace, which no longer changes: its packages by number, in the order of their paths, each with
-/// its parsed files, and all that is asked of their imports. A clone shares it.
+/// The graph of a workspace: its packages by number, in the order of their paths, each with its parsed files, and their imports and
+/// importers. A clone shares it, and its value in contracts is the workspace.
 pub struct Graph {
     parts: Arc<Parts, Global>,
 }
 
-/// Written out, so that crates above call it and don't prove again how each part is dropped.
+/// Written out so that crates above need not prove again how each part is dropped.
 impl Drop for Graph {
     fn drop(self) {
         let Graph { parts } = self;
@@ -87,7 +87,7 @@ fn earlier_of(before: Option<&Parts>) -> Option<EarlierGraph<'_>> {
     }
 }
 
-/// Its links alone.
+/// The links of an earlier graph, if there is one.
 fn links_of(before: Option<&Parts>) -> Option<&SharedLinks> {
     match before {
         Some(parts) => Some(&parts.links),
@@ -96,7 +96,7 @@ fn links_of(before: Option<&Parts>) -> Option<&SharedLinks> {
 }
 
 impl Graph {
-    /// The graph of no files.
+    /// The graph of a workspace without files.
     pub fn empty(alloc: Global) -> Result<Graph, AllocError>
         ensures { IfOk result (λ graph. graph ≡ map.empty) }
     {
@@ -104,8 +104,8 @@ impl Graph {
         Graph::made(alloc, None, files, Vec::new(alloc))
     }
 
-    /// The graph of other files, whose Go files differ from those of the graph before only at some paths. Packages at the folders of
-    /// other paths are shared, and only files in the folders of these are looked at, and parsed where their text is new.
+    /// The graph of `files`, whose Go files differ from those of `before` only at `paths`. Only files at these paths are looked at, and
+    /// parsed where their text is new. Packages in other folders are shared.
     pub fn changed(
         alloc: Global,
         before: &Graph,
@@ -127,7 +127,7 @@ impl Graph {
         Graph::made(alloc, Some(old), files, packages)
     }
 
-    /// The graph of other files, by the package of the only folder in which Go files differ, where this package comes.
+    /// The graph of `files`, where Go files differ only in the folder of one package, which is new.
     fn grown(
         alloc: Global,
         before: &Graph,
@@ -150,7 +150,7 @@ impl Graph {
         Graph::joined(alloc, files, packages, links)
     }
 
-    /// The graph of some files from their packages and the links of these.
+    /// The graph of `files`, from its packages and their links.
     fn joined(
         alloc: Global,
         files: Files,
@@ -171,7 +171,8 @@ impl Graph {
         })
     }
 
-    /// The graph of other files, by the packages of the folders in which Go files differ, where no package comes and none goes.
+    /// The graph of `files`, where the packages `fresh` replace those at their paths and Go files differ only in their folders. No package
+    /// is added or removed.
     fn replaced(
         alloc: Global,
         before: &Graph,
@@ -199,8 +200,8 @@ impl Graph {
         })
     }
 
-    /// The graph of some files from their packages. What is asked of the links before is not found again where no link
-    /// changed, and each import is looked for first where it was before.
+    /// The graph of `files`, from its packages. Where no link changed since `before`, the links are shared. Each import is first looked for
+    /// at its number before.
     fn made(
         alloc: Global,
         before: Option<&Parts>,
@@ -224,28 +225,28 @@ impl Graph {
         })
     }
 
-    /// The files that the graph is of.
+    /// The files of the workspace.
     pub fn files(&self) -> &Files
         ensures { result.now ≡ self.now }
     {
         &self.parts.files
     }
 
-    /// How many packages there are.
+    /// The number of packages.
     pub fn len(&self) -> usize
         ensures { result ≡ length (package_paths self.now) }
     {
         self.parts.packages.len()
     }
 
-    /// The number of the package that has a path.
+    /// The number of the package at a path, or `None` where there is no such package.
     pub fn number_of(&self, path: &[u8]) -> Option<usize>
         ensures { MatchOption result (Contains (package_paths self.now) path.now → ⊥) (λ number. slice_get (package_paths self.now) number ≡ Some path.now) }
     {
         number_of(&self.parts.packages, path)
     }
 
-    /// A package with its parsed files.
+    /// The package of that number, with its parsed files.
     pub fn package(&self, number: usize) -> &ParsedPackage
         requires { number < length (package_paths self.now) }
         ensures { IsPackage self.now number result.now }
@@ -253,7 +254,7 @@ impl Graph {
         self.parts.packages[number].package()
     }
 
-    /// Which packages import which, by number.
+    /// The direct imports of all packages, by number.
     pub fn links(&self) -> &ImportLinks
         ensures links { AreLinksOf self.now result.now }
         ensures rising { (i : ℕ) → i < length result.now → IsStrictlyIncreasing (imports_of result.now i) }
@@ -261,7 +262,7 @@ impl Graph {
         self.parts.links.links()
     }
 
-    /// The packages that one imports directly, in their order.
+    /// The packages that a package imports directly, in increasing order.
     pub fn imports(&self, number: usize) -> &[usize]
         requires { number < length (package_paths self.now) }
         ensures imports { OfPackage self.now number (λ p. HoldsPackages self.now (PackageImports self.now p) result.now) }
@@ -270,7 +271,7 @@ impl Graph {
         self.links().imports(number)
     }
 
-    /// The packages that import one directly, in their order.
+    /// The packages that import a package directly, in increasing order.
     pub fn importers(&self, number: usize) -> &[usize]
         requires { number < length (package_paths self.now) }
         ensures importers { OfPackage self.now number (λ p. HoldsPackages self.now (λ q. PackageImports self.now q p) result.now) }
@@ -279,7 +280,7 @@ impl Graph {
         self.links().importers(number)
     }
 
-    /// A package, and all that it imports directly or indirectly, in their order. It is searched for.
+    /// The closure of a package, in increasing order: itself, and all packages that it imports directly or indirectly. Found by a search.
     pub fn closure(&self, alloc: Global, number: usize) -> Result<PackageList, AllocError>
         requires { number < length (package_paths self.now) }
         ensures closure { IfOk result (λ closure. OfPackage self.now number (λ p. HoldsPackages self.now (IsInClosure self.now p) closure)) }
@@ -288,7 +289,8 @@ impl Graph {
         self.links().closure(alloc, number)
     }
 
-    /// Marks that tell of what a package imports, directly or indirectly, whether it so imports that package.
+    /// A mark for each package. Of the packages in the closure of package `number`, exactly those are marked that import it directly or
+    /// indirectly, and itself.
     pub fn back_marks(&self, alloc: Global, number: usize) -> Result<Vec<bool>, AllocError>
         requires { number < length (package_paths self.now) }
         ensures { IfOk result (λ marks. OfPackage self.now number (λ p. AreBackMarks self.now p marks.items)) }
@@ -296,7 +298,7 @@ impl Graph {
         self.links().back_marks(alloc, number)
     }
 
-    /// What a package imports, directly or indirectly, and what does not so import it, in their order. It is searched for.
+    /// The packages that a package imports directly or indirectly and that do not import it so, in increasing order. Found by a search.
     pub fn built_on(&self, alloc: Global, number: usize) -> Result<PackageList, AllocError>
         requires { number < length (package_paths self.now) }
         ensures below { IfOk result (λ below. OfPackage self.now number (λ p. HoldsPackages self.now (BuildsOn self.now p) below)) }
@@ -305,7 +307,7 @@ impl Graph {
         self.links().built_on(alloc, number)
     }
 
-    /// The same, with the marks of `back_marks`. One search finds both.
+    /// The packages of `built_on`, with the marks of `back_marks`. Both come from one search.
     pub fn below(&self, alloc: Global, number: usize) -> Result<PackagesBelow, AllocError>
         requires { number < length (package_paths self.now) }
         ensures built_on { IfOk result (λ found. OfPackage self.now number (λ p. HoldsPackages self.now (BuildsOn self.now p) found.built_on)) }
@@ -315,7 +317,8 @@ impl Graph {
         self.links().below(alloc, number)
     }
 
-    /// The same, by the closure of the package, which is known. Nothing is searched for where no importer of the package is in that.
+    /// The packages of `built_on`, with the marks of `back_marks`, computed from the closure of the package. There is no search unless the
+    /// closure contains an importer of the package.
     pub fn below_in(
         &self,
         alloc: Global,
@@ -332,7 +335,7 @@ impl Graph {
         self.links().below_in(alloc, number, closure)
     }
 
-    /// A mark for each package that is marked, or imports a marked one, directly or indirectly. One search finds them all.
+    /// Marks exactly the packages whose closure contains a marked package. One search finds them all.
     pub fn reaching(&self, alloc: Global, marks: &[bool]) -> Result<Vec<bool>, AllocError>
         requires { length marks.now ≡ length (package_paths self.now) }
         ensures { IfOk result (λ reaching. MarkReaching self.now marks.now reaching.items) }
@@ -340,8 +343,8 @@ impl Graph {
         self.links().reaching(alloc, marks)
     }
 
-    /// Marks a package, and all that import it, directly or indirectly, where what imports a marked package is marked. No marked
-    /// package is looked at again.
+    /// Marks a package, and all packages that import it directly or indirectly. Importers of marked packages must be marked already, and no
+    /// marked package is visited again.
     pub fn mark_importing(
         &self,
         alloc: Global,
@@ -356,7 +359,7 @@ impl Graph {
         self.links().mark_importing(alloc, marks, number)
     }
 
-    /// A mark for each package that imports one, directly or indirectly, or is it.
+    /// Marks exactly the packages in whose closure a package is.
     pub fn importing(&self, alloc: Global, number: usize) -> Result<Vec<bool>, AllocError>
         requires { number < length (package_paths self.now) }
         ensures { IfOk result (λ marks. OfPackage self.now number (λ q. MarkImporting self.now q marks.items)) }

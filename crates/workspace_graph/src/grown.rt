@@ -1,5 +1,5 @@
-//! The links of packages among which one came, from those before it came. The others keep their rows, with each number shifted, unless
-//! they import the one that came.
+//! Computes the links after one package was inserted, from the links before. The other packages keep their rows, with shifted numbers,
+//! unless they import the new package.
 ghost use Rattle.std.specs.Prelude.{◌≡◌, ◌+◌, ◌^◌, ◌<◌, ◌≤◌, ◌↔◌, ℕ, List, length, slice_get, slice_index, Some, IfOk, IsTrue, MatchOption, OnOk};
 ghost use Rattle.std.specs.List.{Contains};
 ghost use Rattle.std.specs.List.Sorted.{IsStrictlyIncreasing, IsStrictlySortedBy};
@@ -18,7 +18,7 @@ use crate::rows::fill_row;
 use crate::shared_package::SharedPackage;
 use std::alloc::{AllocError, Global};
 
-/// Packages among which one came, at a place, and the links of the others before it came.
+/// Packages, of which the one at `place` is new, and the links of the others before it was inserted.
 #[derive(Clone, Copy)]
 pub(crate) struct Grown<'a> {
     pub(crate) packages: &'a [SharedPackage],
@@ -26,7 +26,7 @@ pub(crate) struct Grown<'a> {
     pub(crate) place: usize,
 }
 
-/// Whether the files of a package import a path.
+/// Whether the files of a package import the path.
 fn imports_path(one: &SharedPackage, path: &[u8]) -> bool
     ensures { IsTrue result ↔ SomeImport one.now.trees.items path.now }
 {
@@ -37,7 +37,7 @@ fn imports_path(one: &SharedPackage, path: &[u8]) -> bool
     imports.contains(path)
 }
 
-/// The index in a list behind a number, where the list was passed below the number.
+/// The index in an increasing list of the first number greater than `number`, where all before `index` are less than `number`.
 fn past(list: &[usize], index: usize, number: usize) -> usize
     requires rising { IsStrictlyIncreasing list.now }
     requires passed { IsPassed list.now index number }
@@ -51,7 +51,7 @@ fn past(list: &[usize], index: usize, number: usize) -> usize
     }
 }
 
-/// The number before of what has a number now, unless it is the one that came.
+/// The number before of the package that has `number` after the insertion, or `None` for the new package.
 fn number_before(number: usize, place: usize) -> Option<usize>
     ensures { MatchOption result (number ≡ place) (λ before. shifted place before ≡ number) }
 {
@@ -61,8 +61,8 @@ fn number_before(number: usize, place: usize) -> Option<usize>
     Some(if number < place { number } else { number - 1 })
 }
 
-/// Whether each path that the files of a package import had a package before one came, so that none of them is that of the one that
-/// came: as many packages were imported as paths are.
+/// Whether every path that a package imports surely had a package before the insertion: its row has as many packages as it imports paths.
+/// Such a package does not import the new one.
 fn imports_had(grown: Grown<'_>, number: usize) -> bool
     requires sorted { IsStrictlySortedBy path_cmp (paths_of grown.packages.now) }
     requires grown { Grows grown.packages.now grown.links.now grown.place }
@@ -80,7 +80,7 @@ fn imports_had(grown: Grown<'_>, number: usize) -> bool
     true
 }
 
-/// Whether the files of the package of a number import the path of the one that came.
+/// Whether the files of package `number` import the new package, whose path is `path`.
 fn imports_coming(grown: Grown<'_>, number: usize, path: &[u8]) -> bool
     requires sorted { IsStrictlySortedBy path_cmp (paths_of grown.packages.now) }
     requires grown { Grows grown.packages.now grown.links.now grown.place }
@@ -94,7 +94,7 @@ fn imports_coming(grown: Grown<'_>, number: usize, path: &[u8]) -> bool
     imports_path(&grown.packages[number], path)
 }
 
-/// The packages whose files import the path of the one that came, by number.
+/// The packages that import the new package, in increasing order.
 fn importing(alloc: Global, grown: Grown<'_>, path: &[u8]) -> Result<Vec<usize>, AllocError>
     requires sorted { IsStrictlySortedBy path_cmp (paths_of grown.packages.now) }
     requires grown { Grows grown.packages.now grown.links.now grown.place }
@@ -110,7 +110,7 @@ fn importing(alloc: Global, grown: Grown<'_>, path: &[u8]) -> Result<Vec<usize>,
     Ok(list)
 }
 
-/// How many numbers of a row are below a number, up to the first that is not.
+/// The number of leading numbers of a row that are below `bound`.
 fn count_below(row: &[usize], bound: usize) -> usize
     ensures within { result ≤ length row.now }
     ensures below { (k : ℕ) → k < result → slice_index row.now k < bound }
@@ -124,7 +124,7 @@ fn count_below(row: &[usize], bound: usize) -> usize
     row.len()
 }
 
-/// Rows before one came at a place, its own row, and the numbers of the rows that the place is put into.
+/// The rows before the insertion at `place`, the new package's own row, and the increasing numbers of the rows that gain `place`.
 #[derive(Clone, Copy)]
 struct Growing<'a> {
     before: &'a LinkRows,
@@ -133,7 +133,7 @@ struct Growing<'a> {
     linked: &'a [usize],
 }
 
-/// The linked number at an index, or the number of rows.
+/// The linked number at an index, or the number of rows after the insertion where there is none.
 fn linked_at(growing: Growing<'_>, index: usize) -> usize
     requires { IsGrowing growing.before.now growing.place growing.linked.now }
     ensures there { index < length growing.entry.linked.now → result ≡ slice_index growing.entry.linked.now index }
@@ -145,7 +145,7 @@ fn linked_at(growing: Growing<'_>, index: usize) -> usize
     growing.before.one_more()
 }
 
-/// The number, from one on, of the next row that is not just shifted, or the number of rows.
+/// The number, from `number` on, of the next row that is not merely shifted, or the number of rows.
 fn next_stop(growing: Growing<'_>, index: usize, number: usize) -> usize
     requires growing { IsGrowing growing.before.now growing.place growing.linked.now }
     requires passed { IsPassed growing.linked.now index number }
@@ -160,7 +160,7 @@ fn next_stop(growing: Growing<'_>, index: usize, number: usize) -> usize
     }
 }
 
-/// The number of rows before that stand in front of a number.
+/// The number of rows before the insertion that precede row `number` after it.
 fn rows_before(number: usize, place: usize) -> usize
     ensures upto { number ≤ place → result ≡ number }
     ensures above { place < number → result + 1 ≡ number }
@@ -168,7 +168,7 @@ fn rows_before(number: usize, place: usize) -> usize
     if number <= place { number } else { number - 1 }
 }
 
-/// Adds the rows up to a stop, which are just shifted.
+/// Adds the rows up to a stop, which are merely shifted.
 fn add_run(growing: Growing<'_>, stop: usize, rows: &mut LinkRows) -> Result<(), AllocError>
     requires growing { IsGrowing growing.before.now growing.place growing.linked.now }
     requires small { length growing.before.now + 1 < 2 ^ 64 }
@@ -185,7 +185,7 @@ fn add_run(growing: Growing<'_>, stop: usize, rows: &mut LinkRows) -> Result<(),
     rows.add_shifted_rows(run, growing.place)
 }
 
-/// Adds the row that comes next, where it is that of the one that came or the place is put into it.
+/// Adds the next row, where it is the new package's own or gains `place`.
 fn add_stop(growing: Growing<'_>, rows: &mut LinkRows) -> Result<(), AllocError>
     requires growing { IsGrowing growing.before.now growing.place growing.linked.now }
     requires small { length growing.before.now + 1 < 2 ^ 64 }
@@ -203,7 +203,7 @@ fn add_stop(growing: Growing<'_>, rows: &mut LinkRows) -> Result<(), AllocError>
     rows.add_shifted_around(row, growing.place, below)
 }
 
-/// Adds the rows up to the next stop, and that at the stop. The answer is the index of the linked number that comes next.
+/// Adds the rows up to the next stop, and the row at the stop. Returns the index of the next linked number.
 fn add_next(growing: Growing<'_>, index: usize, rows: &mut LinkRows) -> Result<usize, AllocError>
     requires growing { IsGrowing growing.before.now growing.place growing.linked.now }
     requires small { length growing.before.now + 1 < 2 ^ 64 }
@@ -223,14 +223,14 @@ fn add_next(growing: Growing<'_>, index: usize, rows: &mut LinkRows) -> Result<u
     Ok(past(growing.linked, index, stop))
 }
 
-/// How many numbers all rows have after one came, or about so many.
+/// About how many numbers all rows have after the insertion.
 fn number_count(growing: Growing<'_>) -> usize {
     let before = growing.before.number_count();
     let more = growing.own.len().saturating_add(growing.linked.len());
     before.saturating_add(more)
 }
 
-/// All rows after one came.
+/// All rows after the insertion.
 fn grow(alloc: Global, growing: Growing<'_>) -> Result<LinkRows, AllocError>
     requires { IsGrowing growing.before.now growing.place growing.linked.now }
     ensures grown { IfOk result (AreGrown growing.entry.place growing.entry.own.now growing.entry.linked.now growing.entry.before.now) }
@@ -245,7 +245,8 @@ fn grow(alloc: Global, growing: Growing<'_>) -> Result<LinkRows, AllocError>
     Ok(rows)
 }
 
-/// The links, told what the one that came imports, and what imports it. What the rows are of the one, the importers are of the other.
+/// The links after the insertion. `own` has the imports of the new package, and `importing` its importers. For the importers of all
+/// packages the two change places.
 fn grown_by(
     alloc: Global,
     grown: Grown<'_>,
@@ -274,7 +275,7 @@ fn grown_by(
     Ok(ImportLinks::with_importers(imports, importers))
 }
 
-/// The links of packages among which one came.
+/// The links of packages of which one is new.
 pub(crate) fn grown_links(alloc: Global, grown: Grown<'_>) -> Result<ImportLinks, AllocError>
     requires sorted { IsStrictlySortedBy path_cmp (paths_of grown.packages.now) }
     requires grown { Grows grown.packages.now grown.links.now grown.place }

@@ -1,4 +1,4 @@
-//! The trees of a package and its other files, in the order of their paths, while single ones are set.
+//! The trees and the faulty files of a package, in the order of their paths, of which single ones are set.
 ghost use Rattle.std.specs.Prelude.{◌≡◌, IfOk, IfSome, IsTrue, OnOk, Some, slice_get, MatchResult};
 ghost use Rattle.std.specs.List.{Contains};
 ghost use Rattle.std.specs.List.Sorted.{IsStrictlySortedBy};
@@ -12,7 +12,7 @@ use base_files::Path;
 use go_ast::FileTree;
 use std::alloc::AllocError;
 
-/// The number of the tree of a path, and otherwise the place where one would stand.
+/// The index of the tree at a path, or as `Err` the index at which it would be inserted.
 fn tree_place(trees: &[FileTree], path: &Path) -> Result<usize, usize>
     requires { IsStrictlySortedBy path_cmp (tree_paths trees.now) }
     ensures { MatchResult result (λ number. slice_get (tree_paths trees.now) number ≡ Some path.now) (λ place. IsPlace (tree_paths trees.now) path.now place) }
@@ -20,7 +20,7 @@ fn tree_place(trees: &[FileTree], path: &Path) -> Result<usize, usize>
     trees.binary_search_by(|tree| tree.path().cmp(path))
 }
 
-/// The number of the file of a path that has no tree, and otherwise the place where one would stand.
+/// The index of the faulty file at a path, or as `Err` the index at which it would be inserted.
 fn fault_place(faulty: &[FaultyFile], path: &Path) -> Result<usize, usize>
     requires { IsStrictlySortedBy path_cmp (fault_paths faulty.now) }
     ensures { MatchResult result (λ number. slice_get (fault_paths faulty.now) number ≡ Some path.now) (λ place. IsPlace (fault_paths faulty.now) path.now place) }
@@ -28,7 +28,7 @@ fn fault_place(faulty: &[FaultyFile], path: &Path) -> Result<usize, usize>
     faulty.binary_search_by(|file| file.path().cmp(path))
 }
 
-/// The tree of a path, if there is one.
+/// The tree at a path, if there is one.
 pub(crate) fn tree_at<'a>(trees: &'a [FileTree], path: &Path) -> Option<&'a FileTree>
     requires { IsStrictlySortedBy path_cmp (tree_paths trees.now) }
     ensures { IfSome result (λ tree. Contains trees.now tree.now × (tree.now.path ≡ path.now)) }
@@ -39,7 +39,7 @@ pub(crate) fn tree_at<'a>(trees: &'a [FileTree], path: &Path) -> Option<&'a File
     }
 }
 
-/// The file of a path that has no tree, if there is one.
+/// The faulty file at a path, if there is one.
 pub(crate) fn fault_at<'a>(faulty: &'a [FaultyFile], path: &Path) -> Option<&'a FaultyFile>
     requires { IsStrictlySortedBy path_cmp (fault_paths faulty.now) }
     ensures { IfSome result (λ file. Contains faulty.now file.now × (file.now.path ≡ path.now)) }
@@ -50,14 +50,14 @@ pub(crate) fn fault_at<'a>(faulty: &'a [FaultyFile], path: &Path) -> Option<&'a 
     }
 }
 
-/// What was taken out at a path, if it was there, and the place where it would stand.
+/// The tree that was removed at a path, if there was one, and the index at which a tree at that path would be inserted.
 #[derive(Drop)]
 pub(crate) struct TakenTree {
     pub(crate) tree: Option<FileTree>,
     pub(crate) place: usize,
 }
 
-/// Takes out the tree of a path, if there is one.
+/// Removes the tree at a path, if there is one.
 pub(crate) fn take_tree(trees: &mut Vec<FileTree>, path: &Path) -> TakenTree
     requires { IsStrictlySortedBy path_cmp (tree_paths trees.old.items) }
     ensures out { TakesOut tree_path path.now trees.old.items trees.new.items result.place }
@@ -72,7 +72,7 @@ pub(crate) fn take_tree(trees: &mut Vec<FileTree>, path: &Path) -> TakenTree
     }
 }
 
-/// Takes out the file of a path that has no tree, if there is one. The answer is the place where it would stand.
+/// Removes the faulty file at a path, if there is one. Returns the index at which one would be inserted.
 pub(crate) fn take_fault(faulty: &mut Vec<FaultyFile>, path: &Path) -> usize
     requires { IsStrictlySortedBy path_cmp (fault_paths faulty.old.items) }
     ensures { TakesOut fault_path path.now faulty.old.items faulty.new.items result }
@@ -86,7 +86,7 @@ pub(crate) fn take_fault(faulty: &mut Vec<FaultyFile>, path: &Path) -> usize
     }
 }
 
-/// Puts a tree in the place of the one that has its path. The answer is that one, if there is one.
+/// Sets the tree at its path. Returns the tree that it replaces, if there is one.
 pub(crate) fn put_tree(
     trees: &mut Vec<FileTree>,
     tree: FileTree,
@@ -100,7 +100,7 @@ pub(crate) fn put_tree(
     Ok(taken.tree)
 }
 
-/// Puts a file that has no tree in the place of the one that has its path.
+/// Sets the faulty file at its path.
 pub(crate) fn put_fault(faulty: &mut Vec<FaultyFile>, file: FaultyFile) -> Result<(), AllocError>
     requires { IsStrictlySortedBy path_cmp (fault_paths faulty.old.items) }
     ensures { OnOk result (PutsIn fault_path file faulty.old.items faulty.new.items) }

@@ -1,4 +1,4 @@
-//! Which packages import which, with all that is asked of it.
+//! `ImportLinks`: which packages import which, and the questions about it.
 ghost use Rattle.std.specs.Prelude.{ℕ, ◌≡◌, ◌<◌, IfOk, IfSome, IsTrue, OnOk, length};
 ghost use Rattle.std.specs.List.Sorted.{IsStrictlyIncreasing};
 ghost use Rattle.workspace_graph.specs.Closures.{IsBuiltOn};
@@ -24,8 +24,8 @@ use crate::search::reach;
 use std::alloc::{AllocError, Global};
 use std::marker::Model;
 
-/// The direct imports of each package, packages being numbered from 0. Who imports each is found beforehand, so that this takes no
-/// memory; what a package reaches is searched for when it is asked.
+/// The direct imports of each package, by number from 0, and its importers. Importers are found beforehand, so that `importers` takes no
+/// memory. Closures are searched for when they are asked for.
 #[derive(Drop)]
 pub struct ImportLinks {
     imports: LinkRows,
@@ -44,7 +44,7 @@ impl Model for ImportLinks {
 }
 
 impl ImportLinks {
-    /// Finds who imports each.
+    /// The links with these imports. Finds the importers of each package.
     pub(crate) fn new(alloc: Global, imports: LinkRows) -> Result<ImportLinks, AllocError>
         requires { AreLinked imports }
         ensures { IfOk result (λ links. links ≡ imports) }
@@ -53,7 +53,7 @@ impl ImportLinks {
         Ok(ImportLinks { imports, importers })
     }
 
-    /// Those of which it is known who imports each.
+    /// The links with these imports, whose importers are known.
     pub(crate) fn with_importers(imports: LinkRows, importers: LinkRows) -> ImportLinks
         requires linked { AreLinked imports }
         requires importers { HoldImporters imports (length imports) importers }
@@ -62,35 +62,35 @@ impl ImportLinks {
         ImportLinks { imports, importers }
     }
 
-    /// The rows of all packages.
+    /// The imports of all packages, as rows.
     pub(crate) fn import_rows(&self) -> &LinkRows
         ensures { result.now ≡ self.now }
     {
         &self.imports
     }
 
-    /// The importers of all packages.
+    /// The importers of all packages, as rows.
     pub(crate) fn importer_rows(&self) -> &LinkRows
         ensures { HoldImporters self.now (length self.now) result.now }
     {
         &self.importers
     }
 
-    /// How many packages there are.
+    /// The number of packages.
     pub fn len(&self) -> usize
         ensures { result ≡ length self.now }
     {
         self.imports.len()
     }
 
-    /// Whether some rows are the direct imports of all packages.
+    /// Whether the imports are equal to these rows. False may be wrong where the rows are stored differently.
     pub(crate) fn are(&self, rows: &LinkRows) -> bool
         ensures { IsTrue result → self.now ≡ rows.now }
     {
         self.imports.are(rows)
     }
 
-    /// The packages that one imports directly.
+    /// The packages that a package imports directly.
     pub fn imports(&self, number: usize) -> &[usize]
         requires { number < length self.now }
         ensures { result.now ≡ imports_of self.now number }
@@ -98,7 +98,7 @@ impl ImportLinks {
         self.imports.row(number)
     }
 
-    /// The packages that import one directly.
+    /// The packages that import a package directly.
     pub fn importers(&self, number: usize) -> &[usize]
         requires { number < length self.now }
         ensures importers { AreImporters self.now number result.now }
@@ -107,7 +107,7 @@ impl ImportLinks {
         self.importers.row(number)
     }
 
-    /// A package, and all that it imports directly or indirectly, by number. It is searched for.
+    /// The closure of a package, in increasing order: itself, and all packages that it imports directly or indirectly. Found by a search.
     pub fn closure(&self, alloc: Global, number: usize) -> Result<PackageList, AllocError>
         requires { number < length self.now }
         ensures closure { IfOk result (IsClosure self.now number) }
@@ -116,7 +116,7 @@ impl ImportLinks {
         closure_of(alloc, &self.imports, number)
     }
 
-    /// Marks that tell of what a package imports, directly or indirectly, whether it so imports that package.
+    /// Of the packages that package `number` reaches, marks exactly those that reach it. All other packages are marked too.
     pub fn back_marks(&self, alloc: Global, number: usize) -> Result<Vec<bool>, AllocError>
         requires { number < length self.now }
         ensures { IfOk result (λ marks. TellBack self.now number marks.items) }
@@ -124,8 +124,8 @@ impl ImportLinks {
         back_marks(alloc, &self.imports, &self.importers, number)
     }
 
-    /// What a package imports, directly or indirectly, and what does not so import it, by number; and marks that tell of what it so
-    /// imports whether that so imports it. They are searched for.
+    /// The packages that a package reaches and that do not reach it, in increasing order. Marks show those that it reaches and that reach
+    /// it. Found by a search.
     pub fn below(&self, alloc: Global, number: usize) -> Result<PackagesBelow, AllocError>
         requires { number < length self.now }
         ensures built_on { IfOk result (λ found. IsBuiltOn self.now number found.built_on) }
@@ -134,7 +134,7 @@ impl ImportLinks {
         below(alloc, &self.imports, &self.importers, number)
     }
 
-    /// What a package imports, directly or indirectly, and what does not so import it, alone.
+    /// The packages that a package reaches and that do not reach it, in increasing order. Found by a search.
     pub fn built_on(&self, alloc: Global, number: usize) -> Result<PackageList, AllocError>
         requires { number < length self.now }
         ensures { IfOk result (IsBuiltOn self.now number) }
@@ -144,8 +144,8 @@ impl ImportLinks {
         Ok(built_on)
     }
 
-    /// What a package imports, directly or indirectly, and what does not so import it, with such marks, by its closure, which is known.
-    /// Nothing is searched for where no importer of the package is in that.
+    /// The packages and marks of `below`, computed from the closure of the package. There is no search unless the closure contains an
+    /// importer of the package.
     pub fn below_in(
         &self,
         alloc: Global,
@@ -164,7 +164,7 @@ impl ImportLinks {
         rest_of(alloc, self.len(), number, closure)
     }
 
-    /// A mark for each package that is marked, or imports a marked one, directly or indirectly. One search finds them all.
+    /// Marks exactly the packages that reach a marked package. One search finds them all.
     pub fn reaching(&self, alloc: Global, marks: &[bool]) -> Result<Vec<bool>, AllocError>
         requires { length marks.now ≡ length self.now }
         ensures { IfOk result (λ reaching. AreReaching self.now marks.now reaching.items) }
@@ -172,8 +172,8 @@ impl ImportLinks {
         reached_by(alloc, &self.importers, marks)
     }
 
-    /// Marks a package, and all that import it, directly or indirectly, where what imports a marked package is marked. No marked
-    /// package is looked at again.
+    /// Marks a package, and all packages that import it directly or indirectly. Importers of marked packages must be marked already, and no
+    /// marked package is visited again.
     pub fn mark_importing(
         &self,
         alloc: Global,
@@ -188,8 +188,8 @@ impl ImportLinks {
         reach(alloc, &self.importers, marks, number)
     }
 
-    /// All packages, each behind those that it imports, directly or indirectly, and that do not so import it; if a search finds such an
-    /// order, which only speed rests on.
+    /// All packages, each after those that it imports, directly or indirectly, and that do not import it so. `None` where the search finds
+    /// no such order, which costs only speed.
     pub fn order(&self, alloc: Global) -> Result<Option<Vec<usize>>, AllocError>
         ensures { IfOk result (λ found. IfSome found (λ order. IsOrder self.now order.items)) }
     {

@@ -1,4 +1,4 @@
-//! The paths that some files import.
+//! Collects the paths that files import.
 ghost use Rattle.std.specs.Prelude.{IfOk, OnOk};
 ghost use Rattle.go_ast.specs.SourceFile.{source_of};
 ghost use Rattle.workspace_graph.specs.Packages.{ImportsPath};
@@ -9,7 +9,7 @@ use go_ast::FileTree;
 use std::alloc::{AllocError, Global};
 use std::collections::BTreeSet;
 
-/// Adds the path of an import, if its literal stands for one.
+/// Adds the path of an import, if the value of its literal is known.
 fn add_import(
     alloc: Global,
     paths: &mut BTreeSet<Vec<u8>>,
@@ -49,7 +49,7 @@ fn add_file(alloc: Global, paths: &mut BTreeSet<Vec<u8>>, file: &FileTree) -> Re
     add_imports(alloc, paths, &imports)
 }
 
-/// The paths that some files import.
+/// The paths that the files import.
 pub fn import_paths(alloc: Global, files: &[FileTree]) -> Result<BTreeSet<Vec<u8>>, AllocError>
     ensures { IfOk result (λ paths. HoldsPaths (SomeImport files.now) paths.keys) }
 {

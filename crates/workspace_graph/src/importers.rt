@@ -1,4 +1,4 @@
-//! Which packages import each. They are found package by package, and noted in one list, in which those of one package are chained.
+//! Finds the importers of each package. They are noted in one list, in which those of one package are chained.
 ghost use Rattle.std.specs.Prelude.{◌≡◌, ◌<◌, ◌++◌, [], ◌∷◌, length, replicate, slice_set, IfOk, OnOk};
 ghost use Rattle.std.specs.List.{All};
 ghost use Rattle.workspace_graph.specs.Chains.{AreChained, AreNoted};
@@ -7,14 +7,15 @@ ghost use Rattle.workspace_graph.specs.Imports.{AreLinked, HoldImporters, Links,
 use crate::link_rows::LinkRows;
 use std::alloc::{AllocError, Global};
 
-/// An importer of a package, and the place of the one that was noted before it of the same package, counted from 1, or 0.
+/// An importer of a package, and the place in the list of the importer noted before it for the same package. Places count from 1; 0 means
+/// none.
 #[derive(Clone, Copy)]
 struct Noted {
     importer: usize,
     before: usize,
 }
 
-/// Of each package the place of the importer that was noted last, counted from 1, or 0.
+/// The noted importers, and for each package the place of the one noted last. Places count from 1; 0 means none.
 #[derive(Drop)]
 struct Chains {
     latest: Vec<usize>,
@@ -22,6 +23,7 @@ struct Chains {
 }
 
 impl Chains {
+    /// Chains for `count` packages without importers.
     fn new(alloc: Global, count: usize) -> Result<Chains, AllocError>
         ensures { IfOk result (λ chains. AreChained chains (replicate count [])) }
     {
@@ -31,6 +33,7 @@ impl Chains {
         })
     }
 
+    /// Notes an importer of the package `number`.
     fn note(&mut self, number: usize, importer: usize) -> Result<(), AllocError>
         requires { number < length self.old.latest.items }
         ensures size { OnOk result (length self.new.latest.items ≡ length self.old.latest.items) }
@@ -42,7 +45,7 @@ impl Chains {
         Ok(())
     }
 
-    /// Notes the importer at each package of its row.
+    /// Notes the importer for each package that it imports.
     fn note_row(&mut self, row: &[usize], importer: usize) -> Result<(), AllocError>
         requires { All (λ q. q < length self.old.latest.items) row.now }
         ensures size { OnOk result (length self.new.latest.items ≡ length self.old.latest.items) }
@@ -54,7 +57,7 @@ impl Chains {
         Ok(())
     }
 
-    /// Puts the importers of a package into a row in place of what is there.
+    /// Fills a row with the importers of a package, in the order in which they were noted.
     fn fill_row(&self, number: usize, row: &mut Vec<usize>) -> Result<(), AllocError>
         requires number { number < length self.now.latest.items }
         requires chained { (lists : Links) × AreChained self.now lists }
@@ -86,7 +89,7 @@ impl Chains {
     }
 }
 
-/// For each package, those that import it.
+/// For each package, its importers.
 pub(crate) fn importers(alloc: Global, imports: &LinkRows) -> Result<LinkRows, AllocError>
     requires { AreLinked imports.now }
     ensures { IfOk result (λ importers. HoldImporters imports.now (length imports.now) importers) }

@@ -1,4 +1,4 @@
-//! The packages of a workspace, and which import which.
+//! The packages of a workspace with their parsed files, and which imports which.
 #![tactic(auto)]
 
 mod among;

@@ -1,4 +1,4 @@
-//! Links in two lists: the rows of all packages one behind another, and where each ends.
+//! Links in two lists: the rows of all packages one behind another, and the bounds of the rows.
 ghost use Rattle.std.specs.Prelude.{◌≡◌, ◌<◌, ◌≤◌, ◌+◌, ◌-◌, ◌^◌, ◌++◌, ℕ, [], ◌∷◌, length, map, take, drop, slice_index_or, slice_range, IfOk, IsTrue, OnOk};
 ghost use Rattle.std.specs.List.{All, insert};
 ghost use Rattle.workspace_graph.specs.Imports.{imports_of};
@@ -8,8 +8,8 @@ ghost use Rattle.workspace_graph.specs.Shifts.{row_shifted, shifted};
 use std::alloc::{AllocError, Global};
 use std::marker::Model;
 
-/// For each package, the numbers of others. A row begins where the one before it ends, and the first bound is the first row's begin.
-/// What stands behind the last bound belongs to no row.
+/// For each package, a row of numbers of packages. Row `i` has the numbers from bound `i` to before bound `i + 1`. Numbers behind the last
+/// bound are in no row.
 #[derive(Drop)]
 pub(crate) struct LinkRows {
     bounds: Vec<usize>,
@@ -27,7 +27,7 @@ impl Model for LinkRows {
     ghost invariant = { λ a. AreBounds a.bounds.items a.numbers.items };
 }
 
-/// What stands between two bounds.
+/// The numbers between bound `number` and the next bound.
 fn part_at<'a>(bounds: &[usize], numbers: &'a [usize], number: usize) -> &'a [usize]
     requires number { number + 1 < length bounds.now }
     requires rising { slice_index_or bounds.now number 0 ≤ slice_index_or bounds.now (number + 1) 0 }
@@ -37,7 +37,7 @@ fn part_at<'a>(bounds: &[usize], numbers: &'a [usize], number: usize) -> &'a [us
     &numbers[bounds[number]..bounds[number + 1]]
 }
 
-/// What stands from one index up to another.
+/// The items of a list from index `from` to before index `to`.
 fn part_of<'a>(list: &'a [usize], from: usize, to: usize) -> &'a [usize]
     requires rising { from ≤ to }
     requires within { to ≤ length list.now }
@@ -46,6 +46,7 @@ fn part_of<'a>(list: &'a [usize], from: usize, to: usize) -> &'a [usize]
     &list[from..to]
 }
 
+/// The last bound.
 fn last_of(bounds: &[usize]) -> usize
     requires { 0 < length bounds.now }
     ensures { result ≡ last_bound bounds.now }
@@ -53,13 +54,14 @@ fn last_of(bounds: &[usize]) -> usize
     bounds[bounds.len() - 1]
 }
 
+/// Whether both lists are equal.
 fn are_same(one: &[usize], other: &[usize]) -> bool
     ensures { IsTrue result → one.now ≡ other.now }
 {
     one == other
 }
 
-/// Adds numbers at the end.
+/// Appends the numbers of a row.
 fn push_all(numbers: &mut Vec<usize>, row: &[usize]) -> Result<(), AllocError>
     ensures longer { length numbers.old.items ≤ length numbers.new.items }
     ensures added { OnOk result (numbers.new.items ≡ numbers.old.items ++ row.now) }
@@ -70,7 +72,7 @@ fn push_all(numbers: &mut Vec<usize>, row: &[usize]) -> Result<(), AllocError>
     Ok(())
 }
 
-/// The number, after one came at a place, of what had a number before.
+/// The number, after a package was inserted at `place`, of the package that had `number` before.
 fn shifted(number: usize, place: usize) -> usize
     requires { number + 1 < 2 ^ 64 }
     ensures { result ≡ shifted place number }
@@ -78,7 +80,7 @@ fn shifted(number: usize, place: usize) -> usize
     if number < place { number } else { number + 1 }
 }
 
-/// Changes numbers from an index on to what they are after one came at a place.
+/// Shifts the numbers from index `begin` on, as `shifted` does.
 fn shift_from(numbers: &mut Vec<usize>, begin: usize, place: usize)
     requires begin { begin ≤ length numbers.old.items }
     requires small { All (λ number. number + 1 < 2 ^ 64) (drop begin numbers.old.items) }
@@ -90,7 +92,7 @@ fn shift_from(numbers: &mut Vec<usize>, begin: usize, place: usize)
     }
 }
 
-/// Adds numbers at the end as they are after one came at a place.
+/// Appends the shifted numbers of a row.
 fn push_shifted(numbers: &mut Vec<usize>, row: &[usize], place: usize) -> Result<(), AllocError>
     requires { All (λ number. number + 1 < 2 ^ 64) row.now }
     ensures longer { length numbers.old.items ≤ length numbers.new.items }
@@ -102,7 +104,7 @@ fn push_shifted(numbers: &mut Vec<usize>, row: &[usize], place: usize) -> Result
     Ok(())
 }
 
-/// The same, and the place itself behind some of them.
+/// Appends the shifted numbers of a row, with `place` itself inserted behind the first `below` of them.
 fn push_shifted_around(
     numbers: &mut Vec<usize>,
     row: &[usize],
@@ -120,7 +122,7 @@ fn push_shifted_around(
     push_shifted(numbers, rest, place)
 }
 
-/// Moves bounds from an index on, so much lower and then so much higher.
+/// Moves the bounds from index `begin` on: lower by `down`, and higher by `up`.
 fn move_from(bounds: &mut Vec<usize>, begin: usize, down: usize, up: usize)
     requires begin { begin ≤ length bounds.old.items }
     requires fits { All (λ end. (down ≤ end) × (end - down + up < 2 ^ 64)) (drop begin bounds.old.items) }
@@ -132,7 +134,7 @@ fn move_from(bounds: &mut Vec<usize>, begin: usize, down: usize, up: usize)
     }
 }
 
-/// Adds bounds at the end, so much lower and then so much higher.
+/// Appends the bounds `ends`, moved lower by `down` and higher by `up`.
 fn push_moved(
     bounds: &mut Vec<usize>,
     ends: &[usize],
@@ -149,7 +151,7 @@ fn push_moved(
     Ok(())
 }
 
-/// Some rows, from one number up to another.
+/// The rows from number `from` to before number `to`.
 #[derive(Clone, Copy)]
 pub(crate) struct RowRun<'a> {
     pub(crate) rows: &'a LinkRows,
@@ -158,7 +160,7 @@ pub(crate) struct RowRun<'a> {
 }
 
 impl LinkRows {
-    /// No row, with room for so many rows and for so many numbers in all of them.
+    /// No rows, with room for `rows` rows that have `numbers` numbers together.
     pub(crate) fn with_capacity(
         alloc: Global,
         rows: usize,
@@ -172,26 +174,26 @@ impl LinkRows {
         Ok(LinkRows { bounds, numbers })
     }
 
-    /// How many numbers are in all rows.
+    /// The number of numbers in all rows.
     pub(crate) fn number_count(&self) -> usize {
         last_of(&self.bounds)
     }
 
-    /// How many rows there are.
+    /// The number of rows.
     pub(crate) fn len(&self) -> usize
         ensures { result ≡ length self.now }
     {
         self.bounds.len() - 1
     }
 
-    /// How many rows there are with one more.
+    /// The number of rows, plus one.
     pub(crate) fn one_more(&self) -> usize
         ensures { result ≡ length self.now + 1 }
     {
         self.bounds.len()
     }
 
-    /// The row of a number.
+    /// The row of a package.
     pub(crate) fn row(&self, number: usize) -> &[usize]
         requires { number < length self.now }
         ensures { result.now ≡ imports_of self.now number }
@@ -209,7 +211,7 @@ impl LinkRows {
         Ok(())
     }
 
-    /// Adds rows as they are after one came at a place.
+    /// Adds the rows of a run, with their numbers shifted as after a package was inserted at `place`.
     pub(crate) fn add_shifted_rows(
         &mut self,
         run: RowRun<'_>,
@@ -231,7 +233,7 @@ impl LinkRows {
         push_moved(&mut self.bounds, ends, start, last)
     }
 
-    /// Adds a row as it is after one came at a place, and the place itself behind some of its numbers.
+    /// Adds a row with its numbers shifted, and with `place` itself inserted behind the first `below` of them.
     pub(crate) fn add_shifted_around(
         &mut self,
         row: &[usize],
@@ -248,7 +250,7 @@ impl LinkRows {
         Ok(())
     }
 
-    /// Whether the rows are the same.
+    /// Whether both store the same bounds and numbers, so that the rows are equal.
     pub(crate) fn are(&self, others: &LinkRows) -> bool
         ensures { IsTrue result → self.now ≡ others.now }
     {

@@ -1,4 +1,4 @@
-//! An order of packages, in which each comes behind those that it reaches and that do not reach it.
+//! Finds an order of packages in which each comes after those that it reaches and that do not reach it.
 ghost use Rattle.std.specs.Prelude.{ℕ, ◌≡◌, ◌<◌, length, IfOk, IfSome, IsTrue, OnOk};
 ghost use Rattle.std.specs.List.{All, Contains};
 ghost use Rattle.workspace_graph.specs.Imports.{AreLinked, HoldImporters, Reaches};
@@ -10,7 +10,7 @@ use crate::link_rows::LinkRows;
 use crate::search::spread;
 use std::alloc::{AllocError, Global};
 
-/// The packages that are told, in order and by marks, and marks that bar a search from all packages but those of one block.
+/// The packages listed so far, in order and as marks in `told`. `barred` keeps a search within one block.
 #[derive(Drop)]
 struct Blocks {
     order: Vec<usize>,
@@ -18,7 +18,7 @@ struct Blocks {
     barred: Vec<bool>,
 }
 
-/// Takes the marks of some packages off.
+/// Removes the marks of some packages.
 fn clear(marks: &mut Vec<bool>, numbers: &[usize])
     requires { All (λ q. q < length marks.old.items) numbers.now }
     ensures size { length marks.new.items ≡ length marks.old.items }
@@ -42,6 +42,7 @@ fn are_marked(marks: &[bool], numbers: &[usize]) -> bool
     true
 }
 
+/// Whether all packages are marked.
 fn are_all_marked(marks: &[bool]) -> bool
     ensures { IsTrue result → (q : ℕ) → q < length marks.now → IsMarked marks.now q }
 {
@@ -53,7 +54,7 @@ fn are_all_marked(marks: &[bool]) -> bool
     true
 }
 
-/// Whether all of a block reach one package, as far as ways within the block tell it.
+/// Whether all packages of a block reach `root` along ways within the block. A search along importers from `root` shows it.
 fn leads_back(
     alloc: Global,
     importers: &LinkRows,
@@ -74,6 +75,7 @@ fn leads_back(
 }
 
 impl Blocks {
+    /// No package is listed, and all are barred.
     fn new(alloc: Global, count: usize) -> Result<Blocks, AllocError>
         ensures order { IfOk result (λ blocks. length blocks.order.items ≡ 0) }
         ensures told { IfOk result (λ blocks. (q : ℕ) → IsMarked blocks.told.items q → ⊥) }
@@ -87,7 +89,7 @@ impl Blocks {
         })
     }
 
-    /// Tells a package and what it reaches and is not told, as one block. It answers whether all of the block reach the package.
+    /// Lists `root` and all that it reaches and that is not listed yet, as one block. Returns whether all of the block reach `root`.
     fn add(
         &mut self,
         alloc: Global,
@@ -106,7 +108,7 @@ impl Blocks {
         leads_back(alloc, importers, &mut self.barred, &block, root)
     }
 
-    /// Tells blocks from some packages on. It answers whether each was one.
+    /// Lists a block from each of `roots`, in turn. Stops and returns false at the first block of which not all reach its root.
     fn add_all(
         &mut self,
         alloc: Global,
@@ -130,9 +132,11 @@ impl Blocks {
     }
 }
 
-/// All packages in such an order, if the blocks are told from the right packages on: a block is what a package reaches and is not
-/// told, and all of it has to reach that package too. That is so where the packages are taken that a search along importers leaves
-/// last; only speed rests on that.
+/// All packages in an order as in `IsOrder`, built block by block: from each root, the packages that it reaches and that are not listed
+/// yet. `None` where not all of a block reach its root.
+///
+/// Where the roots are those that a depth-first search along importers leaves last, each block is a set of packages that reach each other.
+/// That it is so is not proved, and costs only speed.
 pub(crate) fn order(
     alloc: Global,
     imports: &LinkRows,

@@ -1,4 +1,4 @@
-//! A package with its parsed files.
+//! Packages with their parsed files.
 ghost use Rattle.std.specs.Prelude.{IfOk};
 ghost use Rattle.workspace_graph.specs.Drafts.{IsSamePackage};
 
@@ -6,7 +6,7 @@ use crate::faulty_file::FaultyFile;
 use go_ast::FileTree;
 use std::alloc::AllocError;
 
-/// The Go files of a folder in the order of their paths: those that have a tree, and the others.
+/// The Go files of a folder, in the order of their paths: `trees` has those that parse, and `faulty` the others.
 #[derive(Drop)]
 pub struct ParsedPackage {
     pub path: Vec<u8>,
@@ -15,7 +15,7 @@ pub struct ParsedPackage {
 }
 
 impl ParsedPackage {
-    /// The same files. Their trees are shared.
+    /// A copy of the package, which shares the trees.
     pub(crate) fn copy(&self) -> Result<ParsedPackage, AllocError>
         ensures { IfOk result (λ copy. IsSamePackage copy self.now) }
     {

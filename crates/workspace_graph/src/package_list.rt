@@ -1,4 +1,4 @@
-//! A list of packages, by their numbers.
+//! Lists of packages by number.
 ghost use Rattle.std.specs.Prelude.{◌≡◌};
 
 use std::marker::Model;
@@ -18,12 +18,14 @@ impl Model for PackageList {
 }
 
 impl PackageList {
+    /// The list of these numbers.
     pub fn from_numbers(numbers: Vec<usize>) -> PackageList
         ensures { result ≡ numbers.items }
     {
         PackageList { numbers }
     }
 
+    /// The numbers as a slice.
     pub fn as_slice(&self) -> &[usize]
         ensures { result.now ≡ self.now }
     {

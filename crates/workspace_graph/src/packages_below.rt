@@ -1,8 +1,8 @@
-//! What a package builds on.
+//! The packages on which a package builds.
 use crate::package_list::PackageList;
 
-/// What a package imports, directly or indirectly, and what does not so import it; and marks that tell of what it so imports whether
-/// it so imports that package.
+/// The packages that a package reaches and that do not reach it (`built_on`). `back` marks, of the packages that it reaches, those that
+/// reach it.
 #[derive(Drop)]
 pub struct PackagesBelow {
     pub built_on: PackageList,

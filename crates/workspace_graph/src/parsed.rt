@@ -1,4 +1,4 @@
-//! A file as it was parsed.
+//! Parses one file of a package.
 ghost use Rattle.std.specs.Prelude.{◌≡◌, IfOk, IfErr};
 ghost use Rattle.go_parser.specs.Parsed.{IsTextRefusedFor};
 ghost use Rattle.go_ast.specs.Faults.{IsFaultOf};
@@ -12,21 +12,21 @@ use go_parser::{ParseRefusal, parse_file, parse_file_like};
 use go_scanner::TextFault;
 use std::alloc::{AllocError, Global};
 
-/// A Go file's tree, or its first fault.
+/// The tree of a Go file, or the file with its first fault.
 #[derive(Drop)]
 pub(crate) enum ParsedFile {
     Sound(FileTree),
     Faulty(FaultyFile),
 }
 
-/// A file's tree is that of its cut.
+/// A lemma: the tree of a `FileTree` is the tree of its tokens.
 fn is_source_file(tree: &FileTree)
     ensures { IsSourceFile (source_of tree.now) }
 {
     let _ = tree.file();
 }
 
-/// A file without a tree, with its first fault.
+/// A file without a tree, with the first fault of its text.
 fn faulty(path: &Path, text: &FileText, fault: TextFault) -> Result<ParsedFile, AllocError>
     requires { IsFaultOf text.now fault }
     ensures { IfOk result (IsParsedAs path.now text.now) }
@@ -35,7 +35,7 @@ fn faulty(path: &Path, text: &FileText, fault: TextFault) -> Result<ParsedFile, 
     Ok(ParsedFile::Faulty(file))
 }
 
-/// Reads a file. One that is at hand may have the same tree: then both share it.
+/// Parses a file. Where its tokens are of the same kinds as those of `like`, both share their tree.
 fn read(
     alloc: Global,
     path: &Path,
@@ -52,7 +52,7 @@ fn read(
     }
 }
 
-/// Parses a file, unless it shares the tree of one that is at hand.
+/// Parses a file. Returns its tree, which it may share with `like`, or its first fault.
 pub(crate) fn parse(
     alloc: Global,
     path: &Path,

@@ -1,4 +1,4 @@
-//! The paths that files import, told by those that they imported before one of the files changed.
+//! Decides whether the import paths of a package stay when one of its files changes.
 ghost use Rattle.std.specs.Prelude.{◌⊎◌, ℕ, List, IfOk, IsTrue, OnOk};
 ghost use Rattle.std.specs.Option.{option_copied};
 ghost use Rattle.std.specs.List.{Contains};
@@ -11,7 +11,7 @@ use go_ast::FileTree;
 use std::alloc::{AllocError, Global};
 use std::collections::BTreeSet;
 
-/// Whether one of some imports is of a path.
+/// Whether one of the imports is of the path.
 fn is_imported(imports: &[FileImport], path: &[u8]) -> bool
     ensures { IsTrue result → SomeStandFor imports.now path.now }
 {
@@ -25,7 +25,7 @@ fn is_imported(imports: &[FileImport], path: &[u8]) -> bool
     false
 }
 
-/// Whether one of some files imports a path.
+/// Whether one of the files imports the path.
 fn is_imported_by(alloc: Global, files: &[FileTree], path: &[u8]) -> Result<bool, AllocError>
     ensures { IfOk result (λ is. IsTrue is → SomeImport files.now path.now) }
 {
@@ -38,7 +38,8 @@ fn is_imported_by(alloc: Global, files: &[FileTree], path: &[u8]) -> Result<bool
     Ok(false)
 }
 
-/// Whether the path of an import, if it has one, is that of another import, or one of some files imports it.
+/// Whether the path of an import is still imported: by one of the imports `come`, or by one of the files. True where the import has no
+/// path.
 fn is_kept(
     alloc: Global,
     import: &FileImport,
@@ -56,7 +57,7 @@ fn is_kept(
     is_imported_by(alloc, files, path)
 }
 
-/// The same for each of some imports.
+/// Whether the path of each import of `gone` is still imported, as in `is_kept`.
 fn are_kept(
     alloc: Global,
     gone: &[FileImport],
@@ -73,7 +74,7 @@ fn are_kept(
     Ok(true)
 }
 
-/// The same for what a file imported that is gone.
+/// Whether each path that a removed file imported is still imported, as in `is_kept`.
 fn keep_imports(
     alloc: Global,
     gone: Option<&FileTree>,
@@ -91,7 +92,7 @@ fn keep_imports(
     }
 }
 
-/// Whether the paths of some imports are among others.
+/// Whether the paths of all imports are in the set.
 fn are_among(come: &[FileImport], paths: &BTreeSet<Vec<u8>>) -> bool
     ensures { IsTrue result → (q : List ℕ) → SomeStandFor come.now q → Contains (bytes_of_paths paths.now.keys) q }
 {
@@ -105,8 +106,8 @@ fn are_among(come: &[FileImport], paths: &BTreeSet<Vec<u8>>) -> bool
     true
 }
 
-/// What files imported before one of them changed: the file that is gone, if it had a tree, what the one that came imports, and the
-/// files as they are now.
+/// The change of one file of a package. `imports` has the paths that the files imported before it, and `gone` is the removed tree. `come`
+/// has the imports of the new tree, and `files` are all trees after the change.
 #[derive(Clone, Copy)]
 pub(crate) struct FileChange<'a> {
     pub(crate) imports: &'a BTreeSet<Vec<u8>>,
@@ -115,8 +116,8 @@ pub(crate) struct FileChange<'a> {
     pub(crate) files: &'a [FileTree],
 }
 
-/// Whether files import what they imported before. Other files than the one that changed are read only where it imported a path that
-/// it imports no more. A no tells nothing: what they import is read again then.
+/// Whether the files still import exactly the paths that they imported before the change. False may be wrong, and the paths are then read
+/// again. Files other than the changed one are read only if it dropped an import path.
 pub(crate) fn stay(alloc: Global, change: FileChange<'_>) -> Result<bool, AllocError>
     requires { IsRenewed change.imports.now.keys (option_copied change.gone) change.come.now change.files.now }
     ensures { IfOk result (λ stay. IsTrue stay → HoldsPaths (SomeImport change.entry.files.now) change.entry.imports.now.keys) }

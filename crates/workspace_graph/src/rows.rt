@@ -1,4 +1,4 @@
-//! Which packages each imports, by number.
+//! Computes which packages each package imports, by number.
 ghost use Rattle.std.specs.Prelude.{◌≡◌, IfOk, IsTrue, OnOk, Some, slice_get};
 ghost use Rattle.std.specs.List.{AllZip};
 ghost use Rattle.std.specs.List.Sorted.{IsStrictlyIncreasing, IsStrictlySortedBy};
@@ -14,7 +14,7 @@ use crate::shared_package::{SharedPackage, number_near, place_near};
 use std::alloc::{AllocError, Global};
 use std::collections::BTreeSet;
 
-/// The number at a place of a row, or 0.
+/// The number at a place of a row, or 0 where the row is shorter.
 fn number_at(row: &[usize], place: usize) -> usize {
     match row.get(place) {
         Some(number) => *number,
@@ -22,7 +22,7 @@ fn number_at(row: &[usize], place: usize) -> usize {
     }
 }
 
-/// Adds the package that has a path, if one has it. It is looked for first at a number and beside it.
+/// Adds the number of the package at a path, if there is one. It is first looked for at the number `near` and beside it.
 fn add_path(
     packages: &[SharedPackage],
     path: &[u8],
@@ -38,8 +38,7 @@ fn add_path(
     Ok(())
 }
 
-/// Puts the packages that have some paths into a row in place of what is there. Each is looked for first where a row of an earlier
-/// graph has it.
+/// Fills a row with the numbers of the packages at some paths. Each is first looked for at its number in an earlier graph.
 fn fill_numbers(
     packages: &[SharedPackage],
     paths: &BTreeSet<Vec<u8>>,
@@ -57,7 +56,7 @@ fn fill_numbers(
     Ok(())
 }
 
-/// Whether each number is below the next.
+/// Whether each number is less than the next.
 fn is_rising(row: &[usize]) -> bool
     ensures { IsTrue result → IsStrictlyIncreasing row.now }
 {
@@ -69,8 +68,8 @@ fn is_rising(row: &[usize]) -> bool
     true
 }
 
-/// Puts the packages that the files of one import into a row in place of what is there. Each is looked for first where a row of an
-/// earlier graph has it. Paths in their order have numbers in their order, unless two paths have one package.
+/// Fills a row with the packages that the files of `importer` import, in increasing order. Each is first looked for at its number in an
+/// earlier graph. The numbers are sorted only if they do not rise already.
 pub(crate) fn fill_row(
     packages: &[SharedPackage],
     importer: &SharedPackage,
@@ -88,14 +87,14 @@ pub(crate) fn fill_row(
     Ok(())
 }
 
-/// Packages by number, and which imports which, as they were in an earlier graph.
+/// The packages of an earlier graph by number, and their links.
 #[derive(Clone, Copy)]
 pub(crate) struct EarlierGraph<'a> {
     pub(crate) packages: &'a [SharedPackage],
     pub(crate) links: &'a ImportLinks,
 }
 
-/// What the package of a path imported in an earlier graph, if it is found there at a number or beside it.
+/// The imports that the package at a path had in an earlier graph, if its number there was `near` or one beside it; otherwise none.
 fn earlier_row<'a>(earlier: Option<EarlierGraph<'a>>, path: &[u8], near: usize) -> &'a [usize] {
     let Some(earlier) = earlier else {
         return &[];
@@ -106,7 +105,7 @@ fn earlier_row<'a>(earlier: Option<EarlierGraph<'a>>, path: &[u8], near: usize) 
     }
 }
 
-/// How many links an earlier graph has.
+/// The number of links in an earlier graph, or 0 where there is none.
 fn earlier_count(earlier: Option<EarlierGraph<'_>>) -> usize {
     match earlier {
         Some(earlier) => earlier.links.import_rows().number_count(),
@@ -114,7 +113,7 @@ fn earlier_count(earlier: Option<EarlierGraph<'_>>) -> usize {
     }
 }
 
-/// For each package, those that its files import. Only speed rests on the earlier graph.
+/// For each package, the packages that its files import. The earlier graph only makes this faster.
 pub(crate) fn rows(
     alloc: Global,
     packages: &[SharedPackage],

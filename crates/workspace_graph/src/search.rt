@@ -1,4 +1,4 @@
-//! A search among packages, from one along links, which stops at what is marked.
+//! A search along links from one package, which passes no marked package.
 ghost use Rattle.std.specs.Prelude.{◌≡◌, ◌<◌, Bool, List, length, slice_index_or, IfOk, OnOk};
 ghost use Rattle.workspace_graph.specs.Imports.{AreLinked, Imports};
 ghost use Rattle.workspace_graph.specs.Search.{Finds, Notes, Spreads, AreClosedUnder, MarksReached};
@@ -6,7 +6,7 @@ ghost use Rattle.workspace_graph.specs.Search.{Finds, Notes, Spreads, AreClosedU
 use crate::link_rows::LinkRows;
 use std::alloc::{AllocError, Global};
 
-/// Notes that a package was found, unless it is marked.
+/// Marks a package and adds it to `found`, unless it is marked.
 fn note(found: &mut Vec<usize>, marks: &mut Vec<bool>, number: usize) -> Result<(), AllocError>
     requires { number < length marks.old.items }
     ensures size { OnOk result (length marks.new.items ≡ length marks.old.items) }
@@ -20,7 +20,7 @@ fn note(found: &mut Vec<usize>, marks: &mut Vec<bool>, number: usize) -> Result<
     Ok(())
 }
 
-/// Finds all that the package found at a place leads to.
+/// Marks and adds all packages that the found package at index `place` links to.
 fn follow(
     links: &LinkRows,
     found: &mut Vec<usize>,
@@ -41,7 +41,7 @@ fn follow(
     Ok(())
 }
 
-/// Marks a package and all that it leads to, as far as no marked package bars the way, and lists what it marks.
+/// Marks `start` and all packages that it reaches along ways without a marked package. Returns those that it marks.
 pub(crate) fn spread(
     alloc: Global,
     links: &LinkRows,
@@ -63,7 +63,7 @@ pub(crate) fn spread(
     Ok(found)
 }
 
-/// Marks a package and all that it leads to, where all that marked ones lead to is marked.
+/// Marks `start` and all packages that it reaches. All that marked packages reach must be marked already.
 pub(crate) fn reach(
     alloc: Global,
     links: &LinkRows,

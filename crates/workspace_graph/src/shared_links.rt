@@ -8,7 +8,7 @@ use std::alloc::{AllocError, Global};
 use std::marker::Model;
 use std::sync::Arc;
 
-/// Links that no longer change. A clone shares them.
+/// Links behind a counted reference, which do not change. A clone shares them.
 #[derive(Drop)]
 pub(crate) struct SharedLinks {
     links: Arc<ImportLinks, Global>,
@@ -24,7 +24,7 @@ impl Model for SharedLinks {
 }
 
 impl SharedLinks {
-    /// Finds what is asked of the rows, unless they are those of the links before.
+    /// The links with these imports. Shares `before` where it has equal imports, and otherwise finds the importers.
     pub(crate) fn of(
         alloc: Global,
         before: Option<&SharedLinks>,
@@ -42,6 +42,7 @@ impl SharedLinks {
         SharedLinks::new(alloc, links)
     }
 
+    /// The shared links.
     pub(crate) fn new(alloc: Global, links: ImportLinks) -> Result<SharedLinks, AllocError>
         ensures { IfOk result (λ shared. shared ≡ links) }
     {
@@ -49,6 +50,7 @@ impl SharedLinks {
         Ok(SharedLinks { links })
     }
 
+    /// The links.
     pub(crate) fn links(&self) -> &ImportLinks
         ensures { result.now ≡ self.now }
     {

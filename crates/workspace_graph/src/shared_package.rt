@@ -16,14 +16,14 @@ use std::collections::BTreeSet;
 use std::marker::Model;
 use std::sync::Arc;
 
-/// A package with the paths that its files import.
+/// A package, and the paths that its files import.
 #[derive(Drop)]
 struct PackageParts {
     package: ParsedPackage,
     imports: Arc<BTreeSet<Vec<u8>>, Global>,
 }
 
-/// The paths that the files of a draft import.
+/// The paths that the files of a draft import. They are read where the draft does not know them.
 fn imports_of(alloc: Global, draft: &Draft) -> Result<Arc<BTreeSet<Vec<u8>>, Global>, AllocError>
     requires { IsDraft draft.now }
     ensures { IfOk result (λ paths. HoldsPaths (SomeImport draft.now.package.trees.items) (arc_value paths).keys) }
@@ -37,7 +37,7 @@ fn imports_of(alloc: Global, draft: &Draft) -> Result<Arc<BTreeSet<Vec<u8>>, Glo
     }
 }
 
-/// A package that no longer changes. A clone shares it.
+/// A package behind a counted reference, which does not change. A clone shares it.
 #[derive(Drop)]
 pub(crate) struct SharedPackage {
     parts: Arc<PackageParts, Global>,
@@ -59,7 +59,7 @@ impl Model for SharedPackage {
 }
 
 impl SharedPackage {
-    /// Reads what the files import where the draft does not tell it.
+    /// The package of a draft. Its import paths are read where the draft does not know them.
     pub(crate) fn of(alloc: Global, draft: Draft) -> Result<SharedPackage, AllocError>
         requires { IsDraft draft }
         ensures { IfOk result (λ shared. shared ≡ draft.package) }
@@ -74,7 +74,7 @@ impl SharedPackage {
         })
     }
 
-    /// The same files and imports, of which files can be set.
+    /// A draft with the files and import paths of the package, of which files can be set.
     pub(crate) fn to_draft(&self) -> Result<Draft, AllocError>
         ensures draft { IfOk result IsDraft }
         ensures package { IfOk result (λ draft. IsSamePackage draft.package self.now) }
@@ -88,19 +88,21 @@ impl SharedPackage {
         })
     }
 
+    /// The package.
     pub(crate) fn package(&self) -> &ParsedPackage
         ensures { result.now ≡ self.now }
     {
         &self.parts.package
     }
 
+    /// The path of the package.
     pub(crate) fn path(&self) -> &[u8]
         ensures { result.now ≡ self.now.path.items }
     {
         &self.parts.package.path
     }
 
-    /// The paths that the files import.
+    /// The paths that the files of the package import.
     pub(crate) fn imports(&self) -> &BTreeSet<Vec<u8>>
         ensures { HoldsPaths (SomeImport self.now.trees.items) result.now.keys }
     {
@@ -117,7 +119,7 @@ impl Clone for SharedPackage {
     }
 }
 
-/// The number of the package that has a path.
+/// The number of the package at a path, or `None` where there is no such package.
 pub(crate) fn number_of(packages: &[SharedPackage], path: &[u8]) -> Option<usize>
     requires { IsStrictlySortedBy path_cmp (paths_of packages.now) }
     ensures { MatchOption result (Contains (paths_of packages.now) path.now → ⊥) (λ number. slice_get (paths_of packages.now) number ≡ Some path.now) }
@@ -128,14 +130,14 @@ pub(crate) fn number_of(packages: &[SharedPackage], path: &[u8]) -> Option<usize
     }
 }
 
-/// Whether the package of a number has a path.
+/// Whether there is a package of that number, and it has the path.
 fn is_at(packages: &[SharedPackage], number: usize, path: &[u8]) -> bool
     ensures { IsTrue result → slice_get (paths_of packages.now) number ≡ Some path.now }
 {
     number < packages.len() && packages[number].path() == path
 }
 
-/// The number of the package that has a path, if it is that one or one beside it.
+/// The number of the package at a path, if it is `near`, `near + 1` or `near - 1`.
 pub(crate) fn place_near(packages: &[SharedPackage], path: &[u8], near: usize) -> Option<usize>
     ensures { IfSome result (λ number. slice_get (paths_of packages.now) number ≡ Some path.now) }
 {
@@ -152,7 +154,7 @@ pub(crate) fn place_near(packages: &[SharedPackage], path: &[u8], near: usize) -
     }
 }
 
-/// The number of the package that has a path, which is looked for first at a number and beside it.
+/// The number of the package at a path, or `None` where there is no such package. It is first looked for at `near` and beside it.
 pub(crate) fn number_near(packages: &[SharedPackage], path: &[u8], near: usize) -> Option<usize>
     requires { IsStrictlySortedBy path_cmp (paths_of packages.now) }
     ensures { MatchOption result (Contains (paths_of packages.now) path.now → ⊥) (λ number. slice_get (paths_of packages.now) number ≡ Some path.now) }

@@ -1,4 +1,4 @@
-//! The packages after files changed: at some paths others than before, which come, or go where they have no file.
+//! The packages after a change of files, where packages may be replaced, added and removed.
 ghost use Rattle.std.specs.Prelude.{◌≡◌, ◌≤◌, IfOk, IfSome, OnOk, Some, length, slice_get, MatchResult};
 ghost use Rattle.std.specs.List.{insert};
 ghost use Rattle.std.specs.List.Sorted.{IsStrictlySortedBy};
@@ -11,7 +11,7 @@ use crate::changed::has_file;
 use crate::shared_package::SharedPackage;
 use std::alloc::AllocError;
 
-/// The number of the package that has a path, and otherwise the place where one would stand.
+/// The number of the package at a path, or as `Err` the index at which it would be inserted.
 fn place_of(packages: &[SharedPackage], path: &[u8]) -> Result<usize, usize>
     requires { IsStrictlySortedBy path_cmp (paths_of packages.now) }
     ensures { MatchResult result (λ number. slice_get (paths_of packages.now) number ≡ Some path.now) (λ place. IsPlace (paths_of packages.now) path.now place) }
@@ -19,7 +19,7 @@ fn place_of(packages: &[SharedPackage], path: &[u8]) -> Result<usize, usize>
     packages.binary_search_by(|package| package.path().cmp(path))
 }
 
-/// Takes out the package that has a path, if one has it. The answer is the place where such a package would stand.
+/// Removes the package at a path, if there is one. Returns the index at which one would be inserted.
 fn take_out(packages: &mut Vec<SharedPackage>, path: &[u8]) -> usize
     requires { IsStrictlySortedBy path_cmp (paths_of packages.old.items) }
     ensures { TakesOut (λ p. p.path.items) path.now packages.old.items packages.new.items result }
@@ -33,7 +33,7 @@ fn take_out(packages: &mut Vec<SharedPackage>, path: &[u8]) -> usize
     }
 }
 
-/// Puts a package in the place of the one that has its path. One that has no file is only taken out.
+/// Sets the package at its path. A package without files is only removed.
 fn put(packages: &mut Vec<SharedPackage>, one: &SharedPackage) -> Result<(), AllocError>
     requires { IsStrictlySortedBy path_cmp (paths_of packages.old.items) }
     ensures { OnOk result (Puts one.now packages.old.items packages.new.items) }
@@ -46,7 +46,7 @@ fn put(packages: &mut Vec<SharedPackage>, one: &SharedPackage) -> Result<(), All
     Ok(())
 }
 
-/// The packages before, but at the paths of others those of these that have files.
+/// The packages before, with the fresh packages in place of those at their paths, or added. A fresh package without files is left out.
 pub(crate) fn updated(
     before: &Vec<SharedPackage>,
     fresh: &[SharedPackage],
@@ -62,14 +62,14 @@ pub(crate) fn updated(
     Ok(packages)
 }
 
-/// A package that comes among others, and the place where it stands among them.
+/// A new package, and the index at which it is inserted.
 #[derive(Clone, Copy)]
 pub(crate) struct Coming<'a> {
     pub(crate) one: &'a SharedPackage,
     pub(crate) place: usize,
 }
 
-/// The only one of some packages, if it has a file and none before has its path.
+/// The only fresh package, if it has a file and no package before has its path.
 pub(crate) fn one_that_comes<'a>(
     before: &[SharedPackage],
     fresh: &'a [SharedPackage],
@@ -90,7 +90,7 @@ pub(crate) fn one_that_comes<'a>(
     }
 }
 
-/// The packages before, and the one that comes.
+/// The packages before, with the new package inserted.
 pub(crate) fn with_coming(
     before: &Vec<SharedPackage>,
     coming: Coming<'_>,

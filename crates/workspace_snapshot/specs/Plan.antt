@@ -1,4 +1,4 @@
--- What a plan answers.
+-- The results of `plan_put` and `plan_del`.
 use Rattle.std.specs.Prelude.{◌≡◌, ◌≢◌, ℕ, List, [], ◌∷◌, ⊤, Option, Some, None, Result, Ok, Err}
 use Rattle.std.specs.FinMap as files
 use Rattle.base_files.specs.Path.{IsPath}
@@ -13,18 +13,21 @@ use Rattle.workspace_snapshot.specs.declared.snapshot.Snapshot.{Snapshot}
 use Rattle.workspace_snapshot.specs.declared.change.Change.{Change}
 use Rattle.workspace_snapshot.specs.declared.change.ChangeKind.TheVariants.{Put, Del}
 
--- a file of this path is dropped, if there is one, and the new one is added
+-- The change that drops the file at the path, if the path has a text; otherwise no change.
 abbrev pub replaced : Option (List ℕ) → List ℕ → List FileChange
 replaced None path = []
 replaced (Some old) path = dropped (path, []) ∷ []
 
+-- The edit set that sets the text of the file at a path: it drops the old file, if there is one, and adds the new one.
 abbrev pub put_changes : Workspace → List ℕ → List ℕ → FileChanges
 put_changes w path text = record { changed = replaced (files.get w path) path; added = (path, text) ∷ [] }
 
+-- The edit set that drops the file at a path.
 abbrev pub del_changes : List ℕ → FileChanges
 del_changes path = record { changed = dropped (path, []) ∷ []; added = [] }
 
--- setting the text of one file
+-- Planning to set the text of the file at `path` gives this result. `BadPath`: no path of two segments; `Same`: the file has this text;
+-- `TooLarge`: the files after the change would exceed a limit.
 abbrev pub PlansPut : Snapshot → List ℕ → List ℕ → Result Change Refusal → Type 0
 PlansPut snapshot path text (Ok change) =
     let base = snapshot.files in
@@ -38,7 +41,7 @@ PlansPut snapshot path text (Err TooLarge) = IsPath 2 path × (files.get snapsho
 PlansPut snapshot path text (Err Memory) = ⊤
 PlansPut snapshot path text (Err refusal) = ⊥
 
--- taking one file out
+-- Planning to delete the file at `path` gives this result. `BadPath`: no path of two segments; `NoFile`: there is no file at the path.
 abbrev pub PlansDel : Snapshot → List ℕ → Result Change Refusal → Type 0
 PlansDel snapshot path (Ok change) =
     let base = snapshot.files in

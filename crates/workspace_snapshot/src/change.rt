@@ -2,7 +2,7 @@
 use base_edits::EditSet;
 use workspace_graph::Graph;
 
-/// What a change does to the files.
+/// The command that planned a change.
 #[derive(Clone, Copy, Debug, PartialEq, Eq)]
 pub enum ChangeKind {
     Put,
@@ -11,7 +11,7 @@ pub enum ChangeKind {
     Move,
 }
 
-/// The edits of the files that the change was planned on, and the files that replace these, both with their graphs.
+/// A change: the files on which it was planned, its edit set, and the files after it. Both hold their files as graphs.
 #[derive(Drop)]
 pub struct Change {
     pub base: Graph,

@@ -1,4 +1,4 @@
-//! Whether files keep the limits.
+//! Checks whether files keep the limits.
 ghost use Rattle.std.specs.Prelude.{◌↔◌, IsTrue};
 ghost use Rattle.std.specs.FinMap as map;
 ghost use Rattle.workspace_snapshot.specs.Fits.{SizesFit, FilesFit, FitsLimits};
@@ -6,7 +6,7 @@ ghost use Rattle.workspace_snapshot.specs.Fits.{SizesFit, FilesFit, FitsLimits};
 use base_files::{Files, Limits};
 use workspace_graph::Graph;
 
-/// Whether each file has at most so many bytes, and all files together at most so many.
+/// Whether each file has at most `each` bytes, and all files together have at most `all` bytes.
 fn sizes_fit(files: &Files, each: usize, all: usize) -> bool
     ensures { IsTrue result ↔ SizesFit each all (map.entries files.now) }
 {
@@ -20,7 +20,7 @@ fn sizes_fit(files: &Files, each: usize, all: usize) -> bool
     true
 }
 
-/// Whether the files keep the limits on bytes and on their number.
+/// Whether the files keep the limits on bytes and on the number of files.
 fn files_fit(limits: &Limits, files: &Files) -> bool
     ensures { IsTrue result ↔ FilesFit limits.now files.now }
 {

@@ -1,4 +1,4 @@
-//! Changes whose files are what their edit sets make.
+//! Changes whose files are what their edit sets make of the base.
 ghost use Rattle.std.specs.Prelude.{◌≡◌, IfOk};
 ghost use Rattle.base_edits.specs.EditSet.{edited};
 ghost use Rattle.base_edits.specs.Fits.{Fits};
@@ -14,12 +14,12 @@ use std::alloc::{AllocError, Global};
 use std::marker::Model;
 use workspace_graph::Graph;
 
-/// A change whose files are what its edit set, which fits its base, makes of that. Contracts see the change alone.
+/// A change whose edit set fits its base and makes its files. Its value in contracts is the `Change` alone.
 pub struct MadeChange {
     change: Change,
 }
 
-/// Written out, so that crates above call it and don't prove again how each part is dropped.
+/// Written out so that crates above need not prove again how each part is dropped.
 impl Drop for MadeChange {
     fn drop(self) {
         let MadeChange { change } = self;
@@ -41,8 +41,7 @@ impl Model for MadeChange {
     ghost invariant = { λ a. IsMade a.change };
 }
 
-/// The graph of the files that an edit set makes of those of a graph. Of the packages in whose
-/// folders it names files only these files are looked at.
+/// The graph of the files after an edit set, made from the graph before it. Only files that the edit set names are looked at.
 fn graph_after(
     alloc: Global,
     base: &Graph,
@@ -81,12 +80,14 @@ impl MadeChange {
         Ok(MadeChange { change })
     }
 
+    /// The change.
     pub fn get(&self) -> &Change
         ensures { result.now ≡ self.now }
     {
         &self.change
     }
 
+    /// The change, by value.
     pub fn into_change(self) -> Change
         ensures { result ≡ self }
     {
@@ -94,7 +95,8 @@ impl MadeChange {
         change
     }
 
-    /// The paths of all files that the edit set names. One may come several times. Go files at other paths stay as they are.
+    /// The paths of all files that the edit set names, some perhaps several times. Go files at other paths have the same text before and
+    /// after the change.
     pub fn paths<'a>(&'a self, alloc: Global) -> Result<Vec<&'a Path>, AllocError>
         ensures { IfOk result (λ paths. DiffersOnlyAt (names paths.items) self.now.base self.now.files) }
     {

@@ -1,4 +1,4 @@
-//! The paths of the files that an edit set names.
+//! Collects the paths of the files that an edit set names.
 ghost use Rattle.std.specs.Prelude.{◌≡◌, IfOk, OnOk};
 ghost use Rattle.workspace_graph.specs.Filling.{names};
 ghost use Rattle.workspace_snapshot.specs.Named.{AddsPaths, HoldsPaths, IsNamed, IsOfAdded, IsOfChange, IsOfChanges};
@@ -7,6 +7,7 @@ use base_edits::{EditSet, Fate, FileChange};
 use base_files::{FileText, Path};
 use std::alloc::{AllocError, Global};
 
+/// Adds a path.
 fn add_path<'a>(paths: &mut Vec<&'a Path>, path: &'a Path) -> Result<(), AllocError>
     ensures { OnOk result (AddsPaths (λ p. path.now ≡ p) (names paths.old.items) (names paths.new.items)) }
 {
@@ -14,7 +15,7 @@ fn add_path<'a>(paths: &mut Vec<&'a Path>, path: &'a Path) -> Result<(), AllocEr
     Ok(())
 }
 
-/// Adds the path of a changed file, and where it moves to.
+/// Adds the path of a changed file, and the path to which it moves, if it does.
 fn add_change<'a>(paths: &mut Vec<&'a Path>, change: &'a FileChange) -> Result<(), AllocError>
     ensures { OnOk result (AddsPaths (IsOfChange change.now) (names paths.old.items) (names paths.new.items)) }
 {
@@ -26,6 +27,7 @@ fn add_change<'a>(paths: &mut Vec<&'a Path>, change: &'a FileChange) -> Result<(
     }
 }
 
+/// Adds the paths of all changes, as `add_change` does for one.
 fn add_changes<'a>(paths: &mut Vec<&'a Path>, changes: &'a [FileChange]) -> Result<(), AllocError>
     ensures { OnOk result (AddsPaths (IsOfChanges changes.now) (names paths.old.items) (names paths.new.items)) }
 {
@@ -35,6 +37,7 @@ fn add_changes<'a>(paths: &mut Vec<&'a Path>, changes: &'a [FileChange]) -> Resu
     Ok(())
 }
 
+/// Adds the paths of the added files.
 fn add_added<'a>(paths: &mut Vec<&'a Path>, added: &'a [(Path, FileText)]) -> Result<(), AllocError>
     ensures { OnOk result (AddsPaths (IsOfAdded added.now) (names paths.old.items) (names paths.new.items)) }
 {
@@ -44,7 +47,7 @@ fn add_added<'a>(paths: &mut Vec<&'a Path>, added: &'a [(Path, FileText)]) -> Re
     Ok(())
 }
 
-/// The paths of all files that an edit set names. One may come several times.
+/// The paths of all files that an edit set names, some perhaps several times.
 pub(crate) fn named_paths<'a>(
     alloc: Global,
     edits: &'a EditSet,

@@ -1,4 +1,4 @@
-//! Changes of one file.
+//! Plans changes of one file: put and del.
 ghost use Rattle.std.specs.Prelude.{◌≡◌, ◌≢◌, ◌↔◌, [], IsTrue, IfOk};
 ghost use Rattle.std.specs.FinMap as map;
 ghost use Rattle.base_edits.specs.Inverse.{dropped};
@@ -12,6 +12,7 @@ use base_edits::{EditSet, Edits, Fate, FileChange};
 use base_files::{FileText, Files, Path, Refusal};
 use std::alloc::{AllocError, Global};
 
+/// Whether the file at the path exists and has the text.
 fn has_text(files: &Files, path: &Path, text: &FileText) -> bool
     ensures { IsTrue result ↔ (map.get files.now path.now ≡ Some text.now) }
 {
@@ -21,7 +22,7 @@ fn has_text(files: &Files, path: &Path, text: &FileText) -> bool
     }
 }
 
-/// The change that drops the file of a path.
+/// The change that drops the file at a path.
 fn dropping(alloc: Global, path: &Path) -> Result<FileChange, AllocError>
     ensures { IfOk result (λ change. change ≡ dropped (path.now, [])) }
 {
@@ -32,7 +33,7 @@ fn dropping(alloc: Global, path: &Path) -> Result<FileChange, AllocError>
     })
 }
 
-/// The edit set that takes one file out.
+/// The edit set that drops the file at a path.
 fn del_edits(alloc: Global, path: &Path) -> Result<EditSet, AllocError>
     ensures { IfOk result (λ edits. edits ≡ del_changes path.now) }
 {
@@ -41,7 +42,7 @@ fn del_edits(alloc: Global, path: &Path) -> Result<EditSet, AllocError>
     Ok(EditSet::new(changed, Vec::new(alloc)))
 }
 
-/// The change of a file that is replaced, if there is one.
+/// The change that drops the file at a path, if there is one; otherwise no change.
 fn replacing(alloc: Global, files: &Files, path: &Path) -> Result<Vec<FileChange>, AllocError>
     ensures { IfOk result (λ changed. changed.items ≡ replaced (map.get files.now path.now) path.now) }
 {
@@ -52,7 +53,7 @@ fn replacing(alloc: Global, files: &Files, path: &Path) -> Result<Vec<FileChange
     Ok(changed)
 }
 
-/// The edit set that sets the text of one file.
+/// The edit set that sets the text of the file at a path.
 fn put_edits(
     alloc: Global,
     files: &Files,
@@ -67,6 +68,7 @@ fn put_edits(
     Ok(EditSet::new(changed, added))
 }
 
+/// The change of a snapshot that deletes the file at a path.
 fn del_change(alloc: Global, snapshot: &Snapshot, path: &Path) -> Result<MadeChange, AllocError>
     requires { map.get snapshot.now.files path.now ≢ None }
     ensures { IfOk result (λ change. change ≡ record { base = snapshot.now.files; kind = ChangeKind.Del; edits = del_changes path.now; files = map.remove snapshot.now.files path.now }) }
@@ -75,6 +77,7 @@ fn del_change(alloc: Global, snapshot: &Snapshot, path: &Path) -> Result<MadeCha
     MadeChange::of(alloc, snapshot, ChangeKind::Del, edits)
 }
 
+/// The change of a snapshot that sets the text of the file at a path.
 fn put_change(
     alloc: Global,
     snapshot: &Snapshot,
@@ -87,7 +90,8 @@ fn put_change(
     MadeChange::of(alloc, snapshot, ChangeKind::Put, edits)
 }
 
-/// The change that takes one file out.
+/// Plans the deletion of the file at a path. Refuses with `BadPath` what is no path of at least two segments, and with `NoFile` a path
+/// without a file.
 pub fn plan_del(alloc: Global, snapshot: &Snapshot, path: &str) -> Result<MadeChange, Refusal>
     ensures { PlansDel snapshot.now path.now result }
 {
@@ -99,7 +103,8 @@ pub fn plan_del(alloc: Global, snapshot: &Snapshot, path: &str) -> Result<MadeCh
     Ok(change)
 }
 
-/// The change that sets the text of one file.
+/// Plans to set the text of the file at a path. Refuses with `BadPath` what is no path of at least two segments, and with `Same` the text
+/// that the file has. Refuses with `TooLarge` a change after which the files exceed a limit.
 pub fn plan_put(
     alloc: Global,
     snapshot: &Snapshot,

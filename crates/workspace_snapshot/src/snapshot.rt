@@ -1,9 +1,9 @@
-//! A workspace as it stood at one moment.
+//! Snapshots of a workspace.
 use base_files::Limits;
 use workspace_graph::Graph;
 
-/// A workspace as it stood under one number: its files with their graph, which contracts see as the files, and the limits
-/// that plans keep.
+/// A state of a workspace: its number, its files with their graph, and the limits that plans keep. The value of the graph in contracts is
+/// the files.
 #[derive(Drop)]
 pub struct Snapshot {
     pub number: u64,

@@ -1,4 +1,4 @@
--- What stands behind an offset of the new text.
+-- By the bytes of the new text from an offset on.
 use Rattle.base_edits.proofs.MovedPlaces.{keeps_bytes, puts_bytes}
 use Rattle.base_edits.proofs.laws.edits_keep_other_bytes.Goals as goal
 

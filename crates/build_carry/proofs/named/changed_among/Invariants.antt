@@ -1,4 +1,4 @@
--- Of the files that were passed the folders of those were found that are not the same afterwards.
+-- `changed` has the folders of the files that differ, among those that were passed.
 use Rattle.std.proofs.Common.{take}
 use Rattle.workspace_graph.specs.Filling.{names}
 use Rattle.build_carry.proofs.ChangedFiles.{AreNoted}

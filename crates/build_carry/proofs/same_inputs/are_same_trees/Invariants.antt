@@ -1,4 +1,4 @@
--- The files that were passed are the same.
+-- The files that were passed have equal paths and texts.
 use Rattle.std.proofs.Common.{◌≡◌, take, map}
 use Rattle.workspace_check.specs.Earlier.{tree_file}
 use Rattle.build_carry.proofs.same_inputs.are_same_trees.Given as goal

@@ -18,7 +18,7 @@ use Rattle.build_unit.specs.Units.{Faults, IsUnitOf, IsUnitValue, TellsOnly, uni
 use Rattle.build_unit.proofs.Faultless.{compiled_as}
 use Rattle.build_unit.proofs.compiling.unit_by.Goals as goal
 
--- a unit that stands for faults tells of no package
+-- A unit that stands for faults has no export data.
 faults_alone : (p : List ℕ) (list : List FileFault) (unit : PackageUnit) → unit_value p unit ≡ Faults list → TellsOnly p unit
 faults_alone p list (compiled.Faults first others) e = tt
 faults_alone p list (compiled.Done interface object) e = absurd (cc)

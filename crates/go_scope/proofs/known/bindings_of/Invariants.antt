@@ -1,4 +1,4 @@
--- The invariants of the loops of `known::bindings_of`.
+-- The invariants of the loops of `contents::bindings_of`.
 use Rattle.go_scope.specs.Known.{AreBindings}
 use Rattle.go_scope.specs.Numbering.{told}
 use Rattle.go_scope.specs.Table.{layout_of}

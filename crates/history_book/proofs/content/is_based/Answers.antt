@@ -1,4 +1,4 @@
--- The files of the base are the same.
+-- The base of the change has the same bytes in the same files.
 use Rattle.std.proofs.Common.{sym, ap, ◌∙◌}
 use Rattle.workspace_snapshot.specs.declared.change.Change.{Change}
 use Rattle.history_book.proofs.content.is_based.Goals as goal

@@ -1,4 +1,4 @@
--- The package is finished already, or is finished with the unit that was built.
+-- The package was finished before, or is finished with the unit that was built.
 use Rattle.std.proofs.Common.{◌≡◌, ℕ, ◌<◌, length, Some, slice_get, sym, ap, subst, ◌∙◌}
 use Rattle.std.proofs.Math.ListN.{set}
 use Rattle.std.proofs.lemmas.List.{length-set}

@@ -1,4 +1,4 @@
--- What is fresh comes to what its number tells.
+-- A fresh delivery has the outcome of its package's number.
 use Rattle.std.proofs.Common.{List, ℕ, Some, sym, ap, subst, ◌∙◌}
 use Rattle.build_unit.specs.Inputs.{AreInputs}
 use Rattle.history_book.specs.Fresh.{FindsFresh}

@@ -1,4 +1,4 @@
--- What brings the package's inputs is fresh where the numbers and the packages agree.
+-- A delivery that has its package's inputs is fresh where the numbers and the packages agree.
 use Rattle.std.proofs.Common.{List, ℕ, Some, sym, ap, subst, ◌∙◌}
 use Rattle.build_unit.specs.Inputs.{AreInputs}
 use Rattle.history_machine.proofs.Fresh.{is_fresh}

@@ -1,4 +1,4 @@
--- The package has a number in the state's files, unless it is none of them.
+-- The package has a number in the state's files, unless the state has no package of this path.
 use Rattle.std.proofs.Common.{◌≡◌, ℕ, List, MatchOption, Some, slice_get, subst, ◌∙◌, arith}
 use Rattle.std.specs.List.{Contains}
 use Rattle.base_files.specs.Packages.{package_paths}

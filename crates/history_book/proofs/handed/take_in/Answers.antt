@@ -1,4 +1,4 @@
--- The current state has the table and what is known then, both of its own packages.
+-- The current state gets the table and what is known after the delivery, both of its own packages.
 use Rattle.std.proofs.Common.{◌≡◌, length, sym, subst}
 use Rattle.base_files.specs.Packages.{package_paths}
 use Rattle.workspace_check.specs.Found.{KnowsVerdicts}

@@ -1,4 +1,4 @@
--- The elements so far are the same.
+-- Both lists agree in the elements before `i`.
 use Rattle.std.proofs.Common.{◌≡◌, take}
 use Rattle.history_machine.proofs.same.all_same.Given as goal
 

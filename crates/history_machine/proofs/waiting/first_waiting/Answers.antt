@@ -1,4 +1,4 @@
--- What is finished at the front of the table does not wait.
+-- The finished packages at the front of the table don't wait.
 use Rattle.std.proofs.Common.{subst}
 use Rattle.build_carry.specs.Finished.{AreFinishedBelow}
 use Rattle.history_machine.specs.State.{State}

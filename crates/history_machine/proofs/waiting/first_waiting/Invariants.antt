@@ -1,4 +1,4 @@
--- None of the packages that were passed waits.
+-- None of the packages before this one waits.
 use Rattle.std.proofs.Common.{◌≡◌, ℕ, ◌<◌, List, Some, slice_get}
 use Rattle.base_files.specs.Packages.{package_paths}
 use Rattle.history_machine.specs.Waiting.{IsWaiting}

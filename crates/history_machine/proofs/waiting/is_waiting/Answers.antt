@@ -1,4 +1,4 @@
--- A package that is unfinished waits where no Job of it is out, and one that is finished does not.
+-- An unfinished package waits where no Job of it is out; a finished one doesn't wait.
 use Rattle.std.proofs.Common.{◌≡◌, not, Some, slice_get, sym, ap, subst, ◌∙◌}
 use Rattle.std.proofs.lemmas.Bool.{false≢true}
 use Rattle.base_files.specs.Packages.{package_paths}

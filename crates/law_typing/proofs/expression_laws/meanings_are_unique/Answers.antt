@@ -1,4 +1,4 @@
--- The answers to the goals of `laws::meanings_are_unique`.
+-- The answers to the goals of `expression_laws::meanings_are_unique`.
 use Rattle.law_typing.proofs.Conclusions.{one_meaning}
 use Rattle.law_typing.proofs.expression_laws.meanings_are_unique.Goals as goal
 

@@ -1,4 +1,4 @@
--- The answers to the goals of `laws::what_has_no_fault_has_a_meaning`.
+-- The answers to the goals of `expression_laws::what_has_no_fault_has_a_meaning`.
 use Rattle.law_typing.proofs.Conclusions.{meant_without_faults}
 use Rattle.law_typing.proofs.expression_laws.what_has_no_fault_has_a_meaning.Goals as goal
 

@@ -1,4 +1,4 @@
--- The answers to the goals of `laws::what_has_no_meaning_is_refused`.
+-- The answers to the goals of `expression_laws::what_has_no_meaning_is_refused`.
 use Rattle.law_typing.proofs.Conclusions.{refused_or_meant}
 use Rattle.law_typing.proofs.expression_laws.what_has_no_meaning_is_refused.Goals as goal
 

@@ -1,4 +1,4 @@
--- The answers to the goals of `laws::faults_of_expressions_stand_at_broken_rules`.
+-- The answers to the goals of `place_laws::faults_of_expressions_stand_at_broken_rules`.
 use Rattle.law_typing.proofs.PlacedConclusions.{expression_places}
 use Rattle.law_typing.proofs.place_laws.faults_of_expressions_stand_at_broken_rules.Goals as goal
 

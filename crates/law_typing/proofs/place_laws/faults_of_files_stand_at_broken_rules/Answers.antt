@@ -1,4 +1,4 @@
--- The answers to the goals of `laws::faults_of_files_stand_at_broken_rules`.
+-- The answers to the goals of `place_laws::faults_of_files_stand_at_broken_rules`.
 use Rattle.law_typing.proofs.PlacedConclusions.{file_places}
 use Rattle.law_typing.proofs.place_laws.faults_of_files_stand_at_broken_rules.Goals as goal
 

@@ -1,4 +1,4 @@
--- The answers to the goals of `laws::faults_of_simple_statements_stand_at_broken_rules`.
+-- The answers to the goals of `place_laws::faults_of_simple_statements_stand_at_broken_rules`.
 use Rattle.law_typing.proofs.PlacedConclusions.{places}
 use Rattle.law_typing.proofs.PlacedSimple.{simple_told}
 use Rattle.law_typing.proofs.place_laws.faults_of_simple_statements_stand_at_broken_rules.Goals as goal

@@ -1,4 +1,4 @@
--- The answers to the goals of `laws::files_that_break_no_rule_are_typed`.
+-- The answers to the goals of `place_laws::files_that_break_no_rule_are_typed`.
 use Rattle.law_typing.proofs.PlacedConclusions.{unbroken_typed}
 use Rattle.law_typing.proofs.place_laws.files_that_break_no_rule_are_typed.Goals as goal
 

@@ -1,4 +1,4 @@
--- The answers to the goals of `laws::blocks_without_fault_are_typed`.
+-- The answers to the goals of `statement_laws::blocks_without_fault_are_typed`.
 use Rattle.law_typing.proofs.StatementConclusions.{settled_block}
 use Rattle.law_typing.proofs.statement_laws.blocks_without_fault_are_typed.Goals as goal
 

@@ -1,4 +1,4 @@
--- The answers to the goals of `laws::declarations_without_fault_are_typed`.
+-- The answers to the goals of `statement_laws::declarations_without_fault_are_typed`.
 use Rattle.law_typing.proofs.StatementConclusions.{settled_decl}
 use Rattle.law_typing.proofs.statement_laws.declarations_without_fault_are_typed.Goals as goal
 

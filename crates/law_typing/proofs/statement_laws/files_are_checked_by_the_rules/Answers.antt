@@ -1,4 +1,4 @@
--- The answers to the goals of `laws::files_are_checked_by_the_rules`.
+-- The answers to the goals of `statement_laws::files_are_checked_by_the_rules`.
 use Rattle.law_typing.proofs.StatementConclusions.{file_law}
 use Rattle.law_typing.proofs.statement_laws.files_are_checked_by_the_rules.Goals as goal
 

@@ -1,4 +1,4 @@
--- The answers to the goals of `laws::files_without_fault_are_typed`.
+-- The answers to the goals of `statement_laws::files_without_fault_are_typed`.
 use Rattle.law_typing.proofs.Declarations.{file_settled}
 use Rattle.law_typing.proofs.statement_laws.files_without_fault_are_typed.Goals as goal
 

@@ -1,4 +1,4 @@
--- The answers to the goals of `laws::functions_without_fault_are_typed`.
+-- The answers to the goals of `statement_laws::functions_without_fault_are_typed`.
 use Rattle.law_typing.proofs.StatementConclusions.{settled_function}
 use Rattle.law_typing.proofs.statement_laws.functions_without_fault_are_typed.Goals as goal
 

@@ -1,4 +1,4 @@
--- The answers to the goals of `laws::simple_statements_without_fault_are_typed`.
+-- The answers to the goals of `statement_laws::simple_statements_without_fault_are_typed`.
 use Rattle.law_typing.proofs.StatementConclusions.{settled_simple}
 use Rattle.law_typing.proofs.statement_laws.simple_statements_without_fault_are_typed.Goals as goal
 

@@ -1,4 +1,4 @@
--- The answers to the goals of `laws::typed_blocks_have_no_fault`.
+-- The answers to the goals of `statement_laws::typed_blocks_have_no_fault`.
 use Rattle.law_typing.proofs.StatementConclusions.{block_law}
 use Rattle.law_typing.proofs.statement_laws.typed_blocks_have_no_fault.Goals as goal
 

@@ -1,4 +1,4 @@
--- The answers to the goals of `laws::typed_declarations_are_not_excused`.
+-- The answers to the goals of `statement_laws::typed_declarations_are_not_excused`.
 use Rattle.law_typing.proofs.Excluding.{decl_not}
 use Rattle.law_typing.proofs.statement_laws.typed_declarations_are_not_excused.Goals as goal
 

@@ -1,4 +1,4 @@
--- The answers to the goals of `laws::typed_files_are_those_without_fault_or_excuse`.
+-- The answers to the goals of `statement_laws::typed_files_are_those_without_fault_or_excuse`.
 use Rattle.law_typing.proofs.StatementConclusions.{typed_files}
 use Rattle.law_typing.proofs.statement_laws.typed_files_are_those_without_fault_or_excuse.Goals as goal
 

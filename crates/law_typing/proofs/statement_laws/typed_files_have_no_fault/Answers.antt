@@ -1,4 +1,4 @@
--- The answers to the goals of `laws::typed_files_have_no_fault`.
+-- The answers to the goals of `statement_laws::typed_files_have_no_fault`.
 use Rattle.law_typing.proofs.Declarations.{file_true}
 use Rattle.law_typing.proofs.statement_laws.typed_files_have_no_fault.Goals as goal
 

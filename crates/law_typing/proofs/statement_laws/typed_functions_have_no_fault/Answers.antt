@@ -1,4 +1,4 @@
--- The answers to the goals of `laws::typed_functions_have_no_fault`.
+-- The answers to the goals of `statement_laws::typed_functions_have_no_fault`.
 use Rattle.law_typing.proofs.StatementConclusions.{function_law}
 use Rattle.law_typing.proofs.statement_laws.typed_functions_have_no_fault.Goals as goal
 

@@ -1,4 +1,4 @@
--- The answers to the goals of `laws::what_has_a_meaning_uses_nothing_broken`.
+-- The answers to the goals of `statement_laws::what_has_a_meaning_uses_nothing_broken`.
 use Rattle.law_typing.proofs.Unbroken.{no_use}
 use Rattle.law_typing.proofs.statement_laws.what_has_a_meaning_uses_nothing_broken.Goals as goal
 

@@ -1,4 +1,4 @@
--- The table is that by what stands at its number.
+-- The table is made of the export data that `all` has at the package's number.
 use Rattle.std.proofs.Common.{◌≡◌, ◌<◌, length, sym, subst, refl, ◌∙◌}
 use Rattle.std.specs.Prelude.{slice_get, Some}
 use Rattle.std.proofs.lemmas.Option.{same_Some, slice_get_read}

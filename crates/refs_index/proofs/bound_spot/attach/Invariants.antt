@@ -1,4 +1,4 @@
--- The invariants of the loops of `bound_spot::attach`.
+-- The invariants of the loops of `bound_identifier::attach`.
 use Rattle.std.proofs.Common.{◌≡◌, ◌++◌, map}
 use Rattle.refs_binding.specs.Bindings.{bound_to}
 use Rattle.refs_index.proofs.bound_spot.attach.Given as goal

@@ -1,4 +1,4 @@
--- The invariants of the loops of `holding::hold_all`.
+-- The invariants of the loops of `indexing::hold_all`.
 use Rattle.refs_binding.specs.Bindings.{AddsAll, IsBoundAt}
 use Rattle.refs_binding.specs.Workspaces.{known_in}
 use Rattle.refs_binding.proofs.AddingAll.{BelowAll}

@@ -1,4 +1,4 @@
--- The invariants of the loops of `holding::identifier_at`.
+-- The invariants of the loops of `identifier_at_byte::identifier_at`.
 use Rattle.std.proofs.Common.{ℕ, ◌<◌}
 use Rattle.types_declared.specs.PackageView.{package_of}
 use Rattle.refs_binding.specs.Identifiers.{HoldsByte}

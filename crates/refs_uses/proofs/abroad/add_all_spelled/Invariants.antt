@@ -1,4 +1,4 @@
--- The invariants of the loops of `abroad::add_all_spelled`.
+-- The invariants of the loops of `qualified_abroad::add_all_spelled`.
 use Rattle.std.proofs.Common.{map}
 use Rattle.go_ast.specs.SourceFile.{source_of}
 use Rattle.refs_binding.specs.Steps.{Adds}

@@ -1,4 +1,4 @@
--- The invariants of the loops of `package_uses::add_package_uses`.
+-- The invariants of the loops of `qualified_uses::add_package_uses`.
 use Rattle.std.proofs.Common.{◌≡◌}
 use Rattle.types_declared.specs.PackageView.{package_of}
 use Rattle.types_info.specs.Qualified.{IsBehindPackage}

@@ -1,4 +1,4 @@
--- The files of a change that is admitted are seen.
+-- The desk knows that the files of an admitted change are current.
 use Rattle.std.proofs.Common.{sym, subst}
 use Rattle.base_files.specs.Workspace.{Workspace}
 use Rattle.server_commands.proofs.acting.commit_learning.Goals as goal

@@ -1,4 +1,4 @@
--- A clone of the change's files is the same, and what is known is right of it.
+-- A clone of the change's files has the same files, and the findings are right of them.
 use Rattle.std.proofs.Common.{sym, ap, subst, ◌∙◌}
 use Rattle.base_files.specs.Workspace.{Workspace}
 use Rattle.workspace_check.specs.Found.{KnowsVerdicts}

@@ -1,4 +1,4 @@
--- Why there is no object: the package is there and is not finished.
+-- The refusal `Pending`: the package exists and is not finished.
 use Rattle.std.proofs.Common.{◌≡◌, Some, slice_get, ap, subst, ◌∙◌}
 use Rattle.base_files.specs.Packages.{package_paths}
 use Rattle.base_files.specs.Workspace.{Workspace}

@@ -1,4 +1,4 @@
--- What the table has at a number.
+-- The table's place at the package's number.
 use Rattle.std.proofs.Common.{Bool, sym, subst}
 use Rattle.std.specs.Prelude.{◌↔◌, IsTrue}
 use Rattle.server_shared.specs.Call.{HasUnit}

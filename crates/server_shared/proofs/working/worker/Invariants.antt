@@ -1,4 +1,4 @@
--- So far a Take was refused, or a Job was taken and handed in, so often.
+-- So many times a Take was refused, or a Job was taken and handed in.
 use Rattle.std.proofs.Common.{ℕ}
 use Rattle.server_shared.specs.Working.{WorksOften}
 use Rattle.server_shared.proofs.working.worker.Given as goal

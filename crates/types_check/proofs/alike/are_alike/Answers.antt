@@ -1,4 +1,4 @@
--- What is known in the same way gives the same interface.
+-- Equal known values give the same export data.
 use Rattle.std.proofs.Common.{◌≡◌, sym, ap, ◌∙◌}
 use Rattle.std.specs.Prelude.{Some}
 use Rattle.types_expr.specs.WorldView.{known_at}

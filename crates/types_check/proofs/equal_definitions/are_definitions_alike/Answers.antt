@@ -1,4 +1,4 @@
--- In pairs.
+-- Lists of definitions are equal item by item.
 use Rattle.types_check.specs.Known.{known_definition}
 use Rattle.types_check.proofs.Values.{by_values}
 use Rattle.types_check.proofs.equal_definitions.are_definitions_alike.Goals as goal

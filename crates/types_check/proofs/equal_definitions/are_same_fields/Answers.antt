@@ -1,4 +1,4 @@
--- In pairs, by their names.
+-- Maps of fields are equal entry by entry.
 use Rattle.types_expr.specs.WorldView.{field_of}
 use Rattle.types_check.proofs.Values.{by_entries}
 use Rattle.types_check.proofs.equal_definitions.are_same_fields.Goals as goal

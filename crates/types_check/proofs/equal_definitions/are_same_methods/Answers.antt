@@ -1,4 +1,4 @@
--- In pairs, by their names.
+-- Maps of methods are equal entry by entry.
 use Rattle.types_expr.specs.WorldView.{method_of}
 use Rattle.types_check.proofs.Values.{by_entries}
 use Rattle.types_check.proofs.equal_definitions.are_same_methods.Goals as goal

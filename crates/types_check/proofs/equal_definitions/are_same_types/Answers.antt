@@ -1,4 +1,4 @@
--- In pairs.
+-- Lists of types are equal item by item.
 use Rattle.types_expr.specs.View.{type_of}
 use Rattle.types_check.proofs.Values.{by_values}
 use Rattle.types_check.proofs.equal_definitions.are_same_types.Goals as goal

@@ -1,4 +1,4 @@
--- The test of types.
+-- The test of types is exact.
 use Rattle.types_expr.specs.View.{type_of}
 use Rattle.types_check.proofs.Values.{type_by_test}
 use Rattle.types_check.proofs.equal_definitions.is_same_type.Goals as goal

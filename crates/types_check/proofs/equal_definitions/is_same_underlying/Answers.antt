@@ -1,4 +1,4 @@
--- The test of underlying types.
+-- The test of underlying types is exact.
 use Rattle.types_expr.specs.WorldView.{underlying_of}
 use Rattle.types_check.proofs.Values.{underlying_by_test}
 use Rattle.types_check.proofs.equal_definitions.is_same_underlying.Goals as goal

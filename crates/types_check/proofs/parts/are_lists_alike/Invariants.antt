@@ -1,4 +1,4 @@
--- The lists are alike where what is left of them is.
+-- The lists are equal exactly where the rest of them is.
 use Rattle.std.specs.Prelude.{◌↔◌}
 use Rattle.std.proofs.Common.{drop}
 use Rattle.std.specs.List.{AllZip}

@@ -1,4 +1,4 @@
--- The maps are alike where what is left of them is.
+-- The maps are equal exactly where the rest of them is.
 use Rattle.std.specs.Prelude.{◌↔◌}
 use Rattle.std.specs.List.{AllZip}
 use Rattle.types_check.specs.Alike.{AreNamedAlike}

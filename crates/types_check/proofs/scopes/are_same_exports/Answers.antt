@@ -1,4 +1,4 @@
--- In pairs, by their names.
+-- Maps of exports are equal entry by entry.
 use Rattle.types_declared.specs.InterfacesView.{export_of}
 use Rattle.types_check.proofs.Values.{by_entries}
 use Rattle.types_check.proofs.scopes.are_same_exports.Goals as goal

@@ -20,7 +20,7 @@ same_number a b e = eqb→eq a b (subst T (sym e) tt)
 same_parts : (x y : Fault) → x.file ≡ y.file → x.token ≡ y.token → x.kind ≡ y.kind → y ≡ x
 same_parts x y e f g = ap (λ v. make v y.token y.kind) (sym e) ∙ ap (λ v. make x.file v y.kind) (sym f) ∙ ap (λ v. make x.file x.token v) (sym g)
 
--- faults that compare as equal are the same
+-- two faults that compare as equal are the same fault
 same_fault : (x y : Fault) → (nat_eq x.file y.file && (nat_eq x.token y.token && sameb the_type x.kind y.kind)) ≡ true → y ≡ x
 same_fault x y e =
     let a = both (nat_eq x.file y.file) (nat_eq x.token y.token && sameb the_type x.kind y.kind) e in

@@ -6,7 +6,7 @@ use Rattle.types_info.specs.Lists.{IsListed}
 use Rattle.types_info.specs.Qualified.{AreListsBelow}
 use Rattle.types_info.proofs.gathering.empty_lists.Given as goal
 
--- the declarations that were passed have lists, without a place
+-- the declarations before the loop's index have empty lists
 abbrev pub invariant-loop-d : goal.invariant-loop-d
 invariant-loop-d l =
     AreListsBelow (package_of l.unit) l.d l.lists ×

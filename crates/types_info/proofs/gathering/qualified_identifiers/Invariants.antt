@@ -4,7 +4,7 @@ use Rattle.types_declared.specs.PackageView.{package_of}
 use Rattle.types_info.specs.Qualified.{AreListsBelow, AreQualifiedBelow}
 use Rattle.types_info.proofs.gathering.qualified_identifiers.Given as goal
 
--- the identifiers that were passed are listed
+-- the identifiers before the loop's index are listed
 abbrev pub invariant-loop-u : goal.invariant-loop-u
 invariant-loop-u l =
     AreListsBelow (package_of l.unit) (length l.unit.table.now.sites) l.lists × AreQualifiedBelow (package_of l.unit) l.u l.lists.all.items

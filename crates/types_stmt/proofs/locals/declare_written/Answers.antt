@@ -13,7 +13,7 @@ use Rattle.types_stmt.proofs.Lists.{next_plain}
 use Rattle.types_stmt.proofs.Sums.{with_locals_step, with_locals_end}
 use Rattle.types_stmt.proofs.locals.declare_written.Goals as goal
 
--- what the program reads behind the end of a list
+-- the item that the program reads past the end of a list
 abbrev first_name : Item Ident
 first_name = record { value = ident.Named 0; separator = None }
 

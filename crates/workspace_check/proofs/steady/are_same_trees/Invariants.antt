@@ -1,4 +1,4 @@
--- The invariants of the loops of `steady::are_same_trees`.
+-- The invariants of the loops of `reuse::are_same_trees`.
 use Rattle.std.proofs.Common.{◌≡◌, map, take}
 use Rattle.workspace_check.specs.Earlier.{tree_file}
 use Rattle.workspace_check.proofs.steady.are_same_trees.Given as goal

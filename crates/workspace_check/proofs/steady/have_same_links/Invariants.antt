@@ -1,4 +1,4 @@
--- The invariants of the loops of `steady::have_same_links`.
+-- The invariants of the loops of `reuse::have_same_links`.
 use Rattle.std.proofs.Common.{◌≡◌, ℕ, ◌<◌}
 use Rattle.workspace_graph.specs.Imports.{imports_of}
 use Rattle.workspace_check.proofs.steady.have_same_links.Given as goal

@@ -1,4 +1,4 @@
--- The invariants of the loops of `steady::have_same_paths`.
+-- The invariants of the loops of `reuse::have_same_paths`.
 use Rattle.std.proofs.Common.{◌≡◌, ℕ, ◌<◌, slice_get}
 use Rattle.base_files.specs.Packages.{package_paths}
 use Rattle.workspace_check.proofs.steady.have_same_paths.Given as goal

@@ -1,4 +1,4 @@
--- No file is there, and no path is told.
+-- The draft has no file and no import paths.
 use Rattle.workspace_graph.proofs.SetFiles.{empty_draft}
 use Rattle.workspace_graph.proofs.drafts.empty_package.Goals as goal
 

@@ -1,4 +1,4 @@
--- The tree that is taken out is told.
+-- The faulty file replaces the removed tree.
 use Rattle.std.proofs.Common.{[], refl, sym, subst}
 use Rattle.std.specs.Arc.{arc_value}
 use Rattle.workspace_graph.specs.Drafts.{IsRenewed}

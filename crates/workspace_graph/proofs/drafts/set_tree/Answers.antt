@@ -1,4 +1,4 @@
--- The tree is put in the place of one that is told.
+-- The tree replaces the removed one.
 use Rattle.std.proofs.Common.{sym, subst}
 use Rattle.std.specs.Arc.{arc_value}
 use Rattle.go_ast.specs.SourceFile.{source_of}

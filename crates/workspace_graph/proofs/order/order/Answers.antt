@@ -1,4 +1,4 @@
--- From nothing told, block after block, until all are told.
+-- Block after block is listed, until all packages are.
 use Rattle.std.proofs.Common.{Bool, List, ℕ, ◌<◌, length, subst, ◌∙◌}
 use Rattle.workspace_graph.specs.Search.{IsMarked}
 use Rattle.workspace_graph.proofs.Reached.{noted_linked}

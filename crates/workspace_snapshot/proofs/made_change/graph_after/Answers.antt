@@ -1,4 +1,4 @@
--- The files at no path that is named are the same after the edit set.
+-- Files at paths that the edit set does not name are equal before and after it.
 use Rattle.std.proofs.Common.{List, ℕ, Bor, sym, subst}
 use Rattle.std.specs.List.{Contains}
 use Rattle.base_files.specs.Workspace.{Workspace}

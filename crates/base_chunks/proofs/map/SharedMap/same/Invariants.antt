@@ -1,4 +1,4 @@
--- The maps are the same where what is left of them is.
+-- The maps are equal exactly if the remaining entries are.
 use Rattle.std.proofs.Common.{◌≡◌, ◌↔◌}
 use Rattle.base_chunks.proofs.map.SharedMap.same.Given as goal
 

@@ -1,4 +1,4 @@
--- The copy has the same units.
+-- The copy shares the units of the table.
 use Rattle.std.proofs.Common.{sym, subst}
 use Rattle.std.specs.Prelude.{◌↔◌, IsTrue}
 use Rattle.build_carry.specs.Finished.{Table, AreFinishedBelow, HasNone}

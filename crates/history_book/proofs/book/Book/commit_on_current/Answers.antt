@@ -1,4 +1,5 @@
--- The change is entered once there is room: that is a step, what the journal bounds stays within it, and the content stays its replay.
+-- The change is entered once there is room, and that is a step. The bounds that the journal gives still hold, and the content is still the
+-- journal's replay.
 use Rattle.std.proofs.Common.{◌+◌, ◌≤◌, ◌↔◌, IsTrue, sym, ap, subst, vec_capacity}
 use Rattle.history_machine.specs.Machine.{Machine, with_journal}
 use Rattle.history_machine.specs.Step.{Step, done, entries_due}

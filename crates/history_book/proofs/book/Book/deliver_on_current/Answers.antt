@@ -1,4 +1,5 @@
--- The delivery is entered once there is room: that is a step, what the journal bounds stays within it, and the content stays its replay.
+-- The delivery is entered once there is room, and that is a step. The bounds that the journal gives still hold, and the content is still
+-- the journal's replay.
 use Rattle.std.proofs.Common.{◌≡◌, ◌+◌, ◌≤◌, ◌↔◌, IsTrue, List, Some, length, sym, ap, subst, ◌∙◌, vec_capacity, arith}
 use Rattle.std.proofs.lemmas.Bool.{false≢true}
 use Rattle.base_files.specs.declared.refusal.Refusal.TheVariants.{Memory, JournalFull}

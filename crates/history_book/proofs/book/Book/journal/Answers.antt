@@ -1,4 +1,4 @@
--- It is a fact of each book that its content is the replay of its journal.
+-- The invariant of `Book` says that its content is the replay of its journal.
 use Rattle.std.proofs.Common.{subst}
 use Rattle.history_machine.specs.Machine.{Machine, content}
 use Rattle.history_machine.specs.Run.{IsReplay}

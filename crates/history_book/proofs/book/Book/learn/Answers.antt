@@ -1,4 +1,4 @@
--- The content is the same, and so it is the replay of the journal still.
+-- The content stays, as contracts see it, so it is still the journal's replay.
 use Rattle.std.proofs.Common.{sym, subst, vec_capacity}
 use Rattle.history_machine.specs.Machine.{Content}
 use Rattle.history_machine.proofs.Legal.{BookHolds}

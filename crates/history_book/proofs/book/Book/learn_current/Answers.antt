@@ -1,4 +1,4 @@
--- The current files are those of the content, which is the same, and so it is the replay of the journal still.
+-- The content stays, as contracts see it, so it is still the journal's replay.
 use Rattle.std.proofs.Common.{sym, subst, vec_capacity}
 use Rattle.workspace_check.specs.Found.{KnowsVerdicts}
 use Rattle.history_machine.specs.Machine.{Content, Machine}

@@ -1,4 +1,4 @@
--- The answer with its entry, and a copy of it, is a step, what the journal bounds stays within it, and the content stays its replay.
+-- The answer with its entry is a step. The bounds that the journal gives still hold, and the content is still the journal's replay.
 use Rattle.std.proofs.Common.{◌+◌, ◌≤◌, ◌↔◌, IsTrue, List, length, sym, subst, ◌∙◌, vec_capacity, None}
 use Rattle.std.proofs.lemmas.Bool.{false≢true}
 use Rattle.history_machine.specs.Machine.{Machine, with_journal}

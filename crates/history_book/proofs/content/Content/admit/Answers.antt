@@ -14,7 +14,7 @@ use Rattle.history_machine.specs.Step.{AnswersOrLacks, BringsJob, committed}
 use Rattle.history_book.specs.Following.{IsStateAfter}
 use Rattle.history_book.proofs.content.Content.admit.Goals as goal
 
--- a change for which there is no memory leaves all as it was
+-- want of memory for a change leaves everything as it was
 lacking : (old new : Content) (event : Event) (r : Result (ℕ × FileChanges) Refusal) → (BringsJob event → ⊥) → IsErrAnd r (λ n. n ≡ Memory) →
     new ≡ old → AnswersOrLacks old event (committed r) new
 lacking old new event (Ok made) alone lacks same = absurd lacks

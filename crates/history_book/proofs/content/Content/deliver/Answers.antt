@@ -1,4 +1,4 @@
--- What the delivery comes to is told of the current state.
+-- The outcome of the delivery is that for the current state.
 use Rattle.std.proofs.Common.{IfOk, subst}
 use Rattle.history_machine.specs.Machine.{Content}
 use Rattle.history_book.specs.Outcomes.{ComesTo}

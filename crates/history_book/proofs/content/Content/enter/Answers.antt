@@ -1,4 +1,4 @@
--- The Job is out no more, and the current state takes in what the delivery came to.
+-- The Job is not out after it, and the current state takes in the outcome of the delivery.
 use Rattle.std.proofs.Common.{sym, subst}
 use Rattle.std.proofs.lemmas.Result.{IfOk-at_ok}
 use Rattle.history_machine.specs.Machine.{Content}

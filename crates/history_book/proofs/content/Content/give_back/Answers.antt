@@ -1,4 +1,4 @@
--- The Job is out no more, and all else stays.
+-- The Job is not out after it, and nothing else changes.
 use Rattle.std.proofs.Common.{ap, subst, ◌∙◌}
 use Rattle.build_unit.specs.Jobs.{Loses, label_of}
 use Rattle.history_machine.specs.Machine.{Content}

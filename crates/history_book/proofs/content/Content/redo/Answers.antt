@@ -1,4 +1,4 @@
--- The states move so, whatever the limits and whichever Jobs are out; and there are as many as before.
+-- The states move whatever the limits are and whichever Jobs are out, and their count stays.
 use Rattle.std.proofs.Common.{◌<◌, ◌+◌, ◌^◌, arith, sym, subst}
 use Rattle.history_book.specs.Histories.{content_of}
 use Rattle.history_machine.specs.Machine.{Content}

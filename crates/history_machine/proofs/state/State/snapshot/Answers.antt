@@ -1,4 +1,4 @@
--- The clones share what the state has, which is right by its fact.
+-- The clones share what the state has, and its invariant says that what it knows is right.
 use Rattle.std.proofs.Common.{sym, subst}
 use Rattle.base_files.specs.Workspace.{Workspace}
 use Rattle.workspace_check.specs.Found.{KnowsVerdicts}

@@ -1,4 +1,4 @@
--- It is a fact of each known snapshot.
+-- The invariant of `KnownSnapshot` says it.
 use Rattle.std.proofs.Common.{sym, subst}
 use Rattle.workspace_snapshot.specs.declared.snapshot.Snapshot.{Snapshot}
 use Rattle.workspace_check.specs.Found.{KnowsVerdicts}

@@ -1,4 +1,4 @@
--- The package has the table and sees what stands at its number.
+-- The package is made of the table and the export data at its number.
 use Rattle.std.proofs.Common.{◌≡◌, ◌<◌, List, length, ap, sym, subst, refl, ◌∙◌}
 use Rattle.std.specs.Prelude.{map, slice_get, slice_index_or, Some}
 use Rattle.std.proofs.lemmas.Option.{slice_get_read, slice_get-get_or}

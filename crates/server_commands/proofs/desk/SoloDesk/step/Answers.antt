@@ -1,4 +1,4 @@
--- Which replies a book gives.
+-- The book gives only replies that the event may get.
 use Rattle.history_machine.proofs.Replies.{may_reply}
 use Rattle.server_commands.proofs.desk.SoloDesk.step.Goals as goal
 

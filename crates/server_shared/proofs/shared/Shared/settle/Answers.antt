@@ -1,4 +1,4 @@
--- The book that is handed back is the one that was locked.
+-- The book that comes back is the one under the lock.
 use Rattle.std.proofs.Common.{sym, subst}
 use Rattle.server_shared.specs.Steps.{IsReplayed}
 use Rattle.server_shared.proofs.shared.Shared.settle.Goals as goal

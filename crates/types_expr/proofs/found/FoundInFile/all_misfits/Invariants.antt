@@ -1,4 +1,4 @@
--- The invariants of the loops of `found::Found::all_misfits`.
+-- The invariants of the loops of `found::FoundInFile::all_misfits`.
 use Rattle.std.proofs.Common.{drop, map}
 use Rattle.types_expr.specs.Judge.{all_misfits}
 use Rattle.types_expr.specs.WorldView.{world_of}

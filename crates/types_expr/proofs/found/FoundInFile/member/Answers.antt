@@ -1,4 +1,4 @@
--- The answers to the goals of `found::Found::member`.
+-- The answers to the goals of `found::FoundInFile::member`.
 use Rattle.std.proofs.Common.{Option, ap, ◌∙◌, ◌++◌, ◌∷◌, [], map}
 use Rattle.types_expr.specs.declared.symbol.Symbol.{Symbol}
 use Rattle.types_expr.specs.View.{type_of}

@@ -1,4 +1,4 @@
--- The answers to the goals of `found::Found::misfits`.
+-- The answers to the goals of `found::FoundInFile::misfits`.
 use Rattle.std.proofs.Common.{◌≡◌, ◌+◌, ◌&&◌, Bool, ap, sym, ◌∙◌, drop, map, subst, ◌∷◌}
 use Rattle.std.proofs.Math.ListN.{drop_of_length-le}
 use Rattle.types_expr.specs.Judge.{misfits}

@@ -1,4 +1,4 @@
--- The invariants of the loops of `found::Found::misfits`.
+-- The invariants of the loops of `found::FoundInFile::misfits`.
 use Rattle.std.proofs.Common.{◌-◌, drop, map, length}
 use Rattle.types_expr.specs.Judge.{misfits}
 use Rattle.types_expr.specs.WorldView.{world_of}

@@ -1,4 +1,4 @@
--- The answers to the goals of `checked::Checked::statement`.
+-- The answers to the goals of `checked::CheckedBody::statement`.
 use Rattle.std.proofs.Common.{◌+◌, ap, sym, ◌∙◌, drop, map}
 use Rattle.std.proofs.Math.ListN.{drop_of_length-le}
 use Rattle.std.proofs.lemmas.Result.{on_ok_weaker}

@@ -1,4 +1,4 @@
--- The invariants of the loops of `checked::Checked::statement`.
+-- The invariants of the loops of `checked::CheckedBody::statement`.
 use Rattle.std.proofs.Common.{◌≡◌, drop, map}
 use Rattle.types_expr.specs.WorldView.{world_of}
 use Rattle.types_stmt.specs.View.{checked_of, target_of}

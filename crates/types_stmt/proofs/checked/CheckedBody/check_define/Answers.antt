@@ -1,4 +1,4 @@
--- The answers to the goals of `checked::Checked::check_define`.
+-- The answers to the goals of `checked::CheckedBody::check_define`.
 use Rattle.std.proofs.Common.{ap, ◌∙◌, map}
 use Rattle.std.proofs.lemmas.Result.{on_ok_weaker}
 use Rattle.go_ast.specs.View.{exprs_view}

@@ -1,4 +1,4 @@
--- The answers to the goals of `checked::Checked::check_global`.
+-- The answers to the goals of `checked::CheckedBody::check_global`.
 use Rattle.std.proofs.lemmas.Result.{on_ok_weaker}
 use Rattle.types_expr.specs.Found.{locals_of}
 use Rattle.types_stmt.proofs.Making.{noted}

@@ -1,4 +1,4 @@
--- The answers to the goals of `checked::Checked::check_header`.
+-- The answers to the goals of `checked::CheckedBody::check_header`.
 use Rattle.std.proofs.Common.{ap, sym, ◌∙◌}
 use Rattle.std.proofs.lemmas.Result.{on_ok_weaker}
 use Rattle.go_ast.specs.View.{option_view, expr_view}

@@ -1,4 +1,4 @@
--- The answers to the goals of `checked::Checked::check_local_group`.
+-- The answers to the goals of `checked::CheckedBody::check_local_group`.
 use Rattle.std.proofs.Common.{◌+◌, ap, sym, ◌∙◌, drop}
 use Rattle.std.proofs.lemmas.Result.{on_ok_weaker}
 use Rattle.std.proofs.Math.ListN.{drop_of_length-le}

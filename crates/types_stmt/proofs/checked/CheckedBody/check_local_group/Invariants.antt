@@ -1,4 +1,4 @@
--- The invariants of the loops of `checked::Checked::check_local_group`.
+-- The invariants of the loops of `checked::CheckedBody::check_local_group`.
 use Rattle.std.proofs.Common.{◌≡◌, drop}
 use Rattle.go_ast.specs.View.{list_view}
 use Rattle.go_ast.specs.FileView.{local_view}

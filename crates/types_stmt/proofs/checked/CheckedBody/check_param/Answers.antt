@@ -1,4 +1,4 @@
--- The answers to the goals of `checked::Checked::check_param`.
+-- The answers to the goals of `checked::CheckedBody::check_param`.
 use Rattle.std.proofs.Common.{ap, ◌∙◌, option_map}
 use Rattle.std.proofs.lemmas.Result.{on_ok_weaker}
 use Rattle.go_ast.specs.View.{list_view, ident_view, type_view}

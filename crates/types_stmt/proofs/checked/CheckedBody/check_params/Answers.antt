@@ -1,4 +1,4 @@
--- The answers to the goals of `checked::Checked::check_params`.
+-- The answers to the goals of `checked::CheckedBody::check_params`.
 use Rattle.std.proofs.Common.{◌+◌, ap, sym, ◌∙◌, drop}
 use Rattle.std.proofs.Math.ListN.{drop_of_length-le}
 use Rattle.go_ast.specs.View.{list_view}

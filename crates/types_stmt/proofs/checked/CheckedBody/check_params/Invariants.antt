@@ -1,4 +1,4 @@
--- The invariants of the loops of `checked::Checked::check_params`.
+-- The invariants of the loops of `checked::CheckedBody::check_params`.
 use Rattle.std.proofs.Common.{◌≡◌, drop}
 use Rattle.go_ast.specs.View.{list_view}
 use Rattle.go_ast.specs.FileView.{param_view}

@@ -1,4 +1,4 @@
--- The answers to the goals of `checked::Checked::check_receiver`.
+-- The answers to the goals of `checked::CheckedBody::check_receiver`.
 use Rattle.std.proofs.Common.{ap, ◌∙◌, option_map}
 use Rattle.std.proofs.lemmas.Result.{on_ok_weaker}
 use Rattle.go_ast.specs.View.{ident_view}

@@ -1,4 +1,4 @@
--- The answers to the goals of `checked::Checked::check_return`.
+-- The answers to the goals of `checked::CheckedBody::check_return`.
 use Rattle.std.proofs.Common.{ap, map}
 use Rattle.std.proofs.lemmas.Result.{on_ok_weaker}
 use Rattle.types_expr.specs.WorldView.{world_of}

@@ -1,4 +1,4 @@
--- The answers to the goals of `checked::Checked::check_type`.
+-- The answers to the goals of `checked::CheckedBody::check_type`.
 use Rattle.std.proofs.lemmas.Result.{on_ok_weaker}
 use Rattle.go_ast.specs.FileView.{type_spec_view}
 use Rattle.types_expr.specs.Found.{locals_of}

@@ -1,4 +1,4 @@
--- The answers to the goals of `checked::Checked::check_written`.
+-- The answers to the goals of `checked::CheckedBody::check_written`.
 use Rattle.std.proofs.Common.{ap, sym, ◌∙◌, append-nil, map}
 use Rattle.std.proofs.lemmas.Result.{on_ok_weaker}
 use Rattle.go_ast.specs.View.{exprs_view, list_view, option_view, ident_view, type_view}

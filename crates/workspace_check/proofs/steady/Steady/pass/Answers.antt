@@ -14,7 +14,7 @@ use Rattle.workspace_check.proofs.steady.Steady.pass.Goals as goal
 pub mark_importing-requires : goal.mark_importing-requires
 mark_importing-requires c = record { number = c.requires.number; size = c.requires.stirs.all; above = c.requires.stirs.above }
 
--- what imports it is stirred
+-- the packages that import it are marked as `stirred`
 pub returns-in_ok-mark_importing-clause-stirs : goal.returns-in_ok-mark_importing-clause-stirs
 returns-in_ok-mark_importing-clause-stirs c =
     let w = c.args.graph.now in
@@ -44,7 +44,7 @@ returns-in_ok-mark_importing-clause-passes c =
     let p = slice_get_some (package_paths w) m (omega (arith, lt, size)) in
     (are.each m p.0 p.1).1 (inl marked))
 
--- nothing new is stirred
+-- no more packages are marked
 pub returns-else-not-same-clause-stirs : goal.returns-else-not-same-clause-stirs
 returns-else-not-same-clause-stirs c = record {
   size = length-set c.args.self.now.marks.items c.args.number c.args.same ∙ c.requires.stirs.size;

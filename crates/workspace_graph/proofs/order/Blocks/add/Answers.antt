@@ -1,4 +1,4 @@
--- One block more is told.
+-- One more block is listed.
 use Rattle.std.proofs.Common.{◌≡◌, ◌<◌, ◌++◌, ℕ, List, length, ap, sym, subst, ◌∙◌}
 use Rattle.std.specs.List.{All, Contains}
 use Rattle.workspace_graph.specs.Imports.{Reaches}

@@ -1,4 +1,4 @@
--- What was told so far.
+-- The packages listed so far.
 use Rattle.workspace_graph.specs.Orders.{AreTold}
 use Rattle.workspace_graph.proofs.order.Blocks.add_all.Given as goal
 
