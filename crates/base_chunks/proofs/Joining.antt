@@ -4,7 +4,7 @@ use Rattle.std.proofs.Common.{append_assoc, length-append, length-take, length-d
 use Rattle.std.specs.List.{AllByRecursion}
 use Rattle.std.proofs.lemmas.List.Concat.{flat_map-append}
 use Rattle.std.proofs.lemmas.List.{set_split, take_all, drop_all, get_or_append_left, get_or-append_right, set-append_left, set-append_right}
-use Rattle.base_chunks.specs.Chunks.{joined, AreFilled, AreFull, Replaces}
+use Rattle.base_chunks.specs.Chunks.{joined, AreNonempty, AreFull, ReplacesChunk}
 use Rattle.base_chunks.proofs.Standing.{all_append}
 
 module _ {X : Type 0} where
@@ -113,25 +113,25 @@ module _ {X : Type 0} where
       subst (λ j. set (take j cs ++ b ∷ drop j cs) i a ≡ take i cs ++ a ∷ b ∷ drop j cs) (sym same) (two_at_suc cs i a b lt)
 
   -- a chunk taken out
-  pub replaces_none : (old new : List (List X)) (i : ℕ) → new ≡ take i old ++ drop (i + 1) old → Replaces old new i []
+  pub replaces_none : (old new : List (List X)) (i : ℕ) → new ≡ take i old ++ drop (i + 1) old → ReplacesChunk old new i []
   replaces_none old new i e = record {
     parts = ap joined e ∙ joined_append (take i old) (drop (i + 1) old);
-    filled = λ h. subst AreFilled (sym e) (all_append (λ c. 0 < length c) (take i old) (drop (i + 1) old) (all_take (λ c. 0 < length c) old i h)
+    filled = λ h. subst AreNonempty (sym e) (all_append (λ c. 0 < length c) (take i old) (drop (i + 1) old) (all_take (λ c. 0 < length c) old i h)
         (all_drop (λ c. 0 < length c) old (i + 1) h));
   }
 
-  pub replaces_one : (old new : List (List X)) (i : ℕ) (ws : List X) → 0 < length ws → new ≡ take i old ++ ws ∷ drop (i + 1) old → Replaces old new i ws
+  pub replaces_one : (old new : List (List X)) (i : ℕ) (ws : List X) → 0 < length ws → new ≡ take i old ++ ws ∷ drop (i + 1) old → ReplacesChunk old new i ws
   replaces_one old new i ws some e = record {
     parts = ap joined e ∙ joined_append (take i old) (ws ∷ drop (i + 1) old);
-    filled = λ h. subst AreFilled (sym e) (all_append (λ c. 0 < length c) (take i old) (ws ∷ drop (i + 1) old) (all_take (λ c. 0 < length c) old i h)
+    filled = λ h. subst AreNonempty (sym e) (all_append (λ c. 0 < length c) (take i old) (ws ∷ drop (i + 1) old) (all_take (λ c. 0 < length c) old i h)
         (some, all_drop (λ c. 0 < length c) old (i + 1) h));
   }
 
-  pub replaces_set : (old : List (List X)) (i : ℕ) (c ws : List X) → i < length old → 0 < length ws → c ≡ ws → Replaces old (set old i c) i ws
+  pub replaces_set : (old : List (List X)) (i : ℕ) (c ws : List X) → i < length old → 0 < length ws → c ≡ ws → ReplacesChunk old (set old i c) i ws
   replaces_set old i c ws lt some e = replaces_one old (set old i c) i ws some (ap (set old i) e ∙ one_at old i ws lt)
 
   pub replaces_two : (old new : List (List X)) (i : ℕ) (ws : List X) (m : ℕ) → 0 < m → m < length ws
-      → new ≡ take i old ++ take m ws ∷ drop m ws ∷ drop (i + 1) old → Replaces old new i ws
+      → new ≡ take i old ++ take m ws ∷ drop m ws ∷ drop (i + 1) old → ReplacesChunk old new i ws
   replaces_two old new i ws m low high e = record {
     parts = ap joined e ∙ joined_append (take i old) (take m ws ∷ drop m ws ∷ drop (i + 1) old)
         ∙ ap (λ xs. joined (take i old) ++ xs) (sym (append_assoc (take m ws) (drop m ws) (joined (drop (i + 1) old))))
@@ -139,12 +139,12 @@ module _ {X : Type 0} where
     filled = λ h.
         let front : 0 < length (take m ws) = omega (arith, length-take m ws) in
         let back : 0 < length (drop m ws) = omega (arith, length-drop m ws) in
-        subst AreFilled (sym e) (all_append (λ c. 0 < length c) (take i old) (take m ws ∷ drop m ws ∷ drop (i + 1) old)
+        subst AreNonempty (sym e) (all_append (λ c. 0 < length c) (take i old) (take m ws ∷ drop m ws ∷ drop (i + 1) old)
         (all_take (λ c. 0 < length c) old i h) (front, (back, all_drop (λ c. 0 < length c) old (i + 1) h)));
   }
 
   -- The number of items after the change.
-  pub replaced_length : (old new : List (List X)) (i : ℕ) (ws : List X) (n : ℕ) → Replaces old new i ws
+  pub replaced_length : (old new : List (List X)) (i : ℕ) (ws : List X) (n : ℕ) → ReplacesChunk old new i ws
       → n + length (get_or old i []) ≡ length (joined old) + length ws → n ≡ length (joined new)
   replaced_length old new i ws n r e =
       let c = get_or old i [] in

@@ -40,7 +40,7 @@ impl<T> Chunk<T> {
 
 impl<T: Drop> Chunk<T> {
     /// Inserts an item at index `at`, unless the items are shared or memory is lacking: then `Err` returns the item.
-    pub(crate) fn insert_alone(&mut self, at: usize, item: T) -> Result<(), T>
+    pub(crate) fn insert_unshared(&mut self, at: usize, item: T) -> Result<(), T>
         requires { at ≤ length self.old }
         ensures ok { OnOk result (self.new ≡ insert self.old at item) }
         ensures err { OnErr result (self.new ≡ self.old) }

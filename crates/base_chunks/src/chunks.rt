@@ -1,7 +1,7 @@
 //! Operations on lists of chunks: finding the chunk of a key, and changing one chunk.
 ghost use Rattle.std.specs.Prelude.{◌≡◌, ◌+◌, ◌<◌, ◌≤◌, ◌++◌, ◌∷◌, [], IfOk, OnOk, OnErr, length, take, drop, slice_index_or, vec_len};
 ghost use Rattle.base_chunks.specs.Entries.{IsAfterAll, IsBeforeAll, is_before};
-ghost use Rattle.base_chunks.specs.Chunks.{joined, IsMap, Replaces};
+ghost use Rattle.base_chunks.specs.Chunks.{joined, IsMapChunks, ReplacesChunk};
 
 use crate::chunk::Chunk;
 use crate::copies::copies_and;
@@ -21,7 +21,7 @@ fn is_before<K: Ord, V>(key: &K, entries: &[(K, V)]) -> bool
 
 /// The number of the chunk that has a key, or would have it. Found by binary search over the first keys of the chunks.
 pub(crate) fn chunk_of<K: Ord, V>(chunks: &[Chunk<(K, V)>], key: &K) -> usize
-    requires { IsMap K.cmp chunks.now }
+    requires { IsMapChunks K.cmp chunks.now }
     ensures within { result ≤ length chunks.now }
     ensures front { IsAfterAll K.cmp key.now (joined (take result chunks.now)) }
     ensures back { IsBeforeAll K.cmp key.now (joined (drop (result + 1) chunks.now)) }
@@ -118,7 +118,7 @@ fn put_parts<T: Drop>(
 ) -> Result<(), AllocError>
     requires there { at < vec_len chunks.old }
     requires two { 1 < vec_len items }
-    ensures ok { OnOk result (Replaces chunks.old.items chunks.new.items at items.items) }
+    ensures ok { OnOk result (ReplacesChunk chunks.old.items chunks.new.items at items.items) }
     ensures err { OnErr result (chunks.new.items ≡ chunks.old.items) }
 {
     let middle = if at + 1 < chunks.len() {
@@ -135,7 +135,7 @@ fn put_parts<T: Drop>(
 /// more than `MOST` split it.
 fn replace<T: Drop>(chunks: &mut Vec<Chunk<T>>, at: usize, items: Vec<T>) -> Result<(), AllocError>
     requires { at ≤ vec_len chunks.old }
-    ensures ok { OnOk result (Replaces chunks.old.items chunks.new.items at items.items) }
+    ensures ok { OnOk result (ReplacesChunk chunks.old.items chunks.new.items at items.items) }
     ensures err { OnErr result (chunks.new.items ≡ chunks.old.items) }
 {
     if items.is_empty() {
@@ -160,7 +160,7 @@ pub(crate) fn put_items<T: Drop>(
     requires there { at ≤ vec_len chunks.old }
     requires len { len ≡ length (joined chunks.old.items) }
     ensures count { IfOk result (λ n. n ≡ length (joined chunks.new.items)) }
-    ensures ok { OnOk result (Replaces chunks.old.items chunks.new.items at items.items) }
+    ensures ok { OnOk result (ReplacesChunk chunks.old.items chunks.new.items at items.items) }
     ensures err { OnErr result (chunks.new.items ≡ chunks.old.items) }
 {
     let others = len - items_at(chunks, at).len();

@@ -53,7 +53,7 @@ pub(crate) fn value_of<'a, K: Ord, V>(entries: &'a [(K, V)], key: &K) -> Option<
 pub(crate) const MOST: usize = 64;
 
 /// The index at which a missing key can be inserted. `None` where the key is there, or the entries fill a chunk.
-pub(crate) fn gap<K: Ord, V>(entries: &[(K, V)], key: &K) -> Option<usize>
+pub(crate) fn index_to_insert<K: Ord, V>(entries: &[(K, V)], key: &K) -> Option<usize>
     requires { Rises K.cmp entries.now }
     ensures within { IfSome result (λ at. at ≤ length entries.now) }
     ensures put { IfSome result (λ at. (value : V) → put K.cmp key.now value entries.now ≡ insert entries.now at (key.now, value)) }

@@ -2,7 +2,7 @@
 ghost use Rattle.std.specs.Prelude.{◌≡◌, ◌++◌, length};
 ghost use Rattle.std.specs.Iterator.{at_most};
 ghost use Rattle.std.specs.Map.Iter.{TakesFirst, deref, deref_pair};
-ghost use Rattle.base_chunks.specs.Chunks.{joined, AreFilled};
+ghost use Rattle.base_chunks.specs.Chunks.{joined, AreNonempty};
 
 use crate::chunk::Chunk;
 use std::marker::Model;
@@ -18,18 +18,18 @@ pub struct Items<'a, T> {
 impl<'a, T> Model for Items<'a, T> {
     ghost use Rattle.std.specs.Prelude.{List, ◌++◌};
     ghost use Rattle.std.specs.Slice.Iter.{iter_rest};
-    ghost use Rattle.base_chunks.specs.Chunks.{joined, AreFilled};
+    ghost use Rattle.base_chunks.specs.Chunks.{joined, AreNonempty};
 
     ghost Value = { List T };
 
     ghost view = { λ a. iter_rest a.items ++ joined (iter_rest a.chunks) };
 
-    ghost invariant = { λ a. AreFilled (iter_rest a.chunks) };
+    ghost invariant = { λ a. AreNonempty (iter_rest a.chunks) };
 }
 
 impl<'a, T> Items<'a, T> {
     pub(crate) fn new(items: &'a [T], chunks: &'a [Chunk<T>]) -> Items<'a, T>
-        requires { AreFilled chunks.now }
+        requires { AreNonempty chunks.now }
         ensures { result ≡ items.now ++ joined chunks.now }
     {
         Items {

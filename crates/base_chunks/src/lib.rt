@@ -4,11 +4,11 @@
 mod chunk;
 mod chunks;
 mod copies;
-mod entering;
 mod entries;
 mod items;
 mod list;
 mod map;
+mod setting;
 mod share;
 
 pub use items::{Entries, Items, ListItems};

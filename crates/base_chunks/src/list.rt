@@ -22,13 +22,13 @@ pub struct SharedList<T> {
 
 impl<T> Model for SharedList<T> {
     ghost use Rattle.std.specs.Prelude.{List, ◌++◌};
-    ghost use Rattle.base_chunks.specs.Chunks.{joined, IsList};
+    ghost use Rattle.base_chunks.specs.Chunks.{joined, IsListParts};
 
     ghost Value = { List T };
 
     ghost view = { λ a. joined a.full.items ++ a.last.items };
 
-    ghost invariant = { λ a. IsList a.full.items a.last.items a.len };
+    ghost invariant = { λ a. IsListParts a.full.items a.last.items a.len };
 }
 
 /// A chunk with copies of the items, but with `item` in place of the item of number `i`.

@@ -8,9 +8,9 @@ ghost use Rattle.base_chunks.specs.Entries.{without};
 use crate::chunk::Chunk;
 use crate::chunks::{chunk_of, items_at, put_items};
 use crate::copies::copies;
-use crate::entering::enter;
 use crate::entries::{value_of, without_key};
 use crate::items::{Entries, Items};
+use crate::setting::set_entry;
 use crate::share::{Same, Share};
 use std::alloc::{AllocError, Global};
 use std::marker::Model;
@@ -25,13 +25,13 @@ pub struct SharedMap<K: Ord, V> {
 
 impl<K: Ord, V> Model for SharedMap<K, V> {
     ghost use Rattle.std.specs.Prelude.{◌≡◌, List, length};
-    ghost use Rattle.base_chunks.specs.Chunks.{joined, IsMap};
+    ghost use Rattle.base_chunks.specs.Chunks.{joined, IsMapChunks};
 
     ghost Value = { List (K × V) };
 
     ghost view = { λ a. joined a.chunks.items };
 
-    ghost invariant = { λ a. (a.len ≡ length (joined a.chunks.items)) × IsMap K.cmp a.chunks.items };
+    ghost invariant = { λ a. (a.len ≡ length (joined a.chunks.items)) × IsMapChunks K.cmp a.chunks.items };
 }
 
 impl<K: Ord, V> SharedMap<K, V> {
@@ -71,7 +71,7 @@ impl<K: Ord + Share, V: Share> SharedMap<K, V> {
         ensures ordered { IsTrue (is_sorted K.cmp self.old) }
     {
         let at = chunk_of(&self.chunks, &key);
-        self.len = enter(&mut self.chunks, self.len, at, (key, value))?;
+        self.len = set_entry(&mut self.chunks, self.len, at, (key, value))?;
         Ok(())
     }
 

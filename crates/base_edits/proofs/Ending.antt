@@ -12,14 +12,14 @@ use Rattle.std.proofs.lemmas.Option.{same_Some, none-some, slice_get_within, sli
 use Rattle.base_edits.specs.Edits.{AreInOrder}
 use Rattle.base_edits.specs.EditSet.{FileChanges, change_in, change_of, paths_of}
 use Rattle.base_edits.specs.Moved.{moved_offset, edits_by}
-use Rattle.base_edits.specs.Moving.{IsPast}
+use Rattle.base_edits.specs.PassedEdits.{ArePast}
 use Rattle.base_edits.specs.declared.edit.Edit.{Edit}
 use Rattle.base_edits.specs.declared.change.FileChange.{FileChange}
 use Rattle.base_edits.proofs.Searched.{found_is, search_cmp}
 use Rattle.base_edits.proofs.Steps.{drop_next, past_start, past_later, past_more, past_all, past_stops}
 use Rattle.base_edits.specs.declared.moves.End.{End}
 use Rattle.base_edits.specs.FilesMoved.{HasEnds}
-use Rattle.base_edits.specs.Ends.{past_at, IsEnd, AreEndsBelow, AreEnds, AreEndsOf, IsLastEnd, IsChangeOf}
+use Rattle.base_edits.specs.Ends.{passed_at, IsEnd, AreEndsBelow, AreEnds, AreEndsOf, IsLastEnd, IsChangeOf}
 
 -- what a list with one more element has at a number
 pub pushed_get : {X : Type 0} (xs : List X) (x y : X) (n : ℕ) → slice_get (xs ++ (x ∷ [])) n ≡ Some y → (slice_get xs n ≡ Some y) ⊎ ((n ≡ length xs) × (x ≡ y))
@@ -82,7 +82,7 @@ next_is_end edits i end e is lt at =
     let b = behind_end edits i end e is lt at in
     let starts = b.starts in
     let ends = b.ends in
-    (past_more edits e.span.end (past_at i end) e (past_later edits end.old e.span.end (past_at i end) is (omega arith)) lt at (omega arith)).next
+    (past_more edits e.span.end (passed_at i end) e (past_later edits end.old e.span.end (passed_at i end) is (omega arith)) lt at (omega arith)).next
 
 -- one end more
 pub more_ends : (edits : List Edit) (i : ℕ) (old new : List End) (end next : End) (e : Edit) → i < length edits → e ≡ get_or edits i e →
@@ -139,13 +139,13 @@ stops edits ends offset n are last e has =
 pub moved_last : (edits : List Edit) (ends : List End) (offset n : ℕ) (end : End) → AreEnds edits ends → IsLastEnd ends offset n → slice_get ends n ≡ Some end →
     end.new + (offset - end.old) ≡ moved_offset edits offset
 moved_last edits ends offset n end are last is =
-    let past : IsPast edits offset (past_at n end) = past_later edits end.old offset (past_at n end) (are.each n end is) (last.reached end is) in
+    let past : ArePast edits offset (passed_at n end) = past_later edits end.old offset (passed_at n end) (are.each n end is) (last.reached end is) in
     elim (cases_lt n (length edits)) [
       | inl lt ↦ (
           let e = element edits n lt in
-          sym (past_stops edits offset (past_at n end) e.0 past lt (sym (get_or_from_slice_get edits n e.0 e.0 e.1))
+          sym (past_stops edits offset (passed_at n end) e.0 past lt (sym (get_or_from_slice_get edits n e.0 e.0 e.1))
           (stops edits ends offset n are last e.0 e.1)))
-      | inr ge ↦ sym (past_all edits offset (past_at n end) past ge)
+      | inr ge ↦ sym (past_all edits offset (passed_at n end) past ge)
     ]
 
 pub some_ends : (s : FileChanges) (path : List ℕ) (ends : List End) → HasEnds s path ends → 0 < length ends

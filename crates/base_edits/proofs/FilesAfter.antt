@@ -7,7 +7,7 @@ use Rattle.std.proofs.lemmas.List.Elements.{Contains-append_left, Contains-appen
 use Rattle.base_files.specs.Workspace.{Workspace}
 use Rattle.base_files.proofs.WorkspaceLaws.{path_cmp_total}
 use Rattle.base_edits.specs.EditSet.{FileChanges, file_after, files_after, edited}
-use Rattle.base_edits.specs.Fits.{Fits, Gets}
+use Rattle.base_edits.specs.Fits.{Fits, MovesTo}
 use Rattle.base_edits.specs.Laws.{HasEachFile}
 use Rattle.base_edits.proofs.Held.{given_from, is_given}
 use Rattle.base_edits.proofs.Entries.{found_in, some_found, entry_of, get_entry, some_is}
@@ -20,7 +20,7 @@ IsOldFile s w path text = (old before : List ℕ) × (get w old ≡ Some before)
 abbrev pub ComesFrom : FileChanges → Workspace → List ℕ → List ℕ → Type 0
 ComesFrom s w path text = Contains s.added (path, text) ⊎ IsOldFile s w path text
 
-pub gets : (s : FileChanges) (w : Workspace) (path text : List ℕ) → (o : IsOldFile s w path text) → Gets s w o.0 path
+pub gets : (s : FileChanges) (w : Workspace) (path text : List ℕ) → (o : IsOldFile s w path text) → MovesTo s w o.0 path
 gets s w path text o = (some_is (get w o.0) o.1 o.2, file_path s o.0 o.1 path text o.3)
 
 listed_from : (s : FileChanges) (w : Workspace) (path text : List ℕ) → Contains (files_after s w) (path, text) → ComesFrom s w path text

@@ -11,7 +11,7 @@ use Rattle.std.proofs.lemmas.Map.Keys.{IsDistinct-head, IsDistinct-tail}
 use Rattle.std.proofs.lemmas.List.Elements.{All-contains, All-from_recursion, All-contains_itself, All-weaker, Contains-append_left, Contains-append_right}
 use Rattle.base_files.specs.Workspace.{Workspace}
 use Rattle.base_edits.specs.EditSet.{FileChanges, path_by, change_in, change_of}
-use Rattle.base_edits.specs.Fits.{IsEditSet, IsThere, IsKept, AreFree, Fits, Gets, new_path, is_stays, stays, path_by_change}
+use Rattle.base_edits.specs.Fits.{IsEditSet, HasSpans, Remains, AreFree, Fits, MovesTo, new_path, is_staying, stays, path_by_change}
 use Rattle.base_edits.specs.Inverse.{AreChanges}
 use Rattle.base_edits.specs.declared.change.FileChange.{FileChange}
 use Rattle.base_edits.specs.declared.change.Fate.{Fate}
@@ -96,17 +96,17 @@ one_target (c ∷ cs) ys distinct one other p a b first second =
     rest_distinct (Some q) cs ys distinct = IsDistinct-tail path_eq q (filter_map target cs ++ ys) distinct
 
 -- ---- a file keeps its path or is moved to a target
-stays_or_moves : (f : Fate) (old path : List ℕ) → path_by f old ≡ Some path → ((old ≡ path) × (is_stays f ≡ true)) ⊎ (new_path f ≡ Some path)
+stays_or_moves : (f : Fate) (old path : List ℕ) → path_by f old ≡ Some path → ((old ≡ path) × (is_staying f ≡ true)) ⊎ (new_path f ≡ Some path)
 stays_or_moves Stays old path h = inl (same_Some old path h, refl)
 stays_or_moves (Moves new) old path h = inr h
 stays_or_moves Dropped old path h = absurd (none-some path h)
 
-stays_at : (f : Fate) (path : List ℕ) → is_stays f ≡ true → path_by f path ≡ Some path
+stays_at : (f : Fate) (path : List ℕ) → is_staying f ≡ true → path_by f path ≡ Some path
 stays_at Stays path h = refl
 stays_at (Moves new) path h = absurd (true≢false (sym h))
 stays_at Dropped path h = absurd (true≢false (sym h))
 
-moves_not : (f : Fate) (path : List ℕ) → new_path f ≡ Some path → is_stays f ≡ true → ⊥
+moves_not : (f : Fate) (path : List ℕ) → new_path f ≡ Some path → is_staying f ≡ true → ⊥
 moves_not Stays path h k = none-some path h
 moves_not (Moves new) path h k = true≢false (sym k)
 moves_not Dropped path h k = none-some path h
@@ -121,14 +121,14 @@ IsMoved s old path = (c : FileChange) × Contains s.changed c × (c.path ≡ old
 
 gets_by : (s : FileChanges) (w : Workspace) (old path : List ℕ) (o : Option FileChange) → change_of s old ≡ o → IsSome (get w old) →
     path_by_change o old ≡ Some path
-    → ((old ≡ path) × IsKept s.changed w path) ⊎ IsMoved s old path
+    → ((old ≡ path) × Remains s.changed w path) ⊎ IsMoved s old path
 gets_by s w old path None is there goes =
     let same = same_Some old path goes in
     inl (same, (subst (λ (p : List ℕ). IsSome (get w p)) same there, subst (λ (p : List ℕ). stays (change_in s.changed p) ≡ true) same (ap stays is)))
 gets_by s w old path (Some c) is there goes =
     let found = change_found s.changed old c is in
     ⊎_elim
-    (λ (kept : (old ≡ path) × (is_stays c.fate ≡ true)).
+    (λ (kept : (old ≡ path) × (is_staying c.fate ≡ true)).
     inl (
       kept.0,
       (
@@ -143,7 +143,7 @@ kept_gets_by : (s : FileChanges) (path : List ℕ) (o : Option FileChange) → s
 kept_gets_by s path None h = refl
 kept_gets_by s path (Some c) h = stays_at c.fate path h
 
-kept_gets : (s : FileChanges) (w : Workspace) (path : List ℕ) → IsKept s.changed w path → Gets s w path path
+kept_gets : (s : FileChanges) (w : Workspace) (path : List ℕ) → Remains s.changed w path → MovesTo s w path path
 kept_gets s w path kept = (kept.0, kept_gets_by s path (change_of s path) kept.1)
 
 if_some : (o : Option (List ℕ)) (P : List ℕ → Type 0) (p : List ℕ) → o ≡ Some p → IfSome o P → P p
@@ -160,31 +160,31 @@ all_held P xs each = All-weaker (Contains xs) P each xs (All-contains_itself xs)
 pub set_changes : (s : FileChanges) → IsEditSet s → AreChanges s
 set_changes s set = record { in_order = set.in_order; one_way = one_way_sorted s.changed set.by_path }
 
-module _ (s : FileChanges) (w : Workspace) (set : IsEditSet s) (there : All (IsThere w) s.changed) where
+module _ (s : FileChanges) (w : Workspace) (set : IsEditSet s) (there : All (HasSpans w) s.changed) where
   abbrev added_paths : List (List ℕ)
   added_paths = map (λ file. file.0) s.added
 
-  not_kept : (path : List ℕ) → AreFree s w → (c : FileChange) → Contains s.changed c → target c ≡ Some path → IsKept s.changed w path → ⊥
-  not_kept path free c has at kept = if_some (target c) (λ p. ¬ (IsKept s.changed w p)) path at
-      (All-contains (λ (x : FileChange). IfSome (target x) (λ p. ¬ (IsKept s.changed w p))) s.changed c free.0 has) kept
+  not_kept : (path : List ℕ) → AreFree s w → (c : FileChange) → Contains s.changed c → target c ≡ Some path → Remains s.changed w path → ⊥
+  not_kept path free c has at kept = if_some (target c) (λ p. ¬ (Remains s.changed w p)) path at
+      (All-contains (λ (x : FileChange). IfSome (target x) (λ p. ¬ (Remains s.changed w p))) s.changed c free.0 has) kept
 
-  apart : AreFree s w → (one other path : List ℕ) → Gets s w one path → Gets s w other path → one ≡ other
+  apart : AreFree s w → (one other path : List ℕ) → MovesTo s w one path → MovesTo s w other path → one ≡ other
   apart free one other path a b =
       ⊎_elim
-      (λ (x : (one ≡ path) × IsKept s.changed w path). ⊎_elim
-      (λ (y : (other ≡ path) × IsKept s.changed w path). x.0 ∙ sym y.0)
+      (λ (x : (one ≡ path) × Remains s.changed w path). ⊎_elim
+      (λ (y : (other ≡ path) × Remains s.changed w path). x.0 ∙ sym y.0)
       (λ (y : IsMoved s other path). let z : one ≡ other = absurd (not_kept path free y.0 y.1 y.3 x.1) in z)
       (gets_by s w other path (change_of s other) refl b.0 b.1))
       (λ (x : IsMoved s one path). ⊎_elim
-      (λ (y : (other ≡ path) × IsKept s.changed w path). let z : one ≡ other = absurd (not_kept path free x.0 x.1 x.3 y.1) in z)
+      (λ (y : (other ≡ path) × Remains s.changed w path). let z : one ≡ other = absurd (not_kept path free x.0 x.1 x.3 y.1) in z)
       (λ (y : IsMoved s other path). sym x.2 ∙ ap (λ (c : FileChange). c.path) (one_target s.changed added_paths set.differ x.0 y.0 path x.1 y.1 x.3 y.3) ∙ y.2)
       (gets_by s w other path (change_of s other) refl b.0 b.1))
       (gets_by s w one path (change_of s one) refl a.0 a.1)
 
-  added_free : AreFree s w → (old : List ℕ) (file : List ℕ × List ℕ) → Contains s.added file → Gets s w old file.0 → ⊥
+  added_free : AreFree s w → (old : List ℕ) (file : List ℕ × List ℕ) → Contains s.added file → MovesTo s w old file.0 → ⊥
   added_free free old file has a =
       ⊎_elim
-      (λ (x : (old ≡ file.0) × IsKept s.changed w file.0). All-contains (λ (f : List ℕ × List ℕ). ¬ (IsKept s.changed w f.0)) s.added file free.1 has x.1)
+      (λ (x : (old ≡ file.0) × Remains s.changed w file.0). All-contains (λ (f : List ℕ × List ℕ). ¬ (Remains s.changed w f.0)) s.added file free.1 has x.1)
       (λ (x : IsMoved s old file.0). left_apart (filter_map target s.changed) added_paths file.0 set.differ (is_given target s.changed x.0 file.0 x.1 x.3)
       (is_mapped (λ (f : List ℕ × List ℕ). f.0) s.added file has))
       (gets_by s w old file.0 (change_of s old) refl a.0 a.1)
@@ -199,12 +199,12 @@ module _ (s : FileChanges) (w : Workspace) (set : IsEditSet s) (there : All (IsT
 
   pub free_from : Fits s w → AreFree s w
   free_from fits = (
-    all_held (λ (c : FileChange). IfSome (target c) (λ p. ¬ (IsKept s.changed w p))) s.changed
-        (λ c has. for_some (target c) (λ p. ¬ (IsKept s.changed w p)) (λ p at kept.
-        let file = file_there w c (All-contains (IsThere w) s.changed c there has) in
+    all_held (λ (c : FileChange). IfSome (target c) (λ p. ¬ (Remains s.changed w p))) s.changed
+        (λ c has. for_some (target c) (λ p. ¬ (Remains s.changed w p)) (λ p at kept.
+        let file = file_there w c (All-contains (HasSpans w) s.changed c there has) in
         let own : change_of s c.path ≡ Some c = change_held s.changed (one_way_sorted s.changed set.by_path) c.path c has refl in
-        let goes : Gets s w c.path p = (some_is (get w c.path) file.0 file.1, ap (λ o. path_by_change o c.path) own ∙ moves_to c.fate c.path p at) in
+        let goes : MovesTo s w c.path p = (some_is (get w c.path) file.0 file.1, ap (λ o. path_by_change o c.path) own ∙ moves_to c.fate c.path p at) in
         let same : c.path ≡ p = fits.apart c.path p p goes (kept_gets s w p kept) in
         moves_not c.fate p at (sym (ap stays own) ∙ ap (λ (x : List ℕ). stays (change_in s.changed x)) same ∙ kept.1))),
-    all_held (λ (f : List ℕ × List ℕ). ¬ (IsKept s.changed w f.0)) s.added (λ file has kept. fits.free file.0 file has (kept_gets s w file.0 kept)),
+    all_held (λ (f : List ℕ × List ℕ). ¬ (Remains s.changed w f.0)) s.added (λ file has kept. fits.free file.0 file has (kept_gets s w file.0 kept)),
   )

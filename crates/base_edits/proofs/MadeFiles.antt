@@ -13,7 +13,7 @@ use Rattle.base_files.proofs.WorkspaceLaws.{path_cmp_total}
 use Rattle.base_edits.specs.EditSet.{FileChanges, change_in, change_of, file_by, edited}
 use Rattle.base_edits.specs.Fits.{Fits}
 use Rattle.base_edits.specs.Inverse.{AreChanges}
-use Rattle.base_edits.specs.Made.{without, with_files, made_of, made}
+use Rattle.base_edits.specs.Made.{without_files, with_files, file_made, made}
 use Rattle.base_edits.specs.declared.change.FileChange.{FileChange}
 use Rattle.base_edits.proofs.Held.{nothing_in, first_in, later_in, first_or_later, given_from, is_given}
 use Rattle.base_edits.proofs.Entries.{exact_path, same_path, not_true, same_files, some_is}
@@ -60,7 +60,7 @@ not_at c q apart = (
   not_true (eq_by_cmp path_cmp q c.path) (λ t. apart (sym (exact_path q c.path t))),
 )
 
-without_from : (cs : List FileChange) (w : Workspace) (q t : List ℕ) → get (without cs w) q ≡ Some t → (get w q ≡ Some t) × (change_in cs q ≡ None)
+without_from : (cs : List FileChange) (w : Workspace) (q t : List ℕ) → get (without_files cs w) q ≡ Some t → (get w q ≡ Some t) × (change_in cs q ≡ None)
 without_from [] w q t h = (h, refl)
 without_from (c ∷ cs) w q t h =
     let rest = without_from cs (remove w c.path) q t h in
@@ -74,10 +74,10 @@ without_from (c ∷ cs) w q t h =
       )
     ] refl (sym (get-remove path_cmp_total w c.path q) ∙ rest.0)
 
-without_kept : (cs : List FileChange) (w : Workspace) (q t : List ℕ) → get w q ≡ Some t → change_in cs q ≡ None → get (without cs w) q ≡ Some t
+without_kept : (cs : List FileChange) (w : Workspace) (q t : List ℕ) → get w q ≡ Some t → change_in cs q ≡ None → get (without_files cs w) q ≡ Some t
 without_kept [] w q t is none = is
 without_kept (c ∷ cs) w q t is none =
-    elim (pointwise ◌==◌ c.path q) as (λ b. pointwise ◌==◌ c.path q ≡ b → cond b (Some c) (change_in cs q) ≡ None → get (without (c ∷ cs) w) q ≡ Some t) [
+    elim (pointwise ◌==◌ c.path q) as (λ b. pointwise ◌==◌ c.path q ≡ b → cond b (Some c) (change_in cs q) ≡ None → get (without_files (c ∷ cs) w) q ≡ Some t) [
       | true ↦ λ same k. absurd (none-some c (sym k))
       | false ↦ λ apart k. without_kept cs (remove w c.path) q t
           (get-remove path_cmp_total w c.path q ∙ ap (λ b. cond b None (get w q))
@@ -93,40 +93,40 @@ made_by (Some before) c e h = (before, refl, h)
 module _ (s : FileChanges) (w : Workspace) (changes : AreChanges s) where
   made_from : (q t : List ℕ) → get (made s w) q ≡ Some t → ComesFrom s w q t
   made_from q t h =
-      let puts = filter_map (made_of w) s.changed in
+      let puts = filter_map (file_made w) s.changed in
       ⊎_elim
       (λ (new : Contains s.added (q, t)). inl new)
-      (λ (old : get (with_files puts (without s.changed w)) q ≡ Some t).
+      (λ (old : get (with_files puts (without_files s.changed w)) q ≡ Some t).
       ⊎_elim
       (λ (put : Contains puts (q, t)).
-      let r = given_from (made_of w) s.changed (q, t) put in
+      let r = given_from (file_made w) s.changed (q, t) put in
       let b = made_by (get w r.0.path) r.0 (q, t) r.2 in
       inr (r.0.path, b.0, b.1, ap (λ o. file_by o (r.0.path, b.0)) (change_held s.changed changes.one_way r.0.path r.0 r.1 refl) ∙ b.2))
-      (λ (stays : get (without s.changed w) q ≡ Some t).
+      (λ (stays : get (without_files s.changed w) q ≡ Some t).
       let r = without_from s.changed w q t stays in
       inr (q, t, r.0, ap (λ o. file_by o (q, t)) r.1))
-      (with_from puts (without s.changed w) q t old))
-      (with_from s.added (with_files puts (without s.changed w)) q t h)
+      (with_from puts (without_files s.changed w) q t old))
+      (with_from s.added (with_files puts (without_files s.changed w)) q t h)
 
   old_made : (q t old before : List ℕ) (o : Option FileChange) → change_of s old ≡ o → get w old ≡ Some before → file_by o (old, before) ≡ Some (q, t) →
       IsSome (get (made s w) q)
   old_made q t old before None none is after =
-      let puts = filter_map (made_of w) s.changed in
+      let puts = filter_map (file_made w) s.changed in
       let same : old ≡ q = ap (λ (e : List ℕ × List ℕ). e.0) (same_Some (old, before) (q, t) after) in
       subst (λ (p : List ℕ). IsSome (get (made s w) p)) same
-      (with_kept s.added (with_files puts (without s.changed w)) old
-      (with_kept puts (without s.changed w) old (some_is (get (without s.changed w) old) before (without_kept s.changed w old before is none))))
+      (with_kept s.added (with_files puts (without_files s.changed w)) old
+      (with_kept puts (without_files s.changed w) old (some_is (get (without_files s.changed w) old) before (without_kept s.changed w old before is none))))
   old_made q t old before (Some c) some is after =
-      let puts = filter_map (made_of w) s.changed in
+      let puts = filter_map (file_made w) s.changed in
       let there = change_found s.changed old c some in
-      let gives : made_of w c ≡ Some (q, t) =
+      let gives : file_made w c ≡ Some (q, t) =
       ap (λ (p : List ℕ). option_and_then (λ text. file_by (Some c) (p, text)) (get w p)) there.1
       ∙ ap (option_and_then (λ text. file_by (Some c) (old, text))) is ∙ after in
-      with_kept s.added (with_files puts (without s.changed w)) q
-      (with_put puts (without s.changed w) q t (is_given (made_of w) s.changed c (q, t) there.0 gives))
+      with_kept s.added (with_files puts (without_files s.changed w)) q
+      (with_put puts (without_files s.changed w) q t (is_given (file_made w) s.changed c (q, t) there.0 gives))
 
   made_some : (q t : List ℕ) → ComesFrom s w q t → IsSome (get (made s w) q)
-  made_some q t (inl new) = with_put s.added (with_files (filter_map (made_of w) s.changed) (without s.changed w)) q t new
+  made_some q t (inl new) = with_put s.added (with_files (filter_map (file_made w) s.changed) (without_files s.changed w)) q t new
   made_some q t (inr o) = old_made q t o.0 o.1 (change_of s o.0) refl o.2 o.3
 
   pub made_is_edited : Fits s w → made s w ≡ edited s w

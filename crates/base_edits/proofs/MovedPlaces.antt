@@ -10,7 +10,7 @@ use Rattle.std.proofs.lemmas.List.Sums.{sum_by-cons}
 use Rattle.base_edits.specs.Edits.{AreInOrder, edited_from, edited_text}
 use Rattle.base_edits.specs.Laws.{KeepsOrder, KeepsOtherBytes, PutsNewBytes, MovesTheEnd}
 use Rattle.base_edits.specs.Moved.{edits_before, added_by, removed_by, moved_offset}
-use Rattle.base_edits.specs.Moving.{moved_from}
+use Rattle.base_edits.specs.PassedEdits.{moved_from}
 use Rattle.base_edits.specs.declared.edit.Edit.{Edit}
 use Rattle.base_edits.proofs.EditedText.{EndWithin, ends_within, drop_on, length_range}
 use Rattle.base_edits.proofs.Held.{first_or_later, nothing_in}

@@ -9,8 +9,8 @@ use Rattle.std.proofs.lemmas.List.Elements.{All-weaker, All-nil}
 use Rattle.base_files.specs.Workspace.{Workspace}
 use Rattle.base_edits.specs.Edits.{AreInOrder, LieWithin, edited_text}
 use Rattle.base_edits.specs.EditSet.{FileChanges, path_by, change_of, file_by, file_after, edited}
-use Rattle.base_edits.specs.Fits.{Fits, Gets, IsThere, path_after, path_by_change}
-use Rattle.base_edits.specs.Inverse.{AreChanges, LeadsBack, reversed, back_of, lost_of, dropped, inverse}
+use Rattle.base_edits.specs.Fits.{Fits, MovesTo, HasSpans, path_after, path_by_change}
+use Rattle.base_edits.specs.Inverse.{AreChanges, IsInverse, reversed, undo_of, drop_of, dropped, inverse}
 use Rattle.base_edits.specs.declared.edit.Edit.{Edit}
 use Rattle.base_edits.specs.declared.change.FileChange.{FileChange}
 use Rattle.base_edits.proofs.Held.{given_from, is_given, mapped_from, is_mapped}
@@ -29,37 +29,37 @@ module _ (s : FileChanges) (w : Workspace) (changes : AreChanges s) (fits : Fits
 
   -- ---- where changes and files of the inverse come from
   abbrev IsTurned : FileChange → Type 0
-  IsTurned d = ((c : FileChange) × Contains s.changed c × (back_of w c ≡ Some d)) ⊎ ((file : List ℕ × List ℕ) × Contains s.added file × (dropped file ≡ d))
+  IsTurned d = ((c : FileChange) × Contains s.changed c × (undo_of w c ≡ Some d)) ⊎ ((file : List ℕ × List ℕ) × Contains s.added file × (dropped file ≡ d))
 
   turned_from : (d : FileChange) → Contains turned.changed d → IsTurned d
   turned_from d has =
       ⊎_elim
-      (λ (back : Contains (filter_map (back_of w) s.changed) d). inl (given_from (back_of w) s.changed d back))
+      (λ (back : Contains (filter_map (undo_of w) s.changed) d). inl (given_from (undo_of w) s.changed d back))
       (λ (drops : Contains (map dropped s.added) d). inr (mapped_from dropped s.added d drops))
-      (Contains-append_cases (filter_map (back_of w) s.changed) (map dropped s.added) d has)
+      (Contains-append_cases (filter_map (undo_of w) s.changed) (map dropped s.added) d has)
 
-  back_in : (c d : FileChange) → Contains s.changed c → back_of w c ≡ Some d → Contains turned.changed d
-  back_in c d has is = Contains-append_left (filter_map (back_of w) s.changed) (map dropped s.added) d (is_given (back_of w) s.changed c d has is)
+  back_in : (c d : FileChange) → Contains s.changed c → undo_of w c ≡ Some d → Contains turned.changed d
+  back_in c d has is = Contains-append_left (filter_map (undo_of w) s.changed) (map dropped s.added) d (is_given (undo_of w) s.changed c d has is)
 
   dropped_in : (file : List ℕ × List ℕ) → Contains s.added file → Contains turned.changed (dropped file)
-  dropped_in file has = Contains-append_right (filter_map (back_of w) s.changed) (map dropped s.added) (dropped file) (is_mapped dropped s.added file has)
+  dropped_in file has = Contains-append_right (filter_map (undo_of w) s.changed) (map dropped s.added) (dropped file) (is_mapped dropped s.added file has)
 
   own_change : (c : FileChange) → Contains s.changed c → change_of s c.path ≡ Some c
   own_change c has = change_held s.changed changes.one_way c.path c has refl
 
   -- the file of a change that goes back is then where that change is
-  back_gets : (c d : FileChange) → Contains s.changed c → back_of w c ≡ Some d → Gets s w c.path d.path
+  back_gets : (c d : FileChange) → Contains s.changed c → undo_of w c ≡ Some d → MovesTo s w c.path d.path
   back_gets c d has is = let b = is_back w c d is in (some_is (get w c.path) b.before b.is, ap (λ o. path_by_change o c.path) (own_change c has) ∙ b.goes.there)
 
   one_way : (one other : FileChange) → IsTurned one → IsTurned other → one.path ≡ other.path → one ≡ other
   one_way one other (inl a) (inl b) same =
-      let path : a.0.path ≡ b.0.path = fits.apart a.0.path b.0.path other.path (subst (Gets s w a.0.path) same (back_gets a.0 one a.1 a.2))
+      let path : a.0.path ≡ b.0.path = fits.apart a.0.path b.0.path other.path (subst (MovesTo s w a.0.path) same (back_gets a.0 one a.1 a.2))
       (back_gets b.0 other b.1 b.2) in
-      same_Some one other (sym a.2 ∙ ap (back_of w) (changes.one_way a.0 b.0 a.1 b.1 path) ∙ b.2)
+      same_Some one other (sym a.2 ∙ ap (undo_of w) (changes.one_way a.0 b.0 a.1 b.1 path) ∙ b.2)
   one_way one other (inl a) (inr b) same = absurd (fits.free a.0.path b.0 b.1
-      (subst (Gets s w a.0.path) (same ∙ ap (λ (x : FileChange). x.path) (sym b.2)) (back_gets a.0 one a.1 a.2)))
+      (subst (MovesTo s w a.0.path) (same ∙ ap (λ (x : FileChange). x.path) (sym b.2)) (back_gets a.0 one a.1 a.2)))
   one_way one other (inr a) (inl b) same = absurd (fits.free b.0.path a.0 a.1
-      (subst (Gets s w b.0.path) (sym same ∙ ap (λ (x : FileChange). x.path) (sym a.2)) (back_gets b.0 other b.1 b.2)))
+      (subst (MovesTo s w b.0.path) (sym same ∙ ap (λ (x : FileChange). x.path) (sym a.2)) (back_gets b.0 other b.1 b.2)))
   one_way one other (inr a) (inr b) same =
       sym a.2 ∙ ap dropped (fits.once a.0 b.0 a.1 b.1 (ap (λ (x : FileChange). x.path) a.2 ∙ same ∙ ap (λ (x : FileChange). x.path) (sym b.2))) ∙ b.2
 
@@ -67,7 +67,7 @@ module _ (s : FileChanges) (w : Workspace) (changes : AreChanges s) (fits : Fits
   turned_one_way one other a b same = one_way one other (turned_from one a) (turned_from other b) same
 
   -- ---- the change of a path then
-  back_change : (c d : FileChange) → Contains s.changed c → back_of w c ≡ Some d → change_of turned d.path ≡ Some d
+  back_change : (c d : FileChange) → Contains s.changed c → undo_of w c ≡ Some d → change_of turned d.path ≡ Some d
   back_change c d has is = change_held turned.changed turned_one_way d.path d (back_in c d has is) refl
 
   added_change : (file : List ℕ × List ℕ) → Contains s.added file → change_of turned file.0 ≡ Some (dropped file)
@@ -76,12 +76,12 @@ module _ (s : FileChanges) (w : Workspace) (changes : AreChanges s) (fits : Fits
   other_change : (q t : List ℕ) → change_of s q ≡ None → get w q ≡ Some t → change_of turned q ≡ None
   other_change q t none is = none_from (change_of turned q) (λ d some.
       let there = change_found turned.changed q d some in
-      let own : Gets s w q q = (some_is (get w q) t is, ap (λ o. path_by_change o q) none) in
+      let own : MovesTo s w q q = (some_is (get w q) t is, ap (λ o. path_by_change o q) none) in
       ⊎_elim
-      (λ (b : (c : FileChange) × Contains s.changed c × (back_of w c ≡ Some d)).
-      none_changed s.changed q b.0 none b.1 (fits.apart b.0.path q q (subst (Gets s w b.0.path) there.1 (back_gets b.0 d b.1 b.2)) own))
+      (λ (b : (c : FileChange) × Contains s.changed c × (undo_of w c ≡ Some d)).
+      none_changed s.changed q b.0 none b.1 (fits.apart b.0.path q q (subst (MovesTo s w b.0.path) there.1 (back_gets b.0 d b.1 b.2)) own))
       (λ (b : (file : List ℕ × List ℕ) × Contains s.added file × (dropped file ≡ d)).
-      fits.free q b.0 b.1 (subst (Gets s w q) (sym there.1 ∙ ap (λ (x : FileChange). x.path) (sym b.2)) own))
+      fits.free q b.0 b.1 (subst (MovesTo s w q) (sym there.1 ∙ ap (λ (x : FileChange). x.path) (sym b.2)) own))
       (turned_from d there.0))
 
   -- ---- a file goes back where it was
@@ -91,14 +91,14 @@ module _ (s : FileChanges) (w : Workspace) (changes : AreChanges s) (fits : Fits
   no_file : (u p t : List ℕ) (q : List ℕ) → file_by (Some (dropped (q, u))) (q, u) ≡ Some (p, t) → ⊥
   no_file u p t q h = none-some (p, t) h
 
-  restored : (c d : FileChange) (before : List ℕ) → Contains s.changed c → get w c.path ≡ Some before → back_of w c ≡ Some d →
+  restored : (c d : FileChange) (before : List ℕ) → Contains s.changed c → get w c.path ≡ Some before → undo_of w c ≡ Some d →
       edited_text d.edits (edited_text c.edits before) ≡ before
   restored c d before has is back =
       let b = is_back w c d back in
       let same : b.before ≡ before = same_Some b.before before (sym b.is ∙ is) in
       ap (λ (es : List Edit). edited_text es (edited_text c.edits before)) (b.goes.same_edits ∙ ap (reversed c.edits) same)
       ∙ reversed_restore c.edits before (All-contains (λ (x : FileChange). AreInOrder 0 x.edits) s.changed c changes.in_order has)
-      (within_there w c before is (All-contains (IsThere w) s.changed c fits.there has))
+      (within_there w c before is (All-contains (HasSpans w) s.changed c fits.there has))
 
   old_goes_back : (q u p t old before : List ℕ) (o : Option FileChange) → change_of s old ≡ o → get w old ≡ Some before → file_by o (old, before) ≡ Some (q, u)
       → file_after turned (q, u) ≡ Some (p, t) → IsBackAt p t q
@@ -134,7 +134,7 @@ module _ (s : FileChanges) (w : Workspace) (changes : AreChanges s) (fits : Fits
       (λ (o : IsOldFile s w q u). old_goes_back q u p t o.0 o.1 (change_of s o.0) refl o.2 o.3 back)
       (comes_from s w q u is)
 
-  path_back : (q p : List ℕ) → Gets turned after q p → (t : List ℕ) × IsBackAt p t q
+  path_back : (q p : List ℕ) → MovesTo turned after q p → (t : List ℕ) × IsBackAt p t q
   path_back q p h =
       let u = value_of (get after q) h.0 in
       let file = some_file (change_of turned q) q u.0 p h.1 in
@@ -144,13 +144,13 @@ module _ (s : FileChanges) (w : Workspace) (changes : AreChanges s) (fits : Fits
   all_held : {X : Type 0} (P : X → Type 0) (xs : List X) → ((x : X) → Contains xs x → P x) → All P xs
   all_held P xs each = All-weaker (Contains xs) P each xs (All-contains_itself xs)
 
-  turned_there : (d : FileChange) → IsTurned d → IsThere after d
+  turned_there : (d : FileChange) → IsTurned d → HasSpans after d
   turned_there d (inl b) =
       let c = b.0 in
       let k = is_back w c d b.2 in
       let new = edited_text c.edits k.before in
       let order = All-contains (λ (x : FileChange). AreInOrder 0 x.edits) s.changed c changes.in_order b.1 in
-      let within = within_there w c k.before k.is (All-contains (IsThere w) s.changed c fits.there b.1) in
+      let within = within_there w c k.before k.is (All-contains (HasSpans w) s.changed c fits.there b.1) in
       let gives : file_after s (c.path, k.before) ≡ Some (d.path, new) = ap (λ o. file_by o (c.path, k.before)) (own_change c b.1) ∙
       ap (option_map {U = List ℕ × List ℕ} (λ p. (p, new))) k.goes.there in
       let is : get after d.path ≡ Some new = has_file s w fits d.path new (inr (c.path, k.before, k.is, gives)) in
@@ -158,11 +158,11 @@ module _ (s : FileChanges) (w : Workspace) (changes : AreChanges s) (fits : Fits
       (lie_within (length new) (reversed c.edits k.before)
       (reversed_within c.edits k.before new 0 0 order (ends_within (length k.before) c.edits within) (omega arith) refl)))
   turned_there d (inr b) =
-      subst (IsThere after) b.2 (is_there after (dropped b.0) b.0.1 (has_file s w fits b.0.0 b.0.1 (inl b.1))
+      subst (HasSpans after) b.2 (is_there after (dropped b.0) b.0.1 (has_file s w fits b.0.0 b.0.1 (inl b.1))
       (All-nil (λ (e : Edit). e.span.end ≤ length b.0.1)))
 
   lost_in : (file : List ℕ × List ℕ) → Contains turned.added file → (c : FileChange) × Contains s.changed c × IsLost w c file
-  lost_in file has = let r = given_from (lost_of w) s.changed file has in (r.0, r.1, is_lost w r.0 file r.2)
+  lost_in file has = let r = given_from (drop_of w) s.changed file has in (r.0, r.1, is_lost w r.0 file r.2)
 
   lost_at : (file : List ℕ × List ℕ) → Contains turned.added file → get w file.0 ≡ Some file.1
   lost_at file has = let r = lost_in file has in ap (get w) (sym r.2.path) ∙ r.2.is
@@ -172,7 +172,7 @@ module _ (s : FileChanges) (w : Workspace) (changes : AreChanges s) (fits : Fits
 
   turned_fits : Fits turned after
   turned_fits = record {
-    there = all_held (IsThere after) turned.changed (λ d has. turned_there d (turned_from d has));
+    there = all_held (HasSpans after) turned.changed (λ d has. turned_there d (turned_from d has));
     apart = λ one other path a b. same_Some one other (sym (path_back one path a).1.1 ∙ (path_back other path b).1.1);
     free = λ old file has h. none-some old (sym (lost_path file has) ∙ (path_back old file.0 h).1.1);
     once = λ one other a b same. (λ i. (same i, same_Some one.1 other.1 (sym (lost_at one a) ∙ ap (get w) same ∙ lost_at other b) i));
@@ -183,7 +183,7 @@ module _ (s : FileChanges) (w : Workspace) (changes : AreChanges s) (fits : Fits
   lost_file c p t has at is none =
       let here : get w c.path ≡ Some t = ap (get w) at ∙ is in
       subst (λ (x : List ℕ). Contains turned.added (x, t)) at
-      (is_given (lost_of w) s.changed c (c.path, t) has (lost_there w c t here (ap (path_by c.fate) at ∙ none)))
+      (is_given (drop_of w) s.changed c (c.path, t) has (lost_there w c t here (ap (path_by c.fate) at ∙ none)))
 
   moved_file : (c : FileChange) (p t q : List ℕ) → Contains s.changed c → c.path ≡ p → get w p ≡ Some t → path_by c.fate p ≡ Some q → (x : List ℕ) ×
       ComesFrom turned after p x
@@ -225,7 +225,7 @@ module _ (s : FileChanges) (w : Workspace) (changes : AreChanges s) (fits : Fits
       let r = comes_back p t (change_of s p) refl is in
       some_is (get (edited turned after) p) r.0 (has_file turned after turned_fits p r.0 r.1))
 
-  pub leads_back : LeadsBack (inverse s w) (edited s w) w
+  pub leads_back : IsInverse (inverse s w) (edited s w) w
   leads_back = record { fits = turned_fits; back = turned_gives }
 
   turned_order : (d : FileChange) → IsTurned d → AreInOrder 0 d.edits

@@ -5,11 +5,11 @@ use Rattle.std.proofs.lemmas.List.{drop_more, drop_all, append_assoc, length-app
 use Rattle.base_files.specs.Workspace.{Workspace}
 use Rattle.base_edits.specs.Edits.{AreInOrder, LieWithin, edited_from}
 use Rattle.base_edits.specs.EditSet.{FileChanges, edited}
-use Rattle.base_edits.specs.Fits.{Fits, IsThere}
-use Rattle.base_edits.specs.Inverse.{AreChanges, LeadsBack, reversed, reversed_from, inverse}
+use Rattle.base_edits.specs.Fits.{Fits, HasSpans}
+use Rattle.base_edits.specs.Inverse.{AreChanges, IsInverse, reversed, reversed_from, inverse}
 use Rattle.base_edits.specs.Made.{made}
 use Rattle.base_edits.specs.Moved.{moved_offset}
-use Rattle.base_edits.specs.Moving.{IsPast, moved_from, Past}
+use Rattle.base_edits.specs.PassedEdits.{ArePast, moved_from, PassedEdits}
 use Rattle.base_edits.specs.Prepared.{IsPrepared}
 use Rattle.base_edits.specs.declared.edit.Edit.{Edit}
 use Rattle.base_edits.specs.declared.change.FileChange.{FileChange}
@@ -91,8 +91,8 @@ pub order_at : (changes : List FileChange) (i : ℕ) (c : FileChange) → i < le
 order_at changes i c lt is all = subst (λ (x : FileChange). AreInOrder 0 x.edits) (sym is) (all i c lt)
 
 pub there_at : (w : Workspace) (changes : List FileChange) (i : ℕ) (c : FileChange) → i < length changes → c ≡ get_or changes i c →
-    All (IsThere w) changes → IsThere w c
-there_at w changes i c lt is all = subst (IsThere w) (sym is) (all i c lt)
+    All (HasSpans w) changes → HasSpans w c
+there_at w changes i c lt is all = subst (HasSpans w) (sym is) (all i c lt)
 
 -- ---- what is prepared
 pub are_prepared : (s : FileChanges) (w files : Workspace) (back : List FileChange) (lost : List (List ℕ × List ℕ)) → AreChanges s → Fits s w
@@ -103,8 +103,8 @@ are_prepared s w files back lost changes fits e1 e2 e3 =
     let turned : ◌≡◌ {A = FileChanges} (inverse s w) (record { changed = back; added = lost }) = (λ i. record { changed = sym e2 i; added = sym e3 i }) in
     record {
       made = made_so;
-      back = subst (λ (v : Workspace). LeadsBack (record { changed = back; added = lost }) v w) (sym made_so)
-          (subst (λ (t : FileChanges). LeadsBack t (edited s w) w) turned (leads_back s w changes fits));
+      back = subst (λ (v : Workspace). IsInverse (record { changed = back; added = lost }) v w) (sym made_so)
+          (subst (λ (t : FileChanges). IsInverse t (edited s w) w) turned (leads_back s w changes fits));
     }
 
 pub are_changes : (s : FileChanges) (w : Workspace) (back : List FileChange) (lost : List (List ℕ × List ℕ)) → AreChanges s → Fits s w
@@ -114,21 +114,21 @@ are_changes s w back lost changes fits e2 e3 =
     subst AreChanges turned (inverse_changes s w changes fits)
 
 -- ---- the cursor
-pub past_start : (edits : List Edit) → AreInOrder 0 edits → IsPast edits 0 (record { edits = 0; old = 0; new = 0 })
+pub past_start : (edits : List Edit) → AreInOrder 0 edits → ArePast edits 0 (record { edits = 0; old = 0; new = 0 })
 past_start edits order = record { within = omega arith; behind = omega arith; order = order; moves = λ offset h. moves_all edits offset order }
 
-pub past_later : (edits : List Edit) (last offset : ℕ) (past : Past) → IsPast edits last past → last ≤ offset → IsPast edits offset past
+pub past_later : (edits : List Edit) (last offset : ℕ) (past : PassedEdits) → ArePast edits last past → last ≤ offset → ArePast edits offset past
 past_later edits last offset past is le =
     let behind = is.behind in
     record { within = is.within; behind = omega arith; order = is.order; moves = λ other h. is.moves other (omega arith) }
 
 -- the part of the edits that a cursor goes past by one more
-pub record IsNextPast (edits : List Edit) (offset : ℕ) (past : Past) (e : Edit) : Type 0 where
+pub record IsNextPast (edits : List Edit) (offset : ℕ) (past : PassedEdits) (e : Edit) : Type 0 where
   pub first : past.old ≤ e.span.start
   pub fits : past.new + ((e.span.start - past.old) + length e.text) ≤ moved_offset edits offset
-  pub next : IsPast edits offset (record { edits = past.edits + 1; old = e.span.end; new = past.new + ((e.span.start - past.old) + length e.text) })
+  pub next : ArePast edits offset (record { edits = past.edits + 1; old = e.span.end; new = past.new + ((e.span.start - past.old) + length e.text) })
 
-pub past_more : (edits : List Edit) (offset : ℕ) (past : Past) (e : Edit) → IsPast edits offset past → past.edits < length edits →
+pub past_more : (edits : List Edit) (offset : ℕ) (past : PassedEdits) (e : Edit) → ArePast edits offset past → past.edits < length edits →
     e ≡ get_or edits past.edits e → e.span.end ≤ offset → IsNextPast edits offset past e
 past_more edits offset past e is lt at ends =
     let left = drop_next edits past.edits e lt at in
@@ -144,13 +144,13 @@ past_more edits offset past e is lt at ends =
       next = record { within = omega arith; behind = ends; order = here.2; moves = moves };
     }
 
-pub past_all : (edits : List Edit) (offset : ℕ) (past : Past) → IsPast edits offset past → length edits ≤ past.edits →
+pub past_all : (edits : List Edit) (offset : ℕ) (past : PassedEdits) → ArePast edits offset past → length edits ≤ past.edits →
     moved_offset edits offset ≡ past.new + (offset - past.old)
 past_all edits offset past is all =
     let none : drop past.edits edits ≡ [] = drop_all past.edits edits all in
     sym (is.moves offset (omega arith)) ∙ ap (λ (es : List Edit). moved_from past.old past.new es offset) none
 
-pub past_stops : (edits : List Edit) (offset : ℕ) (past : Past) (e : Edit) → IsPast edits offset past → past.edits < length edits →
+pub past_stops : (edits : List Edit) (offset : ℕ) (past : PassedEdits) (e : Edit) → ArePast edits offset past → past.edits < length edits →
     e ≡ get_or edits past.edits e → offset < e.span.end → moved_offset edits offset ≡ past.new + (offset - past.old)
 past_stops edits offset past e is lt at behind =
     sym (is.moves offset (omega arith)) ∙ ap (λ (es : List Edit). moved_from past.old past.new es offset) (drop_next edits past.edits e lt at)

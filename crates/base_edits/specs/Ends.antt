@@ -2,18 +2,18 @@
 use Rattle.std.specs.Prelude.{ℕ, ◌≡◌, ◌+◌, ◌<◌, ◌≤◌, List, length, Some, slice_get}
 use Rattle.std.specs.Global.{Vec}
 use Rattle.base_edits.specs.EditSet.{FileChanges, change_of}
-use Rattle.base_edits.specs.Moving.{IsPast, Past}
+use Rattle.base_edits.specs.PassedEdits.{ArePast, PassedEdits}
 use Rattle.base_edits.specs.declared.edit.Edit.{Edit}
 use Rattle.base_edits.specs.declared.change.FileChange.{FileChange}
 use Rattle.base_edits.specs.declared.moves.End.{End}
 
 -- The state behind the first `n` edits, of which the last ends at `end`.
-abbrev pub past_at : ℕ → End → Past
-past_at n end = record { edits = n; old = end.old; new = end.new }
+abbrev pub passed_at : ℕ → End → PassedEdits
+passed_at n end = record { edits = n; old = end.old; new = end.new }
 
 -- The first `n` edits end at `end.old` in the old text and at `end.new` in the new text.
 abbrev pub IsEnd : List Edit → ℕ → End → Type 0
-IsEnd edits n end = IsPast edits end.old (past_at n end)
+IsEnd edits n end = ArePast edits end.old (passed_at n end)
 
 -- The list begins with offset 0 of both texts, and goes on with the ends of the first edits. It has `count` entries.
 pub record AreEndsBelow (edits : List Edit) (count : ℕ) (ends : List End) : Type 0 where

@@ -8,8 +8,8 @@ use Rattle.base_edits.specs.declared.moves.End.{End}
 use Rattle.base_edits.specs.declared.moves.FileMoves.{FileMoves}
 
 -- The path of a file after its change. A dropped file keeps its path here.
-abbrev pub goes_by : FileChange → List ℕ → List ℕ
-goes_by change path = unwrap_or (path_by change.fate path) path
+abbrev pub new_path_by : FileChange → List ℕ → List ℕ
+new_path_by change path = unwrap_or (path_by change.fate path) path
 
 -- The file at the path is changed, and the list has the ends of its edits.
 pub record HasEnds (s : FileChanges) (path : List ℕ) (ends : List End) : Type 0 where

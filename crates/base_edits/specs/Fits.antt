@@ -19,10 +19,10 @@ new_path (Moves path) = Some path
 new_path Dropped = None
 
 -- Whether a fate leaves the path of a file as it is.
-abbrev pub is_stays : Fate → Bool
-is_stays Stays = true
-is_stays (Moves path) = false
-is_stays Dropped = false
+abbrev pub is_staying : Fate → Bool
+is_staying Stays = true
+is_staying (Moves path) = false
+is_staying Dropped = false
 
 -- The new paths of the files that move, and the paths of the files that are added.
 abbrev pub targets : FileChanges → List (List ℕ)
@@ -44,29 +44,29 @@ abbrev pub path_after : FileChanges → List ℕ → Option (List ℕ)
 path_after s path = path_by_change (change_of s path) path
 
 -- The workspace has a file at `old`, which the edit set leaves at or moves to `new`.
-abbrev pub Gets : FileChanges → Workspace → List ℕ → List ℕ → Type 0
-Gets s w old new = IsSome (files.get w old) × (path_after s old ≡ Some new)
+abbrev pub MovesTo : FileChanges → Workspace → List ℕ → List ℕ → Type 0
+MovesTo s w old new = IsSome (files.get w old) × (path_after s old ≡ Some new)
 
 -- The workspace has the file of the change, and its text contains all spans of the edits.
-abbrev pub IsThere : Workspace → FileChange → Type 0
-IsThere w c = MatchOption (files.get w c.path) ⊥ (λ text. LieWithin (length text) c.edits)
+abbrev pub HasSpans : Workspace → FileChange → Type 0
+HasSpans w c = MatchOption (files.get w c.path) ⊥ (λ text. LieWithin (length text) c.edits)
 
 -- Whether a change, or no change, leaves the path of a file as it is.
 abbrev pub stays : Option FileChange → Bool
 stays None = true
-stays (Some c) = is_stays c.fate
+stays (Some c) = is_staying c.fate
 
 -- The workspace has a file at the path, and the changes leave it at this path.
-abbrev pub IsKept : List FileChange → Workspace → List ℕ → Type 0
-IsKept changes w path = IsSome (files.get w path) × IsTrue (stays (change_in changes path))
+abbrev pub Remains : List FileChange → Workspace → List ℕ → Type 0
+Remains changes w path = IsSome (files.get w path) × IsTrue (stays (change_in changes path))
 
 -- No file is moved to, or added at, the path of a file that stays at its path.
 abbrev pub AreFree : FileChanges → Workspace → Type 0
-AreFree s w = All (λ c. IfSome (new_path c.fate) (λ path. ¬ (IsKept s.changed w path))) s.changed × All (λ file. ¬ (IsKept s.changed w file.0)) s.added
+AreFree s w = All (λ c. IfSome (new_path c.fate) (λ path. ¬ (Remains s.changed w path))) s.changed × All (λ file. ¬ (Remains s.changed w file.0)) s.added
 
 -- An edit set fits a workspace: each changed file exists and contains the spans of its edits, and no two files get one path.
 pub record Fits (s : FileChanges) (w : Workspace) : Type 0 where
-  pub there : All (IsThere w) s.changed
-  pub apart : (one other path : List ℕ) → Gets s w one path → Gets s w other path → one ≡ other
-  pub free : (old : List ℕ) (file : List ℕ × List ℕ) → Contains s.added file → Gets s w old file.0 → ⊥
+  pub there : All (HasSpans w) s.changed
+  pub apart : (one other path : List ℕ) → MovesTo s w one path → MovesTo s w other path → one ≡ other
+  pub free : (old : List ℕ) (file : List ℕ × List ℕ) → Contains s.added file → MovesTo s w old file.0 → ⊥
   pub once : (one other : List ℕ × List ℕ) → Contains s.added one → Contains s.added other → one.0 ≡ other.0 → one ≡ other

@@ -26,24 +26,24 @@ abbrev pub reversed : List Edit → List ℕ → List Edit
 reversed = reversed_from 0 0
 
 -- The change that takes back a change of the file at `path`, with the given edits. `None` for a dropped file, which has to be added again.
-abbrev pub back_by : Fate → List ℕ → List Edit → Option FileChange
-back_by Stays path edits = Some (record { path = path; edits = edits; fate = Stays })
-back_by (Moves new) path edits = Some (record { path = new; edits = edits; fate = Moves path })
-back_by Dropped path edits = None
+abbrev pub undo_by : Fate → List ℕ → List Edit → Option FileChange
+undo_by Stays path edits = Some (record { path = path; edits = edits; fate = Stays })
+undo_by (Moves new) path edits = Some (record { path = new; edits = edits; fate = Moves path })
+undo_by Dropped path edits = None
 
 -- The change that takes back a change of a file of the workspace `w`. `None` where the file is dropped or is not in `w`.
-abbrev pub back_of : Workspace → FileChange → Option FileChange
-back_of w c = option_and_then (λ text. back_by c.fate c.path (reversed c.edits text)) (files.get w c.path)
+abbrev pub undo_of : Workspace → FileChange → Option FileChange
+undo_of w c = option_and_then (λ text. undo_by c.fate c.path (reversed c.edits text)) (files.get w c.path)
 
 -- The file, as path and text, if its fate is to be dropped.
-abbrev pub lost_by : Fate → List ℕ × List ℕ → Option (List ℕ × List ℕ)
-lost_by Stays file = None
-lost_by (Moves new) file = None
-lost_by Dropped file = Some file
+abbrev pub drop_by : Fate → List ℕ × List ℕ → Option (List ℕ × List ℕ)
+drop_by Stays file = None
+drop_by (Moves new) file = None
+drop_by Dropped file = Some file
 
 -- The file, as path and text, that a change drops from the workspace `w`, if it drops one.
-abbrev pub lost_of : Workspace → FileChange → Option (List ℕ × List ℕ)
-lost_of w c = option_and_then (λ text. lost_by c.fate (c.path, text)) (files.get w c.path)
+abbrev pub drop_of : Workspace → FileChange → Option (List ℕ × List ℕ)
+drop_of w c = option_and_then (λ text. drop_by c.fate (c.path, text)) (files.get w c.path)
 
 -- The change that drops a file again that was added.
 abbrev pub dropped : List ℕ × List ℕ → FileChange
@@ -52,8 +52,8 @@ dropped file = record { path = file.0; edits = []; fate = Dropped }
 -- The inverse of an edit set on the workspace `w`: the changes that lead from the files after it back to those of `w`.
 abbrev pub inverse : FileChanges → Workspace → FileChanges
 inverse s w = record {
-  changed = filter_map (back_of w) s.changed ++ map dropped s.added;
-  added = filter_map (lost_of w) s.changed;
+  changed = filter_map (undo_of w) s.changed ++ map dropped s.added;
+  added = filter_map (drop_of w) s.changed;
 }
 
 -- No two changes are of one file, and the edits of each file are in order.
@@ -62,6 +62,6 @@ pub record AreChanges (s : FileChanges) : Type 0 where
   pub one_way : (one other : FileChange) → Contains s.changed one → Contains s.changed other → one.path ≡ other.path → one ≡ other
 
 -- The changes fit the workspace `after`, and make of it the workspace `before`.
-pub record LeadsBack (s : FileChanges) (after before : Workspace) : Type 0 where
+pub record IsInverse (s : FileChanges) (after before : Workspace) : Type 0 where
   pub fits : Fits s after
   pub back : edited s after ≡ before

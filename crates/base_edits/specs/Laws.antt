@@ -15,8 +15,8 @@ abbrev pub IsOutside : List Edit → ℕ → Type 0
 IsOutside edits offset = All (λ e. (offset ≤ e.span.start) ⊎ (e.span.end ≤ offset)) edits
 
 -- No span overlaps the bytes from `start` to `end`.
-abbrev pub AreKept : List Edit → ℕ → ℕ → Type 0
-AreKept edits start end = All (λ e. (end ≤ e.span.start) ⊎ (e.span.end ≤ start)) edits
+abbrev pub AreUntouched : List Edit → ℕ → ℕ → Type 0
+AreUntouched edits start end = All (λ e. (end ≤ e.span.start) ⊎ (e.span.end ≤ start)) edits
 
 -- Two offsets keep their order under the edits, where the lower one lies strictly inside no span.
 abbrev pub KeepsOrder : Type 0
@@ -25,7 +25,7 @@ KeepsOrder = (edits : List Edit) (one other : ℕ) → AreInOrder 0 edits → Is
 -- Bytes that no span overlaps are found in the new text at the moved offset of the first of them.
 abbrev pub KeepsOtherBytes : Type 0
 KeepsOtherBytes = (edits : List Edit) (text : List ℕ) (start end : ℕ) → AreInOrder 0 edits → LieWithin (length text) edits → start < end →
-    end ≤ length text → AreKept edits start end
+    end ≤ length text → AreUntouched edits start end
     → slice_range (edited_text edits text) (moved_offset edits start) (moved_offset edits start + (end - start)) ≡ slice_range text start end
 
 -- The new bytes of a span that is not empty are found in the new text at the moved offset of the span's start.

@@ -7,7 +7,7 @@ pub mod Inverse
 pub mod Laws
 pub mod Made
 pub mod Moved
-pub mod Moving
+pub mod PassedEdits
 pub mod Prepared
 pub mod Revisions
 pub mod RevisionsOfEdits

@@ -8,9 +8,9 @@ use Rattle.base_edits.specs.EditSet.{FileChanges, file_by}
 use Rattle.base_edits.specs.declared.change.FileChange.{FileChange}
 
 -- The workspace without the files of the changes.
-abbrev pub without : List FileChange → Workspace → Workspace
-without [] w = w
-without (c ∷ changes) w = without changes (files.remove w c.path)
+abbrev pub without_files : List FileChange → Workspace → Workspace
+without_files [] w = w
+without_files (c ∷ changes) w = without_files changes (files.remove w c.path)
 
 -- The workspace with the files inserted.
 abbrev pub with_files : List (List ℕ × List ℕ) → Workspace → Workspace
@@ -18,9 +18,9 @@ with_files [] w = w
 with_files (file ∷ rest) w = with_files rest (files.insert w file.0 file.1)
 
 -- The file, as path and text, that a change makes of a file of `w`. `None` where the file is dropped or is not in `w`.
-abbrev pub made_of : Workspace → FileChange → Option (List ℕ × List ℕ)
-made_of w c = option_and_then (λ text. file_by (Some c) (c.path, text)) (files.get w c.path)
+abbrev pub file_made : Workspace → FileChange → Option (List ℕ × List ℕ)
+file_made w c = option_and_then (λ text. file_by (Some c) (c.path, text)) (files.get w c.path)
 
 -- The workspace that an edit set makes of `w`, in the order of steps of the code.
 abbrev pub made : FileChanges → Workspace → Workspace
-made s w = with_files s.added (with_files (filter_map (made_of w) s.changed) (without s.changed w))
+made s w = with_files s.added (with_files (filter_map (file_made w) s.changed) (without_files s.changed w))

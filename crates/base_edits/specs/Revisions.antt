@@ -12,7 +12,7 @@ pub record Revision : Type 0 where
   pub called : Place → List ℕ → List ℕ
 
 -- The package at `path` is moved to the folder `to`: the folder to which its first file is moved.
-pub record GoesTo (w : Workspace) (r : Revision) (path to : List ℕ) : Type 0 where
+pub record PackageMovesTo (w : Workspace) (r : Revision) (path to : List ℕ) : Type 0 where
   pub first : List ℕ × List ℕ
   pub others : List (List ℕ × List ℕ)
   pub files : package_files w path ≡ first ∷ others

@@ -17,9 +17,9 @@ text_or name None = name
 text_or name (Some e) = e.text
 
 -- The name after an edit set of the identifier at a place, which has the given name before. Without an edit there, the name stays.
-abbrev pub called_by : FileChanges → Place → List ℕ → List ℕ
-called_by s place name = text_or name (find (replaces_at place.offset) (edits_by (change_of s place.path)))
+abbrev pub new_name_at : FileChanges → Place → List ℕ → List ℕ
+new_name_at s place name = text_or name (find (replaces_at place.offset) (edits_by (change_of s place.path)))
 
 -- The `Revision` that an edit set makes of the workspace `w`.
 abbrev pub revision_of : Workspace → FileChanges → Revision
-revision_of w s = record { after = edited s w; moved = moved s; called = called_by s }
+revision_of w s = record { after = edited s w; moved = moved s; called = new_name_at s }

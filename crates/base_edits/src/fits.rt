@@ -6,7 +6,7 @@ ghost use Rattle.std.specs.List.Sorted.{IsStrictlySortedBy};
 ghost use Rattle.base_files.specs.Workspace.{path_cmp};
 ghost use Rattle.base_edits.specs.Edits.{LieWithin};
 ghost use Rattle.base_edits.specs.EditSet.{change_in, paths_of};
-ghost use Rattle.base_edits.specs.Fits.{IsThere, IsKept, AreFree, new_path};
+ghost use Rattle.base_edits.specs.Fits.{HasSpans, Remains, AreFree, new_path};
 
 use crate::change::{Fate, FileChange};
 use crate::edit::Edit;
@@ -21,7 +21,7 @@ fn lie_within(edits: &[Edit], size: usize) -> bool
 
 /// Whether the file of a change exists and contains the spans of its edits.
 fn is_there(change: &FileChange, files: &Files) -> bool
-    ensures { IsTrue result ↔ IsThere files.now change.now }
+    ensures { IsTrue result ↔ HasSpans files.now change.now }
 {
     match files.get(&change.path) {
         Some(text) => lie_within(change.edits.as_slice(), text.len()),
@@ -31,7 +31,7 @@ fn is_there(change: &FileChange, files: &Files) -> bool
 
 /// Whether all changed files exist and contain the spans of their edits.
 pub(crate) fn are_there(changed: &[FileChange], files: &Files) -> bool
-    ensures { IsTrue result ↔ All (IsThere files.now) changed.now }
+    ensures { IsTrue result ↔ All (HasSpans files.now) changed.now }
 {
     changed.iter().all(|change| is_there(change, files))
 }
@@ -50,7 +50,7 @@ fn change_at<'a>(changed: &'a [FileChange], path: &Path) -> Option<&'a FileChang
 /// Whether there is a file at the path, which the changes leave at this path.
 fn is_kept(changed: &[FileChange], files: &Files, path: &Path) -> bool
     requires { IsStrictlySortedBy path_cmp (paths_of changed.now) }
-    ensures { IsTrue result ↔ IsKept changed.now files.now path.now }
+    ensures { IsTrue result ↔ Remains changed.now files.now path.now }
 {
     if files.get(path).is_none() {
         return false;
@@ -64,7 +64,7 @@ fn is_kept(changed: &[FileChange], files: &Files, path: &Path) -> bool
 /// Whether a change moves its file to no path at which a file stays.
 fn has_free_target(changed: &[FileChange], files: &Files, change: &FileChange) -> bool
     requires { IsStrictlySortedBy path_cmp (paths_of changed.now) }
-    ensures { IsTrue result ↔ IfSome (new_path change.now.fate) (λ path. ¬ (IsKept changed.now files.now path)) }
+    ensures { IsTrue result ↔ IfSome (new_path change.now.fate) (λ path. ¬ (Remains changed.now files.now path)) }
 {
     match &change.fate {
         Fate::Moves(path) => !is_kept(changed, files, path),

@@ -2,7 +2,7 @@
 ghost use Rattle.std.specs.Prelude.{◌≡◌, IfOk, IfErr, OnOk, OnErr};
 ghost use Rattle.base_edits.specs.EditSet.{edited};
 ghost use Rattle.base_edits.specs.Fits.{Fits};
-ghost use Rattle.base_edits.specs.Inverse.{AreChanges, LeadsBack};
+ghost use Rattle.base_edits.specs.Inverse.{AreChanges, IsInverse};
 
 use crate::change::FileChange;
 use crate::prepared::{Prepared, prepare_changes};
@@ -44,7 +44,7 @@ impl Inverse {
     pub fn undo(self, files: &mut Files) -> Result<Inverse, (Inverse, AllocError)>
         requires { Fits self files.old }
         ensures done { OnOk result (files.new ≡ edited self files.old) }
-        ensures redo { IfOk result (λ redo. LeadsBack redo files.new files.old) }
+        ensures redo { IfOk result (λ redo. IsInverse redo files.new files.old) }
         ensures back { IfErr result (λ e. e.0 ≡ self) }
         ensures err { OnErr result (files.new ≡ files.old) }
     {

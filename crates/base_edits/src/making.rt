@@ -4,9 +4,9 @@ ghost use Rattle.std.specs.List.{All, cons_option, filter_map};
 ghost use Rattle.std.specs.FinMap as workspace;
 ghost use Rattle.base_edits.specs.Edits.{AreInOrder, LieWithin, edited_text};
 ghost use Rattle.base_edits.specs.EditSet.{file_by};
-ghost use Rattle.base_edits.specs.Fits.{IsThere};
-ghost use Rattle.base_edits.specs.Inverse.{reversed, back_by, lost_by, back_of, lost_of, dropped, inverse};
-ghost use Rattle.base_edits.specs.Made.{without, with_files, made_of, made};
+ghost use Rattle.base_edits.specs.Fits.{HasSpans};
+ghost use Rattle.base_edits.specs.Inverse.{reversed, undo_by, drop_by, undo_of, drop_of, dropped, inverse};
+ghost use Rattle.base_edits.specs.Made.{without_files, with_files, file_made, made};
 
 use crate::change::{Fate, FileChange};
 use crate::edit::Edits;
@@ -25,7 +25,7 @@ pub(crate) struct Making {
 
 /// Removes the files of the changes.
 fn take_out(files: &mut Files, changed: &[FileChange]) -> Result<(), AllocError>
-    ensures { OnOk result (files.new ≡ without changed.now files.old) }
+    ensures { OnOk result (files.new ≡ without_files changed.now files.old) }
 {
     for change in changed {
         files.remove(&change.path)?;
@@ -95,8 +95,8 @@ fn make_change(
     requires order { AreInOrder 0 change.now.edits }
     requires within { LieWithin (length text.now) change.now.edits }
     ensures files { OnOk result (making.new.files ≡ with_files (cons_option (file_by (Some change.now) (change.now.path, text.now)) []) making.old.files) }
-    ensures back { OnOk result (making.new.back.items ≡ making.old.back.items ++ cons_option (back_by change.now.fate change.now.path (reversed change.now.edits text.now)) []) }
-    ensures lost { OnOk result (making.new.lost.items ≡ making.old.lost.items ++ cons_option (lost_by change.now.fate (change.now.path, text.now)) []) }
+    ensures back { OnOk result (making.new.back.items ≡ making.old.back.items ++ cons_option (undo_by change.now.fate change.now.path (reversed change.now.edits text.now)) []) }
+    ensures lost { OnOk result (making.new.lost.items ≡ making.old.lost.items ++ cons_option (drop_by change.now.fate (change.now.path, text.now)) []) }
 {
     let path = &change.path;
     match &change.fate {
@@ -120,10 +120,10 @@ fn make_changes(
     changed: &[FileChange],
 ) -> Result<(), AllocError>
     requires order { All (λ c. AreInOrder 0 c.edits) changed.now }
-    requires there { All (IsThere files.now) changed.now }
-    ensures files { OnOk result (making.new.files ≡ with_files (filter_map (made_of files.now) changed.now) making.old.files) }
-    ensures back { OnOk result (making.new.back.items ≡ making.old.back.items ++ filter_map (back_of files.now) changed.now) }
-    ensures lost { OnOk result (making.new.lost.items ≡ making.old.lost.items ++ filter_map (lost_of files.now) changed.now) }
+    requires there { All (HasSpans files.now) changed.now }
+    ensures files { OnOk result (making.new.files ≡ with_files (filter_map (file_made files.now) changed.now) making.old.files) }
+    ensures back { OnOk result (making.new.back.items ≡ making.old.back.items ++ filter_map (undo_of files.now) changed.now) }
+    ensures lost { OnOk result (making.new.lost.items ≡ making.old.lost.items ++ filter_map (drop_of files.now) changed.now) }
 {
     for change in changed {
         if let Some(text) = files.get(&change.path) {
@@ -141,7 +141,7 @@ pub(crate) fn made(
     added: &[(Path, FileText)],
 ) -> Result<Making, AllocError>
     requires order { All (λ c. AreInOrder 0 c.edits) changed.now }
-    requires there { All (IsThere files.now) changed.now }
+    requires there { All (HasSpans files.now) changed.now }
     ensures files { IfOk result (λ making. making.files ≡ made (record { changed = changed.now; added = added.now }) files.now) }
     ensures back { IfOk result (λ making. making.back.items ≡ (inverse (record { changed = changed.now; added = added.now }) files.now).changed) }
     ensures lost { IfOk result (λ making. making.lost.items ≡ (inverse (record { changed = changed.now; added = added.now }) files.now).added) }

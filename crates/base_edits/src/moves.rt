@@ -6,8 +6,8 @@ ghost use Rattle.base_edits.specs.Fits.{path_after};
 ghost use Rattle.base_edits.specs.Moved.{moved, moved_offset, edits_by};
 ghost use Rattle.base_edits.specs.declared.edit.Edit.{Edit as Edited};
 ghost use Rattle.base_edits.specs.Ends.{AreEnds, AreEndsOf, IsLastEnd, IsChangeOf};
-ghost use Rattle.base_edits.specs.FilesMoved.{AreMovesOf, goes_by};
-ghost use Rattle.base_edits.specs.RevisionsOfEdits.{called_by, replaces_at, text_or};
+ghost use Rattle.base_edits.specs.FilesMoved.{AreMovesOf, new_path_by};
+ghost use Rattle.base_edits.specs.RevisionsOfEdits.{new_name_at, replaces_at, text_or};
 
 use crate::{Edit, EditSet, Fate, FileChange};
 use base_files::{Path, Place};
@@ -50,7 +50,7 @@ pub struct FileMoves<'a> {
 
 /// The path of a file after its change. A dropped file keeps its path here.
 fn new_path<'a>(change: &'a FileChange, path: &'a Path) -> &'a Path
-    ensures { result.now ≡ goes_by change.now path.now }
+    ensures { result.now ≡ new_path_by change.now path.now }
 {
     match &change.fate {
         Fate::Moves(new) => new,
@@ -258,7 +258,7 @@ impl<'a> Moves<'a> {
 
     /// The name after the edit set of the identifier at `path:offset`, whose name before it is `name`.
     pub fn called<'b>(&'b self, path: &Path, offset: usize, name: &'b [u8]) -> &'b [u8]
-        ensures { result.now ≡ called_by self.now (record { path = path.now; offset = offset }) name.now }
+        ensures { result.now ≡ new_name_at self.now (record { path = path.now; offset = offset }) name.now }
     {
         match self.number_of(path) {
             None => name,

@@ -1,7 +1,7 @@
 //! An edit set whose new files are made and not yet committed.
 ghost use Rattle.std.specs.Prelude.{◌≡◌, IfOk};
 ghost use Rattle.base_edits.specs.Fits.{Fits};
-ghost use Rattle.base_edits.specs.Inverse.{AreChanges, LeadsBack};
+ghost use Rattle.base_edits.specs.Inverse.{AreChanges, IsInverse};
 ghost use Rattle.base_edits.specs.Prepared.{IsPrepared};
 
 use crate::change::FileChange;
@@ -49,9 +49,9 @@ pub fn prepare(alloc: Global, set: &EditSet, files: &Files) -> Result<Prepared, 
 impl Prepared {
     /// Replaces the files for which the edit set was prepared by the new ones, and returns the inverse. It takes no memory.
     pub fn commit(self, files: &mut Files) -> Inverse
-        requires { LeadsBack self.inverse self.files files.old }
+        requires { IsInverse self.inverse self.files files.old }
         ensures done { files.new ≡ self.files }
-        ensures back { LeadsBack result files.new files.old }
+        ensures back { IsInverse result files.new files.old }
     {
         let Prepared {
             files: made,

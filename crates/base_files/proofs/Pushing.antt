@@ -6,15 +6,15 @@ use Rattle.std.specs.FinMap.{find, put}
 use Rattle.base_files.specs.Workspace.{path_cmp}
 use Rattle.base_files.proofs.WorkspaceLaws.{path_cmp_total}
 use Rattle.base_chunks.proofs.Standing.{all_append, find_parts, put_parts}
-use Rattle.base_files.specs.Entries.{StandsBehind}
+use Rattle.base_files.specs.Entries.{IsAfterAllPaths}
 
 -- A path greater than all others is not among them.
-pub none_behind : {X : Type 0} (path : List ℕ) (es : List (List ℕ × X)) → StandsBehind path es → find path_cmp path es ≡ None
+pub none_behind : {X : Type 0} (path : List ℕ) (es : List (List ℕ × X)) → IsAfterAllPaths path es → find path_cmp path es ≡ None
 none_behind path es h =
     subst (λ xs. find path_cmp path xs ≡ None) (append-nil es) (find_parts path_cmp path es [] [] h tt)
 
 -- Putting a path greater than all others adds it at the end.
-pub put_behind : {X : Type 0} (path : List ℕ) (v : X) (es : List (List ℕ × X)) → StandsBehind path es → put path_cmp path v es ≡ es ++ (path, v) ∷ []
+pub put_behind : {X : Type 0} (path : List ℕ) (v : X) (es : List (List ℕ × X)) → IsAfterAllPaths path es → put path_cmp path v es ≡ es ++ (path, v) ∷ []
 put_behind path v es h =
     subst (λ xs. put path_cmp path v xs ≡ es ++ (path, v) ∷ []) (append-nil es) (put_parts path_cmp path v es [] [] h tt)
 
@@ -26,11 +26,11 @@ further p q r first then =
     ∙ ap ordering_reverse (path_cmp_total.trans r q p (path_cmp_total.antisymm r q ∙ ap ordering_reverse then)
     (path_cmp_total.antisymm q p ∙ ap ordering_reverse first))
 
-pub behind_all : {X : Type 0} (p path : List ℕ) (es : List (List ℕ × X)) → path_cmp p path ≡ Greater → StandsBehind path es → StandsBehind p es
+pub behind_all : {X : Type 0} (p path : List ℕ) (es : List (List ℕ × X)) → path_cmp p path ≡ Greater → IsAfterAllPaths path es → IsAfterAllPaths p es
 behind_all p path [] above h = tt
 behind_all p path (e ∷ es) above h = (further p path e.0 above h.0, behind_all p path es above h.1)
 
-pub behind_pushed : {X : Type 0} (p path : List ℕ) (v : X) (es : List (List ℕ × X)) → path_cmp p path ≡ Greater → StandsBehind path es →
-    StandsBehind p (es ++ (path, v) ∷ [])
+pub behind_pushed : {X : Type 0} (p path : List ℕ) (v : X) (es : List (List ℕ × X)) → path_cmp p path ≡ Greater → IsAfterAllPaths path es →
+    IsAfterAllPaths p (es ++ (path, v) ∷ [])
 behind_pushed p path v es above h =
     all_append (λ e. path_cmp p e.0 ≡ Greater) es ((path, v) ∷ []) (behind_all p path es above h) (above, tt)

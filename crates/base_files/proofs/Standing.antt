@@ -11,7 +11,7 @@ use Rattle.base_files.specs.Workspace.{path_cmp}
 use Rattle.base_files.proofs.WorkspaceLaws.{path_cmp_total, path_cmp_exact}
 use Rattle.base_chunks.specs.Entries.{Rises, IsAfterAll, is_before, is_at}
 use Rattle.base_chunks.proofs.Standing.{after_upto, after_part, is_at_at, find_there}
-use Rattle.base_files.specs.Entries.{IsNumber}
+use Rattle.base_files.specs.Entries.{IsEntryNumber}
 
 is_true : (b : Bool) → T b → IsTrue b
 is_true true h = refl
@@ -45,7 +45,7 @@ some_left path (e ∷ es) h = omega arith
 
 -- where the n-th entry is that of the path, those before it stand before the path
 pub number_at : {X : Type 0} (path : List ℕ) (es : List (List ℕ × X)) (n : ℕ) → Rises path_cmp es → n < length es →
-    is_at path_cmp path (drop n es) ≡ true → IsNumber path es n
+    is_at path_cmp path (drop n es) ≡ true → IsEntryNumber path es n
 number_at path es n h within here = record {
   within = within;
   front = after_part path_cmp path_cmp_total path (take n es) (drop n es) []
@@ -60,13 +60,13 @@ tied Equal h = refl
 tied Greater h = absurd (true≢false (sym h))
 
 -- the n-th entry has the path
-pub number_path : {X : Type 0} (path : List ℕ) (es : List (List ℕ × X)) (n : ℕ) (d : List ℕ × X) → IsNumber path es n → (get_or es n d).0 ≡ path
+pub number_path : {X : Type 0} (path : List ℕ) (es : List (List ℕ × X)) (n : ℕ) (d : List ℕ × X) → IsEntryNumber path es n → (get_or es n d).0 ≡ path
 number_path path es n d h =
     sym (path_cmp_exact path (get_or es n d).0
     (tied (path_cmp path (get_or es n d).0) (sym (is_at_at path_cmp path es n d h.within) ∙ h.here)))
 
 -- The value of the n-th entry is the one found at its path.
-pub number_value : {X : Type 0} (path : List ℕ) (es : List (List ℕ × X)) (n : ℕ) (d : List ℕ × X) → IsNumber path es n →
+pub number_value : {X : Type 0} (path : List ℕ) (es : List (List ℕ × X)) (n : ℕ) (d : List ℕ × X) → IsEntryNumber path es n →
     find path_cmp path es ≡ Some (get_or es n d).1
 number_value path es n d h = find_there path_cmp path es n d h.front h.here
 

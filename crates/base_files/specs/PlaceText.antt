@@ -1,6 +1,6 @@
 -- How places and faults are written in replies.
 use Rattle.std.specs.Prelude.{ℕ, List, [], ◌∷◌, ◌++◌, codes, decimal}
-use Rattle.base_files.specs.FaultNames.{name_of}
+use Rattle.base_files.specs.FaultNames.{fault_word}
 use Rattle.base_files.specs.declared.fault_kind.FaultKind.{FaultKind}
 use Rattle.base_files.specs.declared.place.Place.{Place}
 
@@ -10,4 +10,4 @@ place_text place = place.path ++ codes ":#" ++ decimal place.offset
 
 -- The line of a fault: its place, a blank, the word for its kind, and a line feed.
 abbrev pub fault_line : Place → FaultKind → List ℕ
-fault_line place kind = place_text place ++ 32 ∷ [] ++ name_of kind ++ 10 ∷ []
+fault_line place kind = place_text place ++ 32 ∷ [] ++ fault_word kind ++ 10 ∷ []

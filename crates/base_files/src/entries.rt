@@ -3,7 +3,7 @@ ghost use Rattle.std.specs.Prelude.{◌≡◌, ◌<◌, ◌≤◌, false, true, 
 ghost use Rattle.std.specs.FinMap.{find, put};
 ghost use Rattle.base_files.specs.Workspace.{path_cmp};
 ghost use Rattle.base_chunks.specs.Entries.{Rises, IsAfterAll, is_after, is_at};
-ghost use Rattle.base_files.specs.Entries.{IsPlace, IsNumber};
+ghost use Rattle.base_files.specs.Entries.{IsPathPlace, IsEntryNumber};
 
 use crate::shared_path::SharedPath;
 use std::alloc::AllocError;
@@ -22,7 +22,7 @@ fn is_last<V>(entries: &[(SharedPath, V)], path: &[u8]) -> bool
 /// The number of entries whose paths are less than `path`, found by binary search.
 fn place<V>(entries: &[(SharedPath, V)], path: &[u8]) -> usize
     requires { Rises path_cmp entries.now }
-    ensures { IsPlace path.now entries.now result }
+    ensures { IsPathPlace path.now entries.now result }
 {
     let mut low = 0;
     let mut high = entries.len();
@@ -40,7 +40,7 @@ fn place<V>(entries: &[(SharedPath, V)], path: &[u8]) -> usize
 /// The number of entries whose paths are less than `path`. The last entry is compared first, for callers that put paths in order.
 fn place_from_end<V>(entries: &[(SharedPath, V)], path: &[u8]) -> usize
     requires { Rises path_cmp entries.now }
-    ensures { IsPlace path.now entries.now result }
+    ensures { IsPathPlace path.now entries.now result }
 {
     if is_last(entries, path) {
         entries.len()
@@ -64,7 +64,7 @@ pub(crate) fn number_from<V>(
     first: usize,
 ) -> Option<usize>
     requires { Rises path_cmp entries.now }
-    ensures { MatchOption result (find path_cmp path.now entries.now ≡ None) (IsNumber path.now entries.now) }
+    ensures { MatchOption result (find path_cmp path.now entries.now ≡ None) (IsEntryNumber path.now entries.now) }
 {
     if is_at(entries, first, path) {
         return Some(first);

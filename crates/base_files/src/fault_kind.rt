@@ -1,6 +1,6 @@
 //! The kinds of faults of Go files.
 ghost use Rattle.std.specs.Prelude.{◌≡◌};
-ghost use Rattle.base_files.specs.FaultNames.{name_of};
+ghost use Rattle.base_files.specs.FaultNames.{fault_word};
 
 /// A kind of fault. Kinds are ordered as they are listed here.
 #[derive(Clone, Copy, Debug, PartialEq, Eq, PartialOrd, Ord)]
@@ -29,7 +29,7 @@ pub enum FaultKind {
 impl FaultKind {
     /// The word for the kind in replies.
     pub fn name(self) -> &'static str
-        ensures { result.now ≡ name_of self }
+        ensures { result.now ≡ fault_word self }
     {
         match self {
             FaultKind::Encoding => "encoding",

@@ -3,7 +3,7 @@ ghost use Rattle.std.specs.Prelude.{◌≡◌, [], ◌∷◌, ◌++◌, MatchOpt
 ghost use Rattle.std.specs.Option.{option_copied};
 ghost use Rattle.std.specs.FinMap.{find, put};
 ghost use Rattle.base_files.specs.Workspace.{path_cmp};
-ghost use Rattle.base_files.specs.Entries.{IsEntry, StandsBehind};
+ghost use Rattle.base_files.specs.Entries.{IsEntryAt, IsAfterAllPaths};
 
 use crate::entries::{number_from, put};
 use crate::shared_path::SharedPath;
@@ -57,7 +57,7 @@ impl<V> PathTable<V> {
     /// The entry at a path, or `None` where the path is missing. The entry of number `first` is compared first: a caller that asks in the
     /// order of paths gives the number behind that of the last entry found.
     pub fn entry_from(&self, path: &[u8], first: usize) -> Option<PathEntry<'_, V>>
-        ensures { MatchOption result (find path_cmp path.now self.now ≡ None) (IsEntry path.now self.now) }
+        ensures { MatchOption result (find path_cmp path.now self.now ≡ None) (IsEntryAt path.now self.now) }
     {
         let number = number_from(&self.entries, path, first)?;
         let entry = &self.entries[number];
@@ -91,7 +91,7 @@ impl<V: Drop> PathTable<V> {
 
     /// Adds a path behind all others, with its value. The path is not compared: the caller knows that it is the greatest.
     pub fn push(&mut self, path: SharedPath, value: V) -> Result<(), AllocError>
-        requires { StandsBehind path self.old }
+        requires { IsAfterAllPaths path self.old }
         ensures ok { OnOk result (self.new ≡ self.old ++ (path, value) ∷ []) }
         ensures err { OnErr result (self.new ≡ self.old) }
     {

@@ -9,18 +9,18 @@ use Rattle.base_files.specs.Packages.{package_paths}
 use Rattle.base_files.specs.Workspace.{Workspace}
 use Rattle.workspace_graph.specs.Graphs.{OfPackage}
 use Rattle.workspace_graph.specs.Search.{IsMarked}
-use Rattle.workspace_graph.proofs.Asked.{number, at_contains}
+use Rattle.workspace_graph.proofs.ByPath.{number, at_contains}
 use Rattle.workspace_check.specs.Closures.{HasSameClosure}
 use Rattle.workspace_check.proofs.Local.{same_back}
 use Rattle.build_unit.specs.declared.unit.Unit.{Unit as PackageUnit}
-use Rattle.build_carry.specs.Finished.{Table, HasNone, IsFinished}
+use Rattle.build_carry.specs.Finished.{Table, HasNoUnit, IsFinished}
 use Rattle.build_carry.proofs.FinishedUnits.{unit_at}
 use Rattle.build_carry.specs.Carried.{IsCarried}
-use Rattle.build_carry.specs.Changes.{AreMarks, KeepsUnit}
+use Rattle.build_carry.specs.Changes.{MarkChanges, KeepsUnit}
 use Rattle.build_carry.proofs.ClosureTexts.{same_texts, same_files, package_there}
 
 -- the closures have the same texts just where the package is marked neither before nor after
-module _ (v w : Workspace) (p : List ℕ) (before after : List Bool) (old new : ℕ) (a : AreMarks v w before) (b : AreMarks w v after)
+module _ (v w : Workspace) (p : List ℕ) (before after : List Bool) (old new : ℕ) (a : MarkChanges v w before) (b : MarkChanges w v after)
     (at : slice_get (package_paths v) old ≡ Some p) (then : slice_get (package_paths w) new ≡ Some p) where
   pub same_by_marks : (IsMarked before old → ⊥) → (IsMarked after new → ⊥) → HasSameClosure v w p
   same_by_marks there here = same_texts v w p (a.same old p at there) (b.same new p then here)
@@ -57,7 +57,7 @@ module _ (v : Workspace) (old : Table) (w : Workspace) (p : List ℕ) where
     )
 
 -- ---- where none is finished before, none is afterwards
-pub carried_none : (v : Workspace) (old : Table) (w : Workspace) (new : Table) → HasNone old → length new ≡ length (package_paths w) → HasNone new →
+pub carried_none : (v : Workspace) (old : Table) (w : Workspace) (new : Table) → HasNoUnit old → length new ≡ length (package_paths w) → HasNoUnit new →
     IsCarried v old w new
 carried_none v old w new none size empty = record {
   size = size;

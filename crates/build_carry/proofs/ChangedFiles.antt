@@ -6,8 +6,8 @@ use Rattle.std.proofs.lemmas.List.Elements.{Contains-push_cases}
 use Rattle.base_files.specs.Packages.{is_of_package}
 use Rattle.base_files.specs.Path.{folder}
 use Rattle.base_files.specs.Workspace.{Workspace}
-use Rattle.workspace_graph.specs.Staying.{DiffersOnlyAt, DiffersOnlyIn}
-use Rattle.workspace_graph.proofs.NamedFiles.{file_of, in_package, is_among}
+use Rattle.workspace_graph.specs.SameGoFiles.{DiffersOnlyAt, DiffersOnlyIn}
+use Rattle.workspace_graph.proofs.ChangedFiles.{file_of, in_package, is_among}
 use Rattle.workspace_graph.proofs.SameFiles.{same_files}
 use Rattle.build_unit.proofs.Part.{own_folder}
 use Rattle.workspace_snapshot.proofs.NamedPaths.{one_option}

@@ -10,14 +10,14 @@ use Rattle.std.proofs.lemmas.List.Elements.{Contains-append_left, Contains-push,
 use Rattle.std.proofs.lemmas.Option.{slice_get_within, same_Some}
 use Rattle.base_files.specs.Packages.{is_of_package, package_paths, package_files}
 use Rattle.base_files.specs.Workspace.{Workspace}
-use Rattle.workspace_graph.specs.Filling.{names}
-use Rattle.workspace_graph.specs.Reaching.{MarkReaching}
+use Rattle.workspace_graph.specs.Borrows.{names}
+use Rattle.workspace_graph.specs.Reaching.{ReachingMarks}
 use Rattle.workspace_graph.specs.Search.{IsMarked}
 use Rattle.workspace_graph.proofs.PackagePaths.{one_number, paths_sorted}
-use Rattle.workspace_graph.proofs.Asked.{at_contains, number}
+use Rattle.workspace_graph.proofs.ByPath.{at_contains, number}
 use Rattle.workspace_check.proofs.Closed.{to_package}
 use Rattle.workspace_check.proofs.Members.{nothing_in, passes, passed}
-use Rattle.build_carry.specs.Changes.{HasSameFiles, AreChanged, AreMarks, MarkClosures, MarkFolders}
+use Rattle.build_carry.specs.Changes.{HasSameFiles, AreChanged, MarkChanges, MarkClosures, MarkFolders}
 use Rattle.base_edits.proofs.Entries.{entry_of, get_entry}
 
 -- one more name
@@ -97,7 +97,7 @@ module _ (w : Workspace) (fs : List (Bor (List ℕ))) (i : ℕ) (d : Bor (List �
       subst (λ (l : List (List ℕ)). MarkFolders w l marks) (sym one_more) (marks_skip w (names (take i fs)) marks (get_or fs i d).now none so)
 
 -- ---- the packages that reach marked ones
-pub closures_marked : (w : Workspace) (folders : List (List ℕ)) (marks reaching : List Bool) → MarkFolders w folders marks → MarkReaching w marks reaching →
+pub closures_marked : (w : Workspace) (folders : List (List ℕ)) (marks reaching : List Bool) → MarkFolders w folders marks → ReachingMarks w marks reaching →
     MarkClosures w folders reaching
 closures_marked w folders marks reaching so are = record {
   size = are.size;
@@ -117,7 +117,7 @@ closures_marked w folders marks reaching so are = record {
   );
 }
 
-pub marks_before : (v w : Workspace) (folders : List (List ℕ)) (marks : List Bool) → AreChanged v w folders → MarkClosures v folders marks → AreMarks v w marks
+pub marks_before : (v w : Workspace) (folders : List (List ℕ)) (marks : List Bool) → AreChanged v w folders → MarkClosures v folders marks → MarkChanges v w marks
 marks_before v w folders marks are so = record {
   size = so.size;
   changed = λ i p at marked keeps. (let h = (so.each i p at).0 marked in are.changed h.path h.among (keeps h.path h.in_closure));
@@ -127,6 +127,6 @@ marks_before v w folders marks are so = record {
 other_way : (v w : Workspace) (q : List ℕ) → HasSameFiles v w q → HasSameFiles w v q
 other_way v w q same e = ((same e).1, (same e).0)
 
-pub marks_after : (v w : Workspace) (folders : List (List ℕ)) (marks : List Bool) → AreChanged v w folders → MarkClosures w folders marks → AreMarks w v marks
+pub marks_after : (v w : Workspace) (folders : List (List ℕ)) (marks : List Bool) → AreChanged v w folders → MarkClosures w folders marks → MarkChanges w v marks
 marks_after v w folders marks are so = marks_before w v folders marks
     (record { changed = λ q has same. are.changed q has (other_way w v q same); same = λ q none. other_way v w q (are.same q none) }) so

@@ -6,7 +6,7 @@ use Rattle.std.specs.List.{Contains}
 use Rattle.base_files.specs.Packages.{is_of_package, package_paths, package_files}
 use Rattle.base_files.specs.Workspace.{Workspace}
 use Rattle.workspace_graph.specs.Packages.{PackageImports, IsInClosure, itself, through, AreClosureTexts}
-use Rattle.workspace_graph.proofs.Asked.{has_file}
+use Rattle.workspace_graph.proofs.ByPath.{has_file}
 use Rattle.workspace_check.specs.Closures.{IsClosureText, HasSameClosure}
 use Rattle.workspace_check.proofs.Members.{passes, passed}
 use Rattle.workspace_check.proofs.PackageFiles.{package_file}

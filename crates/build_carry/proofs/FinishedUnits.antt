@@ -9,7 +9,7 @@ use Rattle.base_files.specs.Packages.{package_paths}
 use Rattle.base_files.specs.Workspace.{Workspace}
 use Rattle.workspace_graph.proofs.PackagePaths.{one_number, paths_sorted}
 use Rattle.build_unit.specs.declared.unit.Unit.{Unit as PackageUnit}
-use Rattle.build_carry.specs.Finished.{Table, AreFinishedBelow, HasNone, IsFinished}
+use Rattle.build_carry.specs.Finished.{Table, AreFinishedBelow, HasNoUnit, IsFinished}
 
 -- at the package's number, and nowhere else
 pub unit_at : (w : Workspace) (table : Table) (p : List ℕ) (unit : PackageUnit) (n : ℕ) → slice_get (package_paths w) n ≡ Some p →
@@ -44,10 +44,10 @@ finished_still table n front unit within below i lt =
     ]
 
 -- ---- where none is finished
-pub none_empty : HasNone []
+pub none_empty : HasNoUnit []
 none_empty i unit is = absurd (none-some (Some unit) is)
 
-pub none_more : (table : Table) → HasNone table → HasNone (table ++ None ∷ [])
+pub none_more : (table : Table) → HasNoUnit table → HasNoUnit (table ++ None ∷ [])
 none_more table none i unit is =
     let nothing : Option PackageUnit = None in
     let more : Table = table ++ nothing ∷ [] in

@@ -16,10 +16,10 @@ use Rattle.base_files.proofs.PackageFolders.{of_folder}
 use Rattle.base_files.proofs.WorkspaceLaws.{path_cmp_total}
 use Rattle.go_ast.specs.SourceFile.{FileParts, source_of}
 use Rattle.workspace_graph.specs.FaultyFiles.{FaultyParts}
-use Rattle.workspace_graph.specs.Graphs.{HoldsPackages}
+use Rattle.workspace_graph.specs.Graphs.{ListsPackages}
 use Rattle.workspace_graph.specs.Packages.{IsInClosure}
 use Rattle.workspace_graph.specs.Parsed.{AreParsed, none, tree, fault}
-use Rattle.workspace_graph.proofs.Asked.{has_file, number}
+use Rattle.workspace_graph.proofs.ByPath.{has_file, number}
 use Rattle.workspace_graph.proofs.OneFile.{file_or_fault}
 use Rattle.workspace_graph.proofs.PackagePaths.{paths_sorted}
 use Rattle.workspace_graph.proofs.SameFiles.{one_list}
@@ -30,7 +30,7 @@ use Rattle.workspace_check.proofs.PackageFiles.{package_file, mapped as mapped_f
 use Rattle.build_unit.specs.Inputs.{AreGoFiles, AreInputs}
 use Rattle.build_unit.proofs.Part.{own_folder}
 use Rattle.build_carry.specs.Changes.{HasSameFiles}
-use Rattle.build_carry.specs.Inputs.{ArePackages, faulty_file}
+use Rattle.build_carry.specs.Inputs.{AreNumberedPackages, faulty_file}
 use Rattle.build_carry.proofs.ChangedFiles.{same_texts}
 use Rattle.build_carry.proofs.ParsedFiles.{parsed_files}
 use Rattle.build_carry.proofs.ClosureTexts.{inputs_keep}
@@ -97,14 +97,14 @@ pub parsed_alike : (v w : Workspace) (p : List ℕ) {ts us : List FileParts} {fs
 parsed_alike v w p {ts = ts} {fs = fs} a b same = one_parsed (subst (λ es. AreParsed es ts fs) (one_package v w p same) a) b
 
 -- ---- the packages of a closure
-module _ (w v : Workspace) (p : List ℕ) (numbers : List ℕ) (holds : HoldsPackages w (IsInClosure w p) numbers) where
+module _ (w v : Workspace) (p : List ℕ) (numbers : List ℕ) (holds : ListsPackages w (IsInClosure w p) numbers) where
   -- the number at a place is that of a package of the closure
   at_place : (i n : ℕ) → slice_get numbers i ≡ Some n → (q : List ℕ) × (slice_get (package_paths w) n ≡ Some q) × IsInClosure w p q
   at_place i n at = (holds n).0 (i, slice_get_within numbers i n at, get_or_from_slice_get numbers i n n at)
 
   module _ (has : Contains (package_paths w) p) where
     -- a package of v with the number of its place
-    placed : ArePackages w numbers v → (q : List ℕ) → Contains (package_paths v) q → IsInClosure w p q × HasSameFiles w v q
+    placed : AreNumberedPackages w numbers v → (q : List ℕ) → Contains (package_paths v) q → IsInClosure w p q × HasSameFiles w v q
     placed are q there =
         let i = number v q there in
         let within : i.0 < length numbers = omega (arith, slice_get_within (package_paths v) i.0 q i.1, are.size) in
@@ -115,7 +115,7 @@ module _ (w v : Workspace) (p : List ℕ) (numbers : List ℕ) (holds : HoldsPac
         (subst (IsInClosure w p) (sym both.0) r.2, subst (HasSameFiles w v) (sym both.0) both.1)
 
     -- and each of the closure is there
-    place_of : ArePackages w numbers v → (q : List ℕ) → IsInClosure w p q → HasSameFiles w v q
+    place_of : AreNumberedPackages w numbers v → (q : List ℕ) → IsInClosure w p q → HasSameFiles w v q
     place_of are q closed =
         let n = number w q (to_package w p q closed) in
         let among = (holds n.0).1 (q, n.1, closed) in
@@ -124,7 +124,7 @@ module _ (w v : Workspace) (p : List ℕ) (numbers : List ℕ) (holds : HoldsPac
         let r : List ℕ = get_or (package_paths v) among.0 [] in
         (are.each among.0 n.0 q r at n.1 (slice_get-get_or (package_paths v) among.0 [] within)).1
 
-    pub inputs_by : ArePackages w numbers v → AreGoFiles v → AreInputs w p v
+    pub inputs_by : AreNumberedPackages w numbers v → AreGoFiles v → AreInputs w p v
     inputs_by are go = record {
       is_package = has;
       texts = λ e. (
@@ -188,7 +188,7 @@ module _ (w v : Workspace) (p : List ℕ) (numbers : List ℕ) (holds : HoldsPac
         let found = path_at among.0 n.0 q at n.1 in
         (among.0, slice_get_within paths among.0 q found, get_or_from_slice_get paths among.0 q q found)
 
-    pub packages_by : IsStrictlyIncreasing numbers → ArePackages w numbers v
+    pub packages_by : IsStrictlyIncreasing numbers → AreNumberedPackages w numbers v
     packages_by rising =
         let same : paths ≡ package_paths v = one_sorted path_cmp_total paths (package_paths v) (paths_rise rising) (paths_sorted v) path_there path_here in
         record {
@@ -207,7 +207,7 @@ AreAlike w numbers v k = (i n : ℕ) (p q : List ℕ) → i < k → slice_get nu
     → (q ≡ p) × HasSameFiles w v p
 
 pub all_alike : (w : Workspace) (numbers : List ℕ) (v : Workspace) (k : ℕ) → length (package_paths v) ≡ length numbers → length numbers ≤ k →
-    AreAlike w numbers v k → ArePackages w numbers v
+    AreAlike w numbers v k → AreNumberedPackages w numbers v
 all_alike w numbers v k size past before = record {
   size = size;
   each = λ i n p q at is there. before i n p q (let within : i < length numbers = slice_get_within numbers i n at in omega (arith, within, past)) at is there;

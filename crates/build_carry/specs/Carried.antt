@@ -4,14 +4,14 @@ use Rattle.base_files.specs.Workspace.{Workspace}
 use Rattle.base_files.specs.Packages.{package_paths}
 use Rattle.workspace_check.specs.Closures.{HasSameClosure}
 use Rattle.build_unit.specs.declared.unit.Unit.{Unit as PackageUnit}
-use Rattle.build_carry.specs.Changes.{AreMarks}
+use Rattle.build_carry.specs.Changes.{MarkChanges}
 use Rattle.build_carry.specs.Finished.{Table, IsFinished}
 use Rattle.build_carry.specs.declared.changes.Marks.{Marks}
 
 -- `kept` is true exactly where the closure of a package has the same texts in the workspaces v and w, before and after a change. `old` and
 -- `new` are the numbers of the package in v and in w. `marks` are any marks of the change from v to w.
-abbrev pub TellsKept : Marks → (old new : ℕ) → Bool → Type 0
-TellsKept marks old new kept = (v w : Workspace) → AreMarks v w marks.before.items → AreMarks w v marks.after.items → (p : List ℕ) →
+abbrev pub DecidesKept : Marks → (old new : ℕ) → Bool → Type 0
+DecidesKept marks old new kept = (v w : Workspace) → MarkChanges v w marks.before.items → MarkChanges w v marks.after.items → (p : List ℕ) →
     slice_get (package_paths v) old ≡ Some p → slice_get (package_paths w) new ≡ Some p → IsTrue kept ↔ HasSameClosure v w p
 
 -- `new` is the table after a change from v to w that carries over the units of `old`. It has a place for each package of w. A package has a

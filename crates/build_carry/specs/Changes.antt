@@ -15,12 +15,12 @@ abbrev pub HasSameFiles : Workspace → Workspace → List ℕ → Type 0
 HasSameFiles v w p = (e : List ℕ × List ℕ) → Contains (package_files v p) e ↔ Contains (package_files w p) e
 
 -- The workspace w has the file e, a path with a text.
-abbrev pub HasText : Workspace → List ℕ × List ℕ → Type 0
-HasText w e = map.get w e.0 ≡ Some e.1
+abbrev pub HasFileText : Workspace → List ℕ × List ℕ → Type 0
+HasFileText w e = map.get w e.0 ≡ Some e.1
 
 -- The workspace w has each of these files, with its text.
 abbrev pub HaveTexts : Workspace → List (List ℕ × List ℕ) → Type 0
-HaveTexts w files = (e : List ℕ × List ℕ) → Contains files e → HasText w e
+HaveTexts w files = (e : List ℕ × List ℕ) → Contains files e → HasFileText w e
 
 -- `folders` lists exactly the packages whose files differ between v and w.
 pub record AreChanged (v w : Workspace) (folders : List (List ℕ)) : Type 0 where
@@ -33,7 +33,7 @@ KeepsClosure v w p = (q : List ℕ) → IsInClosure v p q → HasSameFiles v w q
 
 -- `marks` has one mark for each package of v, by its number. A package is marked exactly where a package in its closure has other files in
 -- w.
-pub record AreMarks (v w : Workspace) (marks : List Bool) : Type 0 where
+pub record MarkChanges (v w : Workspace) (marks : List Bool) : Type 0 where
   pub size : length marks ≡ length (package_paths v)
   pub changed : (i : ℕ) (p : List ℕ) → slice_get (package_paths v) i ≡ Some p → IsMarked marks i → KeepsClosure v w p → ⊥
   pub same : (i : ℕ) (p : List ℕ) → slice_get (package_paths v) i ≡ Some p → (IsMarked marks i → ⊥) → KeepsClosure v w p
@@ -44,7 +44,7 @@ pub record MarkFolders (w : Workspace) (folders : List (List ℕ)) (marks : List
   pub each : (i : ℕ) (q : List ℕ) → slice_get (package_paths w) i ≡ Some q → IsMarked marks i ↔ Contains folders q
 
 -- The closure of the package p in w contains a package whose path is among `folders`.
-pub record HoldsFolder (w : Workspace) (folders : List (List ℕ)) (p : List ℕ) : Type 0 where
+pub record ReachesFolder (w : Workspace) (folders : List (List ℕ)) (p : List ℕ) : Type 0 where
   pub path : List ℕ
   pub among : Contains folders path
   pub in_closure : IsInClosure w p path
@@ -53,7 +53,7 @@ pub record HoldsFolder (w : Workspace) (folders : List (List ℕ)) (p : List ℕ
 -- among `folders`.
 pub record MarkClosures (w : Workspace) (folders : List (List ℕ)) (marks : List Bool) : Type 0 where
   pub size : length marks ≡ length (package_paths w)
-  pub each : (i : ℕ) (p : List ℕ) → slice_get (package_paths w) i ≡ Some p → IsMarked marks i ↔ HoldsFolder w folders p
+  pub each : (i : ℕ) (p : List ℕ) → slice_get (package_paths w) i ≡ Some p → IsMarked marks i ↔ ReachesFolder w folders p
 
 -- `found` is the unit that the package p keeps over a change from v to w. It has one exactly where p is finished in the table `old` of v,
 -- and its closure has the same texts in v and w.

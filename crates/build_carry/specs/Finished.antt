@@ -13,12 +13,12 @@ abbrev pub IsFinished : Workspace → Table → List ℕ → PackageUnit → Typ
 IsFinished w table p unit = (number : ℕ) × (slice_get (package_paths w) number ≡ Some p) × (slice_get table number ≡ Some (Some unit))
 
 -- `new` is the table `old` in which the package p of the workspace w has become finished, with this unit.
-abbrev pub Gains : Workspace → Table → List ℕ → PackageUnit → Table → Type 0
-Gains w old p unit new = (number : ℕ) × (slice_get (package_paths w) number ≡ Some p) × (new ≡ slice_set old number (Some unit))
+abbrev pub GainsUnit : Workspace → Table → List ℕ → PackageUnit → Table → Type 0
+GainsUnit w old p unit new = (number : ℕ) × (slice_get (package_paths w) number ≡ Some p) × (new ≡ slice_set old number (Some unit))
 
 -- No package is finished in the table.
-abbrev pub HasNone : Table → Type 0
-HasNone table = (i : ℕ) (unit : PackageUnit) → slice_get table i ≡ Some (Some unit) → ⊥
+abbrev pub HasNoUnit : Table → Type 0
+HasNoUnit table = (i : ℕ) (unit : PackageUnit) → slice_get table i ≡ Some (Some unit) → ⊥
 
 -- Each package whose number is less than `front` is finished in the table.
 abbrev pub AreFinishedBelow : Table → ℕ → Type 0

@@ -10,7 +10,7 @@ abbrev pub faulty_file : FaultyParts → List ℕ × List ℕ
 faulty_file f = (f.path, f.text)
 
 -- The packages of v are the packages of w with these numbers, in this order. Each has the same files in v and w.
-pub record ArePackages (w : Workspace) (numbers : List ℕ) (v : Workspace) : Type 0 where
+pub record AreNumberedPackages (w : Workspace) (numbers : List ℕ) (v : Workspace) : Type 0 where
   pub size : length (package_paths v) ≡ length numbers
   pub each : (i n : ℕ) (p q : List ℕ) → slice_get numbers i ≡ Some n → slice_get (package_paths w) n ≡ Some p → slice_get (package_paths v) i ≡ Some q →
       (q ≡ p) × HasSameFiles w v p

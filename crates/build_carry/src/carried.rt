@@ -3,13 +3,13 @@ ghost use Rattle.std.specs.Prelude.{◌<◌, IfOk, length};
 ghost use Rattle.base_files.specs.Packages.{package_paths};
 ghost use Rattle.base_files.specs.Workspace.{Workspace};
 ghost use Rattle.workspace_graph.specs.Graphs.{OfPackage};
-ghost use Rattle.build_carry.specs.Carried.{IsCarried, TellsKept};
-ghost use Rattle.build_carry.specs.Changes.{AreMarks, KeepsUnit};
-ghost use Rattle.build_carry.specs.Finished.{HasNone};
+ghost use Rattle.build_carry.specs.Carried.{IsCarried, DecidesKept};
+ghost use Rattle.build_carry.specs.Changes.{MarkChanges, KeepsUnit};
+ghost use Rattle.build_carry.specs.Finished.{HasNoUnit};
 
 use crate::changes::Marks;
 use crate::finished::Finished;
-use crate::near::number_near;
+use crate::number_hint::number_by_hint;
 use base_chunks::SharedList;
 use build_unit::Unit;
 use std::alloc::{AllocError, Global};
@@ -18,8 +18,8 @@ use workspace_graph::Graph;
 
 /// Whether the closure of a package has the same texts before and after a change. `old` and `new` are the numbers of the package before and
 /// after.
-pub fn keeps_texts(marks: &Marks, old: usize, new: usize) -> bool
-    ensures { TellsKept marks.now old new result }
+pub fn keeps_closure(marks: &Marks, old: usize, new: usize) -> bool
+    ensures { DecidesKept marks.now old new result }
 {
     if is_marked(&marks.before, old) {
         return false;
@@ -40,18 +40,18 @@ fn kept_unit(
     marks: &Marks,
 ) -> Result<Option<Unit>, AllocError>
     requires number { number < length (package_paths after.now) }
-    requires before_marks { AreMarks before.now after.now marks.now.before.items }
-    requires after_marks { AreMarks after.now before.now marks.now.after.items }
+    requires before_marks { MarkChanges before.now after.now marks.now.before.items }
+    requires after_marks { MarkChanges after.now before.now marks.now.after.items }
     ensures { IfOk result (λ found. OfPackage after.now number (λ p. KeepsUnit before.now finished.now after.now p found)) }
 {
     let path = &after.package(number).path;
-    let Some(old) = number_near(before, path, number, after.len()) else {
+    let Some(old) = number_by_hint(before, path, number, after.len()) else {
         return Ok(None);
     };
     let Some(unit) = finished.get(old) else {
         return Ok(None);
     };
-    if !keeps_texts(marks, old, number) {
+    if !keeps_closure(marks, old, number) {
         return Ok(None);
     }
     let unit = unit.clone()?;
@@ -64,7 +64,7 @@ pub fn none_carried(
     finished: &Finished,
     after: &Graph,
 ) -> Result<Finished, AllocError>
-    requires { HasNone finished.now }
+    requires { HasNoUnit finished.now }
     ensures { IfOk result (λ table. (before : Workspace) → IsCarried before finished.now after.now table) }
 {
     let table = finished.unfinished(alloc, after.len())?;
@@ -79,8 +79,8 @@ pub fn carried_units(
     after: &Graph,
     marks: &Marks,
 ) -> Result<Finished, AllocError>
-    requires before_marks { AreMarks before.now after.now marks.now.before.items }
-    requires after_marks { AreMarks after.now before.now marks.now.after.items }
+    requires before_marks { MarkChanges before.now after.now marks.now.before.items }
+    requires after_marks { MarkChanges after.now before.now marks.now.after.items }
     ensures { IfOk result (λ table. IsCarried before.now finished.now after.now table) }
 {
     if finished.is_empty() {

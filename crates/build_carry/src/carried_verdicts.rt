@@ -3,12 +3,12 @@ ghost use Rattle.std.specs.Prelude.{◌<◌, IfOk, length};
 ghost use Rattle.base_files.specs.Packages.{package_paths};
 ghost use Rattle.workspace_graph.specs.Graphs.{OfPackage};
 ghost use Rattle.workspace_check.specs.Found.{KnowsVerdicts};
-ghost use Rattle.workspace_check.specs.Told.{MayTell};
-ghost use Rattle.build_carry.specs.Changes.{AreMarks};
+ghost use Rattle.workspace_check.specs.KnownFindings.{IsVerdictIfKnown};
+ghost use Rattle.build_carry.specs.Changes.{MarkChanges};
 
-use crate::carried::keeps_texts;
+use crate::carried::keeps_closure;
 use crate::changes::Marks;
-use crate::near::number_near;
+use crate::number_hint::number_by_hint;
 use std::alloc::{AllocError, Global};
 use workspace_check::{Known, KnownVerdict};
 use workspace_graph::Graph;
@@ -23,18 +23,18 @@ fn kept_verdict(
 ) -> Result<Option<KnownVerdict>, AllocError>
     requires number { number < length (package_paths after.now) }
     requires known { KnowsVerdicts before.now known.now }
-    requires before_marks { AreMarks before.now after.now marks.now.before.items }
-    requires after_marks { AreMarks after.now before.now marks.now.after.items }
-    ensures { IfOk result (λ found. OfPackage after.now number (λ p. MayTell after.now p found)) }
+    requires before_marks { MarkChanges before.now after.now marks.now.before.items }
+    requires after_marks { MarkChanges after.now before.now marks.now.after.items }
+    ensures { IfOk result (λ found. OfPackage after.now number (λ p. IsVerdictIfKnown after.now p found)) }
 {
     let path = &after.package(number).path;
-    let Some(old) = number_near(before, path, number, after.len()) else {
+    let Some(old) = number_by_hint(before, path, number, after.len()) else {
         return Ok(None);
     };
     let Some(verdict) = known.get(old) else {
         return Ok(None);
     };
-    if !keeps_texts(marks, old, number) {
+    if !keeps_closure(marks, old, number) {
         return Ok(None);
     }
     let verdict = verdict.clone()?;
@@ -50,8 +50,8 @@ pub fn verdicts_after(
     marks: &Marks,
 ) -> Result<Known, AllocError>
     requires known { KnowsVerdicts before.now known.now }
-    requires before_marks { AreMarks before.now after.now marks.now.before.items }
-    requires after_marks { AreMarks after.now before.now marks.now.after.items }
+    requires before_marks { MarkChanges before.now after.now marks.now.before.items }
+    requires after_marks { MarkChanges after.now before.now marks.now.after.items }
     ensures { IfOk result (KnowsVerdicts after.now) }
 {
     let mut carried = Known::with_capacity(alloc, after.len())?;

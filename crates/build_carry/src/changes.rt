@@ -1,6 +1,6 @@
 //! Marks the packages in whose closures a change changes files.
 ghost use Rattle.std.specs.Prelude.{IfOk};
-ghost use Rattle.workspace_graph.specs.Filling.{names};
+ghost use Rattle.workspace_graph.specs.Borrows.{names};
 ghost use Rattle.build_carry.specs.Changes.{MarkClosures};
 
 use crate::folders::folder_marks;

@@ -1,7 +1,7 @@
 //! The table of finished packages of a workspace, with their units.
 ghost use Rattle.std.specs.Prelude.{◌≡◌, ◌<◌, ◌≤◌, ◌↔◌, [], IfOk, IsTrue, MatchOption, Some, length, slice_get, slice_set};
 ghost use Rattle.build_unit.specs.declared.unit.Unit.{Unit as PackageUnit};
-ghost use Rattle.build_carry.specs.Finished.{AreFinishedBelow, HasNone};
+ghost use Rattle.build_carry.specs.Finished.{AreFinishedBelow, HasNoUnit};
 
 use base_chunks::SharedList;
 use build_unit::Unit;
@@ -37,7 +37,7 @@ impl Model for Finished {
     ghost use Rattle.build_unit.specs.Codes.{unit_code};
     ghost use Rattle.build_unit.specs.declared.unit.Unit.{Unit as PackageUnit};
     ghost use Rattle.std.specs.Prelude.{◌↔◌, IsTrue};
-    ghost use Rattle.build_carry.specs.Finished.{AreFinishedBelow, HasNone};
+    ghost use Rattle.build_carry.specs.Finished.{AreFinishedBelow, HasNoUnit};
 
     ghost Value = { List (Option PackageUnit) };
 
@@ -45,7 +45,7 @@ impl Model for Finished {
 
     ghost view = { λ a. arc_value a.units };
 
-    ghost invariant = { λ a. AreFinishedBelow (arc_value a.units) a.front × (IsTrue a.is_empty ↔ HasNone (arc_value a.units)) };
+    ghost invariant = { λ a. AreFinishedBelow (arc_value a.units) a.front × (IsTrue a.is_empty ↔ HasNoUnit (arc_value a.units)) };
 }
 
 /// The unit of a package, if it is finished.
@@ -83,7 +83,7 @@ fn has_unit(units: &SharedList<Option<Unit>>, number: usize) -> bool
 
 /// Whether no package is finished.
 fn has_none(units: &SharedList<Option<Unit>>) -> bool
-    ensures { IsTrue result ↔ HasNone units.now }
+    ensures { IsTrue result ↔ HasNoUnit units.now }
 {
     for number in 0..units.len() {
         if has_unit(units, number) {
@@ -94,14 +94,14 @@ fn has_none(units: &SharedList<Option<Unit>>) -> bool
 }
 
 /// A copy of a list without units, which shares its places, or an empty list where it has more than `count` places.
-fn first_units(
+fn unit_places(
     alloc: Global,
     units: &SharedList<Option<Unit>>,
     count: usize,
 ) -> Result<SharedList<Option<Unit>>, AllocError>
-    requires { HasNone units.now }
+    requires { HasNoUnit units.now }
     ensures size { IfOk result (λ first. length first ≤ count) }
-    ensures none { IfOk result HasNone }
+    ensures none { IfOk result HasNoUnit }
 {
     if units.len() > count {
         return Ok(SharedList::new(alloc));
@@ -115,11 +115,11 @@ fn unfinished_units(
     units: &SharedList<Option<Unit>>,
     count: usize,
 ) -> Result<SharedList<Option<Unit>>, AllocError>
-    requires { HasNone units.now }
+    requires { HasNoUnit units.now }
     ensures size { IfOk result (λ all. length all ≡ count) }
-    ensures none { IfOk result HasNone }
+    ensures none { IfOk result HasNoUnit }
 {
-    let mut all = first_units(alloc, units, count)?;
+    let mut all = unit_places(alloc, units, count)?;
     for _number in all.len()..count {
         all.push(None)?;
     }
@@ -151,7 +151,7 @@ impl Finished {
         is_empty: bool,
     ) -> Result<Finished, AllocError>
         requires front { AreFinishedBelow units front }
-        requires empty { IsTrue is_empty ↔ HasNone units }
+        requires empty { IsTrue is_empty ↔ HasNoUnit units }
         ensures { IfOk result (λ table. table ≡ units) }
     {
         let units = Arc::new(alloc, units)?;
@@ -178,7 +178,7 @@ impl Finished {
 
     /// Whether no package is finished.
     pub fn is_empty(&self) -> bool
-        ensures { IsTrue result ↔ HasNone self.now }
+        ensures { IsTrue result ↔ HasNoUnit self.now }
     {
         self.is_empty
     }
@@ -186,9 +186,9 @@ impl Finished {
     /// Makes a table of `count` packages, none of which is finished. This table has no unit either. It is shared where it has `count`
     /// places, and extended where it has fewer.
     pub fn unfinished(&self, alloc: Global, count: usize) -> Result<Finished, AllocError>
-        requires { HasNone self.now }
+        requires { HasNoUnit self.now }
         ensures size { IfOk result (λ table. length table ≡ count) }
-        ensures none { IfOk result HasNone }
+        ensures none { IfOk result HasNoUnit }
     {
         if self.units.len() == count {
             let shared = self.clone()?;

@@ -2,7 +2,7 @@
 ghost use Rattle.std.specs.Prelude.{◌≤◌, IfOk, OnOk, length};
 ghost use Rattle.base_files.specs.Packages.{package_paths};
 ghost use Rattle.workspace_check.specs.Found.{AreVerdictsOf, KnowsVerdicts};
-ghost use Rattle.workspace_check.specs.Told.{TellsVerdict};
+ghost use Rattle.workspace_check.specs.KnownFindings.{IsKnownVerdict};
 ghost use Rattle.build_unit.specs.Inputs.{HasClosuresOf};
 
 use build_unit::Built;
@@ -12,7 +12,7 @@ use workspace_graph::Graph;
 
 /// Takes in the verdict on a package, if this package is in the workspace and no verdict on it is known.
 fn take_in(files: &Graph, verdict: &KnownVerdict, known: &mut Known) -> Result<(), AllocError>
-    requires verdict { TellsVerdict files.now verdict.now.finding.path verdict.now }
+    requires verdict { IsKnownVerdict files.now verdict.now.finding.path verdict.now }
     requires room { length (package_paths files.now) ≤ length known.old.verdicts.items }
     requires known { KnowsVerdicts files.now known.old }
     ensures room { OnOk result (length (package_paths files.now) ≤ length known.new.verdicts.items) }

@@ -2,25 +2,25 @@
 #![tactic(auto)]
 
 mod carried;
+mod carried_known;
 mod carried_verdicts;
-mod changed;
+mod change_marks;
 mod changes;
+mod file_text;
 mod finished;
 mod folders;
-mod knowing;
 mod learning;
-mod named;
-mod near;
+mod number_hint;
 mod same_inputs;
 
-pub use carried::{carried_units, keeps_texts, none_carried};
+pub use carried::{carried_units, keeps_closure, none_carried};
+pub use carried_known::{kept, known_after, nothing_carried};
 pub use carried_verdicts::verdicts_after;
-pub use changed::has_text;
+pub use change_marks::marks_of;
 pub use changes::{Marks, closure_marks};
+pub use file_text::has_text;
 pub use finished::Finished;
 pub use folders::folder_marks;
-pub use knowing::{kept, known_after, nothing_carried};
 pub use learning::learned;
-pub use named::marks_of;
-pub use near::number_near;
+pub use number_hint::number_by_hint;
 pub use same_inputs::are_inputs_of_both;

@@ -3,12 +3,12 @@ ghost use Rattle.std.specs.Prelude.{◌≡◌, ◌<◌, ◌↔◌, ℕ, Contains
 ghost use Rattle.std.specs.List.{All};
 ghost use Rattle.std.specs.List.Sorted.{IsStrictlyIncreasing};
 ghost use Rattle.base_files.specs.Packages.{package_paths};
-ghost use Rattle.workspace_graph.specs.Graphs.{HoldsPackages, OfPackage};
+ghost use Rattle.workspace_graph.specs.Graphs.{ListsPackages, OfPackage};
 ghost use Rattle.workspace_graph.specs.Packages.{IsInClosure};
 ghost use Rattle.workspace_check.specs.Earlier.{tree_file};
 ghost use Rattle.build_unit.specs.Inputs.{AreInputs};
 ghost use Rattle.build_carry.specs.Changes.{HasSameFiles};
-ghost use Rattle.build_carry.specs.Inputs.{ArePackages, faulty_file};
+ghost use Rattle.build_carry.specs.Inputs.{AreNumberedPackages, faulty_file};
 
 use base_files::{FileText, Path};
 use build_unit::PackageInputs;
@@ -107,7 +107,7 @@ fn are_packages_of_both(
     second: &PackageInputs,
 ) -> bool
     requires { All (λ number. number < length (package_paths graph.now)) numbers.now }
-    ensures { IsTrue result ↔ (ArePackages graph.now numbers.now first.now × ArePackages graph.now numbers.now second.now) }
+    ensures { IsTrue result ↔ (AreNumberedPackages graph.now numbers.now first.now × AreNumberedPackages graph.now numbers.now second.now) }
 {
     if first.len() != numbers.len() {
         return false;
@@ -132,7 +132,7 @@ pub fn are_inputs_of_both(
 ) -> bool
     requires numbers { All (λ number. number < length (package_paths graph.now)) closure.now }
     requires rising { IsStrictlyIncreasing closure.now }
-    ensures { (p : List ℕ) → Contains (package_paths graph.now) p → HoldsPackages graph.now (IsInClosure graph.now p) closure.now → IsTrue result ↔ (AreInputs graph.now p first.now × AreInputs graph.now p second.now) }
+    ensures { (p : List ℕ) → Contains (package_paths graph.now) p → ListsPackages graph.now (IsInClosure graph.now p) closure.now → IsTrue result ↔ (AreInputs graph.now p first.now × AreInputs graph.now p second.now) }
 {
     first.hold_go_files();
     second.hold_go_files();

@@ -12,17 +12,17 @@ use Rattle.go_scanner.specs.Tokens.{semicolon}
 use Rattle.go_scanner.specs.TokenValues.{HasTokenValue, IsStringClass}
 use Rattle.go_ast.specs.SourceFile.{SourceFile}
 use Rattle.go_scope.specs.Bindings.{IsPackageLevel}
-use Rattle.go_scope.specs.Table.{StandsAt}
+use Rattle.go_scope.specs.Table.{LiesAt}
 use Rattle.types_declared.specs.Files.{HasLiteral}
-use Rattle.types_declared.specs.ByToken.{IsFirstBelow}
-use Rattle.types_info.specs.NamesView.{IsBehindDot}
+use Rattle.go_scope.specs.ByToken.{IsFirstBelow}
+use Rattle.types_info.specs.NamesView.{IsNameAfterDot}
 use Rattle.types_declared.specs.Package.{Package}
 use Rattle.types_declared.specs.Written.{BindsToken}
 use Rattle.types_declared.specs.Written.{ImportsPath as DeclaresImport}
 use Rattle.types_declared.proofs.Binding.{bound_nowhere}
 use Rattle.types_info.proofs.NameParts.{no_dot}
 use Rattle.build_object.specs.Lines.{GlobalName}
-use Rattle.build_object.specs.Sources.{IsBehindImport, IsGlobalAt, own, imported, IsTextAt, IsTrueAt}
+use Rattle.build_object.specs.Sources.{HasQualifier, IsGlobalAt, own, imported, IsTextAt, IsTrueAt}
 
 -- string literals
 
@@ -53,16 +53,16 @@ pub import_by : (p : Package) (file token d : ℕ) (o : Option (Bor (List ℕ)))
 import_by p file token d None binds only h = λ e path b i. h path (subst (λ x. DeclaresImport p x path) (only e b) i)
 import_by p file token d (Some v) binds only h = (d, (binds, h.0))
 
-pub dot_before : (p : Package) (file token : ℕ) (path : List ℕ) → IsBehindImport p file token path → IsBehindDot p file token
+pub dot_before : (p : Package) (file token : ℕ) (path : List ℕ) → HasQualifier p file token path → IsNameAfterDot p file token
 dot_before p file token path b = record { identifier = b.identifier; found = b.found; selected = b.selected }
 
-pub late : (p : Package) (file token : ℕ) (path : List ℕ) → IsBehindImport p file token path → 2 ≤ token
+pub late : (p : Package) (file token : ℕ) (path : List ℕ) → HasQualifier p file token path → 2 ≤ token
 late p file token path b = let h : token ≡ suc (suc b.before) = b.behind_dot in omega arith
 
-pub behind_by : (p : Package) (file token before : ℕ) (o : Option (Bor (List ℕ))) → token ≡ suc (suc before) → IsBehindDot p file token →
+pub behind_by : (p : Package) (file token before : ℕ) (o : Option (Bor (List ℕ))) → token ≡ suc (suc before) → IsNameAfterDot p file token →
     MatchOption o ((d : ℕ) (path : List ℕ) → BindsToken p file before d → DeclaresImport p d path → ⊥)
     (λ path. (d : ℕ) × (BindsToken p file before d × DeclaresImport p d path.now)) →
-    MatchOption o ((path : List ℕ) → IsBehindImport p file token path → ⊥) (λ path. IsBehindImport p file token path.now)
+    MatchOption o ((path : List ℕ) → HasQualifier p file token path → ⊥) (λ path. HasQualifier p file token path.now)
 behind_by p file token before None is dot h = λ path b.
     let same : b.before ≡ before = let k : token ≡ suc (suc b.before) = b.behind_dot in omega arith in
     h b.import path (subst (λ t. BindsToken p file t b.import) same b.binds) b.of_path
@@ -82,7 +82,7 @@ behind_by p file token before (Some v) is dot h =
 -- declarations of packages' blocks
 
 pub no_global : (p : Package) (file token : ℕ) → ((d : ℕ) → BindsToken p file token d → IsPackageLevel p.layout d → ⊥) →
-    ((path : List ℕ) → IsBehindImport p file token path → ⊥) →
+    ((path : List ℕ) → HasQualifier p file token path → ⊥) →
     (g : GlobalName) → IsGlobalAt p file token g → ⊥
 no_global p file token none outside _ (own {d = d} binds level) = none d binds level
 no_global p file token none outside _ (imported {path = path} behind) = outside path behind
@@ -95,11 +95,11 @@ global_as p file token a b n m e f g = subst (λ x. IsGlobalAt p file token (rec
 -- no name stands where no identifier does
 
 pub no_global_past : (p : Package) (file token : ℕ) (o : Option ℕ) → o ≡ None →
-    IsFirstBelow (StandsAt p.layout (record { file = file; index = token })) p.size o →
+    IsFirstBelow (LiesAt p.layout (record { file = file; index = token })) p.size o →
     (g : GlobalName) → IsGlobalAt p file token g → ⊥
 no_global_past p file token o e h = no_global p file token (λ d binds level. bound_nowhere p file token o e h d binds)
     (λ path behind. no_dot p file token o e h (dot_before p file token path behind))
 
 pub no_truth_past : (p : Package) (file token : ℕ) (o : Option ℕ) → o ≡ None →
-    IsFirstBelow (StandsAt p.layout (record { file = file; index = token })) p.size o → (false ≡ true) ↔ IsTrueAt p file token
+    IsFirstBelow (LiesAt p.layout (record { file = file; index = token })) p.size o → (false ≡ true) ↔ IsTrueAt p file token
 no_truth_past p file token o e h = (λ t. absurd (false≢true t), λ w. absurd (bound_nowhere p file token o e h w.declaration w.binds))

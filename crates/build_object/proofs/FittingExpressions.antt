@@ -18,10 +18,10 @@ use Rattle.build_object.specs.Lines.{Duplicate, Pop, JumpUnless, JumpIf, Local, 
 use Rattle.build_object.specs.Lines as line
 use Rattle.build_object.specs.Source.{Source}
 use Rattle.build_object.specs.Numbering.{slot_of}
-use Rattle.build_object.specs.Operands.{Operand, Standing, Values, Called, Converts, Predeclared, Qualifies, value_name, named_meaning, bound_name}
+use Rattle.build_object.specs.Operands.{Operand, Mode, Values, Called, Converts, Predeclared, Qualifies, value_name, named_meaning, bound_name}
 use Rattle.build_object.specs.Operands.{name_operand, prefixed, operated, field_operand, receiver_lines, member_operand, typed_selector, selected_by, selected}
 use Rattle.build_object.specs.Operands.{indexed, calling, called}
-use Rattle.build_object.specs.Expressions.{argument_count, element_count, key_position, literal_of, typed_literal, operand_of, operations, linked}
+use Rattle.build_object.specs.Expressions.{argument_count, element_count, key_position, literal_code, typed_literal, operand_of, operations, linked}
 use Rattle.build_object.specs.Expressions.{argument_lines, literal_lines, keyed_lines, bare_lines}
 use Rattle.build_object.specs.Fitting.{FitsAt}
 use Rattle.build_object.proofs.FittingParts.{count, Stays, none_stays, stays_joined, is_count, known_stays, is_slot, slot_stays}
@@ -119,8 +119,8 @@ unfolding typed_selector
 typed_sound k s n o None h = (h.0, h.0)
 typed_sound k s n o (Some t) h = member_sound k s o t (s.world.member n t) h
 
-selected_sound : (s : Source) (slots : List ℕ) (n : ℕ) (o : Operand) (standing : Standing) → IsSound (length slots) o →
-    IsSound (length slots) (selected_by s slots n o standing)
+selected_sound : (s : Source) (slots : List ℕ) (n : ℕ) (o : Operand) (mode : Mode) → IsSound (length slots) o →
+    IsSound (length slots) (selected_by s slots n o mode)
 unfolding selected_by
 selected_sound s slots n o Qualifies h = (
   stays_joined (length slots) o.value (name_operand s slots n).value h.0 (bound_sound s slots n (s.world.bound n)).0,
@@ -139,7 +139,7 @@ indexed_sound k o i h f = (
   stays_joined k o.value (i ++ (IndexAddress ∷ [])) h.0 (stays_joined k i (IndexAddress ∷ []) f (λ a b. (tt, tt))),
 )
 
-calling_stays : (k n : ℕ) (standing : Standing) → Stays k (calling n standing)
+calling_stays : (k n : ℕ) (mode : Mode) → Stays k (calling n mode)
 unfolding calling
 calling_stays k n (Called received f results) = λ a b. (tt, tt)
 calling_stays k n (Predeclared builtin) = λ a b. (tt, tt)
@@ -149,14 +149,14 @@ calling_stays k n Qualifies = none_stays k
 
 called_sound : (k : ℕ) (o : Operand) (n : ℕ) (xs : List Line) → IsSound k o → Stays k xs → IsSound k (called o n xs)
 called_sound k o n xs h f =
-    let all : Stays k (o.value ++ (xs ++ calling n o.standing)) =
-    stays_joined k o.value (xs ++ calling n o.standing) h.0 (stays_joined k xs (calling n o.standing) f (calling_stays k n o.standing)) in
+    let all : Stays k (o.value ++ (xs ++ calling n o.mode)) =
+    stays_joined k o.value (xs ++ calling n o.mode) h.0 (stays_joined k xs (calling n o.mode) f (calling_stays k n o.mode)) in
     (all, all)
 
 -- Literals
 
 of_type_stays : (k : ℕ) (is_struct : Bool) (t : PlainType) (keyed bare : List Line) (n : ℕ) → Stays k keyed → Stays k bare →
-    Stays k (literal_of is_struct t keyed bare n)
+    Stays k (literal_code is_struct t keyed bare n)
 of_type_stays k true t keyed bare n f g = λ a b. (tt, f a (suc b))
 of_type_stays k false t keyed bare n f g = stays_joined k bare (MakeSlice n ∷ []) g (λ a b. (tt, tt))
 
@@ -204,7 +204,7 @@ mutual
 
   linked_sound : (s : Source) (slots : List ℕ) (o : Operand) (links : LinkTrees) → IsSound (length slots) o → IsSound (length slots) (linked s slots o links)
   linked_sound s slots o no_link h = h
-  linked_sound s slots o (selector d n rest) h = linked_sound s slots (selected s slots n o) rest (selected_sound s slots n o o.standing h)
+  linked_sound s slots o (selector d n rest) h = linked_sound s slots (selected s slots n o) rest (selected_sound s slots n o o.mode h)
   linked_sound s slots o (index b e c rest) h =
       linked_sound s slots (indexed o (operand_of s slots e).value) rest
       (indexed_sound (length slots) o (operand_of s slots e).value h (expr_sound s slots e).0)

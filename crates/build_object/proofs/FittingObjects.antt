@@ -13,7 +13,7 @@ use Rattle.build_object.specs.Lines.{FunctionName, GlobalName}
 use Rattle.build_object.specs.Source.{Source}
 use Rattle.build_object.specs.Names.{function_names}
 use Rattle.build_object.specs.Objects.{Object, Function, Declaration, TypeOf, Variable, FunctionOf, Definition, Initial, defined, definition_of, declared_type}
-use Rattle.build_object.specs.Objects.{variable, first_initial, other_initials, variables_of, literals_of, initials_of, declared_variables, declared_function}
+use Rattle.build_object.specs.Objects.{known_variable, first_initial, other_initials, variables_of, literals_of, initials_of, global_variables, declared_function}
 use Rattle.build_object.specs.Objects.{declared_by, names_behind, declared_in, names_behind_all, declared_from}
 use Rattle.build_object.specs.Sources.{IsObjectOf}
 use Rattle.build_object.specs.Fitting.{HasFittingCode}
@@ -40,7 +40,7 @@ type_fits None definition = tt
 type_fits (Some name) None = tt
 type_fits (Some name) (Some definition) = (tt, tt)
 
-variable_fits : (own : Option PlainType) (name : Option GlobalName) (value : Option Initial) → AreFitting (variable own name value)
+variable_fits : (own : Option PlainType) (name : Option GlobalName) (value : Option Initial) → AreFitting (known_variable own name value)
 variable_fits None name value = tt
 variable_fits (Some own) None value = tt
 variable_fits (Some own) (Some name) value = (tt, tt)
@@ -49,7 +49,7 @@ variables_fit : (s : Source) (own : Option PlainType) (names : List (Item ℕ)) 
 unfolding variables_of
 variables_fit s own [] values = tt
 variables_fit s own (n ∷ ns) values =
-    both (variable own (s.global n.value) (first_initial values)) (variables_of s own ns (other_initials values))
+    both (known_variable own (s.global n.value) (first_initial values)) (variables_of s own ns (other_initials values))
     (variable_fits own (s.global n.value) (first_initial values)) (variables_fit s own ns (other_initials values))
 
 named_fits : (s : Source) (names : List FunctionName) (f : FuncTree) → AreFitting (declared_function s names f)
@@ -59,7 +59,7 @@ named_fits s (name ∷ others) f = (function_fits s f name, tt)
 by_fits : (s : Source) (names : List FunctionName) (d : DeclTree) → AreFitting (declared_by s names d)
 unfolding declared_by
 by_fits s names (VarDecl p g c) =
-    each (declared_variables s) (λ v. variables_fit s (judge_type s.world v.type_use).type_of v.names (initials_of s (literals_of v.values))) (group_items g)
+    each (global_variables s) (λ v. variables_fit s (judge_type s.world v.type_use).type_of v.names (initials_of s (literals_of v.values))) (group_items g)
 by_fits s names (TypeDecl p g c) = each (declared_type s) (λ t. type_fits (s.global t.name) (definition_of s.world t.body)) (group_items g)
 by_fits s names (FuncDecl p f c) = named_fits s names f
 

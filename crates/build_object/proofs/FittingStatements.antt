@@ -12,7 +12,7 @@ use Rattle.types_expr.specs.World.{Local as LocalName}
 use Rattle.types_expr.specs.Judge.{judge_type}
 use Rattle.types_declared.specs.Files.{group_items}
 use Rattle.types_stmt.specs.Simple.{binary_of}
-use Rattle.types_declared.specs.Bound.{result_types}
+use Rattle.types_declared.specs.MeaningOf.{result_types}
 use Rattle.build_object.specs.Lines.{Line, FunctionName, Duplicate, Load, Operate, Jump, JumpUnless, JumpBack, Zero, Set, End}
 use Rattle.build_object.specs.Lines.{line_if_known, pops}
 use Rattle.build_object.specs.Lines as line
@@ -22,7 +22,7 @@ use Rattle.build_object.specs.Slots.{slots_of}
 use Rattle.build_object.specs.Expressions.{value_lines, address_lines, values_left}
 use Rattle.build_object.specs.Statements.{values_of, from_last, set_name, set_bound, set_left, target_lines, targets_of, update_lines, step_op, simple_lines}
 use Rattle.build_object.specs.Statements.{optional_lines, init_lines, zeros, first_values, local_lines, Exits, further, no_exits, block_exits, branched}
-use Rattle.build_object.specs.Statements.{for_init, for_condition, for_post, loop_condition, body_exits, turned_back, loop_lines, statement_lines, block_lines}
+use Rattle.build_object.specs.Statements.{for_init, for_condition, for_post, loop_condition, body_exits, with_jump_back, loop_lines, statement_lines, block_lines}
 use Rattle.build_object.specs.Statements.{statements_lines, if_lines, else_lines, body_lines}
 use Rattle.build_object.specs.Objects.{function_of}
 use Rattle.build_object.specs.Fitting.{HasFittingCode}
@@ -171,7 +171,7 @@ condition_fits s slots (Some e) n a le =
     let lt : n < suc a = omega arith in
     stays_before (length slots) a (value_lines s slots e) (JumpUnless n ∷ []) (expr_sound s slots e).0 (λ b. (lt, tt))
 
-turned_fits : (k a : ℕ) (lines : List Line) → Before k (suc a) lines → Before k a (turned_back lines)
+turned_fits : (k a : ℕ) (lines : List Line) → Before k (suc a) lines → Before k a (with_jump_back lines)
 turned_fits k a lines f = λ b.
     let back : suc (length lines) ≤ suc (after lines b) = omega (arith, is_after lines b) in
     joined k b (suc a) lines (JumpBack (suc (length lines)) ∷ []) (f b) (back, tt)

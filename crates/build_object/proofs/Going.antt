@@ -1,4 +1,4 @@
--- Links are gone over from the last to the first: the lines wanted of the operand before each, by its `Operands.Standing`.
+-- Links are gone over from the last to the first: the lines wanted of the operand before each, by its `Operands.Mode`.
 use Rattle.std.proofs.Common.{ℕ, ◌≡◌, ◌+◌, ◌-◌, ◌<◌, ◌≤◌, ◌∷◌, ◌++◌, [], List, ap, sym, ◌∙◌, refl, take, length, get_or, subst, append_assoc, Bool, arith}
 use Rattle.std.proofs.lemmas.List.{take_more}
 use Rattle.go_ast.specs.declared.tree.Link.{Link}
@@ -7,7 +7,7 @@ use Rattle.go_ast.specs.View.{link_view}
 use Rattle.types_expr.specs.Lists.{links_in}
 use Rattle.build_object.specs.declared.operands.Wanted.{Wanted}
 use Rattle.build_object.specs.declared.operands.Wanted.TheVariants as wanted
-use Rattle.build_object.specs.declared.operands.OperandPlace.{OperandPlace}
+use Rattle.build_object.specs.declared.operands.OperandMode.{OperandMode}
 use Rattle.build_object.specs.declared.code.Code.{Code}
 use Rattle.build_object.specs.Lines.{Line}
 use Rattle.build_object.specs.LineView.{lines_in, Puts}
@@ -15,21 +15,21 @@ use Rattle.build_object.specs.Source.{Source}
 use Rattle.build_object.specs.Operands.{Operand, qualifies, indexed, called, calling}
 use Rattle.build_object.specs.Operands as ops
 use Rattle.build_object.specs.Expressions.{linked, one_link}
-use Rattle.build_object.specs.Making.{lines_for, standing_of, before_link, index_lines, GoesOn, GoesOnBehind, GoesOnFrom}
-use Rattle.build_object.proofs.Standings.{linked_end, linked_last, same_qualifies, same_calling}
+use Rattle.build_object.specs.Making.{lines_for, mode_of, before_link, index_lines, AppliesRule, AppliesSelector, AppliesLines}
+use Rattle.build_object.proofs.Modes.{linked_end, linked_last, same_qualifies, same_calling}
 
 -- the links from number i on were gone over
-pub record GoesOver (s : Source) (slots : List ℕ) (links : List Link) (i : ℕ) (head : OperandPlace) (first left : Wanted) (old new : Code) : Type 0 where
-  pub over : (o : Operand) → before_link o.standing ≡ before_link (standing_of head) →
+pub record GoesOver (s : Source) (slots : List ℕ) (links : List Link) (i : ℕ) (head : OperandMode) (first left : Wanted) (old new : Code) : Type 0 where
+  pub over : (o : Operand) → before_link o.mode ≡ before_link (mode_of head) →
       lines_for first (linked s slots o (links_in links)) ++ lines_in old ≡ lines_for left (linked s slots o (links_in (take i links))) ++ lines_in new
 
 -- one more link
-pub over_more : (s : Source) (slots : List ℕ) (links : List Link) (i : ℕ) (x : Link) (head stands : OperandPlace) (first left next : Wanted)
+pub over_more : (s : Source) (slots : List ℕ) (links : List Link) (i : ℕ) (x : Link) (head stands : OperandMode) (first left next : Wanted)
     (old mid new : Code) →
     i < length links → x ≡ get_or links i x → GoesOver s slots links (i + 1) head first left old mid →
-    ((o : Operand) → before_link o.standing ≡ before_link (standing_of head) →
-    before_link (linked s slots o (links_in (take i links))).standing ≡ before_link (standing_of stands)) →
-    GoesOn (one_link s slots (link_view x no_link)) (standing_of stands) left next mid new → GoesOver s slots links i head first next old new
+    ((o : Operand) → before_link o.mode ≡ before_link (mode_of head) →
+    before_link (linked s slots o (links_in (take i links))).mode ≡ before_link (mode_of stands)) →
+    AppliesRule (one_link s slots (link_view x no_link)) (mode_of stands) left next mid new → GoesOver s slots links i head first next old new
 over_more s slots links i x head stands first left next old mid new lt is over known goes = record {
   over = λ o same.
       let split : take (i + 1) links ≡ take i links ++ (x ∷ []) = take_more links i x lt ∙ ap (λ y. take i links ++ (y ∷ [])) (sym is) in
@@ -40,12 +40,12 @@ over_more s slots links i x head stands first left next old mid new lt is over k
 
 -- the rules of the three links
 
-pub goes_selector : {rule : Operand → Operand} {stands : ops.Standing} {first left : Wanted} {old new : Code} →
-    GoesOnBehind rule (qualifies stands) first left old new → GoesOn rule stands first left old new
-goes_selector {rule} {stands} g = record { on = λ o same. g.on o (same_qualifies o.standing stands same) }
+pub goes_selector : {rule : Operand → Operand} {stands : ops.Mode} {first left : Wanted} {old new : Code} →
+    AppliesSelector rule (qualifies stands) first left old new → AppliesRule rule stands first left old new
+goes_selector {rule} {stands} g = record { on = λ o same. g.on o (same_qualifies o.mode stands same) }
 
-pub goes_index : {i : List Line} (stands : ops.Standing) (first : Wanted) {old mid new : Code} → Puts (index_lines first) old mid → Puts i mid new →
-    GoesOn (λ o. indexed o i) stands first wanted.Value old new
+pub goes_index : {i : List Line} (stands : ops.Mode) (first : Wanted) {old mid new : Code} → Puts (index_lines first) old mid → Puts i mid new →
+    AppliesRule (λ o. indexed o i) stands first wanted.Value old new
 goes_index {i} stands wanted.Value {old} {mid} {new} p q = record {
   on = λ o same.
       append_assoc o.value _ (lines_in old) ∙ ap (λ z. o.value ++ z) (append_assoc i _ (lines_in old) ∙ (ap (λ z. i ++ z) (sym p.put) ∙ sym q.put));
@@ -55,26 +55,26 @@ goes_index {i} stands wanted.Address {old} {mid} {new} p q = record {
       append_assoc o.value _ (lines_in old) ∙ ap (λ z. o.value ++ z) (append_assoc i _ (lines_in old) ∙ (ap (λ z. i ++ z) (sym p.put) ∙ sym q.put));
 }
 
-called_lines : (first : Wanted) (o : Operand) (n : ℕ) (args : List Line) → lines_for first (called o n args) ≡ o.value ++ (args ++ calling n o.standing)
+called_lines : (first : Wanted) (o : Operand) (n : ℕ) (args : List Line) → lines_for first (called o n args) ≡ o.value ++ (args ++ calling n o.mode)
 called_lines wanted.Value o n args = refl
 called_lines wanted.Address o n args = refl
 
-pub goes_call : {args : List Line} (n : ℕ) (stands : ops.Standing) (first : Wanted) {old mid new : Code} → Puts (calling n stands) old mid →
-    Puts args mid new → GoesOn (λ o. called o n args) stands first wanted.Value old new
+pub goes_call : {args : List Line} (n : ℕ) (stands : ops.Mode) (first : Wanted) {old mid new : Code} → Puts (calling n stands) old mid →
+    Puts args mid new → AppliesRule (λ o. called o n args) stands first wanted.Value old new
 goes_call {args} n stands first {old} {mid} {new} p q = record {
   on = λ o same.
-      ap (λ z. z ++ lines_in old) (called_lines first o n args ∙ ap (λ z. o.value ++ (args ++ z)) (same_calling n o.standing stands same))
+      ap (λ z. z ++ lines_in old) (called_lines first o n args ∙ ap (λ z. o.value ++ (args ++ z)) (same_calling n o.mode stands same))
       ∙ (append_assoc o.value (args ++ calling n stands) (lines_in old) ∙
       ap (λ z. o.value ++ z) (append_assoc args (calling n stands) (lines_in old) ∙ (ap (λ z. args ++ z) (sym p.put) ∙ sym q.put)));
 }
 
 -- an operand behind which the links were gone over
-pub puts_on : {rule : Operand → Operand} {stands : ops.Standing} {first left : Wanted} {old mid new : Code} (o : Operand) →
-    before_link o.standing ≡ before_link stands →
-    GoesOn rule stands first left old mid → Puts (lines_for left o) mid new → Puts (lines_for first (rule o)) old new
+pub puts_on : {rule : Operand → Operand} {stands : ops.Mode} {first left : Wanted} {old mid new : Code} (o : Operand) →
+    before_link o.mode ≡ before_link stands →
+    AppliesRule rule stands first left old mid → Puts (lines_for left o) mid new → Puts (lines_for first (rule o)) old new
 puts_on o same g p = record { put = p.put ∙ sym (g.on o same) }
 
-pub puts_from : {rule : List Line → List Line} {v : List Line} {old mid new : Code} → GoesOnFrom rule old mid → Puts v mid new → Puts (rule v) old new
+pub puts_from : {rule : List Line → List Line} {v : List Line} {old mid new : Code} → AppliesLines rule old mid → Puts v mid new → Puts (rule v) old new
 puts_from {rule} {v} g p = record { put = p.put ∙ sym (g.on v) }
 
 -- The lines wanted of operands whose value and address have equal lines
@@ -91,45 +91,45 @@ pub settled_lines : (w : Wanted) (o : Operand) → lines_for w (ops.settled o) �
 settled_lines wanted.Value o = refl
 settled_lines wanted.Address o = refl
 
-pub no_lines : (w : Wanted) (s : ops.Standing) → lines_for w (ops.standing_as s) ≡ []
+pub no_lines : (w : Wanted) (s : ops.Mode) → lines_for w (ops.mode_alone s) ≡ []
 no_lines wanted.Value s = refl
 no_lines wanted.Address s = refl
 
 -- all links, and none of them
 
-pub over_none : (s : Source) (slots : List ℕ) (links : List Link) (n : ℕ) (head : OperandPlace) (first : Wanted) (code : Code) → take n links ≡ links →
+pub over_none : (s : Source) (slots : List ℕ) (links : List Link) (n : ℕ) (head : OperandMode) (first : Wanted) (code : Code) → take n links ≡ links →
     GoesOver s slots links n head first first code code
 over_none s slots links n head first code all = record
     { over = λ o same. ap (λ ls. lines_for first (linked s slots o (links_in ls)) ++ lines_in code) (sym all) }
 
-pub over_all : (s : Source) (slots : List ℕ) (links : List Link) (head : OperandPlace) (first left : Wanted) (old new : Code) →
+pub over_all : (s : Source) (slots : List ℕ) (links : List Link) (head : OperandMode) (first left : Wanted) (old new : Code) →
     ((o : Operand) → linked s slots o (links_in []) ≡ o) → GoesOver s slots links 0 head first left old new →
-    GoesOn (λ o. linked s slots o (links_in links)) (standing_of head) first left old new
+    AppliesRule (λ o. linked s slots o (links_in links)) (mode_of head) first left old new
 over_all s slots links head first left old new none g = record { on = λ o same. g.over o same ∙ ap (λ p. lines_for left p ++ lines_in new) (none o) }
 
 -- the same rule under another name
-pub goes_as : {rule other : Operand → Operand} {stands : ops.Standing} {first left : Wanted} {old new : Code} → ((o : Operand) → rule o ≡ other o) →
-    GoesOn other stands first left old new → GoesOn rule stands first left old new
+pub goes_as : {rule other : Operand → Operand} {stands : ops.Mode} {first left : Wanted} {old new : Code} → ((o : Operand) → rule o ≡ other o) →
+    AppliesRule other stands first left old new → AppliesRule rule stands first left old new
 goes_as {rule} {other} {stands} {first} {left} {old} {new} e g = record { on = λ o same. ap (λ p. lines_for first p ++ lines_in old) (e o) ∙ g.on o same }
 
-pub goes_behind_as : {rule : Operand → Operand} {b d : Bool} {first left : Wanted} {old new : Code} → b ≡ d → GoesOnBehind rule b first left old new →
-    GoesOnBehind rule d first left old new
+pub goes_behind_as : {rule : Operand → Operand} {b d : Bool} {first left : Wanted} {old new : Code} → b ≡ d → AppliesSelector rule b first left old new →
+    AppliesSelector rule d first left old new
 goes_behind_as {rule} {b} {d} e g = record { on = λ o q. g.on o (q ∙ sym e) }
 
 -- the same in a loop whose numbers fall
-pub over_turn : (s : Source) (slots : List ℕ) (links : List Link) (i : ℕ) (x : Link) (head stands : OperandPlace) (first left next : Wanted)
+pub over_turn : (s : Source) (slots : List ℕ) (links : List Link) (i : ℕ) (x : Link) (head stands : OperandMode) (first left next : Wanted)
     (old mid new : Code) →
     0 < i → i - 1 < length links → x ≡ get_or links (i - 1) x → GoesOver s slots links i head first left old mid →
-    ((o : Operand) → before_link o.standing ≡ before_link (standing_of head) →
-    before_link (linked s slots o (links_in (take (i - 1) links))).standing ≡ before_link (standing_of stands)) →
-    GoesOn (one_link s slots (link_view x no_link)) (standing_of stands) left next mid new → GoesOver s slots links (i - 1) head first next old new
+    ((o : Operand) → before_link o.mode ≡ before_link (mode_of head) →
+    before_link (linked s slots o (links_in (take (i - 1) links))).mode ≡ before_link (mode_of stands)) →
+    AppliesRule (one_link s slots (link_view x no_link)) (mode_of stands) left next mid new → GoesOver s slots links (i - 1) head first next old new
 over_turn s slots links i x head stands first left next old mid new some lt is over known goes =
     let e : i ≡ i - 1 + 1 = omega arith in
     over_more s slots links (i - 1) x head stands first left next old mid new lt is (subst (λ k. GoesOver s slots links k head first left old mid) e over)
     known goes
 
-pub over_end : (s : Source) (slots : List ℕ) (links : List Link) (i : ℕ) (head : OperandPlace) (first left : Wanted) (old new : Code) → i ≤ 0 →
-    GoesOver s slots links i head first left old new → GoesOn (λ o. linked s slots o (links_in links)) (standing_of head) first left old new
+pub over_end : (s : Source) (slots : List ℕ) (links : List Link) (i : ℕ) (head : OperandMode) (first left : Wanted) (old new : Code) → i ≤ 0 →
+    GoesOver s slots links i head first left old new → AppliesRule (λ o. linked s slots o (links_in links)) (mode_of head) first left old new
 over_end s slots links i head first left old new none over =
     let e : i ≡ 0 = omega arith in
     over_all s slots links head first left old new (λ o. linked_end s slots o) (subst (λ k. GoesOver s slots links k head first left old new) e over)

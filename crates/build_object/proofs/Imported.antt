@@ -8,7 +8,7 @@ use Rattle.std.specs.List.{Contains, AllByRecursion}
 use Rattle.std.specs.List.Sorted.{IsStrictlySortedBy}
 use Rattle.base_files.specs.Workspace.{path_cmp}
 use Rattle.go_ast.specs.SourceFile.{SourceFile, FileParts, source_of}
-use Rattle.workspace_graph.specs.ImportPaths.{bytes_of_paths, HoldsPaths, SomeImport}
+use Rattle.workspace_graph.specs.ImportPaths.{bytes_of_paths, ListsPaths, AnyImports}
 use Rattle.workspace_graph.specs.Packages.{ImportsPath}
 use Rattle.build_object.specs.Sources.{AreImports}
 
@@ -41,7 +41,7 @@ at_mapped f (x ∷ xs) y (suc k) lt e =
     (w.0, ((suc w.1.0.0, within, w.1.0.2), w.1.1))
 
 -- the paths that some files import, of their plain files
-pub imports_listed : (files : List FileParts) (keys : List (Vec ℕ Global)) → HoldsPaths (SomeImport files) keys →
+pub imports_listed : (files : List FileParts) (keys : List (Vec ℕ Global)) → ListsPaths (AnyImports files) keys →
     IsStrictlySortedBy path_cmp (bytes_of_paths keys) → AreImports (map source_of files) (bytes_of_paths keys)
 imports_listed files keys holds sorted = record {
   each = λ path. (

@@ -1,6 +1,6 @@
 -- The lemmas of this crate.
 pub mod Putting
-pub mod Standings
+pub mod Modes
 pub mod Trees
 pub mod Blocks
 pub mod Places

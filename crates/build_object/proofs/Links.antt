@@ -22,12 +22,12 @@ use Rattle.build_object.specs.declared.code.Code.{Code}
 use Rattle.build_object.specs.Lines.{Line, Duplicate, Pop, JumpUnless, Operate, Zero, MakeSlice}
 use Rattle.build_object.specs.LineView.{lines_in, Puts}
 use Rattle.build_object.specs.Source.{Source}
-use Rattle.build_object.specs.Operands.{Standing, Values, Operand, qualifies, selected, operated, left_by_call, value_count, prefixed}
-use Rattle.build_object.specs.Expressions.{operand_of, operations, linked, one_link, keyed_lines, bare_lines, literal_lines, literal_of, typed_literal}
+use Rattle.build_object.specs.Operands.{Mode, Values, Operand, qualifies, selected, operated, left_by_call, value_count, prefixed}
+use Rattle.build_object.specs.Expressions.{operand_of, operations, linked, one_link, keyed_lines, bare_lines, literal_lines, literal_code, typed_literal}
 use Rattle.build_object.specs.Expressions.{value_lines}
-use Rattle.build_object.specs.Making.{before_link, test_lines, GoesOnFrom}
+use Rattle.build_object.specs.Making.{before_link, test_lines, AppliesLines}
 use Rattle.build_object.proofs.Putting.{puts_length}
-use Rattle.build_object.proofs.Standings.{linked_end, known_before, link_at}
+use Rattle.build_object.proofs.Modes.{linked_end, known_before, link_at}
 use Rattle.build_object.proofs.Trees.{selector_here, index_here, call_here, chain_here, prefix_here, operations_step, literal_here}
 
 pub stands_at_once : (s : Source) (slots : List ℕ) (links : List Link) (n : ℕ) (o : Operand) → n ≡ 0 → linked s slots o (links_in (take n links)) ≡ o
@@ -38,24 +38,24 @@ pub link_before : (s : Source) (slots : List ℕ) (links : List Link) (n last : 
     linked s slots o (links_in (take n links)) ≡ one_link s slots (link_view x no_link) (linked s slots o (links_in (take last links)))
 link_before s slots links n last x o size lt is = ap (λ k. linked s slots o (links_in (take k links))) size ∙ link_at s slots links last x o lt is
 
-pub selector_stands : (s : Source) (slots : List ℕ) (links : List Link) (n last : ℕ) (x : Link) (d token : ℕ) (head r : Standing) (q : Bool) →
+pub selector_stands : (s : Source) (slots : List ℕ) (links : List Link) (n last : ℕ) (x : Link) (d token : ℕ) (head r : Mode) (q : Bool) →
     n ≡ last + 1 → last < length links → x ≡ get_or links last x → x ≡ link.Selector d token → q ≡ (last == 0 && qualifies head) →
-    ((o : Operand) → qualifies o.standing ≡ q → (selected s slots token o).standing ≡ r) →
-    (o : Operand) → before_link o.standing ≡ before_link head → (linked s slots o (links_in (take n links))).standing ≡ r
+    ((o : Operand) → qualifies o.mode ≡ q → (selected s slots token o).mode ≡ r) →
+    (o : Operand) → before_link o.mode ≡ before_link head → (linked s slots o (links_in (take n links))).mode ≡ r
 selector_stands s slots links n last x d token head r q size lt is form known rule o same =
-    ap (λ p. p.standing) (link_before s slots links n last x o size lt is ∙ selector_here s slots d token _ form)
+    ap (λ p. p.mode) (link_before s slots links n last x o size lt is ∙ selector_here s slots d token _ form)
     ∙ rule (linked s slots o (links_in (take last links))) (known_before s slots links last head o lt same ∙ sym known)
 
 pub index_stands : (s : Source) (slots : List ℕ) (links : List Link) (n last : ℕ) (x : Link) (b : ℕ) (e : _) (c : ℕ) (o : Operand) →
-    n ≡ last + 1 → last < length links → x ≡ get_or links last x → x ≡ link.Index b e c → (linked s slots o (links_in (take n links))).standing ≡ Values 1
+    n ≡ last + 1 → last < length links → x ≡ get_or links last x → x ≡ link.Index b e c → (linked s slots o (links_in (take n links))).mode ≡ Values 1
 index_stands s slots links n last x b e c o size lt is form =
-    ap (λ p. p.standing) (link_before s slots links n last x o size lt is ∙ index_here s slots b e c _ form)
+    ap (λ p. p.mode) (link_before s slots links n last x o size lt is ∙ index_here s slots b e c _ form)
 
 pub call_stands : (s : Source) (slots : List ℕ) (links : List Link) (n last : ℕ) (x : Link) (b : ℕ) (xs : _) (c : ℕ) (o : Operand) →
     n ≡ last + 1 → last < length links → x ≡ get_or links last x → x ≡ link.Call b xs c →
-    (linked s slots o (links_in (take n links))).standing ≡ Values (left_by_call (linked s slots o (links_in (take last links))).standing)
+    (linked s slots o (links_in (take n links))).mode ≡ Values (left_by_call (linked s slots o (links_in (take last links))).mode)
 call_stands s slots links n last x b xs c o size lt is form =
-    ap (λ p. p.standing) (link_before s slots links n last x o size lt is ∙ call_here s slots b xs c _ form xs.items refl)
+    ap (λ p. p.mode) (link_before s slots links n last x o size lt is ∙ call_here s slots b xs c _ form xs.items refl)
 
 -- tests
 
@@ -96,7 +96,7 @@ operate_default op.And a b g h = absurd (g refl)
 operate_default op.Or a b g h = absurd (h refl)
 
 pub goes_operate : (o : BinaryOp) {b : List Line} {old mid new : Code} → (o ≡ op.And → ⊥) → (o ≡ op.Or → ⊥) → Puts (Operate o ∷ []) old mid →
-    Puts b mid new → GoesOnFrom (λ a. operated o a b) old new
+    Puts b mid new → AppliesLines (λ a. operated o a b) old new
 goes_operate o {b} {old} {mid} {new} g h p q = record {
   on = λ a.
       ap (λ z. z ++ lines_in old) (operate_default o a b g h) ∙ (append_assoc a (b ++ (Operate o ∷ [])) (lines_in old)
@@ -109,7 +109,7 @@ lines_since end was p = let h = puts_length p in omega arith
 
 pub goes_test : (o : BinaryOp) {b : List Line} {old mid new : Code} (n : ℕ) → ((a : List Line) → operated o a b ≡ a ++ (test_lines o (length b) ++ b)) →
     n ≡ length b →
-    Puts b old mid → Puts (test_lines o n) mid new → GoesOnFrom (λ a. operated o a b) old new
+    Puts b old mid → Puts (test_lines o n) mid new → AppliesLines (λ a. operated o a b) old new
 goes_test o {b} {old} {mid} {new} n form size p q = record {
   on = λ a.
       ap (λ z. z ++ lines_in old) (form a ∙ ap (λ k. a ++ (test_lines o k ++ b)) (sym size)) ∙ (append_assoc a (test_lines o n ++ b) (lines_in old)
@@ -118,18 +118,18 @@ goes_test o {b} {old} {mid} {new} n form size p q = record {
 
 -- more operators before others
 
-pub goes_before : {rule : List Line → List Line} {step : List Line → List Line} {old mid new : Code} → GoesOnFrom rule old mid → GoesOnFrom step mid new →
-    GoesOnFrom (λ a. rule (step a)) old new
+pub goes_before : {rule : List Line → List Line} {step : List Line → List Line} {old mid new : Code} → AppliesLines rule old mid → AppliesLines step mid new →
+    AppliesLines (λ a. rule (step a)) old new
 goes_before {rule} {step} g h = record { on = λ a. g.on (step a) ∙ h.on a }
 
-pub goes_rule : {rule other : List Line → List Line} {old new : Code} → ((a : List Line) → rule a ≡ other a) → GoesOnFrom other old new →
-    GoesOnFrom rule old new
+pub goes_rule : {rule other : List Line → List Line} {old new : Code} → ((a : List Line) → rule a ≡ other a) → AppliesLines other old new →
+    AppliesLines rule old new
 goes_rule {rule} {other} {old} e g = record { on = λ a. ap (λ z. z ++ lines_in old) (e a) ∙ g.on a }
 
-pub goes_nowhere : {rule : List Line → List Line} (code : Code) → ((a : List Line) → rule a ≡ a) → GoesOnFrom rule code code
+pub goes_nowhere : {rule : List Line → List Line} (code : Code) → ((a : List Line) → rule a ≡ a) → AppliesLines rule code code
 goes_nowhere code e = record { on = λ a. ap (λ z. z ++ lines_in code) (e a) }
 
-prefixed_stands : (o : PrefixOp) (a : List Line) → Values 1 ≡ (prefixed o a).standing
+prefixed_stands : (o : PrefixOp) (a : List Line) → Values 1 ≡ (prefixed o a).mode
 prefixed_stands prefix.Plus a = refl
 prefixed_stands prefix.Minus a = refl
 prefixed_stands prefix.Not a = refl
@@ -142,32 +142,32 @@ no_items [] e = refl
 no_items (x ∷ xs) e = let no : ⊥ = omega arith in absurd no
 
 pub chain_alone : (s : Source) (slots : List ℕ) {e : Expr} (b : _) (links : _) → e ≡ expr.Chain b links → (x : Expr) → x ≡ b.value → length links.items ≡ 0 →
-    (stands : Standing) → (operand_of s slots (expr_view x)).standing ≡ stands → (operand_of s slots (expr_view e)).standing ≡ Values (value_count stands)
+    (stands : Mode) → (operand_of s slots (expr_view x)).mode ≡ stands → (operand_of s slots (expr_view e)).mode ≡ Values (value_count stands)
 chain_alone s slots b links is x hx none stands known =
-    ap (λ p. p.standing) (chain_here s slots b links is x [] hx (sym (no_items links.items none)))
-    ∙ (ap (λ p. Values (value_count p.standing)) (linked_end s slots (operand_of s slots (expr_view x))) ∙ ap (λ k. Values (value_count k)) known)
+    ap (λ p. p.mode) (chain_here s slots b links is x [] hx (sym (no_items links.items none)))
+    ∙ (ap (λ p. Values (value_count p.mode)) (linked_end s slots (operand_of s slots (expr_view x))) ∙ ap (λ k. Values (value_count k)) known)
 
 pub chain_behind : (s : Source) (slots : List ℕ) {e : Expr} (b : _) (links : _) → e ≡ expr.Chain b links → (x : Expr) → x ≡ b.value → (xs : List Link) →
     xs ≡ links.items →
-    (last : ℕ) → length links.items ≡ last + 1 → (head : Standing) → (operand_of s slots (expr_view x)).standing ≡ head → (k : ℕ) →
-    ((o : Operand) → before_link o.standing ≡ before_link head → value_count (linked s slots o (links_in (take (last + 1) xs))).standing ≡ k) →
-    (operand_of s slots (expr_view e)).standing ≡ Values k
+    (last : ℕ) → length links.items ≡ last + 1 → (head : Mode) → (operand_of s slots (expr_view x)).mode ≡ head → (k : ℕ) →
+    ((o : Operand) → before_link o.mode ≡ before_link head → value_count (linked s slots o (links_in (take (last + 1) xs))).mode ≡ k) →
+    (operand_of s slots (expr_view e)).mode ≡ Values k
 chain_behind s slots b links is x hx xs hxs last size head known k rule =
     let all : take (last + 1) xs ≡ xs = take_all (last + 1) xs (let h = ap length hxs ∙ size in omega arith) in
-    ap (λ p. p.standing) (chain_here s slots b links is x xs hx hxs)
-    ∙ (ap (λ ys. Values (value_count (linked s slots (operand_of s slots (expr_view x)) (links_in ys)).standing)) (sym all) ∙
+    ap (λ p. p.mode) (chain_here s slots b links is x xs hx hxs)
+    ∙ (ap (λ ys. Values (value_count (linked s slots (operand_of s slots (expr_view x)) (links_in ys)).mode)) (sym all) ∙
     ap Values (rule (operand_of s slots (expr_view x)) (ap before_link known)))
 
 pub prefix_stands : (s : Source) (slots : List ℕ) {e : Expr} (o : PrefixOp) (p : ℕ) (b : _) → e ≡ expr.Prefix o p b →
-    Values 1 ≡ (operand_of s slots (expr_view e)).standing
-prefix_stands s slots o p b is = prefixed_stands o _ ∙ sym (ap (λ q. q.standing) (prefix_here s slots o p b is b.value refl))
+    Values 1 ≡ (operand_of s slots (expr_view e)).mode
+prefix_stands s slots o p b is = prefixed_stands o _ ∙ sym (ap (λ q. q.mode) (prefix_here s slots o p b is b.value refl))
 
 -- operators behind others, in a loop whose numbers fall
 pub operations_turn : (s : Source) (slots : List ℕ) (xs : List operand.Operand) (i : ℕ) (x : operand.Operand) {old mid new : Code} → 0 < i →
     i - 1 < length xs → x ≡ get_or xs (i - 1) x →
-    GoesOnFrom (λ a. operations s slots a (operands_in (drop i xs))) old mid →
-    GoesOnFrom (λ a. operated x.op a (value_lines s slots (expr_view x.value))) mid new →
-    GoesOnFrom (λ a. operations s slots a (operands_in (drop (i - 1) xs))) old new
+    AppliesLines (λ a. operations s slots a (operands_in (drop i xs))) old mid →
+    AppliesLines (λ a. operated x.op a (value_lines s slots (expr_view x.value))) mid new →
+    AppliesLines (λ a. operations s slots a (operands_in (drop (i - 1) xs))) old new
 operations_turn s slots xs i x some lt is g h =
     let e : i - 1 + 1 ≡ i = omega arith in
     goes_rule (λ a. ap (λ ys. operations s slots a (operands_in ys)) (next_item xs (i - 1) x lt is) ∙ (operations_step s slots a x (drop (i - 1 + 1) xs)
@@ -194,7 +194,7 @@ pub literal_keyed : (s : Source) (slots : List ℕ) (l : CompositeLit) (t : Plai
     (elements_in (out-CompositeLit l).elements.items)
 unfolding typed_literal
 literal_keyed s slots l t e struct = literal_as s slots l (Some t) e ∙
-    ap (λ b. literal_of b t (keyed_lines s slots (elements_in (out-CompositeLit l).elements.items))
+    ap (λ b. literal_code b t (keyed_lines s slots (elements_in (out-CompositeLit l).elements.items))
     (bare_lines s slots (elements_in (out-CompositeLit l).elements.items)) (length (out-CompositeLit l).elements.items)) (sym struct)
 
 pub literal_bare : (s : Source) (slots : List ℕ) (l : CompositeLit) (t : PlainType) →
@@ -203,7 +203,7 @@ pub literal_bare : (s : Source) (slots : List ℕ) (l : CompositeLit) (t : Plain
     ++ (MakeSlice (length (out-CompositeLit l).elements.items) ∷ [])
 unfolding typed_literal
 literal_bare s slots l t e slice = literal_as s slots l (Some t) e ∙
-    ap (λ b. literal_of b t (keyed_lines s slots (elements_in (out-CompositeLit l).elements.items))
+    ap (λ b. literal_code b t (keyed_lines s slots (elements_in (out-CompositeLit l).elements.items))
     (bare_lines s slots (elements_in (out-CompositeLit l).elements.items)) (length (out-CompositeLit l).elements.items)) (sym slice)
 
 -- the item of a number, read twice

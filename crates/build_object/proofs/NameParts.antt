@@ -8,7 +8,7 @@ use Rattle.go_ast.specs.declared.tree.Item as items
 use Rattle.go_ast.specs.declared.tree.FieldDecl.{FieldDecl}
 use Rattle.go_ast.specs.Tree.{Item}
 use Rattle.go_ast.specs.View.{list_view}
-use Rattle.go_ast.specs.FileView.{field_view, same_place}
+use Rattle.go_ast.specs.FileView.{field_view, same_index}
 use Rattle.go_ast.specs.SourceFile.{SourceFile}
 use Rattle.types_declared.specs.declared.declared.Function.{Function}
 use Rattle.types_declared.specs.DeclaredView.{function_of as placed_function}
@@ -100,20 +100,20 @@ no_name : items.Item ℕ
 no_name = record { value = 0; separator = None }
 
 pub positions_step : (begin : ℕ) (now new total : List ℕ) (xs : List (items.Item ℕ)) (i : ℕ) → begin ≤ length now → i < length xs →
-    now ++ positions_from (length now - begin) (list_view same_place (drop i xs)) ≡ total → new ≡ now ++ ((length now - begin) ∷ []) →
-    new ++ positions_from (length new - begin) (list_view same_place (drop (i + 1) xs)) ≡ total
+    now ++ positions_from (length now - begin) (list_view same_index (drop i xs)) ≡ total → new ≡ now ++ ((length now - begin) ∷ []) →
+    new ++ positions_from (length new - begin) (list_view same_index (drop (i + 1) xs)) ≡ total
 positions_step begin now new total xs i within lt h e =
     let grown : length new ≡ length now + 1 = ap length e ∙ length-append now ((length now - begin) ∷ []) in
     let next : length new - begin ≡ suc (length now - begin) = omega arith in
-    ap (λ z. z ++ positions_from (length new - begin) (list_view same_place (drop (i + 1) xs))) e
-    ∙ (append_assoc now ((length now - begin) ∷ []) (positions_from (length new - begin) (list_view same_place (drop (i + 1) xs)))
-    ∙ (ap (λ k. now ++ ((length now - begin) ∷ positions_from k (list_view same_place (drop (i + 1) xs)))) next
-    ∙ (ap (λ ys. now ++ positions_from (length now - begin) (list_view same_place ys)) (sym (drop_more xs i no_name lt)) ∙ h)))
+    ap (λ z. z ++ positions_from (length new - begin) (list_view same_index (drop (i + 1) xs))) e
+    ∙ (append_assoc now ((length now - begin) ∷ []) (positions_from (length new - begin) (list_view same_index (drop (i + 1) xs)))
+    ∙ (ap (λ k. now ++ ((length now - begin) ∷ positions_from k (list_view same_index (drop (i + 1) xs)))) next
+    ∙ (ap (λ ys. now ++ positions_from (length now - begin) (list_view same_index ys)) (sym (drop_more xs i no_name lt)) ∙ h)))
 
 pub positions_end : (begin : ℕ) (now total : List ℕ) (xs : List (items.Item ℕ)) (i : ℕ) → length xs ≤ i →
-    now ++ positions_from (length now - begin) (list_view same_place (drop i xs)) ≡ total → now ≡ total
+    now ++ positions_from (length now - begin) (list_view same_index (drop i xs)) ≡ total → now ≡ total
 positions_end begin now total xs i all h = sym (append-nil now) ∙
-    (ap (λ ys. now ++ positions_from (length now - begin) (list_view same_place ys)) (sym (drop_of_length-le xs all)) ∙ h)
+    (ap (λ ys. now ++ positions_from (length now - begin) (list_view same_index ys)) (sym (drop_of_length-le xs all)) ∙ h)
 
 -- the names of the fields of a struct
 abbrev pub struct_names : List (items.Item FieldDecl) → List (Item ℕ)

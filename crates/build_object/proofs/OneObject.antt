@@ -7,37 +7,37 @@ use Rattle.std.proofs.lemmas.Option.{slice_get_within}
 use Rattle.base_files.proofs.WorkspaceLaws.{path_cmp_total}
 use Rattle.go_scanner.proofs.StringValueLemmas.{one_string_value}
 use Rattle.go_ast.specs.SourceFile.{SourceFile}
-use Rattle.go_scope.specs.Table.{StandsAt}
+use Rattle.go_scope.specs.Table.{LiesAt}
 use Rattle.go_scope.specs.WellFormed.{WellFormed}
 use Rattle.types_declared.specs.Files.{HasLiteral, package_name}
 use Rattle.types_stmt.specs.Declarations.{check_file}
 use Rattle.types_declared.specs.Package.{Package, spelled}
 use Rattle.types_declared.specs.Written.{BindsToken, ImportsPath}
 use Rattle.types_info.specs.Worlds.{is_init}
-use Rattle.types_info.specs.Uniqueness.{AreInOrder}
+use Rattle.types_info.specs.Uniqueness.{TokensRise}
 use Rattle.types_declared.proofs.Binding.{one_first}
-use Rattle.types_info.proofs.BoundLists.{slice_get_some}
+use Rattle.types_info.proofs.MeaningLists.{slice_get_some}
 use Rattle.types_declared.proofs.Naming.{one_binding, one_import_path}
 use Rattle.types_info.proofs.OneMeaning.{lexical}
-use Rattle.types_info.proofs.OneWorld.{one_world}
+use Rattle.types_info.proofs.OneWorld.{has_one_world}
 use Rattle.build_object.specs.Lines.{GlobalName}
 use Rattle.build_object.specs.Source.{Source}
 use Rattle.build_object.specs.Names.{function_names, type_name}
 use Rattle.build_object.specs.Objects.{Object, object_of}
 use Rattle.build_object.specs.ObjectText.{object_text}
-use Rattle.build_object.specs.Sources.{type_before, IsBehindImport, IsGlobalAt, IsGlobal, IsTextAt, IsSourceOf, AreImports, IsObjectOf, IsObjectText}
+use Rattle.build_object.specs.Sources.{type_before, HasQualifier, IsGlobalAt, IsGlobal, IsTextAt, IsSourceOf, AreImports, IsObjectOf, IsObjectText}
 use Rattle.build_object.specs.Sources as source
 use Rattle.workspace_graph.proofs.SortedLists.{one_sorted}
 
 -- the declaration of a package's block that a name is bound to
 
-pub own_or_imported : (p : Package) (file token d : ℕ) (path : List ℕ) → BindsToken p file token d → IsBehindImport p file token path → ⊥
+pub own_or_imported : (p : Package) (file token d : ℕ) (path : List ℕ) → BindsToken p file token d → HasQualifier p file token path → ⊥
 own_or_imported p file token d path b s =
-    let same : b.identifier ≡ s.identifier = one_first (StandsAt p.layout (record { file = file; index = token })) p.size b.identifier s.identifier b.found
+    let same : b.identifier ≡ s.identifier = one_first (LiesAt p.layout (record { file = file; index = token })) p.size b.identifier s.identifier b.found
     s.found in
     lexical p.layout p.names b.identifier d (ap p.layout.role same ∙ s.selected) b.bound
 
-one_path_behind : (p : Package) → WellFormed p.layout → (file token : ℕ) (v w : List ℕ) → IsBehindImport p file token v → IsBehindImport p file token w → v ≡ w
+one_path_behind : (p : Package) → WellFormed p.layout → (file token : ℕ) (v w : List ℕ) → HasQualifier p file token v → HasQualifier p file token w → v ≡ w
 one_path_behind p formed file token v w a b =
     let before : b.before ≡ a.before = omega (arith, a.behind_dot, b.behind_dot) in
     let same : b.import ≡ a.import = one_binding p formed file a.before b.import a.import (subst (λ n. BindsToken p file n b.import) before b.binds) a.binds in
@@ -69,10 +69,10 @@ one_text_at f token (Some x) (Some y) a b = ap Some (one_value f token x y a b)
 
 -- what the code of a file is made of
 
-pub one_source : (p : Package) → WellFormed p.layout → AreInOrder p.files →
+pub one_source : (p : Package) → WellFormed p.layout → TokensRise p.files →
     (files_of : List ℕ → List SourceFile) (file : ℕ) (f : SourceFile) (s t : Source) → IsSourceOf p files_of file f s → IsSourceOf p files_of file f t → s ≡ t
 one_source p formed rising files_of file f s t a b =
-    let world = one_world p formed rising file f s.world t.world a.world b.world in
+    let world = has_one_world p formed rising file f s.world t.world a.world b.world in
     let before : s.before ≡ t.before = fun_ext (λ token. a.before token ∙
     (ap (λ w. type_before (check_file w (is_init f) f.tree).uses token) world ∙ sym (b.before token))) in
     let global : s.global ≡ t.global = fun_ext (λ token. one_global p formed file token (s.global token) (t.global token) (a.global token) (b.global token)) in
@@ -184,7 +184,7 @@ one_imports : (files : List SourceFile) (v w : List (List ℕ)) → AreImports f
 one_imports files v w a b = one_sorted path_cmp_total v w a.sorted b.sorted (λ path h. (b.each path).1 ((a.each path).0 h))
     (λ path h. (a.each path).1 ((b.each path).0 h))
 
-pub one_object : (p : Package) → WellFormed p.layout → AreInOrder p.files → (files_of : List ℕ → List SourceFile) (o u : Object) → IsObjectOf p files_of o →
+pub one_object : (p : Package) → WellFormed p.layout → TokensRise p.files → (files_of : List ℕ → List SourceFile) (o u : Object) → IsObjectOf p files_of o →
     IsObjectOf p files_of u → o ≡ u
 one_object p formed rising files_of o u a b =
     let sources : a.sources ≡ b.sources = same_items a.sources b.sources (a.all ∙ sym b.all) (λ k s t has also.
@@ -197,7 +197,7 @@ one_object p formed rising files_of o u a b =
     (one_imports p.files a.imports b.imports a.are_imports b.are_imports)
     ∙ sym b.is_object))
 
-pub one_text : (p : Package) → WellFormed p.layout → AreInOrder p.files → (files_of : List ℕ → List SourceFile) (v w : List ℕ) → IsObjectText p files_of v →
+pub one_text : (p : Package) → WellFormed p.layout → TokensRise p.files → (files_of : List ℕ → List SourceFile) (v w : List ℕ) → IsObjectText p files_of v →
     IsObjectText p files_of w → v ≡ w
 one_text p formed rising files_of v w a b =
     a.printed ∙ (ap (object_text (type_name files_of)) (one_object p formed rising files_of a.object b.object a.of_package b.of_package) ∙ sym b.printed)

@@ -9,7 +9,7 @@ use Rattle.build_object.specs.ObjectView.{AreOwnDefinitions}
 
 pub own_definitions : (p : Package) (w : World) → w.package.now ≡ p.path → AreOwnDefinitions p w.own.now →
     ((path : List ℕ) (rank : ℕ) → definition_or_none (record { «package» = path; rank = rank })
-    (imported_at w.imported.now (record { «package» = path; rank = rank })) ≡ (p.interface_of path).definition rank) →
+    (imported_at w.imported.now (record { «package» = path; rank = rank })) ≡ (p.export_data_of path).definition rank) →
     AreDefinitions p (definition_in w)
 own_definitions p w here own imported = record {
   own = λ rank d at. subst (IsDefinition p rank) (sym (at_own w (symbol_in p rank) here)) (own.own rank d at);

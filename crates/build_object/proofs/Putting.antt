@@ -63,11 +63,11 @@ line_set xs n y lines rest l size e =
     ∙ (ap (λ z. (lines ++ (y ∷ [])) ++ z) (reverse-reverse rest) ∙ append_assoc lines (y ∷ []) rest))))
 
 -- a line of code that is set to a jump back over all lines before it
-pub turned_back : (old new : Code) (n passed : ℕ) → new.lines.items ≡ set old.lines.items n (instruction.JumpBack passed) →
+pub with_jump_back : (old new : Code) (n passed : ℕ) → new.lines.items ≡ set old.lines.items n (instruction.JumpBack passed) →
     passed ≡ length old.lines.items - n →
     (lines rest : List Line) (l : Line) → length rest ≡ n → lines_in old ≡ lines ++ (l ∷ rest) → lines_in new ≡ lines ++ (JumpBack (suc (length lines)) ∷ rest)
 unfolding line_of
-turned_back old new n passed e count lines rest l size was =
+with_jump_back old new n passed e count lines rest l size was =
     let all : length old.lines.items ≡ length lines + suc (length rest) = sym (lines_length old) ∙ (ap length was ∙ length-append lines (l ∷ rest)) in
     let over : passed ≡ suc (length lines) = omega arith in
     ap (λ xs. reverse (map line_of xs)) e ∙ (ap reverse (map-set line_of old.lines.items n (instruction.JumpBack passed))

@@ -18,21 +18,21 @@ use Rattle.types_declared.specs.DeclaredView.{type_of as definition_of}
 use Rattle.types_declared.specs.Package.{Package, declared_types, spelled, spelled_at}
 use Rattle.types_info.specs.Worlds.{IsWorldOf, is_init}
 use Rattle.types_info.specs.MemberUses.{AreUsesIn}
-use Rattle.types_info.specs.Uniqueness.{IsOneWorld}
-use Rattle.build_object.specs.declared.called.CalledPackages.{CalledPackages}
-use Rattle.build_object.specs.declared.called.CalledNames.{CalledNames}
-use Rattle.build_object.specs.declared.called.DeclaredTables.{DeclaredTables}
+use Rattle.types_info.specs.Uniqueness.{HasOneWorld}
+use Rattle.build_object.specs.declared.object_names.ObjectNames.{ObjectNames}
+use Rattle.build_object.specs.declared.object_names.NamedPackage.{NamedPackage}
+use Rattle.build_object.specs.declared.object_names.DeclaredTables.{DeclaredTables}
 use Rattle.build_object.specs.declared.source.Source.{Source}
-use Rattle.build_object.specs.Literals.{number_of}
-use Rattle.build_object.specs.Names.{type_called, type_name, type_names, functions_behind, function_names, field_positions}
+use Rattle.build_object.specs.Literals.{literal_number}
+use Rattle.build_object.specs.Names.{name_of_type, type_name, type_names, functions_behind, function_names, field_positions}
 use Rattle.build_object.specs.NamesView.{AreNamesOf, AreTablesOf}
 use Rattle.build_object.specs.Numbering.{slot_from}
 use Rattle.build_object.specs.ObjectView.{HaveNames}
-use Rattle.build_object.specs.PackagesView.{package_in, tables_in, type_of_rank, function_of_rank, position_of_rank, type_at, type_in}
+use Rattle.build_object.specs.PackagesView.{package_names_in, tables_in, type_of_rank, function_of_rank, position_of_rank, type_at, type_in}
 use Rattle.build_object.specs.PackagesView.{function_at, function_in, position_at, position_in}
 use Rattle.build_object.specs.Sources.{IsSourceOf, type_before}
 use Rattle.build_object.specs.SourceView.{source_of, type_used}
-use Rattle.build_object.specs.TablesView.{IsTabled}
+use Rattle.build_object.specs.TablesView.{IsTabledSource}
 
 -- the type before a name, by the number of its use
 
@@ -59,7 +59,7 @@ used_from before (u ∷ us) token = used_by_test before us u token (u.place == t
 
 -- the uses that checking found, for the world that judges the file
 
-pub uses_found : (p : Package) (file : ℕ) (f : SourceFile) (w : plain.World) (uses : _) → IsOneWorld p → slice_get p.files file ≡ Some f →
+pub uses_found : (p : Package) (file : ℕ) (f : SourceFile) (w : plain.World) (uses : _) → HasOneWorld p → slice_get p.files file ≡ Some f →
     IsWorldOf p file f w → AreUsesIn p file uses →
     uses ≡ (check_file w (is_init f) f.tree).uses
 uses_found p file f w uses one at judged are =
@@ -74,15 +74,15 @@ type_of_ranks : (files : List SourceFile) (o : Option DeclaredTables) (rank : �
 type_of_ranks files None rank are = refl
 type_of_ranks files (Some t) rank are = sym (slice_get-map definition_of t.declared.types.items rank) ∙ ap (λ xs. slice_get xs rank) (are t refl).types
 
-type_at_names : (path : List ℕ) (files : List SourceFile) (o : Option CalledNames) (made : Option DeclaredTables) (rank : ℕ) →
+type_at_names : (path : List ℕ) (files : List SourceFile) (o : Option NamedPackage) (made : Option DeclaredTables) (rank : ℕ) →
     MatchOption o (files ≡ []) (λ names. AreNamesOf path files names made) →
     type_at o made rank ≡ slice_get (type_names path files) rank
 type_at_names path files None made rank e = ap (λ fs. slice_get (type_names path fs) rank) (sym e)
 type_at_names path files (Some names) made rank h =
-    ap (λ p. option_map (type_called p (map file.source_of names.files.now)) (type_of_rank (map file.source_of names.files.now) made rank)) h.has_path
-    ∙ (ap (λ fs. option_map (type_called path fs) (type_of_rank fs made rank)) h.has_files
-    ∙ (ap (option_map (type_called path files)) (type_of_ranks files made rank h.tables)
-    ∙ sym (slice_get-map (type_called path files) (declared_types files) rank)))
+    ap (λ p. option_map (name_of_type p (map file.source_of names.files.now)) (type_of_rank (map file.source_of names.files.now) made rank)) h.has_path
+    ∙ (ap (λ fs. option_map (name_of_type path fs) (type_of_rank fs made rank)) h.has_files
+    ∙ (ap (option_map (name_of_type path files)) (type_of_ranks files made rank h.tables)
+    ∙ sym (slice_get-map (name_of_type path files) (declared_types files) rank)))
 
 function_of_ranks : (path : List ℕ) (files : List SourceFile) (o : Option DeclaredTables) (rank : ℕ) →
     ((t : DeclaredTables) → o ≡ Some t → AreTablesOf files t) →
@@ -90,7 +90,7 @@ function_of_ranks : (path : List ℕ) (files : List SourceFile) (o : Option Decl
 function_of_ranks path files None rank are = refl
 function_of_ranks path files (Some t) rank are = ap (λ fs. slice_get (functions_behind path files 0 fs) rank) (are t refl).functions
 
-function_at_names : (path : List ℕ) (files : List SourceFile) (o : Option CalledNames) (made : Option DeclaredTables) (rank : ℕ) →
+function_at_names : (path : List ℕ) (files : List SourceFile) (o : Option NamedPackage) (made : Option DeclaredTables) (rank : ℕ) →
     MatchOption o (files ≡ []) (λ names. AreNamesOf path files names made) →
     function_at o made rank ≡ slice_get (function_names path files) rank
 function_at_names path files None made rank e = ap (λ fs. slice_get (function_names path fs) rank) (sym e)
@@ -104,21 +104,21 @@ position_of_ranks : (files : List SourceFile) (o : Option DeclaredTables) (rank 
 position_of_ranks files None rank are = refl
 position_of_ranks files (Some t) rank are = ap (λ xs. slice_get xs rank) (are t refl).positions
 
-position_at_names : (path : List ℕ) (files : List SourceFile) (o : Option CalledNames) (made : Option DeclaredTables) (rank : ℕ) →
+position_at_names : (path : List ℕ) (files : List SourceFile) (o : Option NamedPackage) (made : Option DeclaredTables) (rank : ℕ) →
     MatchOption o (files ≡ []) (λ names. AreNamesOf path files names made) →
     position_at o made rank ≡ slice_get (field_positions files) rank
 position_at_names path files None made rank e = ap (λ fs. slice_get (field_positions fs) rank) (sym e)
 position_at_names path files (Some names) made rank h =
     ap (λ fs. position_of_rank fs made rank) h.has_files ∙ position_of_ranks files made rank h.tables
 
-pub types_named : (packages : CalledPackages) (files_of : List ℕ → List SourceFile) → HaveNames packages files_of → type_in packages ≡ type_name files_of
+pub types_named : (packages : ObjectNames) (files_of : List ℕ → List SourceFile) → HaveNames packages files_of → type_in packages ≡ type_name files_of
 types_named packages files_of have = fun_ext (λ (s : Symbol).
-    type_at_names s.package (files_of s.package) (package_in packages s.package) (tables_in packages s.package) s.rank (have s.package))
+    type_at_names s.package (files_of s.package) (package_names_in packages s.package) (tables_in packages s.package) s.rank (have s.package))
 
 -- all of it
-pub is_source : (p : Package) (n : ℕ) (f : SourceFile) (w : World) (uses : List MemberUse) (packages : CalledPackages) (s : Source) → IsOneWorld p →
+pub is_source : (p : Package) (n : ℕ) (f : SourceFile) (w : World) (uses : List MemberUse) (packages : ObjectNames) (s : Source) → HasOneWorld p →
     slice_get p.files n ≡ Some f →
-    IsTabled p n w uses packages s → IsWorldOf p n f (world_of w) → ((token : ℕ) → spelling_of (name_in w token) ≡ spelled p n token) →
+    IsTabledSource p n w uses packages s → IsWorldOf p n f (world_of w) → ((token : ℕ) → spelling_of (name_in w token) ≡ spelled p n token) →
     (files_of : List ℕ → List SourceFile) → HaveNames packages files_of → AreUsesIn p n (map use_of uses) → IsSourceOf p files_of n f (source_of s)
 is_source p n f w uses packages s one at tabled judged spelling files_of have are =
     let same : s.world ≡ w = tabled.world in
@@ -131,12 +131,12 @@ is_source p n f w uses packages s one at tabled judged spelling files_of have ar
           ∙ (used_from [] uses token ∙ ap (λ us. type_before us token) (uses_found p n f (world_of s.world) (map use_of uses) one at judges are)));
       global = λ token. (tabled.marks token).global;
       truth = λ token. (tabled.marks token).truth;
-      number = λ token. ap number_of (ap (λ v. spelling_of (name_in v token)) same ∙ (spelling token ∙ ap (λ o. spelled_at o token) at));
+      number = λ token. ap literal_number (ap (λ v. spelling_of (name_in v token)) same ∙ (spelling token ∙ ap (λ o. spelled_at o token) at));
       text = λ token. tabled.texts f at token;
       function = λ symbol. ap (λ ps. function_in ps symbol) tabled.packages ∙
-          function_at_names symbol.package (files_of symbol.package) (package_in packages symbol.package) (tables_in packages symbol.package)
+          function_at_names symbol.package (files_of symbol.package) (package_names_in packages symbol.package) (tables_in packages symbol.package)
           symbol.rank (have symbol.package);
       position = λ symbol. ap (λ ps. position_in ps symbol) tabled.packages ∙
-          position_at_names symbol.package (files_of symbol.package) (package_in packages symbol.package) (tables_in packages symbol.package)
+          position_at_names symbol.package (files_of symbol.package) (package_names_in packages symbol.package) (tables_in packages symbol.package)
           symbol.rank (have symbol.package);
     }

@@ -13,10 +13,10 @@ use Rattle.go_ast.specs.declared.tree.BasicLit.{BasicLit}
 use Rattle.go_ast.specs.declared.tree.Decl.{Decl}
 use Rattle.go_ast.specs.Tree as tree
 use Rattle.go_ast.specs.View.{list_view}
-use Rattle.go_ast.specs.FileView.{basic_view, same_place, type_spec_view, global_view, decl_view}
+use Rattle.go_ast.specs.FileView.{basic_view, same_index, type_spec_view, global_view, decl_view}
 use Rattle.types_expr.specs.Types.{PlainType}
 use Rattle.types_expr.proofs.Items.{next_item}
-use Rattle.types_declared.specs.Bound.{result_types}
+use Rattle.types_declared.specs.MeaningOf.{result_types}
 use Rattle.build_object.specs.declared.source.Source.{Source}
 use Rattle.build_object.specs.Source as pure
 use Rattle.build_object.specs.Lines.{FunctionName, Line}
@@ -24,11 +24,11 @@ use Rattle.build_object.specs.SourceView.{source_of}
 use Rattle.build_object.specs.PackagesView.{type_in}
 use Rattle.build_object.specs.Slots.{slots_of}
 use Rattle.build_object.specs.Statements.{body_lines}
-use Rattle.build_object.specs.Objects.{Initial, FunctionOf, declared_type, declared_variables, declared_in, declared_by, first_initial, other_initials}
-use Rattle.build_object.specs.Objects.{function_of, initials_of, names_behind, names_behind_all, parameters_of, results_of, variable, variables_of}
+use Rattle.build_object.specs.Objects.{Initial, FunctionOf, declared_type, global_variables, declared_in, declared_by, first_initial, other_initials}
+use Rattle.build_object.specs.Objects.{function_of, initials_of, names_behind, names_behind_all, parameters_of, results_of, known_variable, variables_of}
 use Rattle.build_object.specs.Text.{code_text, ended}
 use Rattle.build_object.specs.ObjectText.{declaration_text, header_text}
-use Rattle.build_object.specs.DeclarationsView.{literal_at}
+use Rattle.build_object.specs.DeclarationsView.{literal_value_at}
 
 -- Types
 
@@ -46,15 +46,15 @@ type_specs_more s x xs =
 -- Variables
 
 abbrev pub var_spec_text : Source → Item VarSpec → List ℕ
-var_spec_text s x = flat_map (declaration_text (type_in s.packages.now)) (declared_variables (source_of s) (global_view x.value))
+var_spec_text s x = flat_map (declaration_text (type_in s.packages.now)) (global_variables (source_of s) (global_view x.value))
 
 abbrev pub var_specs_text : Source → List (Item VarSpec) → List ℕ
-var_specs_text s xs = flat_map (declaration_text (type_in s.packages.now)) (flat_map (λ i. declared_variables (source_of s) (global_view i.value)) xs)
+var_specs_text s xs = flat_map (declaration_text (type_in s.packages.now)) (flat_map (λ i. global_variables (source_of s) (global_view i.value)) xs)
 
 pub var_specs_more : (s : Source) (x : Item VarSpec) (xs : List (Item VarSpec)) → var_specs_text s (x ∷ xs) ≡ var_spec_text s x ++ var_specs_text s xs
 var_specs_more s x xs =
-    flat_map-append (declaration_text (type_in s.packages.now)) (declared_variables (source_of s) (global_view x.value))
-    (flat_map (λ i. declared_variables (source_of s) (global_view i.value)) xs)
+    flat_map-append (declaration_text (type_in s.packages.now)) (global_variables (source_of s) (global_view x.value))
+    (flat_map (λ i. global_variables (source_of s) (global_view i.value)) xs)
 
 -- variables of no known type are none
 pub no_variables : (s : pure.Source) (ns : List (tree.Item ℕ)) (values : List (Option Initial)) → variables_of s None ns values ≡ []
@@ -63,7 +63,7 @@ no_variables s [] values = refl
 no_variables s (n ∷ ns) values = no_variables s ns (other_initials values)
 
 abbrev pub variables_text : Source → PlainType → List (Item ℕ) → List (Option Initial) → List ℕ
-variables_text s own ns values = flat_map (declaration_text (type_in s.packages.now)) (variables_of (source_of s) (Some own) (list_view same_place ns) values)
+variables_text s own ns values = flat_map (declaration_text (type_in s.packages.now)) (variables_of (source_of s) (Some own) (list_view same_index ns) values)
 
 first_at : (values : List (Option Initial)) (i : ℕ) → first_initial (drop i values) ≡ slice_index_or values i None
 first_at [] zero = refl
@@ -82,7 +82,7 @@ others_at values i = let e : suc i ≡ i + 1 = omega arith in others_behind valu
 
 -- the value of the literal of a number
 pub literal_beside : (s : pure.Source) (xs : List (Item BasicLit)) (i : ℕ) →
-    literal_at s (slice_get xs i) ≡ slice_index_or (initials_of s (list_view basic_view xs)) i None
+    literal_value_at s (slice_get xs i) ≡ slice_index_or (initials_of s (list_view basic_view xs)) i None
 literal_beside s [] i = refl
 literal_beside s (x ∷ xs) zero = refl
 literal_beside s (x ∷ xs) (suc i) = literal_beside s xs i
@@ -90,22 +90,22 @@ literal_beside s (x ∷ xs) (suc i) = literal_beside s xs i
 pub variables_step : (s : Source) (own : PlainType) (values : List (Option Initial)) (now new total : List ℕ) (ns : List (Item ℕ)) (i : ℕ) (d : Item ℕ)
     (value : Option Initial) → i < length ns →
     now ++ variables_text s own (drop i ns) (drop i values) ≡ total →
-    new ≡ now ++ flat_map (declaration_text (type_in s.packages.now)) (variable (Some own) ((source_of s).global (get_or ns i d).value) value) →
+    new ≡ now ++ flat_map (declaration_text (type_in s.packages.now)) (known_variable (Some own) ((source_of s).global (get_or ns i d).value) value) →
     value ≡ slice_index_or values i None →
     new ++ variables_text s own (drop (i + 1) ns) (drop (i + 1) values) ≡ total
 unfolding variables_of
 variables_step s own values now new total ns i d value lt h e is =
     ap (λ z. z ++ variables_text s own (drop (i + 1) ns) (drop (i + 1) values)) e
-    ∙ (append_assoc now (flat_map (declaration_text (type_in s.packages.now)) (variable (Some own) ((source_of s).global (get_or ns i d).value) value))
+    ∙ (append_assoc now (flat_map (declaration_text (type_in s.packages.now)) (known_variable (Some own) ((source_of s).global (get_or ns i d).value) value))
     (variables_text s own (drop (i + 1) ns) (drop (i + 1) values))
-    ∙ (ap (λ vs. now ++ (flat_map (declaration_text (type_in s.packages.now)) (variable (Some own) ((source_of s).global (get_or ns i d).value) value) ++
+    ∙ (ap (λ vs. now ++ (flat_map (declaration_text (type_in s.packages.now)) (known_variable (Some own) ((source_of s).global (get_or ns i d).value) value) ++
     variables_text s own (drop (i + 1) ns) vs)) (sym (others_at values i))
-    ∙ (ap (λ v. now ++ (flat_map (declaration_text (type_in s.packages.now)) (variable (Some own) ((source_of s).global (get_or ns i d).value) v) ++
+    ∙ (ap (λ v. now ++ (flat_map (declaration_text (type_in s.packages.now)) (known_variable (Some own) ((source_of s).global (get_or ns i d).value) v) ++
     variables_text s own (drop (i + 1) ns) (other_initials (drop i values))))
     (is ∙ sym (first_at values i))
     ∙ (ap (λ z. now ++ z) (sym (flat_map-append (declaration_text (type_in s.packages.now))
-    (variable (Some own) ((source_of s).global (get_or ns i d).value) (first_initial (drop i values)))
-    (variables_of (source_of s) (Some own) (list_view same_place (drop (i + 1) ns)) (other_initials (drop i values)))))
+    (known_variable (Some own) ((source_of s).global (get_or ns i d).value) (first_initial (drop i values)))
+    (variables_of (source_of s) (Some own) (list_view same_index (drop (i + 1) ns)) (other_initials (drop i values)))))
     ∙ (ap (λ ys. now ++ variables_text s own ys (drop i values)) (sym (drop_more ns i d lt)) ∙ h)))))
 
 pub variables_end : (s : Source) (own : PlainType) (values : List (Option Initial)) (now total : List ℕ) (ns : List (Item ℕ)) (i : ℕ) → length ns ≤ i →

@@ -18,7 +18,7 @@ use Rattle.build_object.specs.Lines.{Line, With, New, line_if_known}
 use Rattle.build_object.specs.Lines as line
 use Rattle.build_object.specs.Source.{Source}
 use Rattle.build_object.specs.Operands as ops
-use Rattle.build_object.specs.Operands.{plain, standing_as, Values, name_operand, prefixed, operated, selected, indexed, called, settled, grouped}
+use Rattle.build_object.specs.Operands.{plain, mode_alone, Values, name_operand, prefixed, operated, selected, indexed, called, settled, grouped}
 use Rattle.build_object.specs.Expressions.{operand_of, operations, linked, one_link, argument_count, element_count, argument_lines, literal_lines, keyed_lines}
 use Rattle.build_object.specs.Expressions.{bare_lines, typed_literal, key_position, value_lines}
 
@@ -36,7 +36,7 @@ pub name_here : (s : Source) (slots : List ℕ) {e : Expr} (p : ℕ) → e ≡ e
 unfolding operand_of expr_view
 name_here s slots p is = ap (λ x. operand_of s slots (expr_view x)) is
 
-pub blank_here : (s : Source) (slots : List ℕ) {e : Expr} (p : ℕ) → e ≡ expr.Blank p → operand_of s slots (expr_view e) ≡ standing_as (Values 0)
+pub blank_here : (s : Source) (slots : List ℕ) {e : Expr} (p : ℕ) → e ≡ expr.Blank p → operand_of s slots (expr_view e) ≡ mode_alone (Values 0)
 unfolding operand_of expr_view
 blank_here s slots p is = ap (λ x. operand_of s slots (expr_view x)) is
 

@@ -8,10 +8,10 @@ use Rattle.go_ast.specs.declared.tree.FieldDecl.{FieldDecl}
 use Rattle.go_ast.specs.declared.tree.TypeExpr.{TypeExpr}
 use Rattle.go_ast.specs.Tree.{TypeTree}
 use Rattle.go_ast.specs.View.{list_view, ident_view, type_view}
-use Rattle.go_ast.specs.FileView.{param_view, field_view, same_place}
+use Rattle.go_ast.specs.FileView.{param_view, field_view, same_index}
 use Rattle.types_expr.specs.Types.{PlainType}
 use Rattle.types_expr.specs.World.{World}
-use Rattle.types_declared.specs.Bound.{parameter_types}
+use Rattle.types_declared.specs.MeaningOf.{parameter_types}
 use Rattle.build_object.specs.Objects.{written, all_written, field_types}
 
 -- one type for each name
@@ -19,7 +19,7 @@ abbrev pub for_names : World → TypeTree → List (Item Ident) → List PlainTy
 for_names w t xs = all_written w (map (λ n. t) (list_view ident_view xs))
 
 abbrev pub for_fields : World → TypeTree → List (Item ℕ) → List PlainType
-for_fields w t xs = flat_map (λ n. written w t) (list_view same_place xs)
+for_fields w t xs = flat_map (λ n. written w t) (list_view same_index xs)
 
 -- the types of parameters, of several results and of fields
 abbrev pub for_params : World → List (Item Param) → List PlainType

@@ -13,8 +13,8 @@ use Rattle.go_ast.specs.declared.tree.FieldDecl.{FieldDecl}
 use Rattle.go_ast.specs.declared.tree.TypeSpec.{TypeSpec}
 use Rattle.types_declared.proofs.DeclaredParts.{type_part}
 use Rattle.go_ast.specs.View.{item_view, list_view}
-use Rattle.go_ast.specs.FileView.{field_view, same_place, type_spec_view}
-use Rattle.types_info.proofs.BoundLists.{slice_get_some}
+use Rattle.go_ast.specs.FileView.{field_view, same_index, type_spec_view}
+use Rattle.types_info.proofs.MeaningLists.{slice_get_some}
 use Rattle.go_ast.specs.Tree.{DeclTree, VarDecl, TypeDecl, FuncDecl, Item, FieldTree}
 use Rattle.go_ast.specs.SourceFile.{FileParts, SourceFile, source_of}
 use Rattle.types_declared.specs.Files.{group_items}
@@ -23,7 +23,7 @@ use Rattle.build_object.specs.Lines.{Initializer}
 use Rattle.build_object.specs.Names.{field_positions, function_behind, function_called, functions_behind, is_initializer, initializers_among}
 use Rattle.build_object.specs.Names.{initializers_with, names_of_fields, positions_from, type_positions}
 use Rattle.build_object.proofs.NameParts.{positions_length}
-use Rattle.build_object.specs.Walks.{decl_positions, file_positions}
+use Rattle.build_object.specs.RankLookup.{decl_positions, file_positions}
 
 -- Two lists, one behind the other
 
@@ -142,7 +142,7 @@ field_names f = (field_view f.value).names
 
 pub named : (f : items.Item FieldDecl) → length (field_names f) ≡ length f.value.names.items
 unfolding field_view
-named f = length-map f.value.names.items (item_view same_place)
+named f = length-map f.value.names.items (item_view same_index)
 
 same_names : (fs : List (items.Item FieldDecl)) → names_of_fields (list_view field_view fs) ≡ flat_map field_names fs
 same_names fs = flat_map-map (λ (i : Item FieldTree). i.value.names) (item_view field_view) fs

@@ -12,25 +12,25 @@ use Rattle.std.proofs.lemmas.Option.{none-some, same_Some, slice_get-map, slice_
 use Rattle.base_files.specs.Workspace.{path_cmp}
 use Rattle.go_ast.specs.Tree.{FileTree}
 use Rattle.go_ast.specs.SourceFile.{SourceFile, FileParts, source_of}
-use Rattle.workspace_graph.specs.ImportPaths.{bytes_of_paths, HoldsPaths, SomeImport}
+use Rattle.workspace_graph.specs.ImportPaths.{bytes_of_paths, ListsPaths, AnyImports}
 use Rattle.types_declared.specs.Files.{package_name}
 use Rattle.types_expr.specs.declared.found.MemberUse.{MemberUse}
 use Rattle.types_expr.specs.Found.{use_of}
 use Rattle.types_declared.specs.Package.{Package}
 use Rattle.types_info.specs.MemberUses.{AreUsesIn, AreMemberUses, uses_in}
-use Rattle.types_info.proofs.BoundLists.{slice_get_some}
+use Rattle.types_info.proofs.MeaningLists.{slice_get_some}
 use Rattle.types_declared.proofs.DeclaredPaths.{get_before, get_last}
 use Rattle.build_object.specs.declared.instructions.FunctionName as program
-use Rattle.build_object.specs.declared.called.CalledPackages.{CalledPackages}
+use Rattle.build_object.specs.declared.object_names.ObjectNames.{ObjectNames}
 use Rattle.build_object.specs.Lines.{FunctionName}
 use Rattle.build_object.specs.LineView.{function_of}
 use Rattle.build_object.specs.Names.{function_names}
 use Rattle.build_object.specs.Source.{Source}
 use Rattle.build_object.specs.Sources.{AreImports, IsSourceOf, IsObjectText}
 use Rattle.build_object.specs.Objects.{Object, Declaration, declared_from, declared_in, names_behind_all, object_of}
-use Rattle.build_object.specs.ObjectSteps.{names_after, uses_or_none, PutsFiles, PutsHead}
+use Rattle.build_object.specs.ObjectSteps.{names_behind_files, uses_of_file, PrintsFiles, PrintsHead}
 use Rattle.build_object.specs.ObjectText.{declaration_text, first_line, import_line}
-use Rattle.build_object.specs.ObjectView.{HaveNames, PutsFile}
+use Rattle.build_object.specs.ObjectView.{HaveNames, PrintsFile}
 use Rattle.build_object.specs.PackagesView.{type_in}
 use Rattle.build_object.proofs.Imported.{imports_listed}
 use Rattle.build_object.proofs.Sourced.{types_named}
@@ -48,35 +48,35 @@ on_ok_both (Err e) gives p q = tt
 -- one more file behind others
 
 declared_more : (ss : List Source) (s : Source) (names : List FunctionName) (ts : List FileTree) (t : FileTree) → slice_get ts (length ss) ≡ Some t →
-    declared_from (ss ++ (s ∷ [])) names ts ≡ declared_from ss names ts ++ declared_in s (names_after names (take (length ss) ts)) t.decls
-unfolding declared_from names_after
+    declared_from (ss ++ (s ∷ [])) names ts ≡ declared_from ss names ts ++ declared_in s (names_behind_files names (take (length ss) ts)) t.decls
+unfolding declared_from names_behind_files
 declared_more [] s names [] t at = absurd (none-some t at)
 declared_more [] s names (x ∷ ts) t at = append-nil (declared_in s names x.decls) ∙ ap (λ (y : FileTree). declared_in s names y.decls) (same_Some x t at)
 declared_more (a ∷ ss) s names [] t at = absurd (none-some t at)
 declared_more (a ∷ ss) s names (x ∷ ts) t at =
     ap (λ ds. declared_in a names x.decls ++ ds) (declared_more ss s (names_behind_all names x.decls) ts t at)
     ∙ sym (append_assoc (declared_in a names x.decls) (declared_from ss (names_behind_all names x.decls) ts)
-    (declared_in s (names_after (names_behind_all names x.decls) (take (length ss) ts)) t.decls))
+    (declared_in s (names_behind_files (names_behind_all names x.decls) (take (length ss) ts)) t.decls))
 
 after_more : (n : ℕ) (names : List FunctionName) (ts : List FileTree) (t : FileTree) → slice_get ts n ≡ Some t →
-    names_after names (take (n + 1) ts) ≡ names_behind_all (names_after names (take n ts)) t.decls
-unfolding names_after
+    names_behind_files names (take (n + 1) ts) ≡ names_behind_all (names_behind_files names (take n ts)) t.decls
+unfolding names_behind_files
 after_more n names [] t at = absurd (none-some t at)
 after_more zero names (x ∷ ts) t at = ap (λ (y : FileTree). names_behind_all names y.decls) (same_Some x t at)
 after_more (suc n) names (x ∷ ts) t at =
     let e : suc n + 1 ≡ suc (n + 1) = omega arith in
-    ap (λ k. names_after names (take k (x ∷ ts))) e ∙ after_more n (names_behind_all names x.decls) ts t at
+    ap (λ k. names_behind_files names (take k (x ∷ ts))) e ∙ after_more n (names_behind_all names x.decls) ts t at
 
 -- the uses of a file
 
 uses_at_file : (members : List (Vec MemberUse)) (file : ℕ) (o : Option (Vec MemberUse)) → slice_get members file ≡ o → file < length members →
-    slice_get (map uses_in members) file ≡ Some (map use_of (uses_or_none o))
+    slice_get (map uses_in members) file ≡ Some (map use_of (uses_of_file o))
 uses_at_file members file None e lt = let x = slice_get_some members file lt in absurd (none-some x.0 (sym e ∙ x.1))
 uses_at_file members file (Some v) e lt = slice_get-map uses_in members file ∙ ap (option_map uses_in) e
 
 uses_are : (p : Package) (members : List (Vec MemberUse)) (file : ℕ) (f : SourceFile) → AreMemberUses p (map uses_in members) →
     slice_get p.files file ≡ Some f →
-    AreUsesIn p file (map use_of (uses_or_none (slice_get members file)))
+    AreUsesIn p file (map use_of (uses_of_file (slice_get members file)))
 uses_are p members file f are at =
     let within : file < length p.files = slice_get_within p.files file f at in
     let size : length (map uses_in members) ≡ length p.files = are.all in
@@ -84,9 +84,9 @@ uses_are p members file f are at =
 
 -- no file yet, and one more
 
-pub no_files : (p : Package) (members : List (Vec MemberUse)) (packages : CalledPackages) (names : List program.FunctionName) (text : List ℕ) →
-    PutsFiles p 0 members packages names 0 text text
-unfolding declared_from names_after
+pub no_files : (p : Package) (members : List (Vec MemberUse)) (packages : ObjectNames) (names : List program.FunctionName) (text : List ℕ) →
+    PrintsFiles p 0 members packages names 0 text text
+unfolding declared_from names_behind_files
 no_files p members packages names text = record {
   sources = [];
   all = refl;
@@ -99,18 +99,18 @@ no_files p members packages names text = record {
 tree_at : (files : List SourceFile) (n : ℕ) (f : SourceFile) → slice_get files n ≡ Some f → slice_get (map (λ (g : SourceFile). g.tree) files) n ≡ Some f.tree
 tree_at files n f at = slice_get-map (λ (g : SourceFile). g.tree) files n ∙ ap (option_map (λ (g : SourceFile). g.tree)) at
 
-pub one_file_more : (p : Package) (n : ℕ) (members : List (Vec MemberUse)) (packages : CalledPackages) (names : List program.FunctionName) (number others : ℕ)
+pub one_file_more : (p : Package) (n : ℕ) (members : List (Vec MemberUse)) (packages : ObjectNames) (names : List program.FunctionName) (number others : ℕ)
     (old mid new : List ℕ) →
-    PutsFiles p n members packages names number old mid → PutsFile p n (uses_or_none (slice_get members n)) packages names number others mid new →
-    PutsFiles p (n + 1) members packages names others old new
+    PrintsFiles p n members packages names number old mid → PrintsFile p n (uses_of_file (slice_get members n)) packages names number others mid new →
+    PrintsFiles p (n + 1) members packages names others old new
 one_file_more p n members packages names number others old mid new h k =
     let trees : List FileTree = map (λ (g : SourceFile). g.tree) p.files in
     let at : slice_get trees n ≡ Some k.file_at.tree = tree_at p.files n k.file_at k.in_file in
     let here : slice_get trees (length h.sources) ≡ Some k.file_at.tree = ap (slice_get trees) h.all ∙ at in
     let T : Declaration → List ℕ = declaration_text (type_in packages) in
     let N : List FunctionName = map function_of names in
-    let named : map function_of (drop number names) ≡ names_after N (take (length h.sources) trees) = h.others_are ∙
-    ap (λ m. names_after N (take m trees)) (sym h.all) in
+    let named : map function_of (drop number names) ≡ names_behind_files N (take (length h.sources) trees) = h.others_are ∙
+    ap (λ m. names_behind_files N (take m trees)) (sym h.all) in
     let more : declared_from (h.sources ++ (k.source ∷ [])) N trees ≡ declared_from h.sources N trees ++ declared_in k.source
     (map function_of (drop number names)) k.file_at.tree.decls =
     declared_more h.sources k.source N trees k.file_at.tree here ∙
@@ -149,9 +149,9 @@ one_file_more p n members packages names number others old mid new h k =
 -- the first lines
 
 pub head_put : (p : Package) (files : List FileParts) (keys : List (Vec ℕ)) (old mid new : List ℕ) → p.files ≡ map source_of files →
-    HoldsPaths (SomeImport files) keys → IsStrictlySortedBy path_cmp (bytes_of_paths keys) →
+    ListsPaths (AnyImports files) keys → IsStrictlySortedBy path_cmp (bytes_of_paths keys) →
     ((o : Object) → o.path ≡ p.path → o.name ≡ package_name p.files → mid ≡ old ++ first_line o) → new ≡ mid ++ flat_map import_line (bytes_of_paths keys) →
-    PutsHead p old new
+    PrintsHead p old new
 head_put p files keys old mid new are holds sorted first e = record {
   imports = bytes_of_paths keys;
   are_imports = subst (λ fs. AreImports fs (bytes_of_paths keys)) (sym are) (imports_listed files keys holds sorted);
@@ -162,10 +162,10 @@ head_put p files keys old mid new are holds sorted first e = record {
 
 -- the whole text
 
-pub whole_text : (p : Package) (members : List (Vec MemberUse)) (packages : CalledPackages) (names : List program.FunctionName) (others : ℕ)
+pub whole_text : (p : Package) (members : List (Vec MemberUse)) (packages : ObjectNames) (names : List program.FunctionName) (others : ℕ)
     (mid new : List ℕ) →
     map function_of names ≡ function_names p.path p.files →
-    PutsHead p [] mid → PutsFiles p (length p.files) members packages names others mid new →
+    PrintsHead p [] mid → PrintsFiles p (length p.files) members packages names others mid new →
     (files_of : List ℕ → List SourceFile) → AreMemberUses p (map uses_in members) → HaveNames packages files_of → IsObjectText p files_of new
 whole_text p members packages names others mid new named head h files_of are have =
     let trees : List FileTree = map (λ (g : SourceFile). g.tree) p.files in

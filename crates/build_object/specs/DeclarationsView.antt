@@ -27,9 +27,9 @@ definition_view (definition.SameAs t) = object.SameAs (type_of t)
 definition_view (definition.Fields ts) = object.Fields (map type_of ts.items)
 
 -- The value of a literal, if there is one.
-abbrev pub literal_at : Source → Option (Item BasicLit) → Option object.Initial
-literal_at s None = None
-literal_at s (Some i) = object.initial_of s (basic_view i.value)
+abbrev pub literal_value_at : Source → Option (Item BasicLit) → Option object.Initial
+literal_value_at s None = None
+literal_value_at s (Some i) = object.initial_of s (basic_view i.value)
 
 -- `s` is the header of the function `f`, with this name and so many slots. The header doesn't count the lines of code.
 pub record IsSignature (w : World) (f : FuncTree) (name : FunctionName) (slots : ℕ) (s : FunctionSignature) : Type 0 where

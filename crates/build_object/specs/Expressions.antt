@@ -9,7 +9,7 @@ use Rattle.types_expr.specs.Judge.{judge_type}
 use Rattle.build_object.specs.Lines.{Line, Zero, With, MakeSlice, New, line_if_known}
 use Rattle.build_object.specs.Lines as line
 use Rattle.build_object.specs.Source.{Source}
-use Rattle.build_object.specs.Operands.{Operand, plain, standing_as, Values, name_operand, prefixed, operated, selected, indexed, called, settled, grouped}
+use Rattle.build_object.specs.Operands.{Operand, plain, mode_alone, Values, name_operand, prefixed, operated, selected, indexed, called, settled, grouped}
 use Rattle.build_object.specs.Operands.{value_count}
 
 -- The number of arguments of a call.
@@ -42,14 +42,14 @@ key_position s None = None
 key_position s (Some k) = keyed_in s k.0 (s.before k.0)
 
 -- The code of a composite literal. A struct begins as a zero value, and its elements are set in it. A slice is made of its elements.
-abbrev pub literal_of : Bool → PlainType → (keyed bare : List Line) → ℕ → List Line
-literal_of true t keyed bare n = Zero t ∷ keyed
-literal_of false t keyed bare n = bare ++ (MakeSlice n ∷ [])
+abbrev pub literal_code : Bool → PlainType → (keyed bare : List Line) → ℕ → List Line
+literal_code true t keyed bare n = Zero t ∷ keyed
+literal_code false t keyed bare n = bare ++ (MakeSlice n ∷ [])
 
 -- The code of a composite literal of this type, and none where the type is broken.
 unfoldable pub typed_literal : Source → Option PlainType → (keyed bare : List Line) → ℕ → List Line
 typed_literal s None keyed bare n = []
-typed_literal s (Some t) keyed bare n = literal_of (is_struct (underlying s.world t)) t keyed bare n
+typed_literal s (Some t) keyed bare n = literal_code (is_struct (underlying s.world t)) t keyed bare n
 
 -- The operand of an expression. `slots` are the tokens at which the parameters and locals of the function are declared.
 unfoldable mutual
@@ -57,7 +57,7 @@ unfoldable mutual
   operand_of s slots (Number p) = plain (line_if_known line.Integer (s.number p))
   operand_of s slots (Text p) = plain (line_if_known line.Text (s.text p))
   operand_of s slots (Name p) = name_operand s slots p
-  operand_of s slots (Blank p) = standing_as (Values 0)
+  operand_of s slots (Blank p) = mode_alone (Values 0)
   operand_of s slots (Composite l) = plain (literal_lines s slots l)
   operand_of s slots (Paren o e c) = grouped (operand_of s slots e)
   operand_of s slots (Prefix op p e) = prefixed op (operand_of s slots e).value
@@ -107,7 +107,7 @@ address_lines s slots e = (operand_of s slots e).address
 
 -- The number of values that an expression leaves.
 abbrev pub values_left : Source → (slots : List ℕ) → ExprTree → ℕ
-values_left s slots e = value_count (operand_of s slots e).standing
+values_left s slots e = value_count (operand_of s slots e).mode
 
 -- The operand behind the first link of a chain, where `o` is the operand before it.
 unfoldable pub one_link : Source → (slots : List ℕ) → LinkTrees → Operand → Operand

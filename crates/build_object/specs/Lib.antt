@@ -19,7 +19,7 @@ pub mod SourceView
 pub mod Making
 pub mod ExitsView
 pub mod NamesView
-pub mod Walks
+pub mod RankLookup
 pub mod TablesView
 pub mod ObjectView
 pub mod ObjectSteps

@@ -4,8 +4,8 @@ use Rattle.go_ast.specs.declared.syntax.BinaryOp.{BinaryOp}
 use Rattle.go_ast.specs.declared.syntax.BinaryOp.TheVariants as op
 use Rattle.build_object.specs.declared.operands.Wanted.{Wanted}
 use Rattle.build_object.specs.declared.operands.Wanted.TheVariants as wanted
-use Rattle.build_object.specs.declared.operands.OperandPlace.{OperandPlace}
-use Rattle.build_object.specs.declared.operands.OperandPlace.TheVariants as standing
+use Rattle.build_object.specs.declared.operands.OperandMode.{OperandMode}
+use Rattle.build_object.specs.declared.operands.OperandMode.TheVariants as mode
 use Rattle.build_object.specs.declared.code.Code.{Code}
 use Rattle.build_object.specs.Lines.{Line, Field, FieldThrough, FieldAddress, Index, IndexAddress, Duplicate, Pop, JumpUnless, JumpIf, line_if_known}
 use Rattle.build_object.specs.LineView.{function_of, lines_in}
@@ -17,16 +17,16 @@ abbrev pub lines_for : Wanted → Operand → List Line
 lines_for wanted.Value o = o.value
 lines_for wanted.Address o = o.address
 
--- The mode of an operand of the program, as an `Operands.Standing` of the definitions.
-unfoldable pub standing_of : OperandPlace → pure.Standing
-standing_of (standing.Values n) = Values n
-standing_of (standing.Called received f results) = Called received (function_of f) results
-standing_of standing.Converts = Converts
-standing_of (standing.Predeclared b) = Predeclared b
-standing_of standing.Qualifies = Qualifies
+-- The mode of an operand of the program, as an `Operands.Mode` of the definitions.
+unfoldable pub mode_of : OperandMode → pure.Mode
+mode_of (mode.Values n) = Values n
+mode_of (mode.Called received f results) = Called received (function_of f) results
+mode_of mode.Converts = Converts
+mode_of (mode.Predeclared b) = Predeclared b
+mode_of mode.Qualifies = Qualifies
 
 -- A mode as far as a link behind it depends on it: the number of values doesn't matter.
-unfoldable pub before_link : pure.Standing → pure.Standing
+unfoldable pub before_link : pure.Mode → pure.Mode
 before_link (Values n) = Values 0
 before_link (Called received f results) = Called received f results
 before_link Converts = Converts
@@ -51,18 +51,18 @@ test_lines o n = Duplicate ∷ JumpUnless (suc n) ∷ Pop ∷ []
 
 -- The lines that `rule` adds to an operand are put before the code. The operand's own lines are left, those for `left`, and the `asked`
 -- lines of the result are complete with them. This is so for each operand with this mode.
-pub record GoesOn (rule : Operand → Operand) (stands : pure.Standing) (asked left : Wanted) (old new : Code) : Type 0 where
-  pub on : (o : Operand) → before_link o.standing ≡ before_link stands → lines_for asked (rule o) ++ lines_in old ≡ lines_for left o ++ lines_in new
+pub record AppliesRule (rule : Operand → Operand) (stands : pure.Mode) (asked left : Wanted) (old new : Code) : Type 0 where
+  pub on : (o : Operand) → before_link o.mode ≡ before_link stands → lines_for asked (rule o) ++ lines_in old ≡ lines_for left o ++ lines_in new
 
--- The lines that `rule` adds to an operand are put before the code, as in `GoesOn`. This is so for each operand that is the name of a
+-- The lines that `rule` adds to an operand are put before the code, as in `AppliesRule`. This is so for each operand that is the name of a
 -- package, if `qualified`, or else for each that is not.
-pub record GoesOnBehind (rule : Operand → Operand) (qualified : Bool) (asked left : Wanted) (old new : Code) : Type 0 where
-  pub on : (o : Operand) → qualifies o.standing ≡ qualified → lines_for asked (rule o) ++ lines_in old ≡ lines_for left o ++ lines_in new
+pub record AppliesSelector (rule : Operand → Operand) (qualified : Bool) (asked left : Wanted) (old new : Code) : Type 0 where
+  pub on : (o : Operand) → qualifies o.mode ≡ qualified → lines_for asked (rule o) ++ lines_in old ≡ lines_for left o ++ lines_in new
 
 -- The lines that `rule` adds to lines are put before the code, as binary operators add lines to those of their left operand.
-pub record GoesOnFrom (rule : List Line → List Line) (old new : Code) : Type 0 where
+pub record AppliesLines (rule : List Line → List Line) (old new : Code) : Type 0 where
   pub on : (a : List Line) → rule a ++ lines_in old ≡ a ++ lines_in new
 
--- The lines that `rule` adds to an operand are put before the code, as in `GoesOn`. This is so for each operand, whatever its mode.
-pub record GoesOnAlways (rule : Operand → Operand) (asked left : Wanted) (old new : Code) : Type 0 where
+-- The lines that `rule` adds to an operand are put before the code, as in `AppliesRule`. This is so for each operand, whatever its mode.
+pub record AppliesAlways (rule : Operand → Operand) (asked left : Wanted) (old new : Code) : Type 0 where
   pub on : (o : Operand) → lines_for asked (rule o) ++ lines_in old ≡ lines_for left o ++ lines_in new

@@ -16,12 +16,12 @@ spelled_in files file token = spelled_at (slice_get files file) token
 -- Types, by their ranks.
 
 -- The name of a type definition in objects.
-abbrev pub type_called : (path : List ℕ) → List SourceFile → PlacedType → GlobalName
-type_called path files t = record { path = path; name = spelled_in files t.file t.spec.name }
+abbrev pub name_of_type : (path : List ℕ) → List SourceFile → PlacedType → GlobalName
+name_of_type path files t = record { path = path; name = spelled_in files t.file t.spec.name }
 
 -- The names of the type definitions of a package, by their ranks.
 abbrev pub type_names : (path : List ℕ) → List SourceFile → List GlobalName
-type_names path files = map (type_called path files) (declared_types files)
+type_names path files = map (name_of_type path files) (declared_types files)
 
 -- Functions, methods and functions `init`, by their ranks.
 
@@ -35,13 +35,13 @@ abbrev pub is_initializer : List SourceFile → PlacedFunction → Bool
 is_initializer files f = is_named_init f.function.receiver (spelled_in files f.file f.function.name)
 
 -- The name of a receiver's type in objects.
-abbrev pub receiver_called : (path : List ℕ) → List SourceFile → ℕ → ReceiverTree → GlobalName
-receiver_called path files file r = record { path = path; name = spelled_in files file r.type_name }
+abbrev pub name_of_receiver : (path : List ℕ) → List SourceFile → ℕ → ReceiverTree → GlobalName
+name_of_receiver path files file r = record { path = path; name = spelled_in files file r.type_name }
 
 -- The name in objects of a function or method with this name in a file.
 abbrev pub function_named : (path : List ℕ) → List SourceFile → (file : ℕ) → Option ReceiverTree → (name : List ℕ) → FunctionName
 function_named path files file None name = Plain (record { path = path; name = name })
-function_named path files file (Some r) name = Method (receiver_called path files file r) name
+function_named path files file (Some r) name = Method (name_of_receiver path files file r) name
 
 -- The name in objects of a function that is no `init`.
 abbrev pub function_called : (path : List ℕ) → List SourceFile → PlacedFunction → FunctionName
@@ -104,5 +104,5 @@ abbrev pub function_name : (List ℕ → List SourceFile) → Symbol → Option 
 function_name files_of s = slice_get (function_names s.package (files_of s.package)) s.rank
 
 -- The position of a field in its struct, by its symbol.
-abbrev pub field_position : (List ℕ → List SourceFile) → Symbol → Option ℕ
-field_position files_of s = slice_get (field_positions (files_of s.package)) s.rank
+abbrev pub position_of_field : (List ℕ → List SourceFile) → Symbol → Option ℕ
+position_of_field files_of s = slice_get (field_positions (files_of s.package)) s.rank

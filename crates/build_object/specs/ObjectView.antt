@@ -8,16 +8,16 @@ use Rattle.types_expr.specs.WorldView.{definition_or_none, no_definition}
 use Rattle.types_expr.specs.Found.{use_of}
 use Rattle.types_expr.specs.Judge as plain
 use Rattle.types_info.specs.PackageOf.{IsPackageOf}
-use Rattle.types_declared.specs.Package.{Interface, Package, PlacedType, package_types, symbol_in}
+use Rattle.types_declared.specs.Package.{ExportData, Package, PlacedType, package_types, symbol_in}
 use Rattle.types_declared.specs.Definitions.{IsDefinition}
 use Rattle.types_info.specs.MemberUses.{AreMemberUses, AreUsesIn}
-use Rattle.build_object.specs.declared.called.CalledPackages.{CalledPackages}
+use Rattle.build_object.specs.declared.object_names.ObjectNames.{ObjectNames}
 use Rattle.build_object.specs.declared.instructions.FunctionName.{FunctionName}
 use Rattle.build_object.specs.LineView.{function_of}
 use Rattle.build_object.specs.Source.{Source}
 use Rattle.build_object.specs.Sources.{IsObjectText, IsSourceOf}
 use Rattle.build_object.specs.NamesView.{AreNamesOf}
-use Rattle.build_object.specs.PackagesView.{package_in, tables_in, type_in}
+use Rattle.build_object.specs.PackagesView.{package_names_in, tables_in, type_in}
 use Rattle.build_object.specs.Objects.{declared_in, names_behind_all}
 use Rattle.build_object.specs.ObjectText.{declaration_text}
 
@@ -29,12 +29,12 @@ pub record AreOwnDefinitions (p : Package) (found : List Definition) : Type 0 wh
       definition_or_none (symbol_in p rank) (slice_get found rank) ≡ no_definition (symbol_in p rank)
 
 -- `packages` has the names of exactly the packages whose files `files_of` gives.
-abbrev pub HaveNames : CalledPackages → (List ℕ → List SourceFile) → Type 0
-HaveNames packages files_of = (path : List ℕ) → MatchOption (package_in packages path) (files_of path ≡ [])
+abbrev pub HaveNames : ObjectNames → (List ℕ → List SourceFile) → Type 0
+HaveNames packages files_of = (path : List ℕ) → MatchOption (package_names_in packages path) (files_of path ≡ [])
     (λ names. AreNamesOf path (files_of path) names (tables_in packages path))
 
 -- The text of the declarations of a file of the package is added. Of `names`, `number` are used up before this file, and `others` with it.
-pub record PutsFile (p : Package) (file : ℕ) (members : List MemberUse) (packages : CalledPackages) (names : List FunctionName) (number others : ℕ)
+pub record PrintsFile (p : Package) (file : ℕ) (members : List MemberUse) (packages : ObjectNames) (names : List FunctionName) (number others : ℕ)
     (old new : List ℕ) : Type 0 where
   pub file_at : SourceFile
   pub in_file : slice_get p.files file ≡ Some file_at
@@ -48,13 +48,13 @@ pub record PutsFile (p : Package) (file : ℕ) (members : List MemberUse) (packa
 -- The package that is checked: by its path, its files, and the names and export data of the packages that it sees.
 
 -- `found` are the type definitions of this package as other packages see them.
-abbrev pub OwnDefinitionsOf : (path : List ℕ) → List FileParts → (List ℕ → Option (List ℕ)) → (List ℕ → Interface) → List Definition → Type 0
-OwnDefinitionsOf path files name_of interface_of found = (p : Package) → IsPackageOf path files name_of interface_of p → AreOwnDefinitions p found
+abbrev pub OwnDefinitionsOf : (path : List ℕ) → List FileParts → (List ℕ → Option (List ℕ)) → (List ℕ → ExportData) → List Definition → Type 0
+OwnDefinitionsOf path files name_of export_data_of found = (p : Package) → IsPackageOf path files name_of export_data_of p → AreOwnDefinitions p found
 
 -- `text` is the text of the object of this package, where these are its uses of members, and `packages` has the names of declarations.
-abbrev pub IsObjectTextOf : (path : List ℕ) → List FileParts → (List ℕ → Option (List ℕ)) → (List ℕ → Interface) → List (List plain.MemberUse) →
-    CalledPackages →
+abbrev pub IsObjectTextOf : (path : List ℕ) → List FileParts → (List ℕ → Option (List ℕ)) → (List ℕ → ExportData) → List (List plain.MemberUse) →
+    ObjectNames →
     List ℕ → Type 0
-IsObjectTextOf path files name_of interface_of uses packages text =
-    (p : Package) × IsPackageOf path files name_of interface_of p ×
+IsObjectTextOf path files name_of export_data_of uses packages text =
+    (p : Package) × IsPackageOf path files name_of export_data_of p ×
     ((files_of : List ℕ → List SourceFile) → AreMemberUses p uses → HaveNames packages files_of → IsObjectText p files_of text)

@@ -8,7 +8,7 @@ use Rattle.types_expr.specs.World.{World}
 use Rattle.types_expr.specs.Judge.{judge_type, named_type}
 use Rattle.types_declared.specs.Files.{group_items}
 use Rattle.types_stmt.specs.Headers.{starred}
-use Rattle.types_declared.specs.Bound.{parameter_types, result_types}
+use Rattle.types_declared.specs.MeaningOf.{parameter_types, result_types}
 use Rattle.build_object.specs.Lines.{GlobalName, FunctionName, Line}
 use Rattle.build_object.specs.Source.{Source}
 use Rattle.build_object.specs.Slots.{slots_of}
@@ -84,10 +84,10 @@ initial_of s (Integer n) = option_map IntegerValue (s.number n)
 initial_of s (String n) = option_map TextValue (s.text n)
 
 -- The declaration of a variable, if its type and its name are known.
-abbrev pub variable : Option PlainType → Option GlobalName → Option Initial → List Declaration
-variable None name value = []
-variable (Some own) None value = []
-variable (Some own) (Some name) value = Variable name own value ∷ []
+abbrev pub known_variable : Option PlainType → Option GlobalName → Option Initial → List Declaration
+known_variable None name value = []
+known_variable (Some own) None value = []
+known_variable (Some own) (Some name) value = Variable name own value ∷ []
 
 -- The first of some values, if there is one.
 abbrev pub first_initial : List (Option Initial) → Option Initial
@@ -102,7 +102,7 @@ other_initials (v ∷ vs) = vs
 -- The declarations of variables of one type, each with the value at its place.
 unfoldable pub variables_of : Source → Option PlainType → List (Item ℕ) → List (Option Initial) → List Declaration
 variables_of s own [] values = []
-variables_of s own (n ∷ ns) values = variable own (s.global n.value) (first_initial values) ++ variables_of s own ns (other_initials values)
+variables_of s own (n ∷ ns) values = known_variable own (s.global n.value) (first_initial values) ++ variables_of s own ns (other_initials values)
 
 -- The literals behind the `=` of variables, and none where there is no `=`.
 abbrev pub literals_of : Option (ℕ × List (Item BasicTree)) → List (Item BasicTree)
@@ -114,8 +114,8 @@ abbrev pub initials_of : Source → List (Item BasicTree) → List (Option Initi
 initials_of s literals = map (λ i. initial_of s i.value) literals
 
 -- The declarations of the variables of one `var` line.
-abbrev pub declared_variables : Source → GlobalTree → List Declaration
-declared_variables s g = variables_of s (judge_type s.world g.type_use).type_of g.names (initials_of s (literals_of g.values))
+abbrev pub global_variables : Source → GlobalTree → List Declaration
+global_variables s g = variables_of s (judge_type s.world g.type_use).type_of g.names (initials_of s (literals_of g.values))
 
 -- Functions
 
@@ -155,7 +155,7 @@ declared_function s (name ∷ others) f = FunctionOf (function_of s f name) ∷ 
 
 -- The declarations of one declaration of a file.
 unfoldable pub declared_by : Source → List FunctionName → DeclTree → List Declaration
-declared_by s names (VarDecl p g c) = flat_map (declared_variables s) (group_items g)
+declared_by s names (VarDecl p g c) = flat_map (global_variables s) (group_items g)
 declared_by s names (TypeDecl p g c) = flat_map (declared_type s) (group_items g)
 declared_by s names (FuncDecl p f c) = declared_function s names f
 

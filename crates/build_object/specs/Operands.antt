@@ -20,31 +20,31 @@ use Rattle.build_object.specs.Numbering.{slot_of}
 -- The mode of an operand: what the code around it can do with it. `Values`: it leaves so many values. `Called`: it is a function with so
 -- many results, or a method whose receiver is on the stack. `Converts`: it is a type, whose call is a conversion. `Predeclared`: it is a
 -- predeclared function. `Qualifies`: it is the name of a package.
-pub data Standing : Type 0 where
-  Values : ℕ → Standing
-  Called : (received : Bool) → FunctionName → (results : ℕ) → Standing
-  Converts : Standing
-  Predeclared : Builtin → Standing
-  Qualifies : Standing
+pub data Mode : Type 0 where
+  Values : ℕ → Mode
+  Called : (received : Bool) → FunctionName → (results : ℕ) → Mode
+  Converts : Mode
+  Predeclared : Builtin → Mode
+  Qualifies : Mode
 
 -- An operand of code. `value` are the lines that leave its values, or the receiver of a method. `address` are the lines that leave the
 -- address of its value, which is used only where the value has one.
 pub record Operand : Type 0 where
   pub value : List Line
   pub address : List Line
-  pub standing : Standing
+  pub mode : Mode
 
 -- One value without an address.
 abbrev pub plain : List Line → Operand
-plain lines = record { value = lines; address = lines; standing = Values 1 }
+plain lines = record { value = lines; address = lines; mode = Values 1 }
 
 -- The value of a variable, which has an address.
 abbrev pub variable : List Line → List Line → Operand
-variable value address = record { value = value; address = address; standing = Values 1 }
+variable value address = record { value = value; address = address; mode = Values 1 }
 
 -- An operand without lines.
-abbrev pub standing_as : Standing → Operand
-standing_as s = record { value = []; address = []; standing = s }
+abbrev pub mode_alone : Mode → Operand
+mode_alone s = record { value = []; address = []; mode = s }
 
 -- Names
 
@@ -57,9 +57,9 @@ abbrev pub global_operand : Option GlobalName → Operand
 global_operand name = variable (line_if_known Global name) (line_if_known GlobalAddress name)
 
 -- The mode of a function or method, if its name is known.
-abbrev pub function_standing : Option FunctionName → (received : Bool) → (results : ℕ) → Standing
-function_standing None received results = Values 0
-function_standing (Some f) received results = Called received f results
+abbrev pub function_mode : Option FunctionName → (received : Bool) → (results : ℕ) → Mode
+function_mode None received results = Values 0
+function_mode (Some f) received results = Called received f results
 
 -- The name of a function without a receiver.
 abbrev pub plain_function : Option GlobalName → Option FunctionName
@@ -75,20 +75,20 @@ value_name s n NilKind = plain (Nil ∷ [])
 -- The operand of a name at token n with this meaning.
 unfoldable pub named_meaning : Source → ℕ → Meaning → Operand
 named_meaning s n (Value k a) = value_name s n k
-named_meaning s n (TypeName t) = standing_as Converts
-named_meaning s n (Function f) = standing_as (function_standing (plain_function (s.global n)) false (length f.results))
-named_meaning s n (BuiltinName b) = standing_as (Predeclared b)
-named_meaning s n Package = standing_as Qualifies
-named_meaning s n (Results ts) = standing_as (Values 0)
-named_meaning s n Broken = standing_as (Values 0)
+named_meaning s n (TypeName t) = mode_alone Converts
+named_meaning s n (Function f) = mode_alone (function_mode (plain_function (s.global n)) false (length f.results))
+named_meaning s n (BuiltinName b) = mode_alone (Predeclared b)
+named_meaning s n Package = mode_alone Qualifies
+named_meaning s n (Results ts) = mode_alone (Values 0)
+named_meaning s n Broken = mode_alone (Values 0)
 
 -- The operand of a name at token n that is bound so.
 unfoldable pub bound_name : Source → (slots : List ℕ) → ℕ → Bound → Operand
 bound_name s slots n (LocalName place) = local_operand (slot_of slots place)
 bound_name s slots n (Means m) = named_meaning s n m
-bound_name s slots n BrokenVariable = standing_as (Values 0)
-bound_name s slots n BrokenFunction = standing_as (Values 0)
-bound_name s slots n BrokenType = standing_as (Values 0)
+bound_name s slots n BrokenVariable = mode_alone (Values 0)
+bound_name s slots n BrokenFunction = mode_alone (Values 0)
+bound_name s slots n BrokenType = mode_alone (Values 0)
 
 -- The operand of the name at token n.
 abbrev pub name_operand : Source → (slots : List ℕ) → ℕ → Operand
@@ -112,18 +112,18 @@ operated o a b = a ++ (b ++ (Operate o ∷ []))
 -- Selectors
 
 -- Whether the operand is the name of a package.
-abbrev pub qualifies : Standing → Bool
+abbrev pub qualifies : Mode → Bool
 qualifies Qualifies = true
 qualifies s = false
 
 -- The mode of the selector of a qualified identifier. A package is never such a selector's meaning.
-abbrev pub unqualified : Standing → Standing
+abbrev pub unqualified : Mode → Mode
 unqualified Qualifies = Values 0
 unqualified s = s
 
 -- The operand of a qualified identifier, where the package's name has these lines.
-abbrev pub behind : List Line → Operand → Operand
-behind lines o = record { value = lines ++ o.value; address = lines ++ o.address; standing = unqualified o.standing }
+abbrev pub export_operand : List Line → Operand → Operand
+export_operand lines o = record { value = lines ++ o.value; address = lines ++ o.address; mode = unqualified o.mode }
 
 -- The operand of a field of a value, or of the struct that a pointer points to.
 abbrev pub field_operand : Operand → (through : Bool) → Option ℕ → Operand
@@ -140,29 +140,29 @@ receiver_lines o false false = o.value
 
 -- The operand of a method, whose receiver has these lines.
 abbrev pub method_operand : List Line → Option FunctionName → (results : ℕ) → Operand
-method_operand receiver name results = record { value = receiver; address = receiver; standing = function_standing name true results }
+method_operand receiver name results = record { value = receiver; address = receiver; mode = function_mode name true results }
 
 -- The operand of a member of a value of type t.
 unfoldable pub member_operand : Source → Operand → PlainType → Option Member → Operand
-member_operand s o t None = record { value = o.value; address = o.value; standing = Values 0 }
+member_operand s o t None = record { value = o.value; address = o.value; mode = Values 0 }
 member_operand s o t (Some (AField f own)) = field_operand o (points (underlying s.world t)) (s.position f)
 member_operand s o t (Some (AMethod m on_pointer signature)) =
     method_operand (receiver_lines o (is_pointer t) on_pointer) (s.function m) (length signature.results)
-member_operand s o t (Some (ABrokenMethod m)) = record { value = o.value; address = o.value; standing = Values 0 }
+member_operand s o t (Some (ABrokenMethod m)) = record { value = o.value; address = o.value; mode = Values 0 }
 
 -- The operand of the selector at token n, behind a value of this type.
 unfoldable pub typed_selector : Source → ℕ → Operand → Option PlainType → Operand
-typed_selector s n o None = record { value = o.value; address = o.value; standing = Values 0 }
+typed_selector s n o None = record { value = o.value; address = o.value; mode = Values 0 }
 typed_selector s n o (Some t) = member_operand s o t (s.world.member n t)
 
 -- The operand of the selector at token n, behind an operand with this mode.
-unfoldable pub selected_by : Source → (slots : List ℕ) → ℕ → Operand → Standing → Operand
-selected_by s slots n o Qualifies = behind o.value (name_operand s slots n)
-selected_by s slots n o standing = typed_selector s n o (s.before n)
+unfoldable pub selected_by : Source → (slots : List ℕ) → ℕ → Operand → Mode → Operand
+selected_by s slots n o Qualifies = export_operand o.value (name_operand s slots n)
+selected_by s slots n o mode = typed_selector s n o (s.before n)
 
 -- The operand of the selector at token n, behind the operand o.
 abbrev pub selected : Source → (slots : List ℕ) → ℕ → Operand → Operand
-selected s slots n o = selected_by s slots n o o.standing
+selected s slots n o = selected_by s slots n o o.mode
 
 -- Indexes and calls
 
@@ -184,7 +184,7 @@ counted true n = suc n
 counted false n = n
 
 -- The line of a call with n arguments. A conversion has none, and leaves its argument.
-unfoldable pub calling : ℕ → Standing → List Line
+unfoldable pub calling : ℕ → Mode → List Line
 calling n (Called received f results) = Call f (counted received n) ∷ []
 calling n (Predeclared b) = CallBuiltin b n ∷ []
 calling n Converts = []
@@ -192,7 +192,7 @@ calling n (Values k) = []
 calling n Qualifies = []
 
 -- The number of values that a call leaves.
-unfoldable pub left_by_call : Standing → ℕ
+unfoldable pub left_by_call : Mode → ℕ
 left_by_call (Called received f results) = results
 left_by_call (Predeclared b) = builtin_results b
 left_by_call Converts = 1
@@ -202,22 +202,22 @@ left_by_call Qualifies = 0
 -- The operand of a call with n arguments, which have these lines.
 abbrev pub called : Operand → ℕ → List Line → Operand
 called o n arguments = record {
-  value = o.value ++ (arguments ++ calling n o.standing);
-  address = o.value ++ (arguments ++ calling n o.standing);
-  standing = Values (left_by_call o.standing);
+  value = o.value ++ (arguments ++ calling n o.mode);
+  address = o.value ++ (arguments ++ calling n o.mode);
+  mode = Values (left_by_call o.mode);
 }
 
 -- Chains and expressions in parentheses
 
 -- The number of values that an operand with this mode leaves.
-abbrev pub value_count : Standing → ℕ
+abbrev pub value_count : Mode → ℕ
 value_count (Values n) = n
 value_count s = 0
 
 -- The operand of a whole chain: it stands for its values alone.
 abbrev pub settled : Operand → Operand
-settled o = record { value = o.value; address = o.address; standing = Values (value_count o.standing) }
+settled o = record { value = o.value; address = o.address; mode = Values (value_count o.mode) }
 
 -- The operand of an expression in parentheses: it stands for one value.
 abbrev pub grouped : Operand → Operand
-grouped o = record { value = o.value; address = o.address; standing = Values 1 }
+grouped o = record { value = o.value; address = o.address; mode = Values 1 }

@@ -6,18 +6,18 @@ use Rattle.go_ast.specs.SourceFile.{SourceFile, source_of}
 use Rattle.types_declared.specs.DeclaredView.{type_of, function_of as placed_function}
 use Rattle.types_declared.specs.Package.{PlacedType, declared_types}
 use Rattle.types_expr.specs.declared.symbol.Symbol.{Symbol}
-use Rattle.build_object.specs.declared.called.CalledNames.{CalledNames}
-use Rattle.build_object.specs.declared.called.DeclaredTables.{DeclaredTables}
-use Rattle.build_object.specs.declared.called.CalledPackages.{CalledPackages}
+use Rattle.build_object.specs.declared.object_names.NamedPackage.{NamedPackage}
+use Rattle.build_object.specs.declared.object_names.DeclaredTables.{DeclaredTables}
+use Rattle.build_object.specs.declared.object_names.ObjectNames.{ObjectNames}
 use Rattle.build_object.specs.Lines.{GlobalName, FunctionName}
-use Rattle.build_object.specs.Names.{type_called, function_names, functions_behind, field_positions}
+use Rattle.build_object.specs.Names.{name_of_type, function_names, functions_behind, field_positions}
 
 -- The names of the package at a path.
-abbrev pub package_in : CalledPackages → List ℕ → Option CalledNames
-package_in ps path = find path_cmp path ps.names
+abbrev pub package_names_in : ObjectNames → List ℕ → Option NamedPackage
+package_names_in ps path = find path_cmp path ps.names
 
 -- The tables of the declarations of the package at a path.
-abbrev pub tables_in : CalledPackages → List ℕ → Option DeclaredTables
+abbrev pub tables_in : ObjectNames → List ℕ → Option DeclaredTables
 tables_in ps path = find path_cmp path ps.tables
 
 -- Declarations by rank, found in the tables of a package, or else in its files.
@@ -38,28 +38,28 @@ position_of_rank files None rank = slice_get (field_positions files) rank
 position_of_rank files (Some t) rank = slice_get t.positions.items rank
 
 -- The name in objects of the type definition with this rank, in a package with these names.
-abbrev pub type_at : Option CalledNames → Option DeclaredTables → ℕ → Option GlobalName
+abbrev pub type_at : Option NamedPackage → Option DeclaredTables → ℕ → Option GlobalName
 type_at None t rank = None
-type_at (Some p) t rank = option_map (type_called p.path.now (map source_of p.files.now)) (type_of_rank (map source_of p.files.now) t rank)
+type_at (Some p) t rank = option_map (name_of_type p.path.now (map source_of p.files.now)) (type_of_rank (map source_of p.files.now) t rank)
 
 -- The name of a type definition in objects, by its symbol.
-abbrev pub type_in : CalledPackages → Symbol → Option GlobalName
-type_in ps s = type_at (package_in ps s.package) (tables_in ps s.package) s.rank
+abbrev pub type_in : ObjectNames → Symbol → Option GlobalName
+type_in ps s = type_at (package_names_in ps s.package) (tables_in ps s.package) s.rank
 
 -- The name in objects of the function with this rank, in a package with these names.
-abbrev pub function_at : Option CalledNames → Option DeclaredTables → ℕ → Option FunctionName
+abbrev pub function_at : Option NamedPackage → Option DeclaredTables → ℕ → Option FunctionName
 function_at None t rank = None
 function_at (Some p) t rank = function_of_rank p.path.now (map source_of p.files.now) t rank
 
 -- The name of a function in objects, by its symbol.
-abbrev pub function_in : CalledPackages → Symbol → Option FunctionName
-function_in ps s = function_at (package_in ps s.package) (tables_in ps s.package) s.rank
+abbrev pub function_in : ObjectNames → Symbol → Option FunctionName
+function_in ps s = function_at (package_names_in ps s.package) (tables_in ps s.package) s.rank
 
 -- The position in its struct of the field with this rank, in a package with these names.
-abbrev pub position_at : Option CalledNames → Option DeclaredTables → ℕ → Option ℕ
+abbrev pub position_at : Option NamedPackage → Option DeclaredTables → ℕ → Option ℕ
 position_at None t rank = None
 position_at (Some p) t rank = position_of_rank (map source_of p.files.now) t rank
 
 -- The position of a field in its struct, by its symbol.
-abbrev pub position_in : CalledPackages → Symbol → Option ℕ
-position_in ps s = position_at (package_in ps s.package) (tables_in ps s.package) s.rank
+abbrev pub position_in : ObjectNames → Symbol → Option ℕ
+position_in ps s = position_at (package_names_in ps s.package) (tables_in ps s.package) s.rank

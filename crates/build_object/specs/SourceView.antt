@@ -11,7 +11,7 @@ use Rattle.build_object.specs.Lines.{GlobalName}
 use Rattle.build_object.specs.LineView.{global_of}
 use Rattle.build_object.specs.PackagesView.{function_in, position_in}
 use Rattle.build_object.specs.Numbering.{slot_of}
-use Rattle.build_object.specs.Literals.{number_of}
+use Rattle.build_object.specs.Literals.{literal_number}
 
 -- The type before the use of a member, by the number of the use.
 abbrev pub type_used : List MemberUse → Option ℕ → Option PlainType
@@ -35,7 +35,7 @@ source_of s = record {
   before = λ token. type_used s.uses.now (slot_of s.used.places.items token);
   global = λ token. global_in (slice_get s.marks.items token);
   truth = λ token. truth_in (slice_get s.marks.items token);
-  number = λ token. number_of (spelling_of (name_in s.world token));
+  number = λ token. literal_number (spelling_of (name_in s.world token));
   text = λ token. option_map (λ v. v.items) (slice_index_or s.texts.items token None);
   function = function_in s.packages.now;
   position = position_in s.packages.now;

@@ -19,8 +19,8 @@ use Rattle.types_declared.specs.Written.{ImportsPath as DeclaresImport}
 use Rattle.types_info.specs.Worlds.{IsWorldOf, is_init}
 use Rattle.build_object.specs.Lines.{GlobalName}
 use Rattle.build_object.specs.Source.{Source}
-use Rattle.build_object.specs.Literals.{number_of}
-use Rattle.build_object.specs.Names.{type_name, function_name, function_names, field_position}
+use Rattle.build_object.specs.Literals.{literal_number}
+use Rattle.build_object.specs.Names.{type_name, function_name, function_names, position_of_field}
 use Rattle.build_object.specs.Objects.{Object, object_of}
 use Rattle.build_object.specs.ObjectText.{object_text}
 
@@ -30,7 +30,7 @@ type_before [] token = None
 type_before (u ∷ us) token = if u.place == token then Some u.before else type_before us token
 
 -- The name at a token is the selector of a qualified identifier, behind the name of an import of this path.
-pub record IsBehindImport (p : Package) (file token : ℕ) (path : List ℕ) : Type 0 where
+pub record HasQualifier (p : Package) (file token : ℕ) (path : List ℕ) : Type 0 where
   pub before : ℕ
   pub behind_dot : token ≡ suc (suc before)
   pub identifier : ℕ
@@ -44,7 +44,7 @@ pub record IsBehindImport (p : Package) (file token : ℕ) (path : List ℕ) : T
 -- a qualified identifier.
 pub data IsGlobalAt (p : Package) (file token : ℕ) : GlobalName → Type 0 where
   own : {d : ℕ} → BindsToken p file token d → IsPackageLevel p.layout d → IsGlobalAt p file token (record { path = p.path; name = spelled p file token })
-  imported : {path : List ℕ} → IsBehindImport p file token path → IsGlobalAt p file token (record { path = path; name = spelled p file token })
+  imported : {path : List ℕ} → HasQualifier p file token path → IsGlobalAt p file token (record { path = path; name = spelled p file token })
 
 -- `None`: the name at the token is bound to no package-level declaration. `Some`: it is bound to this one.
 abbrev pub IsGlobal : Package → (file token : ℕ) → Option GlobalName → Type 0
@@ -68,10 +68,10 @@ pub record IsSourceOf (p : Package) (files_of : List ℕ → List SourceFile) (f
   pub before : (token : ℕ) → s.before token ≡ type_before (check_file s.world (is_init f) f.tree).uses token
   pub global : (token : ℕ) → IsGlobal p file token (s.global token)
   pub truth : (token : ℕ) → (s.truth token ≡ true) ↔ IsTrueAt p file token
-  pub number : (token : ℕ) → s.number token ≡ number_of (spelling_of f token)
+  pub number : (token : ℕ) → s.number token ≡ literal_number (spelling_of f token)
   pub text : (token : ℕ) → IsTextAt f token (s.text token)
   pub function : (symbol : Symbol) → s.function symbol ≡ function_name files_of symbol
-  pub position : (symbol : Symbol) → s.position symbol ≡ field_position files_of symbol
+  pub position : (symbol : Symbol) → s.position symbol ≡ position_of_field files_of symbol
 
 -- The paths that the files import, each once, sorted by bytes.
 pub record AreImports (files : List SourceFile) (imports : List (List ℕ)) : Type 0 where

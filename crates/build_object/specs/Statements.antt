@@ -158,12 +158,12 @@ abbrev pub body_exits : List Line → Exits
 body_exits post = record { next = 0; out = suc (length post) }
 
 -- These lines, and a jump back to the first of them.
-abbrev pub turned_back : List Line → List Line
-turned_back lines = lines ++ (line.JumpBack (suc (length lines)) ∷ [])
+abbrev pub with_jump_back : List Line → List Line
+with_jump_back lines = lines ++ (line.JumpBack (suc (length lines)) ∷ [])
 
 -- The code of a loop: its condition, its body, its post statement, and the jump back to the condition.
 abbrev pub loop_lines : Source → (slots : List ℕ) → Option ExprTree → (body post : List Line) → List Line
-loop_lines s slots condition body post = turned_back (loop_condition s slots condition (suc (length (body ++ post))) ++ (body ++ post))
+loop_lines s slots condition body post = with_jump_back (loop_condition s slots condition (suc (length (body ++ post))) ++ (body ++ post))
 
 -- Statements and blocks. `results` is the number of the function's results.
 

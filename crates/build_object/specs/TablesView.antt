@@ -5,7 +5,7 @@ use Rattle.go_ast.specs.SourceFile.{SourceFile}
 use Rattle.types_expr.specs.declared.world.World.{World}
 use Rattle.types_expr.specs.declared.found.MemberUse.{MemberUse}
 use Rattle.types_declared.specs.Package.{Package}
-use Rattle.build_object.specs.declared.called.CalledPackages.{CalledPackages}
+use Rattle.build_object.specs.declared.object_names.ObjectNames.{ObjectNames}
 use Rattle.build_object.specs.declared.source.Mark.{Mark}
 use Rattle.build_object.specs.declared.source.Source.{Source}
 use Rattle.build_object.specs.Sources.{IsGlobal, IsTextAt, IsTrueAt}
@@ -17,18 +17,18 @@ pub record IsMarkAt (p : Package) (file token : ℕ) (m : Option Mark) : Type 0 
   pub truth : (truth_in m ≡ true) ↔ IsTrueAt p file token
 
 -- `marks` are the marks of the names of a file, by their tokens. Behind the last one no token has a mark.
-abbrev pub AreMarks : Package → (file : ℕ) → List Mark → Type 0
-AreMarks p file marks = (token : ℕ) → IsMarkAt p file token (slice_get marks token)
+abbrev pub AreNameMarks : Package → (file : ℕ) → List Mark → Type 0
+AreNameMarks p file marks = (token : ℕ) → IsMarkAt p file token (slice_get marks token)
 
 -- `texts` are the values of the string literals of a file, by their tokens.
 abbrev pub AreTexts : SourceFile → List (Option (Vec ℕ)) → Type 0
 AreTexts f texts = (token : ℕ) → IsTextAt f token (option_map (λ v. v.items) (slice_index_or texts token None))
 
 -- `s` is the source of the code of a file, by its world, its uses of members and the names of packages.
-pub record IsTabled (p : Package) (file : ℕ) (judged_by : World) (found : List MemberUse) (known : CalledPackages) (s : Source) : Type 0 where
+pub record IsTabledSource (p : Package) (file : ℕ) (judged_by : World) (found : List MemberUse) (known : ObjectNames) (s : Source) : Type 0 where
   pub world : s.world ≡ judged_by
   pub uses : s.uses.now ≡ found
   pub used : s.used.places.items ≡ map (λ u. u.place) found
-  pub marks : AreMarks p file s.marks.items
+  pub marks : AreNameMarks p file s.marks.items
   pub texts : (f : SourceFile) → slice_get p.files file ≡ Some f → AreTexts f s.texts.items
   pub packages : s.packages.now ≡ known

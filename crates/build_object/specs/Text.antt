@@ -6,7 +6,7 @@ use Rattle.go_ast.specs.declared.syntax.BinaryOp.TheVariants as op
 use Rattle.types_expr.specs.declared.symbol.Symbol.{Symbol}
 use Rattle.types_expr.specs.Types.{PlainType, BasicType, Defined, Pointer, Slice}
 use Rattle.types_declared.specs.Written.{basic_name}
-use Rattle.types_declared.specs.Bound.{builtin_name}
+use Rattle.types_declared.specs.MeaningOf.{builtin_name}
 use Rattle.build_object.specs.Lines.{GlobalName, FunctionName, Plain, Method, Initializer, Line}
 use Rattle.build_object.specs.Lines as line
 

@@ -2,7 +2,7 @@
 ghost use Rattle.std.specs.Prelude.{◌≡◌, ◌≤◌, ◌++◌, [], Some, drop, length, map, option_map, slice_get, IfOk, OnOk};
 ghost use Rattle.std.specs.List.{flat_map};
 ghost use Rattle.go_ast.specs.View.{list_view, option_view, group_view};
-ghost use Rattle.go_ast.specs.FileView.{same_place, basic_view, body_view, decl_view, field_view, func_view, global_view, type_spec_view, var_values_view};
+ghost use Rattle.go_ast.specs.FileView.{same_index, basic_view, body_view, decl_view, field_view, func_view, global_view, type_spec_view, var_values_view};
 ghost use Rattle.types_declared.specs.Files.{group_items};
 ghost use Rattle.types_expr.specs.View.{type_of};
 ghost use Rattle.types_expr.specs.WorldView.{world_of};
@@ -10,16 +10,16 @@ ghost use Rattle.build_object.specs.LineView.{global_of, function_of, lines_in};
 ghost use Rattle.build_object.specs.Slots.{slots_of};
 ghost use Rattle.build_object.specs.SourceView.{source_of};
 ghost use Rattle.build_object.specs.PackagesView.{type_in};
-ghost use Rattle.build_object.specs.Objects.{TypeOf, Variable, FunctionOf, declared_by, declared_function, declared_in, declared_type, declared_variables, defined, definition_of, field_types, initials_of, literals_of, names_behind, names_behind_all, others_of, variable, variables_of, written};
+ghost use Rattle.build_object.specs.Objects.{TypeOf, Variable, FunctionOf, declared_by, declared_function, declared_in, declared_type, global_variables, defined, definition_of, field_types, initials_of, literals_of, names_behind, names_behind_all, others_of, known_variable, variables_of, written};
 ghost use Rattle.build_object.specs.Objects as object;
 ghost use Rattle.build_object.specs.Text.{code_text, ended};
 ghost use Rattle.build_object.specs.ObjectText.{counts_text, declaration_text, definition_text, header_text, initial_text, signature_text};
-ghost use Rattle.build_object.specs.DeclarationsView.{initial_view, definition_view, literal_at, IsSignature};
+ghost use Rattle.build_object.specs.DeclarationsView.{initial_view, definition_view, literal_value_at, IsSignature};
 
 use crate::code::Code;
 use crate::functions::{add_written, body, parameters, results};
 use crate::instructions::{FunctionName, GlobalName};
-use crate::packages::CalledPackages;
+use crate::packages::ObjectNames;
 use crate::printing::{
     push_lines, push_numbered, push_type, push_type_list, push_types, push_word, push_word_bytes,
     push_word_function, push_word_global, push_word_integer, push_word_type,
@@ -114,7 +114,7 @@ fn defined_as(
 #[tactic(auto, unfolding(crate::specs::DeclarationsView::definition_view))]
 fn push_definition(
     text: &mut Vec<u8>,
-    packages: &CalledPackages<'_>,
+    packages: &ObjectNames<'_>,
     definition: &DefinitionLine,
 ) -> Result<(), AllocError>
     ensures { OnOk result (text.new.items ≡ text.old.items ++ definition_text (type_in packages.now) (definition_view definition.now)) }
@@ -133,7 +133,7 @@ fn push_definition(
 #[tactic(auto, unfolding(crate::specs::ObjectText::declaration_text))]
 fn push_type_line(
     text: &mut Vec<u8>,
-    packages: &CalledPackages<'_>,
+    packages: &ObjectNames<'_>,
     name: GlobalName<'_>,
     definition: &DefinitionLine,
 ) -> Result<(), AllocError>
@@ -202,7 +202,7 @@ fn initial_at<'s>(
     literals: &[Item<BasicLit>],
     number: usize,
 ) -> Option<Initial<'s>>
-    ensures { option_map initial_view result ≡ literal_at (source_of source.now) (slice_get literals.now number) }
+    ensures { option_map initial_view result ≡ literal_value_at (source_of source.now) (slice_get literals.now number) }
 {
     let Some(literal) = literals.get(number) else {
         return None;
@@ -235,7 +235,7 @@ fn push_initial(text: &mut Vec<u8>, value: Option<Initial<'_>>) -> Result<(), Al
 #[tactic(auto, unfolding(crate::specs::ObjectText::declaration_text))]
 fn push_variable(
     text: &mut Vec<u8>,
-    packages: &CalledPackages<'_>,
+    packages: &ObjectNames<'_>,
     name: GlobalName<'_>,
     own: &GoType,
     value: Option<Initial<'_>>,
@@ -256,7 +256,7 @@ fn push_named(
     value: Option<Initial<'_>>,
     text: &mut Vec<u8>,
 ) -> Result<(), AllocError>
-    ensures { OnOk result (text.new.items ≡ text.old.items ++ flat_map (declaration_text (type_in source.now.packages.now)) (variable (Some (type_of own.now)) ((source_of source.now).global name) (option_map initial_view value.entry))) }
+    ensures { OnOk result (text.new.items ≡ text.old.items ++ flat_map (declaration_text (type_in source.now.packages.now)) (known_variable (Some (type_of own.now)) ((source_of source.now).global name) (option_map initial_view value.entry))) }
 {
     match source.global(name) {
         None => Ok(()),
@@ -272,7 +272,7 @@ fn push_typed(
     own: &GoType,
     text: &mut Vec<u8>,
 ) -> Result<(), AllocError>
-    ensures { OnOk result (text.new.items ≡ text.old.items ++ flat_map (declaration_text (type_in source.now.packages.now)) (variables_of (source_of source.now) (Some (type_of own.now)) (list_view same_place names.now) (initials_of (source_of source.now) (list_view basic_view literals.now)))) }
+    ensures { OnOk result (text.new.items ≡ text.old.items ++ flat_map (declaration_text (type_in source.now.packages.now)) (variables_of (source_of source.now) (Some (type_of own.now)) (list_view same_index names.now) (initials_of (source_of source.now) (list_view basic_view literals.now)))) }
 {
     for i in 0..names.len() {
         let value = initial_at(source, literals, i);
@@ -289,7 +289,7 @@ fn push_var_spec(
     spec: &VarSpec,
     text: &mut Vec<u8>,
 ) -> Result<(), AllocError>
-    ensures { OnOk result (text.new.items ≡ text.old.items ++ flat_map (declaration_text (type_in source.now.packages.now)) (declared_variables (source_of source.now) (global_view spec.now))) }
+    ensures { OnOk result (text.new.items ≡ text.old.items ++ flat_map (declaration_text (type_in source.now.packages.now)) (global_variables (source_of source.now) (global_view spec.now))) }
 {
     match written_type(alloc, &source.world, &spec.var_type)? {
         None => Ok(()),
@@ -305,7 +305,7 @@ fn push_var_specs(
     group: &Group<VarSpec>,
     text: &mut Vec<u8>,
 ) -> Result<(), AllocError>
-    ensures { OnOk result (text.new.items ≡ text.old.items ++ flat_map (declaration_text (type_in source.now.packages.now)) (flat_map (declared_variables (source_of source.now)) (group_items (group_view global_view group.now)))) }
+    ensures { OnOk result (text.new.items ≡ text.old.items ++ flat_map (declaration_text (type_in source.now.packages.now)) (flat_map (global_variables (source_of source.now)) (group_items (group_view global_view group.now)))) }
 {
     match group {
         Group::Single(spec) => push_var_spec(alloc, source, spec, text),
@@ -321,7 +321,7 @@ fn push_var_specs(
 /// Prints the types of a function's parameters and results.
 fn push_signature(
     text: &mut Vec<u8>,
-    packages: &CalledPackages<'_>,
+    packages: &ObjectNames<'_>,
     parameters: &[GoType],
     results: &[GoType],
 ) -> Result<(), AllocError>
@@ -342,7 +342,7 @@ fn push_counts(text: &mut Vec<u8>, slots: usize, lines: usize) -> Result<(), All
 /// Prints the header of a function with so many lines of code.
 fn push_header(
     text: &mut Vec<u8>,
-    packages: &CalledPackages<'_>,
+    packages: &ObjectNames<'_>,
     signature: &FunctionSignature<'_>,
     lines: usize,
 ) -> Result<(), AllocError>
@@ -357,7 +357,7 @@ fn push_header(
 /// Prints the header of a function and its code.
 fn push_function(
     text: &mut Vec<u8>,
-    packages: &CalledPackages<'_>,
+    packages: &ObjectNames<'_>,
     signature: &FunctionSignature<'_>,
     code: &Code<'_>,
 ) -> Result<(), AllocError>

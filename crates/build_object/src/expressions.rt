@@ -9,11 +9,11 @@ ghost use Rattle.build_object.specs.SourceView.{source_of};
 ghost use Rattle.build_object.specs.Operands as operands;
 ghost use Rattle.build_object.specs.Operands.{operated, calling, prefixed, qualifies, value_count};
 ghost use Rattle.build_object.specs.Expressions.{operand_of, operations, linked, one_link, argument_lines, literal_lines, keyed_lines, bare_lines, value_lines};
-ghost use Rattle.build_object.specs.Making.{index_lines, test_lines, lines_for, standing_of, before_link, GoesOn, GoesOnFrom};
+ghost use Rattle.build_object.specs.Making.{index_lines, test_lines, lines_for, mode_of, before_link, AppliesRule, AppliesLines};
 
 use crate::code::Code;
 use crate::instructions::Instruction;
-use crate::operands::{OperandPlace, Wanted};
+use crate::operands::{OperandMode, Wanted};
 use crate::scope::SlotScope;
 use crate::types::{is_struct, written_type};
 use go_ast::syntax::{BinaryOp, PrefixOp};
@@ -21,65 +21,58 @@ use go_ast::tree::{CompositeLit, Element, Expr, ExprItem, Link, Operand};
 use std::alloc::{AllocError, Global};
 
 /// Whether an operand with this mode is the name of a package, and no link stands between it and the next link.
-fn is_qualifier(head: OperandPlace<'_>, links: usize) -> bool
-    ensures { result ≡ (links == 0 && qualifies (standing_of head.entry)) }
+fn is_qualifier(head: OperandMode<'_>, links: usize) -> bool
+    ensures { result ≡ (links == 0 && qualifies (mode_of head.entry)) }
 {
     links == 0 && head.qualifies()
 }
 
 impl<'a> SlotScope<'a> {
     /// The mode of a chain before the link `number`, as far as this link depends on it. `head` is the mode of the chain's first operand.
-    fn standing_before(
-        self,
-        head: OperandPlace<'a>,
-        links: &[Link],
-        number: usize,
-    ) -> OperandPlace<'a>
+    fn mode_before(self, head: OperandMode<'a>, links: &[Link], number: usize) -> OperandMode<'a>
         requires { number ≤ length links.now }
-        ensures { (o : operands.Operand) → before_link o.standing ≡ before_link (standing_of head.entry) →
-            before_link (linked (source_of self.entry.source.now) self.entry.slots.now.places.items o (links_in (take number links.now))).standing ≡ before_link (standing_of result) }
+        ensures { (o : operands.Operand) → before_link o.mode ≡ before_link (mode_of head.entry) →
+            before_link (linked (source_of self.entry.source.now) self.entry.slots.now.places.items o (links_in (take number links.now))).mode ≡ before_link (mode_of result) }
     {
         if number == 0 {
             return head;
         }
         let last = number - 1;
         match &links[last] {
-            Link::Selector { name, .. } => {
-                self.selector_standing(*name, is_qualifier(head, last))
-            }
-            Link::Index { .. } => OperandPlace::Values(1),
-            Link::Call { .. } => OperandPlace::Values(1),
+            Link::Selector { name, .. } => { self.selector_mode(*name, is_qualifier(head, last)) }
+            Link::Index { .. } => OperandMode::Values(1),
+            Link::Call { .. } => OperandMode::Values(1),
         }
     }
 
     /// The number of values that a chain leaves up to the link `last`.
-    fn left_by_links(self, head: OperandPlace<'a>, links: &[Link], last: usize) -> usize
+    fn left_by_links(self, head: OperandMode<'a>, links: &[Link], last: usize) -> usize
         requires { last < length links.now }
-        ensures { (o : operands.Operand) → before_link o.standing ≡ before_link (standing_of head.entry) →
-            value_count (linked (source_of self.entry.source.now) self.entry.slots.now.places.items o (links_in (take (last + 1) links.now))).standing ≡ result }
+        ensures { (o : operands.Operand) → before_link o.mode ≡ before_link (mode_of head.entry) →
+            value_count (linked (source_of self.entry.source.now) self.entry.slots.now.places.items o (links_in (take (last + 1) links.now))).mode ≡ result }
     {
         match &links[last] {
             Link::Selector { name, .. } => self
-                .selector_standing(*name, is_qualifier(head, last))
+                .selector_mode(*name, is_qualifier(head, last))
                 .values(),
             Link::Index { .. } => 1,
-            Link::Call { .. } => self.standing_before(head, links, last).left_by_call(),
+            Link::Call { .. } => self.mode_before(head, links, last).left_by_call(),
         }
     }
 
     /// The mode of an expression.
-    pub fn standing(self, e: &Expr) -> OperandPlace<'a>
-        ensures { standing_of result ≡ (operand_of (source_of self.entry.source.now) self.entry.slots.now.places.items (expr_view e.now)).standing }
+    pub fn mode(self, e: &Expr) -> OperandMode<'a>
+        ensures { mode_of result ≡ (operand_of (source_of self.entry.source.now) self.entry.slots.now.places.items (expr_view e.now)).mode }
     {
         match e {
-            Expr::Name(place) => self.name_standing(*place),
-            Expr::Blank(_) => OperandPlace::Values(0),
+            Expr::Name(place) => self.name_mode(*place),
+            Expr::Blank(_) => OperandMode::Values(0),
             Expr::Chain { first, links } => {
-                let head = self.standing(first);
+                let head = self.mode(first);
                 if links.is_empty() {
-                    return OperandPlace::Values(head.values());
+                    return OperandMode::Values(head.values());
                 }
-                OperandPlace::Values(self.left_by_links(head, links, links.len() - 1))
+                OperandMode::Values(self.left_by_links(head, links, links.len() - 1))
             }
             Expr::Number(_)
             | Expr::Text(_)
@@ -87,7 +80,7 @@ impl<'a> SlotScope<'a> {
             | Expr::Paren { .. }
             | Expr::Prefix { .. }
             | Expr::Address { .. }
-            | Expr::Binary { .. } => OperandPlace::Values(1),
+            | Expr::Binary { .. } => OperandMode::Values(1),
         }
     }
 }
@@ -95,7 +88,7 @@ impl<'a> SlotScope<'a> {
 /// Puts the line of a unary operator before the code. The value of its operand is wanted before it.
 #[tactic(auto, unfolding(crate::specs::LineView::line_of))]
 fn put_prefix(op: PrefixOp, want: Wanted, code: &mut Code<'_>) -> Result<(), AllocError>
-    ensures { OnOk result (GoesOnFrom (λ a. lines_for want (prefixed op a)) code.old code.new) }
+    ensures { OnOk result (AppliesLines (λ a. lines_for want (prefixed op a)) code.old code.new) }
 {
     match (op, want) {
         (PrefixOp::Plus, _) | (PrefixOp::Deref, Wanted::Address) => Ok(()),
@@ -106,17 +99,13 @@ fn put_prefix(op: PrefixOp, want: Wanted, code: &mut Code<'_>) -> Result<(), All
 }
 
 /// Puts the line of a call with `count` arguments, by the mode of what is called.
-#[tactic(auto, unfolding(crate::specs::LineView::line_of, crate::specs::Operands::calling, crate::specs::Making::standing_of))]
-fn put_call<'a>(
-    standing: OperandPlace<'a>,
-    count: usize,
-    code: &mut Code<'a>,
-) -> Result<(), AllocError>
+#[tactic(auto, unfolding(crate::specs::LineView::line_of, crate::specs::Operands::calling, crate::specs::Making::mode_of))]
+fn put_call<'a>(mode: OperandMode<'a>, count: usize, code: &mut Code<'a>) -> Result<(), AllocError>
     requires { count < 2 ^ 63 }
-    ensures { OnOk result (Puts (calling count (standing_of standing.entry)) code.old code.new) }
+    ensures { OnOk result (Puts (calling count (mode_of mode.entry)) code.old code.new) }
 {
-    match standing {
-        OperandPlace::Called {
+    match mode {
+        OperandMode::Called {
             received,
             function,
             ..
@@ -127,11 +116,11 @@ fn put_call<'a>(
                 arguments,
             })
         }
-        OperandPlace::Predeclared(builtin) => code.put(Instruction::CallBuiltin {
+        OperandMode::Predeclared(builtin) => code.put(Instruction::CallBuiltin {
             builtin,
             arguments: count,
         }),
-        OperandPlace::Values(_) | OperandPlace::Converts | OperandPlace::Qualifies => Ok(()),
+        OperandMode::Values(_) | OperandMode::Converts | OperandMode::Qualifies => Ok(()),
     }
 }
 
@@ -199,7 +188,7 @@ pub fn operand<'a>(
             literal(alloc, scope, lit, code)
         }
         Expr::Chain { first, links } => {
-            let head = scope.standing(first);
+            let head = scope.mode(first);
             let want = chain(alloc, scope, links, head, want, code)?;
             operand(alloc, scope, first, want, code)
         }
@@ -216,16 +205,16 @@ fn chain<'a>(
     alloc: Global,
     scope: SlotScope<'a>,
     links: &[Link],
-    head: OperandPlace<'a>,
+    head: OperandMode<'a>,
     want: Wanted,
     code: &mut Code<'a>,
 ) -> Result<Wanted, AllocError>
-    ensures { IfOk result (λ w. GoesOn (λ o. linked (source_of scope.entry.source.now) scope.entry.slots.now.places.items o (links_in links.now)) (standing_of head.entry) want w code.old code.new) }
+    ensures { IfOk result (λ w. AppliesRule (λ o. linked (source_of scope.entry.source.now) scope.entry.slots.now.places.items o (links_in links.now)) (mode_of head.entry) want w code.old code.new) }
 {
     let mut want = want;
     for i in (0..links.len()).rev() {
-        let standing = scope.standing_before(head, links, i);
-        want = link(alloc, scope, &links[i], standing, want, code)?;
+        let mode = scope.mode_before(head, links, i);
+        want = link(alloc, scope, &links[i], mode, want, code)?;
     }
     Ok(want)
 }
@@ -236,14 +225,14 @@ fn link<'a>(
     alloc: Global,
     scope: SlotScope<'a>,
     next: &Link,
-    standing: OperandPlace<'a>,
+    mode: OperandMode<'a>,
     want: Wanted,
     code: &mut Code<'a>,
 ) -> Result<Wanted, AllocError>
-    ensures { IfOk result (λ w. GoesOn (one_link (source_of scope.entry.source.now) scope.entry.slots.now.places.items (link_view next.now no_link)) (standing_of standing.entry) want w code.old code.new) }
+    ensures { IfOk result (λ w. AppliesRule (one_link (source_of scope.entry.source.now) scope.entry.slots.now.places.items (link_view next.now no_link)) (mode_of mode.entry) want w code.old code.new) }
 {
     match next {
-        Link::Selector { name, .. } => scope.put_selector(*name, standing.qualifies(), want, code),
+        Link::Selector { name, .. } => scope.put_selector(*name, mode.qualifies(), want, code),
         Link::Index { index, .. } => {
             put_index(want, code)?;
             operand(alloc, scope, index, Wanted::Value, code)?;
@@ -253,7 +242,7 @@ fn link<'a>(
             arguments: list,
             ..
         } => {
-            put_call(standing, list.len(), code)?;
+            put_call(mode, list.len(), code)?;
             arguments(alloc, scope, list, code)?;
             Ok(Wanted::Value)
         }
@@ -268,7 +257,7 @@ fn operations<'a>(
     rest: &[Operand],
     code: &mut Code<'a>,
 ) -> Result<(), AllocError>
-    ensures { OnOk result (GoesOnFrom (λ a. operations (source_of scope.entry.source.now) scope.entry.slots.now.places.items a (operands_in rest.now)) code.old code.new) }
+    ensures { OnOk result (AppliesLines (λ a. operations (source_of scope.entry.source.now) scope.entry.slots.now.places.items a (operands_in rest.now)) code.old code.new) }
 {
     for i in (0..rest.len()).rev() {
         operation(alloc, scope, &rest[i], code)?;
@@ -284,7 +273,7 @@ fn operation<'a>(
     next: &Operand,
     code: &mut Code<'a>,
 ) -> Result<(), AllocError>
-    ensures { OnOk result (GoesOnFrom (λ a. operated next.now.op a (value_lines (source_of scope.entry.source.now) scope.entry.slots.now.places.items (expr_view next.now.value))) code.old code.new) }
+    ensures { OnOk result (AppliesLines (λ a. operated next.now.op a (value_lines (source_of scope.entry.source.now) scope.entry.slots.now.places.items (expr_view next.now.value))) code.old code.new) }
 {
     match next.op {
         BinaryOp::And | BinaryOp::Or => {

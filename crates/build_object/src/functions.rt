@@ -5,7 +5,7 @@ ghost use Rattle.go_ast.specs.View.{list_view, option_view, type_view};
 ghost use Rattle.go_ast.specs.FileView.{func_view, param_view, receiver_view, results_view};
 ghost use Rattle.types_expr.specs.View.{type_of};
 ghost use Rattle.types_expr.specs.WorldView.{world_of};
-ghost use Rattle.types_declared.specs.Bound.{parameter_types, result_types};
+ghost use Rattle.types_declared.specs.MeaningOf.{parameter_types, result_types};
 ghost use Rattle.build_object.specs.LineView.{lines_in};
 ghost use Rattle.build_object.specs.SourceView.{source_of};
 ghost use Rattle.build_object.specs.Statements.{body_lines};

@@ -1,7 +1,6 @@
 //! Makes the object of a package, and prints it: the code of its functions, for a machine with a stack.
 #![tactic(auto)]
 
-mod called;
 mod code;
 mod declarations;
 mod expressions;
@@ -12,6 +11,7 @@ pub mod laws;
 mod members;
 mod names;
 mod numbered;
+mod object_names;
 pub mod objects;
 mod operands;
 mod origin;

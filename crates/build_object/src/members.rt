@@ -8,11 +8,11 @@ ghost use Rattle.build_object.specs.LineView.{line_of, lines_in, Puts};
 ghost use Rattle.build_object.specs.SourceView.{source_of};
 ghost use Rattle.build_object.specs.Operands.{Operand, qualifies, field_operand, receiver_lines, member_operand, typed_selector, selected};
 ghost use Rattle.build_object.specs.Expressions.{key_position};
-ghost use Rattle.build_object.specs.Making.{field_lines, lines_for, standing_of, GoesOnBehind, GoesOnAlways};
+ghost use Rattle.build_object.specs.Making.{field_lines, lines_for, mode_of, AppliesSelector, AppliesAlways};
 
 use crate::code::Code;
 use crate::instructions::Instruction;
-use crate::operands::{OperandPlace, Wanted};
+use crate::operands::{OperandMode, Wanted};
 use crate::scope::SlotScope;
 use go_ast::tree::Key;
 use std::alloc::AllocError;
@@ -38,7 +38,7 @@ fn put_field(
     want: Wanted,
     code: &mut Code<'_>,
 ) -> Result<Wanted, AllocError>
-    ensures { IfOk result (λ w. GoesOnAlways (λ o. field_operand o through position) want w code.old code.new) }
+    ensures { IfOk result (λ w. AppliesAlways (λ o. field_operand o through position) want w code.old code.new) }
 {
     if let Some(position) = position {
         code.put(field_line(position, through, want))?;
@@ -75,7 +75,7 @@ impl<'a> SlotScope<'a> {
         want: Wanted,
         code: &mut Code<'a>,
     ) -> Result<Wanted, AllocError>
-        ensures { IfOk result (λ w. GoesOnAlways (λ o. member_operand (source_of self.entry.source.now) o (type_of before.now) (Some (member_of member.entry))) want w code.old code.new) }
+        ensures { IfOk result (λ w. AppliesAlways (λ o. member_operand (source_of self.entry.source.now) o (type_of before.now) (Some (member_of member.entry))) want w code.old code.new) }
     {
         match member {
             Member::Field(field) => {
@@ -102,7 +102,7 @@ impl<'a> SlotScope<'a> {
         want: Wanted,
         code: &mut Code<'a>,
     ) -> Result<Wanted, AllocError>
-        ensures { IfOk result (λ w. GoesOnAlways (λ o. typed_selector (source_of self.entry.source.now) token o ((source_of self.entry.source.now).before token)) want w code.old code.new) }
+        ensures { IfOk result (λ w. AppliesAlways (λ o. typed_selector (source_of self.entry.source.now) token o ((source_of self.entry.source.now).before token)) want w code.old code.new) }
     {
         let Some(before) = self.source.before(token) else {
             return Ok(Wanted::Value);
@@ -122,7 +122,7 @@ impl<'a> SlotScope<'a> {
         want: Wanted,
         code: &mut Code<'a>,
     ) -> Result<Wanted, AllocError>
-        ensures { IfOk result (λ w. GoesOnBehind (selected (source_of self.entry.source.now) self.entry.slots.now.places.items token) qualified want w code.old code.new) }
+        ensures { IfOk result (λ w. AppliesSelector (selected (source_of self.entry.source.now) self.entry.slots.now.places.items token) qualified want w code.old code.new) }
     {
         if !qualified {
             return self.put_typed(token, want, code);
@@ -132,19 +132,19 @@ impl<'a> SlotScope<'a> {
     }
 
     /// The mode of the selector at a token, behind a value.
-    #[tactic(auto, unfolding(types_expr::specs::WorldView::member_of, crate::specs::Operands::typed_selector, crate::specs::Operands::member_operand, crate::specs::Making::standing_of))]
-    fn typed_standing(self, token: usize) -> OperandPlace<'a>
-        ensures { (o : Operand) → (typed_selector (source_of self.entry.source.now) token o ((source_of self.entry.source.now).before token)).standing ≡ standing_of result }
+    #[tactic(auto, unfolding(types_expr::specs::WorldView::member_of, crate::specs::Operands::typed_selector, crate::specs::Operands::member_operand, crate::specs::Making::mode_of))]
+    fn typed_mode(self, token: usize) -> OperandMode<'a>
+        ensures { (o : Operand) → (typed_selector (source_of self.entry.source.now) token o ((source_of self.entry.source.now).before token)).mode ≡ mode_of result }
     {
         let Some(before) = self.source.before(token) else {
-            return OperandPlace::Values(0);
+            return OperandMode::Values(0);
         };
         match self.source.world.member(token, before) {
-            None => OperandPlace::Values(0),
-            Some(Member::Field(_)) => OperandPlace::Values(1),
+            None => OperandMode::Values(0),
+            Some(Member::Field(_)) => OperandMode::Values(1),
             Some(Member::Method(method)) => match &method.signature {
-                None => OperandPlace::Values(0),
-                Some(signature) => OperandPlace::of_function(
+                None => OperandMode::Values(0),
+                Some(signature) => OperandMode::of_function(
                     self.source.packages.function(&method.symbol),
                     true,
                     signature.results.len(),
@@ -155,14 +155,14 @@ impl<'a> SlotScope<'a> {
 
     /// The mode of the selector at a token, behind the name of a package (`qualified`) or another operand.
     #[tactic(auto, unfolding(crate::specs::Operands::selected_by))]
-    pub fn selector_standing(self, token: usize, qualified: bool) -> OperandPlace<'a>
-        ensures { (o : Operand) → qualifies o.standing ≡ qualified →
-            (selected (source_of self.entry.source.now) self.entry.slots.now.places.items token o).standing ≡ standing_of result }
+    pub fn selector_mode(self, token: usize, qualified: bool) -> OperandMode<'a>
+        ensures { (o : Operand) → qualifies o.mode ≡ qualified →
+            (selected (source_of self.entry.source.now) self.entry.slots.now.places.items token o).mode ≡ mode_of result }
     {
         if qualified {
-            self.name_standing(token).unqualified()
+            self.name_mode(token).unqualified()
         } else {
-            self.typed_standing(token)
+            self.typed_mode(token)
         }
     }
 

@@ -6,7 +6,7 @@ ghost use Rattle.go_ast.specs.FileView.{body_view, field_view};
 ghost use Rattle.go_ast.specs.SourceFile.{source_of};
 ghost use Rattle.types_declared.specs.DeclaredView.{type_of, function_of as placed_function};
 ghost use Rattle.build_object.specs.LineView.{global_of, function_of};
-ghost use Rattle.build_object.specs.Names.{body_positions, function_behind, function_called, functions_behind, initializers_among, initializers_with, is_initializer, names_of_fields, positions_from, spelled_in, type_called, type_positions};
+ghost use Rattle.build_object.specs.Names.{body_positions, function_behind, function_called, functions_behind, initializers_among, initializers_with, is_initializer, names_of_fields, positions_from, spelled_in, name_of_type, type_positions};
 ghost use Rattle.build_object.specs.NamesView.{AreTablesOf};
 
 use crate::instructions::{FunctionName, GlobalName};
@@ -28,12 +28,12 @@ fn spelling(files: &[FileTree], file: usize, token: usize) -> &[u8]
 
 /// The name of a type definition in objects.
 #[tactic(auto, unfolding(go_ast::specs::FileView::type_spec_view))]
-pub(crate) fn type_called<'a>(
+pub(crate) fn name_of_type<'a>(
     path: &'a [u8],
     files: &'a [FileTree],
     own: TypeDef<'_>,
 ) -> GlobalName<'a>
-    ensures { global_of result ≡ type_called path.now (map source_of files.now) (type_of own.entry) }
+    ensures { global_of result ≡ name_of_type path.now (map source_of files.now) (type_of own.entry) }
 {
     GlobalName {
         path,

@@ -9,19 +9,19 @@ use std::collections::BTreeMap;
 
 /// Places, each numbered by its first position in the list.
 #[derive(Drop)]
-pub struct NumberedUses {
+pub struct NumberedPlaces {
     pub places: Vec<usize>,
     numbers: BTreeMap<usize, usize>,
     ghost numbered: { (place : ℕ) → get nat_cmp numbers place ≡ slot_of places.items place },
 }
 
-impl NumberedUses {
+impl NumberedPlaces {
     /// Numbers these places.
-    pub fn of(alloc: Global, places: Vec<usize>) -> Result<NumberedUses, AllocError>
+    pub fn of(alloc: Global, places: Vec<usize>) -> Result<NumberedPlaces, AllocError>
         ensures { IfOk result (λ n. n.places.items ≡ places.items) }
     {
         let numbers = number(alloc, &places)?;
-        Ok(NumberedUses { places, numbers })
+        Ok(NumberedPlaces { places, numbers })
     }
 
     /// The number of a place, if it is in the list.

@@ -1,43 +1,43 @@
 //! Prints the object of a package without faults.
 ghost use Rattle.std.specs.Prelude.{◌≡◌, ◌<◌, ◌≤◌, ◌++◌, ℕ, List, IfOk, OnOk, Some, length, map, slice_get};
 ghost use Rattle.go_ast.specs.SourceFile.{SourceFile, source_of};
-ghost use Rattle.go_scope.specs.Scoped.{scoped};
+ghost use Rattle.go_scope.specs.Packages.{scoped};
 ghost use Rattle.types_declared.specs.Files.{package_name};
 ghost use Rattle.types_declared.specs.PackageNames.{IsLaidOver};
 ghost use Rattle.types_expr.specs.WorldView.{world_of, name_in, spelling_of};
-ghost use Rattle.types_info.specs.BoundsView.{AreBounds};
+ghost use Rattle.types_info.specs.MeaningsView.{AreMeanings};
 ghost use Rattle.types_info.specs.PackageOf.{package_in};
 ghost use Rattle.types_info.specs.Worlds.{IsWorldOf};
-ghost use Rattle.types_declared.specs.InterfacesView.{name_in as known_name, interface_in};
+ghost use Rattle.types_declared.specs.ExportTablesView.{name_in as known_name, export_data_in};
 ghost use Rattle.types_info.specs.MemberUses.{AreMemberUses, uses_in};
 ghost use Rattle.types_info.specs.NamesView.{AreNames};
 ghost use Rattle.types_declared.specs.Package.{spelled};
 ghost use Rattle.types_declared.specs.PackageView.{package_of, IsIndexOf};
-ghost use Rattle.types_info.specs.Uniqueness.{IsOneWorld};
+ghost use Rattle.types_info.specs.Uniqueness.{HasOneWorld};
 ghost use Rattle.build_object.specs.LineView.{function_of};
 ghost use Rattle.build_object.specs.Names.{function_names};
 ghost use Rattle.build_object.specs.Objects.{Object};
 ghost use Rattle.build_object.specs.ObjectText.{first_line};
-ghost use Rattle.build_object.specs.ObjectSteps.{uses_or_none, PutsHead, PutsFiles};
-ghost use Rattle.build_object.specs.ObjectView.{AreOwnDefinitions, HaveNames, IsObjectTextOf, OwnDefinitionsOf, PutsFile};
+ghost use Rattle.build_object.specs.ObjectSteps.{uses_of_file, PrintsHead, PrintsFiles};
+ghost use Rattle.build_object.specs.ObjectView.{AreOwnDefinitions, HaveNames, IsObjectTextOf, OwnDefinitionsOf, PrintsFile};
 ghost use Rattle.build_object.specs.Sources.{IsObjectText};
 
 use crate::declarations::push_decls;
 use crate::imports::push_imports;
 use crate::names::function_names;
 use crate::origin::Origin;
-use crate::packages::CalledPackages;
+use crate::packages::ObjectNames;
 use crate::printing::{push_between, push_words};
 use crate::sources::source;
 use go_ast::FileTree;
 use go_scope::declare::declare;
 use go_scope::table::ScopeTable;
 use std::alloc::{AllocError, Global};
-use types_declared::{Index, Interfaces, Package, broken_definitions, lay_names};
+use types_declared::{ExportTable, Index, Package, broken_definitions, lay_names};
 use types_expr::found::MemberUse;
 use types_expr::symbol::SharedPath;
 use types_expr::world::{Bound, Definition, Name, World};
-use types_info::{Bounds, bounds_of, file_names, one_world};
+use types_info::{MeaningTable, file_names, has_one_world, meanings_of};
 use workspace_graph::import_paths::import_paths;
 
 /// A package without faults: its path, and its files in the order of their paths. `definitions` are its type definitions as other packages
@@ -76,7 +76,7 @@ fn own_world<'w>(
         names,
         bounds,
         own: definitions,
-        imported: unit.interfaces.definitions(),
+        imported: unit.export_table.definitions(),
     }
 }
 
@@ -92,10 +92,10 @@ fn push_judged<'w>(
     requires index { IsIndexOf (package_of origin.unit) origin.index.now }
     requires names { AreNames (package_of origin.unit) turn.file bounds.now spelled.now }
     requires definitions { AreOwnDefinitions (package_of origin.unit) origin.definitions.now }
-    requires one { IsOneWorld (package_of origin.unit) }
+    requires one { HasOneWorld (package_of origin.unit) }
     requires in_range { turn.file < length origin.unit.files.now }
     requires within { turn.number ≤ length origin.names.now }
-    ensures { IfOk result (λ others. PutsFile (package_of origin.entry.unit) turn.file (uses_or_none (slice_get origin.entry.members.now turn.file)) origin.entry.packages.now origin.entry.names.now turn.number others text.old.items text.new.items) }
+    ensures { IfOk result (λ others. PrintsFile (package_of origin.entry.unit) turn.file (uses_of_file (slice_get origin.entry.members.now turn.file)) origin.entry.packages.now origin.entry.names.now turn.number others text.old.items text.new.items) }
 {
     let judged_by = own_world(origin.unit, spelled, bounds, origin.definitions, turn.file);
     let made_of = source(alloc, origin, judged_by, turn.file)?;
@@ -115,18 +115,18 @@ fn push_judged<'w>(
 fn push_file(
     alloc: Global,
     origin: Origin<'_>,
-    bounds: &mut Bounds,
+    bounds: &mut MeaningTable,
     turn: Turn,
     text: &mut Vec<u8>,
 ) -> Result<usize, AllocError>
     requires index { IsIndexOf (package_of origin.unit) origin.index.now }
-    requires bounds { AreBounds (package_of origin.unit) bounds.old.list.items bounds.old.of.items }
+    requires bounds { AreMeanings (package_of origin.unit) bounds.old.list.items bounds.old.of.items }
     requires definitions { AreOwnDefinitions (package_of origin.unit) origin.definitions.now }
-    requires one { IsOneWorld (package_of origin.unit) }
+    requires one { HasOneWorld (package_of origin.unit) }
     requires in_range { turn.file < length origin.unit.files.now }
     requires within { turn.number ≤ length origin.names.now }
-    ensures puts { IfOk result (λ others. PutsFile (package_of origin.entry.unit) turn.file (uses_or_none (slice_get origin.entry.members.now turn.file)) origin.entry.packages.now origin.entry.names.now turn.number others text.old.items text.new.items) }
-    ensures bounds { OnOk result (AreBounds (package_of origin.entry.unit) bounds.new.list.items bounds.new.of.items) }
+    ensures puts { IfOk result (λ others. PrintsFile (package_of origin.entry.unit) turn.file (uses_of_file (slice_get origin.entry.members.now turn.file)) origin.entry.packages.now origin.entry.names.now turn.number others text.old.items text.new.items) }
+    ensures bounds { OnOk result (AreMeanings (package_of origin.entry.unit) bounds.new.list.items bounds.new.of.items) }
 {
     let spelled = file_names(alloc, origin.unit, origin.index, bounds, turn.file)?;
     push_judged(alloc, origin, &spelled, bounds.list(), turn, text)
@@ -136,14 +136,14 @@ fn push_file(
 fn push_files(
     alloc: Global,
     origin: Origin<'_>,
-    bounds: &mut Bounds,
+    bounds: &mut MeaningTable,
     text: &mut Vec<u8>,
 ) -> Result<usize, AllocError>
     requires index { IsIndexOf (package_of origin.unit) origin.index.now }
-    requires bounds { AreBounds (package_of origin.unit) bounds.old.list.items bounds.old.of.items }
+    requires bounds { AreMeanings (package_of origin.unit) bounds.old.list.items bounds.old.of.items }
     requires definitions { AreOwnDefinitions (package_of origin.unit) origin.definitions.now }
-    requires one { IsOneWorld (package_of origin.unit) }
-    ensures { IfOk result (λ others. PutsFiles (package_of origin.entry.unit) (length origin.entry.unit.files.now) origin.entry.members.now origin.entry.packages.now origin.entry.names.now others text.old.items text.new.items) }
+    requires one { HasOneWorld (package_of origin.unit) }
+    ensures { IfOk result (λ others. PrintsFiles (package_of origin.entry.unit) (length origin.entry.unit.files.now) origin.entry.members.now origin.entry.packages.now origin.entry.names.now others text.old.items text.new.items) }
 {
     let mut others = 0;
     for file in 0..origin.unit.files.len() {
@@ -177,7 +177,7 @@ fn push_first_line(text: &mut Vec<u8>, path: &[u8], name: &[u8]) -> Result<(), A
 
 /// Prints the first lines of an object: its own line, and those of its imports.
 fn push_head(alloc: Global, unit: Package<'_>, text: &mut Vec<u8>) -> Result<(), AllocError>
-    ensures { OnOk result (PutsHead (package_of unit.entry) text.old.items text.new.items) }
+    ensures { OnOk result (PrintsHead (package_of unit.entry) text.old.items text.new.items) }
 {
     push_first_line(text, unit.path.path(), package_name(unit.files))?;
     let paths = import_paths(alloc, unit.files)?;
@@ -185,11 +185,15 @@ fn push_head(alloc: Global, unit: Package<'_>, text: &mut Vec<u8>) -> Result<(),
 }
 
 /// Prints the object of a package, by the meanings of its declarations.
-fn meant_text(alloc: Global, origin: Origin<'_>, bounds: &mut Bounds) -> Result<Vec<u8>, AllocError>
+fn meant_text(
+    alloc: Global,
+    origin: Origin<'_>,
+    bounds: &mut MeaningTable,
+) -> Result<Vec<u8>, AllocError>
     requires index { IsIndexOf (package_of origin.unit) origin.index.now }
-    requires bounds { AreBounds (package_of origin.unit) bounds.old.list.items bounds.old.of.items }
+    requires bounds { AreMeanings (package_of origin.unit) bounds.old.list.items bounds.old.of.items }
     requires definitions { AreOwnDefinitions (package_of origin.unit) origin.definitions.now }
-    requires one { IsOneWorld (package_of origin.unit) }
+    requires one { HasOneWorld (package_of origin.unit) }
     requires names { map function_of origin.names.now ≡ function_names origin.unit.path.now (map source_of origin.unit.files.now) }
     ensures { IfOk result (λ text. (files_of : List ℕ → List SourceFile) → AreMemberUses (package_of origin.entry.unit) (map uses_in origin.entry.members.now) → HaveNames origin.entry.packages.now files_of → IsObjectText (package_of origin.entry.unit) files_of text.items) }
 {
@@ -200,12 +204,16 @@ fn meant_text(alloc: Global, origin: Origin<'_>, bounds: &mut Bounds) -> Result<
 }
 
 /// The meanings of a package's declarations.
-fn all_bounds(alloc: Global, unit: Package<'_>, index: &Index<'_>) -> Result<Bounds, AllocError>
+fn all_bounds(
+    alloc: Global,
+    unit: Package<'_>,
+    index: &Index<'_>,
+) -> Result<MeaningTable, AllocError>
     requires { IsIndexOf (package_of unit) index.now }
-    ensures { IfOk result (λ bounds. AreBounds (package_of unit.entry) bounds.list.items bounds.of.items) }
+    ensures { IfOk result (λ bounds. AreMeanings (package_of unit.entry) bounds.list.items bounds.of.items) }
 {
     let broken = broken_definitions(alloc, unit, index)?;
-    bounds_of(alloc, unit, index, &broken)
+    meanings_of(alloc, unit, index, &broken)
 }
 
 /// Prints the object of a package without faults, by its index and the meanings of its declarations. It may add the exports of other
@@ -214,16 +222,16 @@ pub fn checked_object<'a>(
     alloc: Global,
     unit: Package<'a>,
     index: &'a Index<'a>,
-    bounds: &mut Bounds,
+    bounds: &mut MeaningTable,
     given: Faultless<'a>,
-    packages: &'a CalledPackages<'a>,
+    packages: &'a ObjectNames<'a>,
 ) -> Result<Vec<u8>, AllocError>
     requires index { IsIndexOf (package_of unit) index.now }
-    requires bounds { AreBounds (package_of unit) bounds.old.list.items bounds.old.of.items }
+    requires bounds { AreMeanings (package_of unit) bounds.old.list.items bounds.old.of.items }
     requires definitions { AreOwnDefinitions (package_of unit) given.definitions.now }
     ensures { IfOk result (λ text. (files_of : List ℕ → List SourceFile) → AreMemberUses (package_of unit.entry) (map uses_in given.entry.members.now) → HaveNames packages.now files_of → IsObjectText (package_of unit.entry) files_of text.items) }
 {
-    one_world(unit);
+    has_one_world(unit);
     let names = function_names(
         alloc,
         unit.path.path(),
@@ -246,12 +254,12 @@ pub fn checked_object<'a>(
 fn laid<'a>(
     alloc: Global,
     files: &'a [FileTree],
-    interfaces: &'a Interfaces,
+    export_table: &'a ExportTable,
 ) -> Result<ScopeTable<'a>, AllocError>
-    ensures { IfOk result (λ table. IsLaidOver (map source_of files.now) (known_name interfaces.now) (scoped files.now) table) }
+    ensures { IfOk result (λ table. IsLaidOver (map source_of files.now) (known_name export_table.now) (scoped files.now) table) }
 {
     let plain = declare(alloc, files)?;
-    lay_names(alloc, &plain, files, interfaces)
+    lay_names(alloc, &plain, files, export_table)
 }
 
 /// Prints the object of a package with this scope table.
@@ -259,35 +267,35 @@ fn laid_text(
     alloc: Global,
     given: Faultless<'_>,
     table: &ScopeTable<'_>,
-    interfaces: &Interfaces,
-    packages: &CalledPackages<'_>,
+    export_table: &ExportTable,
+    packages: &ObjectNames<'_>,
 ) -> Result<Vec<u8>, AllocError>
-    requires { AreOwnDefinitions (package_in given.path.now (map source_of given.files.now) table.now (interface_in interfaces.now)) given.definitions.now }
-    ensures { IfOk result (λ text. (files_of : List ℕ → List SourceFile) → AreMemberUses (package_in given.entry.path.now (map source_of given.entry.files.now) table.now (interface_in interfaces.now)) (map uses_in given.entry.members.now) →
-        HaveNames packages.now files_of → IsObjectText (package_in given.entry.path.now (map source_of given.entry.files.now) table.now (interface_in interfaces.now)) files_of text.items) }
+    requires { AreOwnDefinitions (package_in given.path.now (map source_of given.files.now) table.now (export_data_in export_table.now)) given.definitions.now }
+    ensures { IfOk result (λ text. (files_of : List ℕ → List SourceFile) → AreMemberUses (package_in given.entry.path.now (map source_of given.entry.files.now) table.now (export_data_in export_table.now)) (map uses_in given.entry.members.now) →
+        HaveNames packages.now files_of → IsObjectText (package_in given.entry.path.now (map source_of given.entry.files.now) table.now (export_data_in export_table.now)) files_of text.items) }
 {
     let unit = Package {
         path: given.path,
         files: given.files,
         table,
-        interfaces,
+        export_table,
     };
     let index = Index::of(alloc, unit)?;
     let mut bounds = all_bounds(alloc, unit, &index)?;
     checked_object(alloc, unit, &index, &mut bounds, given, packages)
 }
 
-/// Prints the object of a package without faults. `interfaces` has the export data of the packages that it sees, and `packages` the names
+/// Prints the object of a package without faults. `export_table` has the export data of the packages that it sees, and `packages` the names
 /// of declarations.
 pub fn object(
     alloc: Global,
     given: Faultless<'_>,
-    interfaces: &Interfaces,
-    packages: &CalledPackages<'_>,
+    export_table: &ExportTable,
+    packages: &ObjectNames<'_>,
 ) -> Result<Vec<u8>, AllocError>
-    requires { OwnDefinitionsOf given.path.now given.files.now (known_name interfaces.now) (interface_in interfaces.now) given.definitions.now }
-    ensures { IfOk result (λ text. IsObjectTextOf given.entry.path.now given.entry.files.now (known_name interfaces.now) (interface_in interfaces.now) (map uses_in given.entry.members.now) packages.now text.items) }
+    requires { OwnDefinitionsOf given.path.now given.files.now (known_name export_table.now) (export_data_in export_table.now) given.definitions.now }
+    ensures { IfOk result (λ text. IsObjectTextOf given.entry.path.now given.entry.files.now (known_name export_table.now) (export_data_in export_table.now) (map uses_in given.entry.members.now) packages.now text.items) }
 {
-    let table = laid(alloc, given.files, interfaces)?;
-    laid_text(alloc, given, &table, interfaces, packages)
+    let table = laid(alloc, given.files, export_table)?;
+    laid_text(alloc, given, &table, export_table, packages)
 }

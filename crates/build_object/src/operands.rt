@@ -1,8 +1,8 @@
 //! The modes of operands: what an expression is to the code around it.
 ghost use Rattle.std.specs.Prelude.{◌≡◌, option_map};
-ghost use Rattle.build_object.specs.Operands.{qualifies, left_by_call, unqualified, value_count, function_standing};
+ghost use Rattle.build_object.specs.Operands.{qualifies, left_by_call, unqualified, value_count, function_mode};
 ghost use Rattle.build_object.specs.LineView.{function_of};
-ghost use Rattle.build_object.specs.Making.{standing_of};
+ghost use Rattle.build_object.specs.Making.{mode_of};
 
 use crate::instructions::FunctionName;
 use types_expr::types::Builtin;
@@ -18,7 +18,7 @@ pub enum Wanted {
 /// is on the stack. `Converts`: it is a type, whose call is a conversion. `Predeclared`: it is a predeclared function. `Qualifies`: it is
 /// the name of a package.
 #[derive(Clone, Copy)]
-pub enum OperandPlace<'a> {
+pub enum OperandMode<'a> {
     Values(usize),
     Called {
         received: bool,
@@ -30,19 +30,19 @@ pub enum OperandPlace<'a> {
     Qualifies,
 }
 
-impl<'a> OperandPlace<'a> {
+impl<'a> OperandMode<'a> {
     /// The mode of a function or method, if its name is known.
-    #[tactic(auto, unfolding(crate::specs::Making::standing_of))]
+    #[tactic(auto, unfolding(crate::specs::Making::mode_of))]
     pub fn of_function(
         name: Option<FunctionName<'a>>,
         received: bool,
         results: usize,
-    ) -> OperandPlace<'a>
-        ensures { standing_of result ≡ function_standing (option_map function_of name.entry) received results }
+    ) -> OperandMode<'a>
+        ensures { mode_of result ≡ function_mode (option_map function_of name.entry) received results }
     {
         match name {
-            None => OperandPlace::Values(0),
-            Some(function) => OperandPlace::Called {
+            None => OperandMode::Values(0),
+            Some(function) => OperandMode::Called {
                 received,
                 function,
                 results,
@@ -51,44 +51,44 @@ impl<'a> OperandPlace<'a> {
     }
 
     /// Whether the operand is the name of a package.
-    #[tactic(auto, unfolding(crate::specs::Making::standing_of))]
+    #[tactic(auto, unfolding(crate::specs::Making::mode_of))]
     pub fn qualifies(self) -> bool
-        ensures { result ≡ qualifies (standing_of self.entry) }
+        ensures { result ≡ qualifies (mode_of self.entry) }
     {
-        matches!(self, OperandPlace::Qualifies)
+        matches!(self, OperandMode::Qualifies)
     }
 
     /// The mode of the selector of a qualified identifier. A package is never such a selector's meaning.
-    #[tactic(auto, unfolding(crate::specs::Making::standing_of))]
-    pub fn unqualified(self) -> OperandPlace<'a>
-        ensures { standing_of result ≡ unqualified (standing_of self.entry) }
+    #[tactic(auto, unfolding(crate::specs::Making::mode_of))]
+    pub fn unqualified(self) -> OperandMode<'a>
+        ensures { mode_of result ≡ unqualified (mode_of self.entry) }
     {
         match self {
-            OperandPlace::Qualifies => OperandPlace::Values(0),
+            OperandMode::Qualifies => OperandMode::Values(0),
             _ => self,
         }
     }
 
     /// The number of values that a call leaves.
-    #[tactic(auto, unfolding(crate::specs::Making::standing_of, crate::specs::Operands::left_by_call))]
+    #[tactic(auto, unfolding(crate::specs::Making::mode_of, crate::specs::Operands::left_by_call))]
     pub fn left_by_call(self) -> usize
-        ensures { result ≡ left_by_call (standing_of self.entry) }
+        ensures { result ≡ left_by_call (mode_of self.entry) }
     {
         match self {
-            OperandPlace::Called { results, .. } => results,
-            OperandPlace::Predeclared(Builtin::Append | Builtin::Len) | OperandPlace::Converts => 1,
-            OperandPlace::Predeclared(Builtin::Panic | Builtin::Print | Builtin::Println) => 0,
-            OperandPlace::Values(_) | OperandPlace::Qualifies => 0,
+            OperandMode::Called { results, .. } => results,
+            OperandMode::Predeclared(Builtin::Append | Builtin::Len) | OperandMode::Converts => 1,
+            OperandMode::Predeclared(Builtin::Panic | Builtin::Print | Builtin::Println) => 0,
+            OperandMode::Values(_) | OperandMode::Qualifies => 0,
         }
     }
 
     /// The number of values that the operand leaves.
-    #[tactic(auto, unfolding(crate::specs::Making::standing_of))]
+    #[tactic(auto, unfolding(crate::specs::Making::mode_of))]
     pub fn values(self) -> usize
-        ensures { result ≡ value_count (standing_of self.entry) }
+        ensures { result ≡ value_count (mode_of self.entry) }
     {
         match self {
-            OperandPlace::Values(count) => count,
+            OperandMode::Values(count) => count,
             _ => 0,
         }
     }

@@ -1,6 +1,6 @@
 //! The values from which the object of a package is made.
 use crate::instructions::FunctionName;
-use crate::packages::CalledPackages;
+use crate::packages::ObjectNames;
 use types_declared::{Index, Package};
 use types_expr::found::MemberUse;
 use types_expr::world::Definition;
@@ -13,6 +13,6 @@ pub struct Origin<'a> {
     pub index: &'a Index<'a>,
     pub definitions: &'a [Definition],
     pub members: &'a [Vec<MemberUse>],
-    pub packages: &'a CalledPackages<'a>,
+    pub packages: &'a ObjectNames<'a>,
     pub names: &'a [FunctionName<'a>],
 }

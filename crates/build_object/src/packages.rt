@@ -7,9 +7,9 @@ ghost use Rattle.build_object.specs.LineView.{global_of, function_of};
 ghost use Rattle.build_object.specs.Names.{function_names, functions_behind};
 ghost use Rattle.build_object.specs.PackagesView.{type_of_rank, type_in, function_of_rank, function_in, position_of_rank, position_in};
 
-pub use crate::called::{CalledNames, CalledPackages, DeclaredTables};
 use crate::instructions::{FunctionName, GlobalName};
-use crate::names::{function_called, initializers, is_initializer, type_called};
+use crate::names::{function_called, initializers, is_initializer, name_of_type};
+pub use crate::object_names::{DeclaredTables, NamedPackage, ObjectNames};
 use crate::walks;
 use crate::walks::initializers_below;
 use go_ast::FileTree;
@@ -76,7 +76,7 @@ fn type_at<'a>(
 
 /// The name in objects of the function with this rank, by tables if there are any.
 fn function_named<'a>(
-    names: &CalledNames<'a>,
+    names: &NamedPackage<'a>,
     tables: Option<&DeclaredTables<'a>>,
     rank: usize,
 ) -> Option<FunctionName<'a>>
@@ -102,7 +102,7 @@ fn position_at(
     }
 }
 
-impl<'a> CalledPackages<'a> {
+impl<'a> ObjectNames<'a> {
     /// The name of a type definition in objects.
     pub(crate) fn type_name(&self, symbol: &Symbol) -> Option<GlobalName<'a>>
         ensures { option_map global_of result ≡ type_in self.now symbol.now }
@@ -113,7 +113,7 @@ impl<'a> CalledPackages<'a> {
         };
         match type_at(names.files, self.tables.get(path), symbol.rank) {
             None => None,
-            Some(own) => Some(type_called(names.path, names.files, own)),
+            Some(own) => Some(name_of_type(names.path, names.files, own)),
         }
     }
 

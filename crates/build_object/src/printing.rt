@@ -3,13 +3,13 @@ ghost use Rattle.std.specs.Prelude.{◌≡◌, ◌<◌, ◌++◌, codes, decimal
 ghost use Rattle.std.specs.List.{flat_map};
 ghost use Rattle.types_expr.specs.View.{type_of};
 ghost use Rattle.types_declared.specs.Written.{basic_name};
-ghost use Rattle.types_declared.specs.Bound.{builtin_name};
+ghost use Rattle.types_declared.specs.MeaningOf.{builtin_name};
 ghost use Rattle.build_object.specs.LineView.{global_of, function_of, line_of};
 ghost use Rattle.build_object.specs.PackagesView.{type_in};
 ghost use Rattle.build_object.specs.Text.{global_text, function_text, type_text, types_behind, types_joined, type_list, hex_digit, hex_byte, bytes_text, operator_text, with_number, words_of, ended, code_text};
 
 use crate::instructions::{FunctionName, GlobalName, Instruction};
-use crate::packages::CalledPackages;
+use crate::packages::ObjectNames;
 use go_ast::syntax::BinaryOp;
 use itoa::Buffer;
 use std::alloc::AllocError;
@@ -94,7 +94,7 @@ fn builtin_name(builtin: Builtin) -> &'static [u8]
 #[tactic(auto, unfolding(types_expr::specs::View::type_of, crate::specs::Text::type_text))]
 pub fn push_type(
     text: &mut Vec<u8>,
-    packages: &CalledPackages<'_>,
+    packages: &ObjectNames<'_>,
     own: &GoType,
 ) -> Result<(), AllocError>
     ensures { OnOk result (text.new.items ≡ text.old.items ++ type_text (type_in packages.now) (type_of own.now)) }
@@ -119,7 +119,7 @@ pub fn push_type(
 /// Adds a word and a type.
 pub fn push_word_type(
     text: &mut Vec<u8>,
-    packages: &CalledPackages<'_>,
+    packages: &ObjectNames<'_>,
     word: &[u8],
     own: &GoType,
 ) -> Result<(), AllocError>
@@ -132,7 +132,7 @@ pub fn push_word_type(
 /// Adds types, each behind a separator.
 fn push_types_behind(
     text: &mut Vec<u8>,
-    packages: &CalledPackages<'_>,
+    packages: &ObjectNames<'_>,
     separator: &[u8],
     types: &[GoType],
 ) -> Result<(), AllocError>
@@ -147,7 +147,7 @@ fn push_types_behind(
 /// Adds types with a separator between them.
 pub fn push_types(
     text: &mut Vec<u8>,
-    packages: &CalledPackages<'_>,
+    packages: &ObjectNames<'_>,
     separator: &[u8],
     types: &[GoType],
 ) -> Result<(), AllocError>
@@ -163,7 +163,7 @@ pub fn push_types(
 /// Adds a space, and the types of parameters or results in parentheses.
 pub fn push_type_list(
     text: &mut Vec<u8>,
-    packages: &CalledPackages<'_>,
+    packages: &ObjectNames<'_>,
     types: &[GoType],
 ) -> Result<(), AllocError>
     ensures { OnOk result (text.new.items ≡ text.old.items ++ (codes " " ++ type_list (type_in packages.now) (map type_of types.now))) }
@@ -286,7 +286,7 @@ pub fn push_word_bytes(text: &mut Vec<u8>, word: &[u8], bytes: &[u8]) -> Result<
 #[tactic(auto, unfolding(crate::specs::LineView::line_of, crate::specs::Text::words_of))]
 fn push_line_words(
     text: &mut Vec<u8>,
-    packages: &CalledPackages<'_>,
+    packages: &ObjectNames<'_>,
     line: &Instruction<'_>,
 ) -> Result<(), AllocError>
     ensures { OnOk result (text.new.items ≡ text.old.items ++ words_of (type_in packages.now) (line_of line.now)) }
@@ -338,7 +338,7 @@ fn push_line_words(
 /// Adds a line of code.
 fn push_line(
     text: &mut Vec<u8>,
-    packages: &CalledPackages<'_>,
+    packages: &ObjectNames<'_>,
     line: &Instruction<'_>,
 ) -> Result<(), AllocError>
     ensures { OnOk result (text.new.items ≡ text.old.items ++ ended (words_of (type_in packages.now) (line_of line.now))) }
@@ -350,7 +350,7 @@ fn push_line(
 /// Adds lines of code, of which the last is the first in the list.
 pub fn push_lines(
     text: &mut Vec<u8>,
-    packages: &CalledPackages<'_>,
+    packages: &ObjectNames<'_>,
     lines: &[Instruction<'_>],
 ) -> Result<(), AllocError>
     ensures { OnOk result (text.new.items ≡ text.old.items ++ code_text (type_in packages.now) (reverse (map line_of lines.now))) }

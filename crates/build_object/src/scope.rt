@@ -5,12 +5,12 @@ ghost use Rattle.build_object.specs.SourceView.{source_of};
 ghost use Rattle.build_object.specs.Operands.{name_operand, plain_function, local_operand, global_operand};
 ghost use Rattle.build_object.specs.Numbering.{slot_of};
 ghost use Rattle.build_object.specs.Lines.{Integer, Text, Set, line_if_known};
-ghost use Rattle.build_object.specs.Making.{lines_for, standing_of};
+ghost use Rattle.build_object.specs.Making.{lines_for, mode_of};
 
 use crate::code::Code;
 use crate::instructions::{FunctionName, Instruction};
-use crate::numbered::NumberedUses;
-use crate::operands::{OperandPlace, Wanted};
+use crate::numbered::NumberedPlaces;
+use crate::operands::{OperandMode, Wanted};
 use crate::source::Source;
 use std::alloc::AllocError;
 use types_expr::world::Bound;
@@ -19,7 +19,7 @@ use types_expr::world::Bound;
 #[derive(Clone, Copy)]
 pub struct SlotScope<'a> {
     pub source: &'a Source<'a>,
-    pub slots: &'a NumberedUses,
+    pub slots: &'a NumberedPlaces,
 }
 
 impl<'a> SlotScope<'a> {
@@ -35,22 +35,22 @@ impl<'a> SlotScope<'a> {
     }
 
     /// The mode of the name at a token.
-    #[tactic(auto, unfolding(crate::specs::Making::standing_of, crate::specs::Operands::bound_name, crate::specs::Operands::named_meaning, types_expr::specs::WorldView::bound_of))]
-    pub fn name_standing(self, token: usize) -> OperandPlace<'a>
-        ensures { standing_of result ≡ (name_operand (source_of self.entry.source.now) self.entry.slots.now.places.items token).standing }
+    #[tactic(auto, unfolding(crate::specs::Making::mode_of, crate::specs::Operands::bound_name, crate::specs::Operands::named_meaning, types_expr::specs::WorldView::bound_of))]
+    pub fn name_mode(self, token: usize) -> OperandMode<'a>
+        ensures { mode_of result ≡ (name_operand (source_of self.entry.source.now) self.entry.slots.now.places.items token).mode }
     {
         match self.source.world.bound(token) {
             Some(Bound::Local(_) | Bound::Variable(_) | Bound::Truth | Bound::Nil) =>
-                OperandPlace::Values(1),
-            Some(Bound::TypeName(_)) => OperandPlace::Converts,
-            Some(Bound::Function(signature)) => OperandPlace::of_function(
+                OperandMode::Values(1),
+            Some(Bound::TypeName(_)) => OperandMode::Converts,
+            Some(Bound::Function(signature)) => OperandMode::of_function(
                 self.plain_function(token),
                 false,
                 signature.results.len(),
             ),
-            Some(Bound::Builtin(builtin)) => OperandPlace::Predeclared(*builtin),
-            Some(Bound::Package) => OperandPlace::Qualifies,
-            _ => OperandPlace::Values(0),
+            Some(Bound::Builtin(builtin)) => OperandMode::Predeclared(*builtin),
+            Some(Bound::Package) => OperandMode::Qualifies,
+            _ => OperandMode::Values(0),
         }
     }
 

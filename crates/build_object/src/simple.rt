@@ -250,7 +250,7 @@ pub fn simple<'a>(
 {
     match statement {
         SimpleStmt::Expr(e) => {
-            code.put_pops(scope.standing(e).values())?;
+            code.put_pops(scope.mode(e).values())?;
             operand(alloc, scope, e, Wanted::Value, code)
         }
         SimpleStmt::Step {

@@ -8,7 +8,7 @@ ghost use Rattle.types_declared.specs.Files.{group_items};
 ghost use Rattle.types_stmt.specs.Sides.{declares, defined_name, ident_place, named};
 ghost use Rattle.build_object.specs.Slots.{receiver_places, parameter_places, local_places, simple_places, optional_places, init_places, header_places, statement_places, block_places, if_places, else_places, slots_of};
 
-use crate::numbered::NumberedUses;
+use crate::numbered::NumberedPlaces;
 use go_ast::tree::{
     BlockStmt, Else, Expr, ExprItem, ForHeader, FuncDecl, Group, Ident, IfInit, IfStmt, Item,
     LocalSpec, Param, Receiver, SimpleStmt, Stmt,
@@ -273,12 +273,16 @@ fn add_else(places: &mut Vec<usize>, world: &World<'_>, otherwise: &Else) -> Res
 
 /// The slots of a function, in the order of the file.
 #[tactic(auto, unfolding(go_ast::specs::FileView::func_view))]
-pub fn slots(alloc: Global, world: &World<'_>, func: &FuncDecl) -> Result<NumberedUses, AllocError>
+pub fn slots(
+    alloc: Global,
+    world: &World<'_>,
+    func: &FuncDecl,
+) -> Result<NumberedPlaces, AllocError>
     ensures { IfOk result (λ slots. slots.places.items ≡ slots_of (world_of world.now) (func_view func.now)) }
 {
     let mut places = Vec::new(alloc);
     add_receiver(&mut places, &func.receiver)?;
     add_params(&mut places, &func.params)?;
     add_block(&mut places, world, &func.body)?;
-    NumberedUses::of(alloc, places)
+    NumberedPlaces::of(alloc, places)
 }

@@ -6,8 +6,8 @@ ghost use Rattle.go_scope.specs.Named.{name_value};
 ghost use Rattle.build_object.specs.SourceView.{source_of};
 
 use crate::instructions::GlobalName;
-use crate::numbered::NumberedUses;
-use crate::packages::CalledPackages;
+use crate::numbered::NumberedPlaces;
+use crate::packages::ObjectNames;
 use go_scanner::integer_value;
 use types_expr::found::MemberUse;
 use types_expr::types::GoType;
@@ -26,10 +26,10 @@ pub struct Mark<'a> {
 pub struct Source<'a> {
     pub world: World<'a>,
     pub uses: &'a [MemberUse],
-    pub used: NumberedUses,
+    pub used: NumberedPlaces,
     pub marks: Vec<Mark<'a>>,
     pub texts: Vec<Option<Vec<u8>>>,
-    pub packages: &'a CalledPackages<'a>,
+    pub packages: &'a ObjectNames<'a>,
 }
 
 impl<'a> Source<'a> {

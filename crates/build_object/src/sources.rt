@@ -5,12 +5,12 @@ ghost use Rattle.types_declared.specs.PackageView.{package_of, IsIndexOf};
 ghost use Rattle.types_declared.specs.Written.{BindsToken, IsPredeclared};
 ghost use Rattle.types_declared.specs.Written.{ImportsPath as DeclaresImport};
 ghost use Rattle.build_object.specs.LineView.{global_of};
-ghost use Rattle.build_object.specs.ObjectSteps.{uses_or_none};
-ghost use Rattle.build_object.specs.Sources.{IsBehindImport, IsGlobal, IsTextAt};
-ghost use Rattle.build_object.specs.TablesView.{AreMarks, AreTexts, IsMarkAt, IsTabled};
+ghost use Rattle.build_object.specs.ObjectSteps.{uses_of_file};
+ghost use Rattle.build_object.specs.Sources.{HasQualifier, IsGlobal, IsTextAt};
+ghost use Rattle.build_object.specs.TablesView.{AreNameMarks, AreTexts, IsMarkAt, IsTabledSource};
 
 use crate::instructions::GlobalName;
-use crate::numbered::NumberedUses;
+use crate::numbered::NumberedPlaces;
 use crate::origin::Origin;
 use crate::source::{Mark, Source};
 use go_ast::FileTree;
@@ -19,7 +19,7 @@ use std::alloc::{AllocError, Global};
 use types_declared::{Index, Package};
 use types_expr::found::MemberUse;
 use types_expr::world::World;
-use types_info::is_behind_dot;
+use types_info::is_name_after_dot;
 
 /// The value of the string literal at a token, and `None` where there is no string literal.
 fn literal(alloc: Global, file: &FileTree, token: usize) -> Result<Option<Vec<u8>>, AllocError>
@@ -45,14 +45,14 @@ fn texts(alloc: Global, file: &FileTree) -> Result<Vec<Option<Vec<u8>>>, AllocEr
 }
 
 /// The tokens of uses of members.
-fn used(alloc: Global, uses: &[MemberUse]) -> Result<NumberedUses, AllocError>
+fn used(alloc: Global, uses: &[MemberUse]) -> Result<NumberedPlaces, AllocError>
     ensures { IfOk result (λ used. used.places.items ≡ map (λ u. u.place) uses.now) }
 {
     let mut places = Vec::new(alloc);
     for next in uses {
         places.push(next.place)?;
     }
-    NumberedUses::of(alloc, places)
+    NumberedPlaces::of(alloc, places)
 }
 
 /// The path of the import to which the name at a token is bound.
@@ -80,12 +80,12 @@ fn qualifier<'i>(
     token: usize,
 ) -> Option<&'i [u8]>
     requires { IsIndexOf (package_of unit) index.now }
-    ensures { MatchOption result ((path : List ℕ) → IsBehindImport (package_of unit.entry) file token path → ⊥) (λ path. IsBehindImport (package_of unit.entry) file token path.now) }
+    ensures { MatchOption result ((path : List ℕ) → HasQualifier (package_of unit.entry) file token path → ⊥) (λ path. HasQualifier (package_of unit.entry) file token path.now) }
 {
     if token < 2 {
         return None;
     }
-    if is_behind_dot(unit, index, file, token) {
+    if is_name_after_dot(unit, index, file, token) {
         import_at(unit, index, file, token - 2)
     } else {
         None
@@ -167,7 +167,7 @@ fn marks<'a>(
     file: usize,
 ) -> Result<Vec<Mark<'a>>, AllocError>
     requires { IsIndexOf (package_of unit) index.now }
-    ensures { IfOk result (λ marks. AreMarks (package_of unit.entry) file marks.items) }
+    ensures { IfOk result (λ marks. AreNameMarks (package_of unit.entry) file marks.items) }
 {
     let mut marks = Vec::new(alloc);
     for token in 0..index.identifiers.width(file) {
@@ -178,7 +178,7 @@ fn marks<'a>(
 
 /// The uses of members of a file.
 fn uses_at(members: &[Vec<MemberUse>], file: usize) -> &[MemberUse]
-    ensures { result.now ≡ uses_or_none (slice_get members.now file) }
+    ensures { result.now ≡ uses_of_file (slice_get members.now file) }
 {
     match members.get(file) {
         None => &[],
@@ -195,7 +195,7 @@ pub fn source<'a>(
 ) -> Result<Source<'a>, AllocError>
     requires index { IsIndexOf (package_of origin.unit) origin.index.now }
     requires in_range { file < length origin.unit.files.now }
-    ensures { IfOk result (λ s. IsTabled (package_of origin.entry.unit) file world.entry (uses_or_none (slice_get origin.entry.members.now file)) origin.entry.packages.now s) }
+    ensures { IfOk result (λ s. IsTabledSource (package_of origin.entry.unit) file world.entry (uses_of_file (slice_get origin.entry.members.now file)) origin.entry.packages.now s) }
 {
     let uses = uses_at(origin.members, file);
     let files = origin.unit.files;

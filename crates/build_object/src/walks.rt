@@ -7,7 +7,7 @@ ghost use Rattle.types_declared.specs.Files.{group_items};
 ghost use Rattle.types_declared.specs.DeclaredView.{type_of, function_of as placed_function};
 ghost use Rattle.types_declared.specs.Package.{decl_functions, decl_types, declared_functions, declared_types, functions_in, placed_type, types_in};
 ghost use Rattle.build_object.specs.Names.{field_positions, initializers_among, names_of_fields, positions_from};
-ghost use Rattle.build_object.specs.Walks.{Walks, decl_positions, file_positions, spec_positions};
+ghost use Rattle.build_object.specs.RankLookup.{FindsRank, decl_positions, file_positions, spec_positions};
 ghost use Rattle.std.specs.List.{flat_map};
 
 use crate::names::initializers_with;
@@ -22,7 +22,7 @@ fn type_in_group<'a>(
     group: &'a Group<TypeSpec>,
     rank: usize,
 ) -> Result<TypeDef<'a>, usize>
-    ensures { Walks type_of (map (placed_type file) (group_items (group_view type_spec_view group.now))) rank result }
+    ensures { FindsRank type_of (map (placed_type file) (group_items (group_view type_spec_view group.now))) rank result }
 {
     match group {
         Group::Single(spec) => {
@@ -50,7 +50,7 @@ fn type_in_group<'a>(
 /// The type definition with this rank in a declaration, or the rank that is left behind it.
 #[tactic(auto, unfolding(go_ast::specs::FileView::decl_view))]
 fn type_in_decl<'a>(file: usize, decl: &'a Decl, rank: usize) -> Result<TypeDef<'a>, usize>
-    ensures { Walks type_of (decl_types file (decl_view decl.now)) rank result }
+    ensures { FindsRank type_of (decl_types file (decl_view decl.now)) rank result }
 {
     match decl {
         Decl::Type { group, .. } => type_in_group(file, group, rank),
@@ -61,7 +61,7 @@ fn type_in_decl<'a>(file: usize, decl: &'a Decl, rank: usize) -> Result<TypeDef<
 
 /// The type definition with this rank in a file, or the rank that is left behind it.
 fn type_in_file<'a>(file: usize, tree: &'a FileTree, rank: usize) -> Result<TypeDef<'a>, usize>
-    ensures { Walks type_of (types_in (file, source_of tree.now)) rank result }
+    ensures { FindsRank type_of (types_in (file, source_of tree.now)) rank result }
 {
     let tree = tree.file();
     let mut rest = rank;
@@ -91,7 +91,7 @@ pub(crate) fn type_at(files: &[FileTree], rank: usize) -> Option<TypeDef<'_>>
 /// The function with this rank in a declaration, or the rank that is left behind it.
 #[tactic(auto, unfolding(go_ast::specs::FileView::decl_view))]
 fn function_in_decl<'a>(file: usize, decl: &'a Decl, rank: usize) -> Result<Function<'a>, usize>
-    ensures { Walks placed_function (decl_functions file (decl_view decl.now)) rank result }
+    ensures { FindsRank placed_function (decl_functions file (decl_view decl.now)) rank result }
 {
     match decl {
         Decl::Func { func, .. } => {
@@ -108,7 +108,7 @@ fn function_in_decl<'a>(file: usize, decl: &'a Decl, rank: usize) -> Result<Func
 
 /// The function with this rank in a file, or the rank that is left behind it.
 fn function_in_file<'a>(file: usize, tree: &'a FileTree, rank: usize) -> Result<Function<'a>, usize>
-    ensures { Walks placed_function (functions_in (file, source_of tree.now)) rank result }
+    ensures { FindsRank placed_function (functions_in (file, source_of tree.now)) rank result }
 {
     let tree = tree.file();
     let mut rest = rank;
@@ -153,7 +153,7 @@ pub(crate) fn initializers_below(files: &[FileTree], rank: usize) -> usize
 
 /// The position of the field with this rank in a struct, or the rank that is left behind it.
 fn position_in_fields(fields: &[Item<FieldDecl>], rank: usize) -> Result<usize, usize>
-    ensures { Walks (λ n. n) (positions_from 0 (names_of_fields (list_view field_view fields.now))) rank result }
+    ensures { FindsRank (λ n. n) (positions_from 0 (names_of_fields (list_view field_view fields.now))) rank result }
 {
     let mut rest = rank;
     for field in fields {
@@ -169,7 +169,7 @@ fn position_in_fields(fields: &[Item<FieldDecl>], rank: usize) -> Result<usize, 
 /// The position in its struct of the field with this rank in a type definition, or the rank that is left behind it.
 #[tactic(auto, unfolding(go_ast::specs::FileView::body_view, go_ast::specs::FileView::type_spec_view))]
 fn position_in_spec(spec: &TypeSpec, rank: usize) -> Result<usize, usize>
-    ensures { Walks (λ n. n) (spec_positions (type_spec_view spec.now)) rank result }
+    ensures { FindsRank (λ n. n) (spec_positions (type_spec_view spec.now)) rank result }
 {
     match &spec.body {
         TypeBody::Type(_) => Err(rank),
@@ -180,7 +180,7 @@ fn position_in_spec(spec: &TypeSpec, rank: usize) -> Result<usize, usize>
 /// The position in its struct of the field with this rank in a `type`, or the rank that is left behind it.
 #[tactic(auto, unfolding(go_ast::specs::View::group_view))]
 fn position_in_group(group: &Group<TypeSpec>, rank: usize) -> Result<usize, usize>
-    ensures { Walks (λ n. n) (flat_map spec_positions (group_items (group_view type_spec_view group.now))) rank result }
+    ensures { FindsRank (λ n. n) (flat_map spec_positions (group_items (group_view type_spec_view group.now))) rank result }
 {
     match group {
         Group::Single(spec) => position_in_spec(spec, rank),
@@ -190,7 +190,7 @@ fn position_in_group(group: &Group<TypeSpec>, rank: usize) -> Result<usize, usiz
 
 /// The position in its struct of the field with this rank in several type definitions, or the rank that is left behind them.
 fn position_in_items(items: &[Item<TypeSpec>], rank: usize) -> Result<usize, usize>
-    ensures { Walks (λ n. n) (flat_map (λ i. spec_positions (type_spec_view i.value)) items.now) rank result }
+    ensures { FindsRank (λ n. n) (flat_map (λ i. spec_positions (type_spec_view i.value)) items.now) rank result }
 {
     let mut rest = rank;
     for item in items {
@@ -205,7 +205,7 @@ fn position_in_items(items: &[Item<TypeSpec>], rank: usize) -> Result<usize, usi
 /// The position in its struct of the field with this rank in a declaration, or the rank that is left behind it.
 #[tactic(auto, unfolding(go_ast::specs::FileView::decl_view))]
 fn position_in_decl(decl: &Decl, rank: usize) -> Result<usize, usize>
-    ensures { Walks (λ n. n) (decl_positions (decl_view decl.now)) rank result }
+    ensures { FindsRank (λ n. n) (decl_positions (decl_view decl.now)) rank result }
 {
     match decl {
         Decl::Type { group, .. } => position_in_group(group, rank),
@@ -216,7 +216,7 @@ fn position_in_decl(decl: &Decl, rank: usize) -> Result<usize, usize>
 
 /// The position in its struct of the field with this rank in a file, or the rank that is left behind it.
 fn position_in_file(tree: &FileTree, rank: usize) -> Result<usize, usize>
-    ensures { Walks (λ n. n) (file_positions (source_of tree.now)) rank result }
+    ensures { FindsRank (λ n. n) (file_positions (source_of tree.now)) rank result }
 {
     let tree = tree.file();
     let mut rest = rank;

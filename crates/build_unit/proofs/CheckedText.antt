@@ -8,9 +8,9 @@ use Rattle.workspace_graph.specs.declared.package.ParsedPackage.{ParsedPackage a
 use Rattle.workspace_graph.specs.Graphs.{IsPackage}
 use Rattle.workspace_graph.specs.Parsed.{AreParsed}
 use Rattle.types_declared.specs.Package.{Package}
-use Rattle.types_expr.specs.declared.interfaces.Interface.{Interface as FoundInterface}
-use Rattle.types_declared.specs.InterfacesView.{interface_of}
-use Rattle.types_check.specs.Interfaces.{IsInterface}
+use Rattle.types_expr.specs.declared.exports.ExportData.{ExportData as FoundExportData}
+use Rattle.types_declared.specs.ExportTablesView.{export_data_of}
+use Rattle.types_check.specs.Exports.{IsExportData}
 use Rattle.build_object.specs.ObjectView.{AreOwnDefinitions}
 use Rattle.build_unit.specs.Compiling.{found_definitions}
 
@@ -23,7 +23,7 @@ parsed_all w n p files at is read =
     (subst (λ q. AreParsed (package_files w q) files.trees.items files.faulty.items) folder is.files)
 
 -- the definitions of the interface that was found, where no fault was
-pub own_found : {X : Type 0} (p : Package) (faults : List X) (o : Option FoundInterface) → faults ≡ [] →
-    MatchOption o (faults ≡ [] → ⊥) (λ i. (faults ≡ []) × IsInterface p (interface_of p.path i)) → AreOwnDefinitions p (found_definitions o)
+pub own_found : {X : Type 0} (p : Package) (faults : List X) (o : Option FoundExportData) → faults ≡ [] →
+    MatchOption o (faults ≡ [] → ⊥) (λ i. (faults ≡ []) × IsExportData p (export_data_of p.path i)) → AreOwnDefinitions p (found_definitions o)
 own_found p faults None none h = absurd (h none)
 own_found p faults (Some i) none h = record { own = λ rank d at. h.1.definitions rank d at; beyond = λ rank past. h.1.beyond rank past }

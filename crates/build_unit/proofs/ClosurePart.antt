@@ -11,11 +11,11 @@ use Rattle.base_files.specs.Path.{folder}
 use Rattle.base_files.specs.Packages.{is_go, is_of_package, package_paths, package_files}
 use Rattle.base_files.specs.Workspace.{Workspace}
 use Rattle.base_files.proofs.PackageFolders.{of_folder}
-use Rattle.workspace_graph.specs.Graphs.{HoldsPackages, IsPackage}
+use Rattle.workspace_graph.specs.Graphs.{ListsPackages, IsPackage}
 use Rattle.workspace_graph.specs.Packages.{IsInClosure, itself, through}
-use Rattle.build_unit.specs.Parts.{IsNumbered}
+use Rattle.build_unit.specs.Parts.{HasNumberIn}
 use Rattle.workspace_graph.specs.declared.package.ParsedPackage.{ParsedPackage}
-use Rattle.workspace_graph.proofs.Asked.{has_file, number}
+use Rattle.workspace_graph.proofs.ByPath.{has_file, number}
 use Rattle.workspace_graph.proofs.ChangedPackages.{moved}
 use Rattle.build_unit.proofs.PartPackages.{same_package}
 use Rattle.workspace_check.specs.Closures.{HasSameClosure}
@@ -30,11 +30,11 @@ module _ (w : Workspace) (numbers : List ℕ) where
   abbrev part : Workspace
   part = part_of w numbers
 
-  same_own : (q : List ℕ) → IsNumbered w numbers q → package_files part q ≡ package_files w q
+  same_own : (q : List ℕ) → HasNumberIn w numbers q → package_files part q ≡ package_files w q
   same_own = same_package w part numbers (part_files w numbers)
 
   -- a closure all of whose packages are there stays
-  stays : (p q : List ℕ) → ((r : List ℕ) → IsInClosure w p r → IsNumbered w numbers r) → IsInClosure w p q → IsInClosure part p q
+  stays : (p q : List ℕ) → ((r : List ℕ) → IsInClosure w p r → HasNumberIn w numbers r) → IsInClosure w p q → IsInClosure part p q
   stays p q all (itself has) =
       let file = package_file w p has in
       itself (has_file part p file.0 (subst (λ es. Contains es file.0) (sym (same_own p (all p (itself has)))) file.1))
@@ -42,13 +42,13 @@ module _ (w : Workspace) (numbers : List ℕ) where
       let own = all p (itself (has_file w p imports.entry imports.of_package)) in
       through (moved w part p r (sym (same_own p own)) imports) (stays r q (λ s closed. all s (through imports closed)) rest)
 
-  module _ (p : List ℕ) (holds : HoldsPackages w (IsInClosure w p) numbers) where
-    closed_number : (q : List ℕ) → IsInClosure w p q → IsNumbered w numbers q
+  module _ (p : List ℕ) (holds : ListsPackages w (IsInClosure w p) numbers) where
+    closed_number : (q : List ℕ) → IsInClosure w p q → HasNumberIn w numbers q
     closed_number q closed =
         let n = number w q (to_package w p q closed) in
         record { number = n.0; among = (holds n.0).1 (q, n.1, closed); has_path = n.1 }
 
-    pub number_closed : (q : List ℕ) → IsNumbered w numbers q → IsInClosure w p q
+    pub number_closed : (q : List ℕ) → HasNumberIn w numbers q → IsInClosure w p q
     number_closed q is =
         let s = (holds is.number).0 is.among in
         subst (IsInClosure w p) (same_Some s.0 q (sym s.1 ∙ is.has_path)) s.2
@@ -63,7 +63,7 @@ module _ (w : Workspace) (numbers : List ℕ) where
             (folder e.0, number_closed (folder e.0) is.1, passed (λ d. is_of_package (folder e.0) d.0) (entries w) e own is.2),
         λ text.
             let file = passes (λ d. is_of_package text.0 d.0) (entries w) e text.2 in
-            let is = subst (IsNumbered w numbers) (sym (of_folder text.0 e.0 file.0)) (closed_number text.0 text.1) in
+            let is = subst (HasNumberIn w numbers) (sym (of_folder text.0 e.0 file.0)) (closed_number text.0 text.1) in
             into_part w numbers e (and_parts (is_go e.0) (pointwise ◌==◌ (folder e.0) text.0) file.0).0 is file.1,
       );
     }

@@ -13,29 +13,29 @@ use Rattle.types_expr.specs.declared.found.MemberUse.{MemberUse}
 use Rattle.types_expr.specs.declared.world.Definition.{Definition}
 use Rattle.types_expr.specs.WorldView.{definition_or_none, definitions_listed, ranked}
 use Rattle.types_info.specs.PackageOf.{IsPackageOf}
-use Rattle.types_expr.specs.declared.interfaces.Interface.{Interface as FoundInterface}
-use Rattle.types_declared.specs.declared.interfaces.Interfaces.{Interfaces}
+use Rattle.types_expr.specs.declared.exports.ExportData.{ExportData as FoundExportData}
+use Rattle.types_declared.specs.declared.export_tables.ExportTable.{ExportTable}
 use Rattle.types_declared.specs.Definitions.{IsDefinition}
-use Rattle.types_check.specs.Interfaces.{IsInterface}
-use Rattle.types_declared.specs.InterfacesView.{interface_known}
+use Rattle.types_check.specs.Exports.{IsExportData}
+use Rattle.types_declared.specs.ExportTablesView.{export_data_known}
 use Rattle.types_info.specs.MemberUses.{AreMemberUses, uses_in}
-use Rattle.types_declared.specs.Package.{Package, Interface, symbol_in}
+use Rattle.types_declared.specs.Package.{Package, ExportData, symbol_in}
 use Rattle.workspace_check.specs.FaultLists.{AreListed}
-use Rattle.workspace_check.specs.Steps.{IsSeenIn}
-use Rattle.workspace_check.specs.Told.{known_by, verdict_known, IsFinding, IsFindingOf}
-use Rattle.workspace_check.specs.Verdicts.{Verdicts, AreSeen, AreVerdictsBelow, HasInterface, IsFaultBy, IsPackageIn, IsVerdict, IsVerdictBy}
+use Rattle.workspace_check.specs.Steps.{SeesExactly}
+use Rattle.workspace_check.specs.KnownFindings.{verdicts_by, verdict_from, IsFinding, IsFindingOf}
+use Rattle.workspace_check.specs.Verdicts.{Verdicts, AreSeen, AreVerdictsBelow, HasExportData, IsFaultBy, IsPackageIn, IsVerdict, IsVerdictBy}
 use Rattle.workspace_check.specs.declared.finding.Finding.{Finding}
 use Rattle.workspace_check.proofs.Adding.{finding_as}
 use Rattle.workspace_check.proofs.Members.{nothing_in}
 use Rattle.workspace_check.proofs.OnePackage.{all_read, one_checked}
 use Rattle.workspace_check.proofs.OneVerdict.{checked_as_one, right_alike, verdict_by}
-use Rattle.build_object.specs.declared.packages.CalledPackages.{CalledPackages}
+use Rattle.build_object.specs.declared.packages.ObjectNames.{ObjectNames}
 use Rattle.build_object.specs.ObjectView.{AreOwnDefinitions, IsObjectTextOf, OwnDefinitionsOf}
-use Rattle.build_unit.specs.Compiling.{HaveNamesBelow, IsFaultless, IsFaultlessSeeing, IsTextOf}
+use Rattle.build_unit.specs.Compiling.{HaveNamesBelow, IsFaultless, IsFaultlessBySeen, IsTextOf}
 use Rattle.build_unit.specs.Units.{IsCompiled}
 
 -- the definitions of an interface are those of the package, by their ranks
-own_definitions : (p : Package) (known : Option FoundInterface) (list : List Definition) → IsInterface p (interface_known p.path known) →
+own_definitions : (p : Package) (known : Option FoundExportData) (list : List Definition) → IsExportData p (export_data_known p.path known) →
     ((rank : ℕ) → slice_get list rank ≡ ranked (definitions_listed known) rank) → AreOwnDefinitions p list
 own_definitions p known list i same = record {
   own = λ rank d at. subst (λ (o : Option Definition). IsDefinition p rank (definition_or_none (symbol_in p rank) o)) (sym (same rank))
@@ -43,19 +43,19 @@ own_definitions p known list i same = record {
   beyond = λ rank past. ap (λ (o : Option Definition). definition_or_none (symbol_in p rank) o) (same rank) ∙ i.beyond rank past;
 }
 
-module _ (w : Workspace) (p : List ℕ) (known : Verdicts) (one : Option FoundInterface) (members : List (Vec MemberUse))
+module _ (w : Workspace) (p : List ℕ) (known : Verdicts) (one : Option FoundExportData) (members : List (Vec MemberUse))
     (found : IsFaultless w known one p members) where
   -- what others see of it
-  own : HasInterface w known p (interface_known p one)
+  own : HasExportData w known p (export_data_known p one)
   own =
-      let verdict : IsVerdictBy w known p (verdict_known p one) = verdict_by w p known (verdict_known p one) found.below found.verdict in
-      verdict.has_interface (elim (cases_Bool (verdict_known p one).faulty) [
+      let verdict : IsVerdictBy w known p (verdict_from p one) = verdict_by w p known (verdict_from p one) found.below found.verdict in
+      verdict.has_export_data (elim (cases_Bool (verdict_from p one).faulty) [
         | inl e ↦ (let f = verdict.has_faults.0 e in absurd (nothing_in f.0 ((found.listed.each f.0).1 f.1)))
         | inr e ↦ e
       ])
 
   -- the object that was printed where it was checked is its object
-  pub compiled_as : (text : List ℕ) → IsTextOf w p text → IsCompiled w p (interface_known p one) text
+  pub compiled_as : (text : List ℕ) → IsTextOf w p text → IsCompiled w p (export_data_known p one) text
   compiled_as text t =
       let same : own.checked ≡ t.checked = checked_as_one w p known t.known found.below t.right own.checked t.checked own.is_package t.is_package in
       record {
@@ -64,35 +64,35 @@ module _ (w : Workspace) (p : List ℕ) (known : Verdicts) (one : Option FoundIn
         faultless = record { known = known; right = found.below; listed = found.listed };
         checked = t.checked;
         is_package = t.is_package;
-        interface = subst (λ d. IsInterface d (interface_known p one)) same own.is_interface;
+        export_data = subst (λ d. IsExportData d (export_data_known p one)) same own.is_export_data;
         files_of = t.is_printed.files_of;
         are_files = t.is_printed.are_files;
         is_object = t.is_printed.is_object;
       }
 
   module _ (trees : List FileParts) (faulty : List FaultyParts) (parsed : AreParsed (package_files w p) trees faulty) (name_of : List ℕ → Option (List ℕ))
-      (interface_of : List ℕ → Interface) (are_seen : AreSeen w known p name_of interface_of) where
-    package_by : (c : Package) → IsPackageOf p trees name_of interface_of c → IsPackageIn w known p c
+      (export_data_of : List ℕ → ExportData) (are_seen : AreSeen w known p name_of export_data_of) where
+    package_by : (c : Package) → IsPackageOf p trees name_of export_data_of c → IsPackageIn w known p c
     package_by c is = record {
       files = trees;
       parsed = subst (λ fs. AreParsed (package_files w p) trees fs) (all_read parsed found.uses.is_package.parsed) parsed;
       name_of = name_of;
-      interface_of = interface_of;
+      export_data_of = export_data_of;
       are_seen = are_seen;
       is_package = is;
     }
 
-    seen_as : (c : Package) → IsPackageOf p trees name_of interface_of c → IsInterface c (interface_known p one)
-    seen_as c is = subst (λ d. IsInterface d (interface_known p one)) (one_checked w known p own.checked c own.is_package (package_by c is)) own.is_interface
+    seen_as : (c : Package) → IsPackageOf p trees name_of export_data_of c → IsExportData c (export_data_known p one)
+    seen_as c is = subst (λ d. IsExportData d (export_data_known p one)) (one_checked w known p own.checked c own.is_package (package_by c is)) own.is_export_data
 
     pub definitions_by : (list : List Definition) → ((rank : ℕ) → slice_get list rank ≡ ranked (definitions_listed one) rank) →
-        OwnDefinitionsOf p trees name_of interface_of list
+        OwnDefinitionsOf p trees name_of export_data_of list
     definitions_by list same c is =
         let path : c.path ≡ p = ap (λ (d : Package). d.path) is.is_package in
-        own_definitions c one list (subst (λ (q : List ℕ). IsInterface c (interface_known q one)) (sym path) (seen_as c is)) same
+        own_definitions c one list (subst (λ (q : List ℕ). IsExportData c (export_data_known q one)) (sym path) (seen_as c is)) same
 
-    pub compiled_by : (packages : CalledPackages) (text : List ℕ) → HaveNamesBelow w p packages →
-        IsObjectTextOf p trees name_of interface_of (map uses_in members) packages text → IsCompiled w p (interface_known p one) text
+    pub compiled_by : (packages : ObjectNames) (text : List ℕ) → HaveNamesBelow w p packages →
+        IsObjectTextOf p trees name_of export_data_of (map uses_in members) packages text → IsCompiled w p (export_data_known p one) text
     compiled_by packages text names made =
         let c = made.0 in
         let is : IsPackageIn w known p c = package_by c made.1 in
@@ -104,18 +104,18 @@ module _ (w : Workspace) (p : List ℕ) (known : Verdicts) (one : Option FoundIn
           faultless = record { known = known; right = found.below; listed = found.listed };
           checked = c;
           is_package = is;
-          interface = seen_as c made.1;
+          export_data = seen_as c made.1;
           files_of = names.files_of;
           are_files = names.are_files;
           is_object = made.2 names.files_of uses names.have_names;
         }
 
 -- by what was found in p before, and by the verdicts on those that it builds on, where nothing else is known
-pub seen_faultless : (w : Workspace) (p : List ℕ) (seen : Interfaces) (own : Option FoundInterface) (f : Finding) →
-    AreVerdictsBelow w p (known_by seen) → IsSeenIn w p seen →
-    IsVerdict w p (verdict_known p own) → IsFindingOf w p f → f.faults.items ≡ [] → IsFaultlessSeeing w seen own p f.members.items
+pub seen_faultless : (w : Workspace) (p : List ℕ) (seen : ExportTable) (own : Option FoundExportData) (f : Finding) →
+    AreVerdictsBelow w p (verdicts_by seen) → SeesExactly w p seen →
+    IsVerdict w p (verdict_from p own) → IsFindingOf w p f → f.faults.items ≡ [] → IsFaultlessBySeen w seen own p f.members.items
 seen_faultless w p seen one f below told right g empty =
-    let known = known_by seen in
+    let known = verdicts_by seen in
     let is : IsFinding w known p f = finding_as w p g.known known (right_alike w p g.known known g.right below) f g.finding in
     record {
       known = known;
@@ -129,7 +129,7 @@ seen_faultless w p seen one f below told right g empty =
     }
 
 -- what p compiles to has the text of its object
-pub text_compiled : (w : Workspace) (p : List ℕ) (i : Interface) (text : List ℕ) → IsCompiled w p i text → IsTextOf w p text
+pub text_compiled : (w : Workspace) (p : List ℕ) (i : ExportData) (text : List ℕ) → IsCompiled w p i text → IsTextOf w p text
 text_compiled w p i text c = record {
   known = c.known;
   right = c.right;

@@ -6,7 +6,7 @@ use Rattle.std.proofs.lemmas.List.Elements.{Contains-push_cases}
 use Rattle.base_files.specs.Packages.{package_paths}
 use Rattle.base_files.specs.Workspace.{Workspace}
 use Rattle.workspace_check.specs.Found.{AreVerdictsOf}
-use Rattle.workspace_check.specs.Told.{TellsVerdict}
+use Rattle.workspace_check.specs.KnownFindings.{IsKnownVerdict}
 use Rattle.workspace_check.specs.declared.known.KnownVerdict.{KnownVerdict}
 use Rattle.workspace_check.proofs.Local.{own_there, same_back, told_there}
 use Rattle.workspace_check.proofs.Members.{nothing_in}
@@ -25,11 +25,11 @@ module _ (w x : Workspace) (closures : HasClosuresOf w x) where
   unit_here p unit is has = local_unit w x p unit (whole_has p has) (closures p has) (is (whole_has p has))
 
   -- one verdict more
-  pub more_own : (own : List KnownVerdict) (one : KnownVerdict) → TellsVerdict w one.finding.path one → Contains (package_paths x) one.finding.path →
+  pub more_own : (own : List KnownVerdict) (one : KnownVerdict) → IsKnownVerdict w one.finding.path one → Contains (package_paths x) one.finding.path →
       AreVerdictsOf x own → AreVerdictsOf x (own ++ one ∷ [])
   more_own own one told here are other has = elim (Contains-push_cases own one other has) [
     | inl before ↦ are other before
-    | inr is ↦ subst (λ (z : KnownVerdict). Contains (package_paths x) z.finding.path × TellsVerdict x z.finding.path z) is (
+    | inr is ↦ subst (λ (z : KnownVerdict). Contains (package_paths x) z.finding.path × IsKnownVerdict x z.finding.path z) is (
       here,
       told_there w x one.finding.path one (whole_has one.finding.path here) (closures one.finding.path here) told,
     )

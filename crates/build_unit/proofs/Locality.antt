@@ -9,7 +9,7 @@ use Rattle.workspace_graph.specs.Parsed.{AreParsed}
 use Rattle.workspace_check.specs.Closures.{HasSameClosure}
 use Rattle.workspace_check.proofs.Local.{same_back, closed_there, files_there, local_list, locally_checked}
 use Rattle.build_unit.specs.Laws.{AreLocalUnits}
-use Rattle.build_unit.specs.Units.{AreFilesOf, IsReadBy, within, beyond, UnitValue, Faults, Done, IsUnitValue, unit_value}
+use Rattle.build_unit.specs.Units.{AreFilesOf, AreFilesSeen, within, beyond, UnitValue, Faults, Done, IsUnitValue, unit_value}
 
 files_local : (w x : Workspace) (p : List ℕ) → HasSameClosure w x p → (q : List ℕ) (files : List SourceFile) → IsInClosure w p q → AreFilesOf w q files →
     AreFilesOf x q files
@@ -20,7 +20,7 @@ files_local w x p same q files closed f = record {
   are_files = f.are_files;
 }
 
-read_local : (w x : Workspace) (p : List ℕ) → HasSameClosure w x p → (q : List ℕ) (files : List SourceFile) → IsReadBy w p q files → IsReadBy x p q files
+read_local : (w x : Workspace) (p : List ℕ) → HasSameClosure w x p → (q : List ℕ) (files : List SourceFile) → AreFilesSeen w p q files → AreFilesSeen x p q files
 read_local w x p same q files (within closed are) = within (closed_there w x p same q closed) (files_local w x p same q files closed are)
 read_local w x p same q _ (beyond outside) = beyond (λ closed. outside (closed_there x w p (same_back w x p same) q closed))
 
@@ -34,7 +34,7 @@ value_local w x p (Done i object) has same u =
       faultless = local_list w x p [] has same u.faultless;
       checked = u.checked;
       is_package = there.1;
-      interface = u.interface;
+      export_data = u.export_data;
       files_of = u.files_of;
       are_files = λ q. read_local w x p same q (u.files_of q) (u.are_files q);
       is_object = u.is_object;

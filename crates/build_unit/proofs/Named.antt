@@ -6,22 +6,22 @@ use Rattle.std.proofs.lemmas.Option.{same_Some}
 use Rattle.base_files.specs.Workspace.{Workspace, path_cmp}
 use Rattle.base_files.specs.Packages.{package_paths}
 use Rattle.go_ast.specs.SourceFile.{SourceFile}
-use Rattle.base_files.specs.Entries.{StandsBehind}
+use Rattle.base_files.specs.Entries.{IsAfterAllPaths}
 use Rattle.base_files.proofs.Pushing.{put_behind, behind_pushed}
 use Rattle.base_files.proofs.Putting.{found_put, others_put}
-use Rattle.workspace_graph.specs.Graphs.{HoldsPackages}
+use Rattle.workspace_graph.specs.Graphs.{ListsPackages}
 use Rattle.workspace_graph.specs.Packages.{IsInClosure}
-use Rattle.workspace_graph.proofs.Asked.{number}
+use Rattle.workspace_graph.proofs.ByPath.{number}
 use Rattle.types_declared.proofs.ByteKeys.{cases_bytes}
 use Rattle.workspace_check.proofs.Closed.{to_package}
 use Rattle.workspace_check.proofs.Members.{nothing_in}
 use Rattle.workspace_check.proofs.Rising.{later_path}
-use Rattle.build_object.specs.declared.packages.CalledNames.{CalledNames}
+use Rattle.build_object.specs.declared.packages.NamedPackage.{NamedPackage}
 use Rattle.build_object.specs.declared.packages.DeclaredTables.{DeclaredTables}
 use Rattle.build_object.specs.NamesView.{AreNamesOf, AreTablesOf}
-use Rattle.build_unit.specs.Units.{AreFilesOf, IsReadBy, within, beyond}
+use Rattle.build_unit.specs.Units.{AreFilesOf, AreFilesSeen, within, beyond}
 use Rattle.build_unit.specs.Compiling.{HaveNamesBelow}
-use Rattle.build_unit.specs.Naming.{AreTablesBy, names_alone}
+use Rattle.build_unit.specs.Naming.{AreTablesBy, without_tables}
 
 -- one of some packages, by their numbers
 pub record IsAmong (w : Workspace) (numbers : List ℕ) (q : List ℕ) : Type 0 where
@@ -30,40 +30,40 @@ pub record IsAmong (w : Workspace) (numbers : List ℕ) (q : List ℕ) : Type 0 
   pub has_path : slice_get (package_paths w) place ≡ Some q
 
 -- what the declarations in the files of q are called is known
-pub record IsCalled (named : List (List ℕ × CalledNames)) (q : List ℕ) (files : List SourceFile) : Type 0 where
-  pub names : CalledNames
+pub record IsCalled (named : List (List ℕ × NamedPackage)) (q : List ℕ) (files : List SourceFile) : Type 0 where
+  pub names : NamedPackage
   pub known : find path_cmp q named ≡ Some names
   pub are_names : AreNamesOf q files names None
 
 -- that is so of one of these packages; of any other path nothing is known
-abbrev pub IsNamed : Workspace → List ℕ → List (List ℕ × CalledNames) → List ℕ → List SourceFile → Type 0
+abbrev pub IsNamed : Workspace → List ℕ → List (List ℕ × NamedPackage) → List ℕ → List SourceFile → Type 0
 IsNamed w numbers named q files =
     (IsAmong w numbers q × AreFilesOf w q files × IsCalled named q files)
     ⊎ ((IsAmong w numbers q → ⊥) × (files ≡ []) × (find path_cmp q named ≡ None))
 
-pub record AreNamed (w : Workspace) (numbers : List ℕ) (named : List (List ℕ × CalledNames)) : Type 0 where
+pub record AreNamed (w : Workspace) (numbers : List ℕ) (named : List (List ℕ × NamedPackage)) : Type 0 where
   pub files_of : List ℕ → List SourceFile
   pub each : (q : List ℕ) → IsNamed w numbers named q (files_of q)
 
 -- each package above those of some numbers has a path behind all that are named
-abbrev pub StandBefore : Workspace → List ℕ → List (List ℕ × CalledNames) → Type 0
+abbrev pub StandBefore : Workspace → List ℕ → List (List ℕ × NamedPackage) → Type 0
 StandBefore w numbers named = (m : ℕ) (q : List ℕ) → slice_get (package_paths w) m ≡ Some q → ((n : ℕ) → Contains numbers n → n < m) →
-    StandsBehind q named
+    IsAfterAllPaths q named
 
 -- both of them, where packages are named one after the other
-pub record AreNamedUpTo (w : Workspace) (numbers : List ℕ) (named : List (List ℕ × CalledNames)) : Type 0 where
+pub record AreNamedUpTo (w : Workspace) (numbers : List ℕ) (named : List (List ℕ × NamedPackage)) : Type 0 where
   pub are : AreNamed w numbers named
   pub before : StandBefore w numbers named
 
 -- no package yet
 
-pub none_named : (w : Workspace) (numbers : List ℕ) (named : List (List ℕ × CalledNames)) → numbers ≡ [] → named ≡ [] → AreNamedUpTo w numbers named
+pub none_named : (w : Workspace) (numbers : List ℕ) (named : List (List ℕ × NamedPackage)) → numbers ≡ [] → named ≡ [] → AreNamedUpTo w numbers named
 none_named w numbers named e none = record {
   are = record {
     files_of = λ q. [];
     each = λ q. inr (λ s. nothing_in s.place (subst (λ l. Contains l s.place) e s.among), refl, ap (find path_cmp q) none);
   };
-  before = λ m q at above. subst (StandsBehind q) (sym none) tt;
+  before = λ m q at above. subst (IsAfterAllPaths q) (sym none) tt;
 }
 
 -- one package further
@@ -76,7 +76,7 @@ one_more (inr other) here there = there
 module _ (w : Workspace) (xs ys : List ℕ) (n : ℕ) (q : List ℕ) (at : slice_get (package_paths w) n ≡ Some q)
     (more : (m : ℕ) → Contains ys m → Contains xs m ⊎ (n ≡ m)) (keeps : (m : ℕ) → Contains xs m → Contains ys m) (here : Contains ys n)
     (above : (m : ℕ) → Contains xs m → m < n)
-    (old new : List (List ℕ × CalledNames)) (names : CalledNames) (pushed : new ≡ old ++ (q, names) ∷ [])
+    (old new : List (List ℕ × NamedPackage)) (names : NamedPackage) (pushed : new ≡ old ++ (q, names) ∷ [])
     (files : List SourceFile) (are : AreFilesOf w q files) (are_names : AreNamesOf q files names None) where
   still : (r : List ℕ) → IsAmong w xs r → IsAmong w ys r
   still r s = record { place = s.place; among = keeps s.place s.among; has_path = s.has_path }
@@ -89,7 +89,7 @@ module _ (w : Workspace) (xs ys : List ℕ) (n : ℕ) (q : List ℕ) (at : slice
   ]
 
   module _ (h : AreNamedUpTo w xs old) where
-    behind : StandsBehind q old
+    behind : IsAfterAllPaths q old
     behind = h.before n q at above
 
     known : find path_cmp q new ≡ Some names
@@ -117,19 +117,19 @@ module _ (w : Workspace) (xs ys : List ℕ) (n : ℕ) (q : List ℕ) (at : slice
         files_of = λ r. one_more (cases_bytes r q) files (h.are.files_of r);
         each = λ r. next_at r (cases_bytes r q) (h.are.files_of r) (h.are.each r);
       };
-      before = λ m r at_m below. subst (StandsBehind r) (sym pushed)
+      before = λ m r at_m below. subst (IsAfterAllPaths r) (sym pushed)
           (behind_pushed r q names old (later_path w n m q r at at_m (below n here)) behind);
     }
 
 -- all packages of the closure
 
-module _ (w : Workspace) (p : List ℕ) (numbers : List ℕ) (named : List (List ℕ × CalledNames)) (holds : HoldsPackages w (IsInClosure w p) numbers) where
-  read_by : (q : List ℕ) (files : List SourceFile) → IsNamed w numbers named q files → IsReadBy w p q files
+module _ (w : Workspace) (p : List ℕ) (numbers : List ℕ) (named : List (List ℕ × NamedPackage)) (holds : ListsPackages w (IsInClosure w p) numbers) where
+  read_by : (q : List ℕ) (files : List SourceFile) → IsNamed w numbers named q files → AreFilesSeen w p q files
   read_by q files h = elim h [
     | inl s ↦ (
         let held = (holds s.0.place).0 s.0.among in
         within (subst (IsInClosure w p) (same_Some held.0 q (sym held.1 ∙ s.0.has_path)) held.2) s.1)
-    | inr s ↦ subst (IsReadBy w p q) (sym s.1) (beyond (λ closed.
+    | inr s ↦ subst (AreFilesSeen w p q) (sym s.1) (beyond (λ closed.
         let n = number w q (to_package w p q closed) in
         s.0 (record { place = n.0; among = (holds n.0).1 (q, n.1, closed); has_path = n.1 })))
   ]
@@ -137,11 +137,11 @@ module _ (w : Workspace) (p : List ℕ) (numbers : List ℕ) (named : List (List
   named_by : (q : List ℕ) (files : List SourceFile) → IsNamed w numbers named q files →
       MatchOption (find path_cmp q named) (files ≡ []) (λ names. AreNamesOf q files names None)
   named_by q files h = elim h [
-    | inl s ↦ subst (λ (o : Option CalledNames). MatchOption o (files ≡ []) (λ names. AreNamesOf q files names None)) (sym s.2.known) s.2.are_names
-    | inr s ↦ subst (λ (o : Option CalledNames). MatchOption o (files ≡ []) (λ names. AreNamesOf q files names None)) (sym s.2) s.1
+    | inl s ↦ subst (λ (o : Option NamedPackage). MatchOption o (files ≡ []) (λ names. AreNamesOf q files names None)) (sym s.2.known) s.2.are_names
+    | inr s ↦ subst (λ (o : Option NamedPackage). MatchOption o (files ≡ []) (λ names. AreNamesOf q files names None)) (sym s.2) s.1
   ]
 
-  pub all_named : AreNamed w numbers named → HaveNamesBelow w p (names_alone named)
+  pub all_named : AreNamed w numbers named → HaveNamesBelow w p (without_tables named)
   all_named h = record {
     files_of = h.files_of;
     are_files = λ q. read_by q (h.files_of q) (h.each q);
@@ -150,7 +150,7 @@ module _ (w : Workspace) (p : List ℕ) (numbers : List ℕ) (named : List (List
 
 -- with tables
 
-told : (named : List (List ℕ × CalledNames)) (tables : List (List ℕ × DeclaredTables)) (q : List ℕ) (files : List SourceFile) (o : Option CalledNames) →
+told : (named : List (List ℕ × NamedPackage)) (tables : List (List ℕ × DeclaredTables)) (q : List ℕ) (files : List SourceFile) (o : Option NamedPackage) →
     AreTablesBy named tables → find path_cmp q named ≡ o → MatchOption o (files ≡ []) (λ names. AreNamesOf q files names None) →
     MatchOption o (files ≡ []) (λ names. AreNamesOf q files names (find path_cmp q tables))
 told named tables q files None are at e = e
@@ -160,8 +160,8 @@ told named tables q files (Some names) are at h = record {
   tables = λ t there. subst (λ fs. AreTablesOf fs t) h.has_files (are q names t at there);
 }
 
-pub with_tables : (w : Workspace) (p : List ℕ) (named : List (List ℕ × CalledNames)) (tables : List (List ℕ × DeclaredTables)) →
-    AreTablesBy named tables → HaveNamesBelow w p (names_alone named) → HaveNamesBelow w p (record { names = named; tables = tables })
+pub with_tables : (w : Workspace) (p : List ℕ) (named : List (List ℕ × NamedPackage)) (tables : List (List ℕ × DeclaredTables)) →
+    AreTablesBy named tables → HaveNamesBelow w p (without_tables named) → HaveNamesBelow w p (record { names = named; tables = tables })
 with_tables w p named tables are h = record {
   files_of = h.files_of;
   are_files = h.are_files;

@@ -11,26 +11,26 @@ use Rattle.base_files.specs.Path.{folder}
 use Rattle.base_files.specs.Packages.{is_go, is_of_package, folders, package_paths, package_files, files_in}
 use Rattle.base_files.specs.Workspace.{Workspace, path_cmp}
 use Rattle.workspace_graph.specs.Changed.{has_some}
-use Rattle.workspace_graph.proofs.Asked.{at_contains}
+use Rattle.workspace_graph.proofs.ByPath.{at_contains}
 use Rattle.workspace_graph.proofs.FoundFolders.{first_of, folder_found, not_true}
 use Rattle.workspace_graph.proofs.PackagePaths.{go_folders, has_folder, exact_names, paths_are}
 use Rattle.workspace_graph.proofs.SameFiles.{one_list}
 use Rattle.workspace_graph.proofs.StayingPackages.{any_of}
-use Rattle.build_unit.specs.Parts.{IsNumbered, HasFilesOf}
+use Rattle.build_unit.specs.Parts.{HasNumberIn, HasFilesOf}
 
 module _ (w part : Workspace) (numbers : List ℕ) (has : HasFilesOf w numbers part) where
-  pub same_package : (q : List ℕ) → IsNumbered w numbers q → package_files part q ≡ package_files w q
+  pub same_package : (q : List ℕ) → HasNumberIn w numbers q → package_files part q ≡ package_files w q
   same_package q numbered = one_list (is_of_package q) w part (λ path is.
       let parts = and_parts (is_go path) (pointwise ◌==◌ (folder path) q) is in
-      has.same path parts.0 (subst (IsNumbered w numbers) (sym ((bytes_decides (folder path) q).0 parts.1)) numbered))
+      has.same path parts.0 (subst (HasNumberIn w numbers) (sym ((bytes_decides (folder path) q).0 parts.1)) numbered))
 
   -- paths in order that are those of the packages with the numbers
-  module _ (paths : List (List ℕ)) (sorted : IsStrictlySortedBy path_cmp paths) (each : (q : List ℕ) → Contains paths q → IsNumbered w numbers q)
-      (all : (q : List ℕ) → IsNumbered w numbers q → Contains paths q) where
+  module _ (paths : List (List ℕ)) (sorted : IsStrictlySortedBy path_cmp paths) (each : (q : List ℕ) → Contains paths q → HasNumberIn w numbers q)
+      (all : (q : List ℕ) → HasNumberIn w numbers q → Contains paths q) where
     abbrev among : List ℕ → List (List ℕ) → Bool
     among q ks = list_any (eq_by_cmp path_cmp q) ks
 
-    there : (q : List ℕ) → IsNumbered w numbers q → among q (go_folders (entries part)) ≡ true
+    there : (q : List ℕ) → HasNumberIn w numbers q → among q (go_folders (entries part)) ≡ true
     there q numbered =
         folder_found q (entries part) ∙ ap has_some (same_package q numbered) ∙ sym (folder_found q (entries w))
         ∙ sym (has_folder w q) ∙ contains_key-keys (folders w) q ∙ any_of q (package_paths w) (at_contains w numbered.number q numbered.has_path)

@@ -15,6 +15,6 @@ pub record IsBuiltOf (job : JobRecord) (built : Built) : Type 0 where
   pub unit : IsUnitIn job.inputs job.package built.unit
 
 -- The object of a unit, or its first fault.
-abbrev pub result_of : PackageUnit → Result (List ℕ) FileFault
-result_of (Faults first others) = Err first
-result_of (Done interface object) = Ok object
+abbrev pub unit_result : PackageUnit → Result (List ℕ) FileFault
+unit_result (Faults first others) = Err first
+unit_result (Done export_data object) = Ok object

@@ -5,23 +5,23 @@ use Rattle.std.specs.List.Sorted.{IsStrictlyIncreasing}
 use Rattle.base_files.specs.Packages.{package_paths}
 use Rattle.base_files.specs.Workspace.{Workspace}
 use Rattle.go_ast.specs.SourceFile.{SourceFile}
-use Rattle.workspace_graph.specs.Graphs.{HoldsPackages}
+use Rattle.workspace_graph.specs.Graphs.{ListsPackages}
 use Rattle.workspace_graph.specs.Packages.{IsInClosure}
 use Rattle.types_expr.specs.declared.found.MemberUse.{MemberUse}
 use Rattle.types_expr.specs.declared.world.Definition.{Definition}
 use Rattle.types_declared.specs.Package.{Package}
-use Rattle.types_expr.specs.declared.interfaces.Interface.{Interface}
-use Rattle.types_declared.specs.declared.interfaces.Interfaces.{Interfaces}
-use Rattle.types_declared.specs.InterfacesView.{interface_in, interface_known, name_in}
+use Rattle.types_expr.specs.declared.exports.ExportData.{ExportData}
+use Rattle.types_declared.specs.declared.export_tables.ExportTable.{ExportTable}
+use Rattle.types_declared.specs.ExportTablesView.{export_data_in, export_data_known, name_in}
 use Rattle.workspace_check.specs.declared.fault.FileFault.{FileFault}
 use Rattle.workspace_check.specs.FaultLists.{AreListed}
 use Rattle.workspace_check.specs.Found.{AreVerdictsOf, KnowsVerdicts}
-use Rattle.workspace_check.specs.Told.{verdict_known, AreUsesOf}
+use Rattle.workspace_check.specs.KnownFindings.{verdict_from, AreUsesOf}
 use Rattle.workspace_check.specs.Verdicts.{Verdicts, AreSeen, IsFaultBy, IsPackageIn, IsVerdict, AreVerdictsBelow}
-use Rattle.build_object.specs.declared.packages.CalledPackages.{CalledPackages}
+use Rattle.build_object.specs.declared.packages.ObjectNames.{ObjectNames}
 use Rattle.build_object.specs.ObjectView.{HaveNames}
 use Rattle.build_object.specs.Sources.{IsObjectText}
-use Rattle.build_unit.specs.declared.compiling.Made.{Made}
+use Rattle.build_unit.specs.declared.compiling.MadeUnit.{MadeUnit}
 use Rattle.build_unit.specs.declared.package_at.PackageAt.{PackageAt}
 use Rattle.build_unit.specs.declared.unit.Unit.{Unit as PackageUnit}
 use Rattle.build_unit.specs.Units.{AreFilesBelow, IsUnitIn, IsUnitOf, KnowsOnly, unit_value, Faults}
@@ -30,34 +30,34 @@ use Rattle.build_unit.specs.Units.{AreFilesBelow, IsUnitIn, IsUnitOf, KnowsOnly,
 -- verdicts.
 pub record IsPackageAt (at : PackageAt) (p : List ℕ) : Type 0 where
   pub has_path : slice_get (package_paths at.graph.now) at.number ≡ Some p
-  pub closure : HoldsPackages at.graph.now (IsInClosure at.graph.now p) at.closure.now
+  pub closure : ListsPackages at.graph.now (IsInClosure at.graph.now p) at.closure.now
   pub rising : IsStrictlyIncreasing at.closure.now
   pub known : KnowsVerdicts at.graph.now at.known.now
 
 -- `packages` has the names of the declarations of each package in the closure of p.
-pub record HaveNamesBelow (w : Workspace) (p : List ℕ) (packages : CalledPackages) : Type 0 where
+pub record HaveNamesBelow (w : Workspace) (p : List ℕ) (packages : ObjectNames) : Type 0 where
   pub files_of : List ℕ → List SourceFile
   pub are_files : AreFilesBelow w p files_of
   pub have_names : HaveNames packages files_of
 
 -- The package p has no fault. `known` are the verdicts on the packages that it builds on. `own` is its export data as far as known.
 -- `members` are the uses of members in its files.
-pub record IsFaultless (w : Workspace) (known : Verdicts) (own : Option Interface) (p : List ℕ) (members : List (Vec MemberUse)) : Type 0 where
+pub record IsFaultless (w : Workspace) (known : Verdicts) (own : Option ExportData) (p : List ℕ) (members : List (Vec MemberUse)) : Type 0 where
   pub below : AreVerdictsBelow w p known
-  pub verdict : IsVerdict w p (verdict_known p own)
+  pub verdict : IsVerdict w p (verdict_from p own)
   pub listed : AreListed (IsFaultBy w known p) []
   pub uses : AreUsesOf w known p members
 
 -- The package p has no fault, by some verdicts on the packages that it builds on. `seen` has exactly the export data that p sees of other
 -- packages. `own` is the export data of p as far as known. `members` are the uses of members in its files.
-pub record IsFaultlessSeeing (w : Workspace) (seen : Interfaces) (own : Option Interface) (p : List ℕ) (members : List (Vec MemberUse)) : Type 0 where
+pub record IsFaultlessBySeen (w : Workspace) (seen : ExportTable) (own : Option ExportData) (p : List ℕ) (members : List (Vec MemberUse)) : Type 0 where
   pub known : Verdicts
   pub faultless : IsFaultless w known own p members
-  pub are_seen : AreSeen w known p (name_in seen) (interface_in seen)
+  pub are_seen : AreSeen w known p (name_in seen) (export_data_in seen)
 
 -- `one` has the export data `known` under `path`, and knows nothing of any other path.
-pub record HasJust (path : List ℕ) (known : Option Interface) (one : Interfaces) : Type 0 where
-  pub same : interface_in one path ≡ interface_known path known
+pub record HasExactly (path : List ℕ) (known : Option ExportData) (one : ExportTable) : Type 0 where
+  pub same : export_data_in one path ≡ export_data_known path known
   pub alone : KnowsOnly path one
 
 -- The unit stands for exactly these faults.
@@ -65,19 +65,19 @@ abbrev pub HoldsFaults : List FileFault → PackageUnit → Type 0
 HoldsFaults list unit = (p : List ℕ) → unit_value p unit ≡ Faults list
 
 -- `made` has the unit of the package p of w, and right verdicts on packages of w.
-pub record IsMade (w : Workspace) (p : List ℕ) (made : Made) : Type 0 where
+pub record IsMadeUnit (w : Workspace) (p : List ℕ) (made : MadeUnit) : Type 0 where
   pub unit : IsUnitOf w p made.unit
   pub verdicts : AreVerdictsOf w made.found.items
 
 -- `made` has the unit of p, if p is a package of w, and right verdicts on packages of w.
-pub record IsMadeIn (w : Workspace) (p : List ℕ) (made : Made) : Type 0 where
+pub record IsMadeUnitIn (w : Workspace) (p : List ℕ) (made : MadeUnit) : Type 0 where
   pub unit : IsUnitIn w p made.unit
   pub verdicts : AreVerdictsOf w made.found.items
 
 -- A package that is checked and printed in one go.
 
 -- The type definitions of export data, and none where there is no export data.
-abbrev pub found_definitions : Option Interface → List Definition
+abbrev pub found_definitions : Option ExportData → List Definition
 found_definitions None = []
 found_definitions (Some i) = i.definitions.items
 

@@ -5,7 +5,7 @@ use Rattle.std.specs.List.Sorted.{IsStrictlyIncreasing}
 use Rattle.std.specs.FinMap as files
 use Rattle.base_files.specs.Workspace.{Workspace}
 use Rattle.base_files.specs.Packages.{is_go, is_of_package, package_paths}
-use Rattle.workspace_graph.specs.Graphs.{HoldsPackages}
+use Rattle.workspace_graph.specs.Graphs.{ListsPackages}
 use Rattle.workspace_graph.specs.Packages.{IsInClosure, AreClosureTexts}
 use Rattle.workspace_check.specs.Closures.{HasSameClosure}
 
@@ -15,23 +15,23 @@ pub record AreInputs (w : Workspace) (p : List ℕ) (inputs : Workspace) : Type 
   pub texts : AreClosureTexts w p (files.entries inputs)
 
 -- Whether the path is that of a Go file directly in the folder. It is false where there is no folder.
-abbrev pub is_of_found : Option (List ℕ) → List ℕ → Bool
-is_of_found None path = false
-is_of_found (Some p) path = is_of_package p path
+abbrev pub is_file_of : Option (List ℕ) → List ℕ → Bool
+is_file_of None path = false
+is_file_of (Some p) path = is_of_package p path
 
 -- Whether the path is that of a Go file of one of the packages of w with these numbers.
-abbrev pub is_of_numbered : Workspace → List ℕ → List ℕ → Bool
-is_of_numbered w numbers path = list_any (λ n. is_of_found (slice_get (package_paths w) n) path) numbers
+abbrev pub is_file_of_any : Workspace → List ℕ → List ℕ → Bool
+is_file_of_any w numbers path = list_any (λ n. is_file_of (slice_get (package_paths w) n) path) numbers
 
 -- The Go files of the packages of w with these numbers, as a workspace of their own.
 unfoldable pub part_of : Workspace → List ℕ → Workspace
-part_of w numbers = files.retain_keys w (is_of_numbered w numbers)
+part_of w numbers = files.retain_keys w (is_file_of_any w numbers)
 
 -- `numbers` are those of exactly the packages in the closure of the package `number`, in order.
 pub record IsClosureAt (w : Workspace) (number : ℕ) (numbers : List ℕ) : Type 0 where
   pub path : List ℕ
   pub has_path : slice_get (package_paths w) number ≡ Some path
-  pub holds : HoldsPackages w (IsInClosure w path) numbers
+  pub holds : ListsPackages w (IsInClosure w path) numbers
   pub rising : IsStrictlyIncreasing numbers
 
 -- Each file of the workspace is a Go file.

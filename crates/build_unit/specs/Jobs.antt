@@ -20,15 +20,15 @@ abbrev pub IsOut : JobsOut → JobRecord → Type 0
 IsOut out job = Contains out.jobs (label_of job)
 
 -- A Job of the package at this path is out that was taken in this visit.
-abbrev pub IsTaken : JobsOut → ℕ → List ℕ → Type 0
-IsTaken out visit path = (label : JobLabel) × Contains out.jobs label × (label.visit ≡ visit) × (label.package ≡ path)
+abbrev pub IsTakenInVisit : JobsOut → ℕ → List ℕ → Type 0
+IsTakenInVisit out visit path = (label : JobLabel) × Contains out.jobs label × (label.visit ≡ visit) × (label.package ≡ path)
 
 -- The Jobs that are out after a Job with this label was handed out. The next ticket is one more.
 abbrev pub with_job : JobsOut → JobLabel → JobsOut
 with_job out label = record { ticket = out.ticket + 1; jobs = out.jobs ++ label ∷ [] }
 
 -- `new` are the Jobs that are out after one with this label came back. Only one Job leaves, and the next ticket stays.
-pub record Loses (old : JobsOut) (label : JobLabel) (new : JobsOut) : Type 0 where
+pub record RemovesJob (old : JobsOut) (label : JobLabel) (new : JobsOut) : Type 0 where
   pub place : ℕ
   pub at : slice_get old.jobs place ≡ Some label
   pub others : new ≡ record { ticket = old.ticket; jobs = remove old.jobs place }
@@ -44,5 +44,5 @@ HandsOut old number visit path inputs (Err refused) new = new ≡ old
 
 -- A Job that is out is taken back, and its record is the answer. A Job that is not out is returned, and the Jobs that are out stay.
 abbrev pub TakesBack : JobsOut → JobRecord → Result JobRecord JobRecord → JobsOut → Type 0
-TakesBack old job (Ok back) new = (back ≡ job) × Loses old (label_of job) new
+TakesBack old job (Ok back) new = (back ≡ job) × RemovesJob old (label_of job) new
 TakesBack old job (Err back) new = (back ≡ job) × (IsOut old job → ⊥) × (new ≡ old)

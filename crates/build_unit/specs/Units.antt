@@ -8,10 +8,10 @@ use Rattle.workspace_graph.specs.Packages.{IsInClosure}
 use Rattle.workspace_graph.specs.Parsed.{AreParsed}
 use Rattle.types_declared.specs.States.{state_in}
 use Rattle.types_declared.specs.declared.states.ImportState.TheVariants.{Missing}
-use Rattle.types_declared.specs.declared.interfaces.Interfaces.{Interfaces}
-use Rattle.types_declared.specs.InterfacesView.{name_in, interface_in, no_interface}
-use Rattle.types_check.specs.Interfaces.{IsInterface}
-use Rattle.types_declared.specs.Package.{Package, Interface}
+use Rattle.types_declared.specs.declared.export_tables.ExportTable.{ExportTable}
+use Rattle.types_declared.specs.ExportTablesView.{name_in, export_data_in, no_export_data}
+use Rattle.types_check.specs.Exports.{IsExportData}
+use Rattle.types_declared.specs.Package.{Package, ExportData}
 use Rattle.workspace_check.specs.declared.fault.FileFault.{FileFault}
 use Rattle.workspace_check.specs.FaultLists.{ListsPackageFaults}
 use Rattle.workspace_check.specs.Verdicts.{Verdicts, AreVerdictsBelow, IsPackageIn}
@@ -28,22 +28,22 @@ pub record AreFilesOf (w : Workspace) (q : List ℕ) (files : List SourceFile) :
 
 -- The files of the package q in which the code of p looks up names. They are the files with trees of q if q is in the closure of p, and
 -- none otherwise.
-pub data IsReadBy (w : Workspace) (p q : List ℕ) : List SourceFile → Type 0 where
-  within : {files : List SourceFile} → IsInClosure w p q → AreFilesOf w q files → IsReadBy w p q files
-  beyond : (IsInClosure w p q → ⊥) → IsReadBy w p q []
+pub data AreFilesSeen (w : Workspace) (p q : List ℕ) : List SourceFile → Type 0 where
+  within : {files : List SourceFile} → IsInClosure w p q → AreFilesOf w q files → AreFilesSeen w p q files
+  beyond : (IsInClosure w p q → ⊥) → AreFilesSeen w p q []
 
 -- `files_of` gives the files of each package in the closure of p, by its path, and no file of any other path.
 abbrev pub AreFilesBelow : Workspace → List ℕ → (List ℕ → List SourceFile) → Type 0
-AreFilesBelow w p files_of = (q : List ℕ) → IsReadBy w p q (files_of q)
+AreFilesBelow w p files_of = (q : List ℕ) → AreFilesSeen w p q (files_of q)
 
 -- The package p of w has no fault, and compiles to the export data `i` and the object with this text.
-pub record IsCompiled (w : Workspace) (p : List ℕ) (i : Interface) (object : List ℕ) : Type 0 where
+pub record IsCompiled (w : Workspace) (p : List ℕ) (i : ExportData) (object : List ℕ) : Type 0 where
   pub known : Verdicts
   pub right : AreVerdictsBelow w p known
   pub faultless : ListsPackageFaults w p []
   pub checked : Package
   pub is_package : IsPackageIn w known p checked
-  pub interface : IsInterface checked i
+  pub export_data : IsExportData checked i
   pub files_of : List ℕ → List SourceFile
   pub are_files : AreFilesBelow w p files_of
   pub is_object : IsObjectText checked files_of object
@@ -51,7 +51,7 @@ pub record IsCompiled (w : Workspace) (p : List ℕ) (i : Interface) (object : L
 -- The value of a unit: the faults of its package, or its export data and its object.
 pub data UnitValue : Type 0 where
   Faults : List FileFault → UnitValue
-  Done : Interface → (object : List ℕ) → UnitValue
+  Done : ExportData → (object : List ℕ) → UnitValue
 
 -- The value is that of the unit of p in w: all faults of p, at least one, or the export data and the object of p.
 abbrev pub IsUnitValue : Workspace → List ℕ → UnitValue → Type 0
@@ -61,27 +61,27 @@ IsUnitValue w p (Done i object) = IsCompiled w p i object
 -- The value of a unit of the program, as a unit of p.
 abbrev pub unit_value : List ℕ → PackageUnit → UnitValue
 unit_value p (compiled.Faults first others) = Faults (first ∷ others.items)
-unit_value p (compiled.Done interface object) = Done (interface_in interface p) object
+unit_value p (compiled.Done export_data object) = Done (export_data_in export_data p) object
 
 -- `i` knows nothing of the path q: no name, no export and no type definition.
-pub record IsUnknown (i : Interfaces) (q : List ℕ) : Type 0 where
+pub record KnowsNothingOf (i : ExportTable) (q : List ℕ) : Type 0 where
   pub name : name_in i q ≡ None
-  pub interface : interface_in i q ≡ no_interface q
+  pub export_data : export_data_in i q ≡ no_export_data q
 
 -- `i` has export data of no package but p, and the state of no import.
-pub record KnowsOnly (p : List ℕ) (i : Interfaces) : Type 0 where
-  pub elsewhere : (q : List ℕ) → (q ≡ p → ⊥) → IsUnknown i q
+pub record KnowsOnly (p : List ℕ) (i : ExportTable) : Type 0 where
+  pub elsewhere : (q : List ℕ) → (q ≡ p → ⊥) → KnowsNothingOf i q
   pub states : (q : List ℕ) → state_in i.states q ≡ Missing
 
 -- If the unit has export data, it has that of no package but p.
-abbrev pub TellsOnly : List ℕ → PackageUnit → Type 0
-TellsOnly p (compiled.Faults first others) = Unit {0}
-TellsOnly p (compiled.Done interface object) = KnowsOnly p interface
+abbrev pub ExportsOnly : List ℕ → PackageUnit → Type 0
+ExportsOnly p (compiled.Faults first others) = Unit {0}
+ExportsOnly p (compiled.Done export_data object) = KnowsOnly p export_data
 
 -- `unit` is the unit of p in w: it has the value of this unit, and export data of no other package.
 pub record IsUnitOf (w : Workspace) (p : List ℕ) (unit : PackageUnit) : Type 0 where
   pub value : IsUnitValue w p (unit_value p unit)
-  pub alone : TellsOnly p unit
+  pub alone : ExportsOnly p unit
 
 -- If p is a package of these inputs, `unit` is its unit in them. If it is none, `unit` may be any.
 abbrev pub IsUnitIn : Workspace → List ℕ → PackageUnit → Type 0

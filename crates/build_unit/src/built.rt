@@ -4,7 +4,7 @@ ghost use Rattle.workspace_check.specs.Found.{AreVerdictsOf};
 ghost use Rattle.build_unit.specs.Builds.{IsBuiltOf};
 ghost use Rattle.build_unit.specs.Units.{IsUnitIn};
 
-use crate::compiling::Made;
+use crate::compiling::MadeUnit;
 use crate::inputs::PackageInputs;
 use crate::job::Job;
 use crate::unit::Unit;
@@ -91,7 +91,7 @@ pub fn build(alloc: Global, job: &Job) -> Result<Built, AllocError>
 {
     let package = job.package().clone()?;
     let inputs = job.inputs().clone()?;
-    let Made { unit, found } = inputs.made(alloc, &package)?;
+    let MadeUnit { unit, found } = inputs.made(alloc, &package)?;
     Ok(Built {
         number: job.number(),
         package,

@@ -3,33 +3,33 @@ ghost use Rattle.std.specs.Prelude.{◌≡◌, ℕ, [], Some, slice_get, IfOk};
 ghost use Rattle.base_files.specs.Packages.{package_paths};
 ghost use Rattle.base_files.specs.Workspace.{Workspace};
 ghost use Rattle.types_expr.specs.WorldView.{known_at};
-ghost use Rattle.types_declared.specs.InterfacesView.{interface_in};
-ghost use Rattle.workspace_check.specs.Found.{IsFoundBy, KnowsVerdicts};
-ghost use Rattle.workspace_check.specs.Told.{known_by, AreWhole};
-ghost use Rattle.build_unit.specs.Compiling.{HasJust, HoldsFaults, IsFaultless, IsMade, IsMadeIn, IsPackageAt, MayBeText};
+ghost use Rattle.types_declared.specs.ExportTablesView.{export_data_in};
+ghost use Rattle.workspace_check.specs.Found.{IsFindingWith, KnowsVerdicts};
+ghost use Rattle.workspace_check.specs.KnownFindings.{verdicts_by, AreNamedEntries};
+ghost use Rattle.build_unit.specs.Compiling.{HasExactly, HoldsFaults, IsFaultless, IsMadeUnit, IsMadeUnitIn, IsPackageAt, MayBeText};
 ghost use Rattle.build_unit.specs.Units.{IsCompiled, IsUnitOf};
 
-use crate::checked_text::text_first;
+use crate::checked_text::text_if_faultless;
 use crate::known_text::object_of;
 use crate::package_at::PackageAt;
 use crate::unit::{Compiled, Unit};
 use base_files::FileText;
 use std::alloc::{AllocError, Global};
-use types_declared::{Interfaces, KnownInterface};
+use types_declared::{ExportTable, KnownExportData};
 use types_expr::found::MemberUse;
 use types_expr::symbol::SharedPath;
 use workspace_check::{FileFault, Finding, FoundPackage, Known, KnownVerdict, Progress, seen};
 use workspace_graph::Graph;
 
 /// The export data of one package, in a table of its own that knows no other path.
-fn interface_of(
+fn export_data_of(
     alloc: Global,
     path: &SharedPath,
-    known: &KnownInterface,
-) -> Result<Interfaces, AllocError>
-    ensures { IfOk result (HasJust path.now known.now) }
+    known: &KnownExportData,
+) -> Result<ExportTable, AllocError>
+    ensures { IfOk result (HasExactly path.now known.now) }
 {
-    let mut one = Interfaces::new(alloc);
+    let mut one = ExportTable::new(alloc);
     let path = path.clone()?;
     one.share_known(path, known)?;
     Ok(one)
@@ -39,14 +39,20 @@ fn interface_of(
 fn done_unit(
     alloc: Global,
     path: &SharedPath,
-    all: &Interfaces,
+    all: &ExportTable,
     object: FileText,
 ) -> Result<Unit, AllocError>
-    ensures { IfOk result (λ unit. (w : Workspace) → IsCompiled w path.now (interface_in all.now path.now) object → IsUnitOf w path.now unit) }
+    ensures { IfOk result (λ unit. (w : Workspace) → IsCompiled w path.now (export_data_in all.now path.now) object → IsUnitOf w path.now unit) }
 {
     let known = all.known(path.path())?;
-    let interface = interface_of(alloc, path, &known)?;
-    Unit::new(alloc, Compiled::Done { interface, object })
+    let export_data = export_data_of(alloc, path, &known)?;
+    Unit::new(
+        alloc,
+        Compiled::Done {
+            export_data,
+            object,
+        },
+    )
 }
 
 /// Makes the unit of a package without faults whose object is not yet printed.
@@ -54,17 +60,17 @@ fn faultless_unit(
     alloc: Global,
     at: PackageAt<'_>,
     path: &SharedPath,
-    all: &Interfaces,
+    all: &ExportTable,
     members: &[Vec<MemberUse>],
 ) -> Result<Unit, AllocError>
     requires at { IsPackageAt at path.now }
-    requires whole { AreWhole all.now }
-    requires found { IsFaultless at.graph.now (known_by all.now) (known_at all.now.definitions path.now) path.now members.now }
+    requires whole { AreNamedEntries all.now }
+    requires found { IsFaultless at.graph.now (verdicts_by all.now) (known_at all.now.definitions path.now) path.now members.now }
     ensures { IfOk result (IsUnitOf at.entry.graph.now path.now) }
 {
-    let interfaces = seen(alloc, at.graph, at.number, all)?;
-    let own = all.definitions().interface(path.path());
-    let object = object_of(alloc, at, path, &interfaces, own, members)?;
+    let export_table = seen(alloc, at.graph, at.number, all)?;
+    let own = all.definitions().export_data(path.path());
+    let object = object_of(alloc, at, path, &export_table, own, members)?;
     done_unit(alloc, path, all, object)
 }
 
@@ -91,7 +97,7 @@ fn copied(alloc: Global, faults: &[FileFault]) -> Result<Vec<FileFault>, AllocEr
 
 /// A unit, and the verdicts that were found when it was made.
 #[derive(Drop)]
-pub(crate) struct Made {
+pub(crate) struct MadeUnit {
     pub(crate) unit: Unit,
     pub(crate) found: Vec<KnownVerdict>,
 }
@@ -112,11 +118,11 @@ fn unit_by(
     at: PackageAt<'_>,
     path: &SharedPath,
     finding: &Finding,
-    all: &Interfaces,
+    all: &ExportTable,
     text: Option<FileText>,
 ) -> Result<Unit, AllocError>
     requires at { IsPackageAt at path.now }
-    requires found { IsFoundBy at.graph.now path.now all.now finding.now }
+    requires found { IsFindingWith at.graph.now path.now all.now finding.now }
     requires text { MayBeText at.graph.now path.now text }
     ensures { IfOk result (IsUnitOf at.entry.graph.now path.now) }
 {
@@ -134,30 +140,36 @@ pub(crate) fn unit_of(
     alloc: Global,
     at: PackageAt<'_>,
     path: &SharedPath,
-) -> Result<Made, AllocError>
+) -> Result<MadeUnit, AllocError>
     requires { IsPackageAt at path.now }
-    ensures { IfOk result (IsMade at.entry.graph.now path.now) }
+    ensures { IfOk result (IsMadeUnit at.entry.graph.now path.now) }
 {
     let mut progress = Progress::before(alloc, at.graph, at.number, at.closure, at.known)?;
-    let text = text_first(alloc, at, path, &mut progress)?;
+    let text = text_if_faultless(alloc, at, path, &mut progress)?;
     let FoundPackage {
         finding,
-        interfaces,
+        export_table,
         found,
     } = progress.finish(alloc, at.graph, at.number, at.known)?;
-    let unit = unit_by(alloc, at, path, finding.get(), &interfaces, text)?;
-    Ok(Made { unit, found })
+    let unit = unit_by(alloc, at, path, finding.get(), &export_table, text)?;
+    Ok(MadeUnit { unit, found })
 }
 
 /// Makes an empty unit for a path that is no package.
-fn no_unit(alloc: Global) -> Result<Made, AllocError>
+fn no_unit(alloc: Global) -> Result<MadeUnit, AllocError>
     ensures { IfOk result (λ made. made.found.items ≡ []) }
 {
-    let interface = Interfaces::new(alloc);
+    let export_data = ExportTable::new(alloc);
     let object = FileText::new(alloc, Vec::new(alloc))?;
-    let unit = Unit::new(alloc, Compiled::Done { interface, object })?;
+    let unit = Unit::new(
+        alloc,
+        Compiled::Done {
+            export_data,
+            object,
+        },
+    )?;
     let found = Vec::new(alloc);
-    Ok(Made { unit, found })
+    Ok(MadeUnit { unit, found })
 }
 
 /// Makes the unit of the package `number`, whose closure it searches for.
@@ -167,10 +179,10 @@ fn unit_at(
     number: usize,
     path: &SharedPath,
     known: &Known,
-) -> Result<Made, AllocError>
+) -> Result<MadeUnit, AllocError>
     requires at { slice_get (package_paths graph.now) number ≡ Some path.now }
     requires known { KnowsVerdicts graph.now known.now }
-    ensures { IfOk result (IsMade graph.now path.now) }
+    ensures { IfOk result (IsMadeUnit graph.now path.now) }
 {
     let closure = graph.closure(alloc, number)?;
     let at = PackageAt {
@@ -188,9 +200,9 @@ pub(crate) fn unit_in(
     graph: &Graph,
     path: &SharedPath,
     known: &Known,
-) -> Result<Made, AllocError>
+) -> Result<MadeUnit, AllocError>
     requires { KnowsVerdicts graph.now known.now }
-    ensures { IfOk result (IsMadeIn graph.now path.now) }
+    ensures { IfOk result (IsMadeUnitIn graph.now path.now) }
 {
     match graph.number_of(path.path()) {
         Some(number) => unit_at(alloc, graph, number, path, known),

@@ -5,10 +5,10 @@ ghost use Rattle.base_files.specs.Packages.{package_paths};
 ghost use Rattle.base_files.specs.Workspace.{Workspace};
 ghost use Rattle.workspace_graph.specs.Graphs.{IsPackage, OfPackage};
 ghost use Rattle.workspace_check.specs.Found.{AreVerdictsOf, KnowsVerdicts};
-ghost use Rattle.build_unit.specs.Compiling.{IsMadeIn};
+ghost use Rattle.build_unit.specs.Compiling.{IsMadeUnitIn};
 ghost use Rattle.build_unit.specs.Inputs.{AreGoFiles, AreInputs, HasClosuresOf, IsClosureAt};
 
-use crate::compiling::{Made, unit_in, unit_of};
+use crate::compiling::{MadeUnit, unit_in, unit_of};
 use crate::package_at::PackageAt;
 use std::alloc::{AllocError, Global};
 use std::marker::Model;
@@ -77,10 +77,10 @@ fn has_path(graph: &Graph, number: usize, path: &[u8]) -> bool
 
 /// Makes the unit of the package at `path`, if the workspace has it. The closure is searched for only where this is not the package of the
 /// inputs.
-fn made_by(alloc: Global, parts: &InputParts, path: &SharedPath) -> Result<Made, AllocError>
+fn made_by(alloc: Global, parts: &InputParts, path: &SharedPath) -> Result<MadeUnit, AllocError>
     requires at { IsClosureAt parts.now.whole parts.now.number parts.now.closure }
     requires known { KnowsVerdicts parts.now.whole parts.now.known }
-    ensures { IfOk result (IsMadeIn parts.now.whole path.now) }
+    ensures { IfOk result (IsMadeUnitIn parts.now.whole path.now) }
 {
     let graph = &parts.whole;
     let number = parts.number;
@@ -170,13 +170,13 @@ impl PackageInputs {
 
     /// Makes the unit of the package at `path`, if it is one of the inputs. It is made in the whole workspace, where each package of the
     /// inputs has the closure that it has in them.
-    pub(crate) fn made(&self, alloc: Global, path: &SharedPath) -> Result<Made, AllocError>
-        ensures { IfOk result (IsMadeIn self.now path.now) }
+    pub(crate) fn made(&self, alloc: Global, path: &SharedPath) -> Result<MadeUnit, AllocError>
+        ensures { IfOk result (IsMadeUnitIn self.now path.now) }
     {
         let parts: &InputParts = &self.parts;
-        let Made { unit, found } = made_by(alloc, parts, path)?;
+        let MadeUnit { unit, found } = made_by(alloc, parts, path)?;
         let own = self.own_verdicts(alloc, &found)?;
-        Ok(Made { unit, found: own })
+        Ok(MadeUnit { unit, found: own })
     }
 
     /// Shows that each file of the inputs is a Go file.

@@ -1,10 +1,10 @@
 //! Prints the object of a package on which a verdict is known, if the package has no fault.
 ghost use Rattle.std.specs.Prelude.{◌≡◌, ℕ, option_copied, slice_get, IfOk};
 ghost use Rattle.types_expr.specs.WorldView.{definitions_listed, ranked};
-ghost use Rattle.types_declared.specs.InterfacesView.{interface_known};
-ghost use Rattle.workspace_check.specs.Steps.{IsSeenIn, IsUnderway};
-ghost use Rattle.workspace_check.specs.Told.{TellsVerdict};
-ghost use Rattle.build_unit.specs.Compiling.{IsFaultlessSeeing, IsPackageAt, MayBeText};
+ghost use Rattle.types_declared.specs.ExportTablesView.{export_data_known};
+ghost use Rattle.workspace_check.specs.Steps.{SeesExactly, IsProgress};
+ghost use Rattle.workspace_check.specs.KnownFindings.{IsKnownVerdict};
+ghost use Rattle.build_unit.specs.Compiling.{IsFaultlessBySeen, IsPackageAt, MayBeText};
 ghost use Rattle.build_unit.specs.Units.{IsCompiled};
 
 use crate::naming::names_below;
@@ -12,19 +12,19 @@ use crate::package_at::PackageAt;
 use base_files::FileText;
 use build_object::objects::{Faultless, object};
 use std::alloc::{AllocError, Global};
-use types_declared::{Interface, Interfaces};
+use types_declared::{ExportData, ExportTable};
 use types_expr::found::MemberUse;
 use types_expr::symbol::SharedPath;
 use types_expr::world::Definition;
 use workspace_check::{KnownVerdict, Progress};
 
 /// The type definitions of export data, by their ranks, and none where there is no export data.
-fn definitions_of(own: Option<&Interface>) -> &[Definition]
+fn definitions_of(own: Option<&ExportData>) -> &[Definition]
     ensures { (rank : ℕ) → slice_get result.now rank ≡ ranked (definitions_listed (option_copied own.entry)) rank }
 {
     match own {
         None => &[],
-        Some(interface) => interface.definitions.as_slice(),
+        Some(export_data) => export_data.definitions.as_slice(),
     }
 }
 
@@ -34,13 +34,13 @@ pub(crate) fn object_of(
     alloc: Global,
     at: PackageAt<'_>,
     path: &SharedPath,
-    seen: &Interfaces,
-    own: Option<&Interface>,
+    seen: &ExportTable,
+    own: Option<&ExportData>,
     members: &[Vec<MemberUse>],
 ) -> Result<FileText, AllocError>
     requires at { IsPackageAt at path.now }
-    requires found { IsFaultlessSeeing at.graph.now seen.now (option_copied own) path.now members.now }
-    ensures { IfOk result (λ text. IsCompiled at.entry.graph.now path.now (interface_known path.now (option_copied own.entry)) text) }
+    requires found { IsFaultlessBySeen at.graph.now seen.now (option_copied own) path.now members.now }
+    ensures { IfOk result (λ text. IsCompiled at.entry.graph.now path.now (export_data_known path.now (option_copied own.entry)) text) }
 {
     let files = at.graph.package(at.number);
     let packages = names_below(alloc, at)?;
@@ -65,16 +65,16 @@ pub(crate) fn known_text(
     progress: &Progress,
 ) -> Result<Option<FileText>, AllocError>
     requires at { IsPackageAt at path.now }
-    requires verdict { TellsVerdict at.graph.now path.now verdict.now }
-    requires right { IsUnderway at.graph.now at.number progress.now }
-    requires told { IsSeenIn at.graph.now path.now progress.now.all.interfaces }
+    requires verdict { IsKnownVerdict at.graph.now path.now verdict.now }
+    requires right { IsProgress at.graph.now at.number progress.now }
+    requires told { SeesExactly at.graph.now path.now progress.now.all.export_table }
     ensures { IfOk result (MayBeText at.entry.graph.now path.now) }
 {
     let finding = verdict.finding();
     if !finding.faults.is_empty() {
         return Ok(None);
     }
-    let seen = progress.interfaces();
+    let seen = progress.export_table();
     let own = verdict.known().get();
     let text = object_of(alloc, at, path, seen, own, &finding.members)?;
     Ok(Some(text))

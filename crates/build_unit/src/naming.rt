@@ -4,11 +4,11 @@ ghost use Rattle.base_files.specs.Packages.{package_paths};
 ghost use Rattle.workspace_graph.specs.Graphs.{OfPackage};
 ghost use Rattle.workspace_check.specs.Found.{KnowsVerdicts};
 ghost use Rattle.build_unit.specs.Compiling.{HaveNamesBelow, IsPackageAt};
-ghost use Rattle.build_unit.specs.Naming.{AreTablesBy, names_alone};
+ghost use Rattle.build_unit.specs.Naming.{AreTablesBy, without_tables};
 
 use crate::package_at::PackageAt;
 use base_files::PathTable;
-use build_object::packages::{CalledNames, CalledPackages, DeclaredTables};
+use build_object::packages::{DeclaredTables, NamedPackage, ObjectNames};
 use std::alloc::{AllocError, Global};
 use types_expr::symbol::SharedPath;
 use workspace_check::Known;
@@ -39,7 +39,7 @@ fn note_imports(
 }
 
 /// The packages in which a package looks up most names: itself, its direct imports, and their direct imports. Only speed depends on them.
-fn near(alloc: Global, graph: &Graph, number: usize) -> Result<Vec<usize>, AllocError>
+fn nearby_packages(alloc: Global, graph: &Graph, number: usize) -> Result<Vec<usize>, AllocError>
     requires { number < length (package_paths graph.now) }
 {
     let mut marks = vec![in alloc; false; graph.len()]?;
@@ -73,21 +73,24 @@ fn path_of(
 }
 
 /// The names of a package's declarations. Its files are read only when a name is asked for.
-fn names_of(files: &ParsedPackage) -> CalledNames<'_>
+fn names_of(files: &ParsedPackage) -> NamedPackage<'_>
     ensures path { result.path.now ≡ files.now.path.items }
     ensures files { result.files.now ≡ files.now.trees.items }
 {
-    CalledNames {
+    NamedPackage {
         path: &files.path,
         files: &files.trees,
     }
 }
 
 /// The names of the declarations of each package in a closure, without tables. The paths rise as the numbers do.
-fn all_names<'a>(alloc: Global, at: PackageAt<'a>) -> Result<PathTable<CalledNames<'a>>, AllocError>
+fn all_names<'a>(
+    alloc: Global,
+    at: PackageAt<'a>,
+) -> Result<PathTable<NamedPackage<'a>>, AllocError>
     requires number { at.number < length (package_paths at.graph.now) }
     requires at { OfPackage at.graph.now at.number (IsPackageAt at) }
-    ensures { IfOk result (λ names. OfPackage at.entry.graph.now at.entry.number (λ p. HaveNamesBelow at.entry.graph.now p (names_alone names))) }
+    ensures { IfOk result (λ names. OfPackage at.entry.graph.now at.entry.number (λ p. HaveNamesBelow at.entry.graph.now p (without_tables names))) }
 {
     let mut names = PathTable::with_capacity(alloc, at.closure.len())?;
     for other in at.closure {
@@ -101,7 +104,7 @@ fn all_names<'a>(alloc: Global, at: PackageAt<'a>) -> Result<PathTable<CalledNam
 /// Adds the tables of the declarations of the package at `path`, if it is in `names`.
 fn add_tables<'a>(
     alloc: Global,
-    names: &PathTable<CalledNames<'a>>,
+    names: &PathTable<NamedPackage<'a>>,
     path: &[u8],
     tables: &mut PathTable<DeclaredTables<'a>>,
 ) -> Result<(), AllocError>
@@ -122,7 +125,7 @@ fn add_tables<'a>(
 fn tables_of<'a>(
     alloc: Global,
     at: PackageAt<'a>,
-    names: &PathTable<CalledNames<'a>>,
+    names: &PathTable<NamedPackage<'a>>,
     numbers: &[usize],
 ) -> Result<PathTable<DeclaredTables<'a>>, AllocError>
     ensures { IfOk result (AreTablesBy names.now) }
@@ -137,15 +140,15 @@ fn tables_of<'a>(
 }
 
 /// Makes the tables of the declarations of a package, of its direct imports, and of their direct imports.
-fn near_tables<'a>(
+fn nearby_tables<'a>(
     alloc: Global,
     at: PackageAt<'a>,
-    names: &PathTable<CalledNames<'a>>,
+    names: &PathTable<NamedPackage<'a>>,
 ) -> Result<PathTable<DeclaredTables<'a>>, AllocError>
     requires { at.number < length (package_paths at.graph.now) }
     ensures { IfOk result (AreTablesBy names.now) }
 {
-    let numbers = near(alloc, at.graph, at.number)?;
+    let numbers = nearby_packages(alloc, at.graph, at.number)?;
     tables_of(alloc, at, names, &numbers)
 }
 
@@ -153,12 +156,12 @@ fn near_tables<'a>(
 pub(crate) fn names_below<'a>(
     alloc: Global,
     at: PackageAt<'a>,
-) -> Result<CalledPackages<'a>, AllocError>
+) -> Result<ObjectNames<'a>, AllocError>
     requires number { at.number < length (package_paths at.graph.now) }
     requires at { OfPackage at.graph.now at.number (IsPackageAt at) }
     ensures { IfOk result (λ packages. OfPackage at.entry.graph.now at.entry.number (λ p. HaveNamesBelow at.entry.graph.now p packages)) }
 {
     let names = all_names(alloc, at)?;
-    let tables = near_tables(alloc, at, &names)?;
-    Ok(CalledPackages { names, tables })
+    let tables = nearby_tables(alloc, at, &names)?;
+    Ok(ObjectNames { names, tables })
 }

@@ -1,6 +1,6 @@
 //! The Jobs that are out: handed out, and not yet taken back.
 ghost use Rattle.std.specs.Prelude.{◌≡◌, ◌↔◌, ◌<◌, [], IsTrue, MatchOption, Some, length, slice_get};
-ghost use Rattle.build_unit.specs.Jobs.{HandsOut, IsOut, IsTaken, TakesBack, label_of};
+ghost use Rattle.build_unit.specs.Jobs.{HandsOut, IsOut, IsTakenInVisit, TakesBack, label_of};
 
 use crate::inputs::PackageInputs;
 use crate::job::{Job, JobRecord};
@@ -90,7 +90,7 @@ impl Out {
 
     /// Whether a Job of the package at `path` is out that was taken in this visit.
     pub fn is_taken(&self, visit: u64, path: &[u8]) -> bool
-        ensures { IsTrue result ↔ IsTaken self.now visit path.now }
+        ensures { IsTrue result ↔ IsTakenInVisit self.now visit path.now }
     {
         for label in &self.labels {
             if label.is_of_visit(visit, path) {

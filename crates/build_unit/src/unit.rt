@@ -1,16 +1,16 @@
 //! Units: what packages compile to.
 ghost use Rattle.std.specs.Prelude.{◌≡◌, MatchResult, Ok, Err, IfOk};
-ghost use Rattle.build_unit.specs.Builds.{result_of};
+ghost use Rattle.build_unit.specs.Builds.{unit_result};
 
 use base_chunks::Share;
 use base_files::FileText;
 use std::alloc::{AllocError, Global};
 use std::marker::Model;
 use std::sync::Arc;
-use types_declared::Interfaces;
+use types_declared::ExportTable;
 use workspace_check::FileFault;
 
-/// What a package compiles to: its faults in order, at least one, or its export data and its object. `interface` has the export data of
+/// What a package compiles to: its faults in order, at least one, or its export data and its object. `export_data` has the export data of
 /// this package alone.
 #[derive(Drop)]
 pub enum Compiled {
@@ -19,7 +19,7 @@ pub enum Compiled {
         others: Vec<FileFault>,
     },
     Done {
-        interface: Interfaces,
+        export_data: ExportTable,
         object: FileText,
     },
 }
@@ -67,7 +67,7 @@ impl Unit {
 
     /// The object, or the first fault.
     pub fn result(&self) -> Result<&FileText, &FileFault>
-        ensures { MatchResult result (λ text. result_of self.now ≡ Ok text.now) (λ fault. result_of self.now ≡ Err fault.now) }
+        ensures { MatchResult result (λ text. unit_result self.now ≡ Ok text.now) (λ fault. unit_result self.now ≡ Err fault.now) }
     {
         match self.compiled() {
             Compiled::Faults { first, .. } => Err(first),

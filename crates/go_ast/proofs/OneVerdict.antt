@@ -5,7 +5,7 @@ use Rattle.std.specs.List.{All}
 use Rattle.go_ast.specs.declared.syntax.Token.{Token}
 use Rattle.go_ast.specs.declared.syntax.TokenFaultKind.TheVariants.{Syntax, Nesting}
 use Rattle.go_ast.specs.Grammar.{Symbol}
-use Rattle.go_ast.specs.Language.{Derives, FirstFault, DeepFault, levels}
+use Rattle.go_ast.specs.Language.{Derives, IsSyntaxFault, IsTooDeep, levels}
 use Rattle.go_ast.specs.Verdict.{Verdict, Whole, Faulty, IsWhole, IsVerdict}
 
 -- two splits of one list: at one index, or the second further on
@@ -39,7 +39,7 @@ further a b t mid e = let l = ap length e ∙ length-append a (t ∷ mid) in ome
 heads : (t u : Token) (a b : List Token) → t ∷ a ≡ u ∷ b → t ≡ u
 heads t u a b e = cc
 
-syntax_once : {ss : List Symbol} {l d : ℕ} {ts : List Token} {m n : ℕ} → FirstFault ss l d ts m → FirstFault ss l d ts n → m ≡ n
+syntax_once : {ss : List Symbol} {l d : ℕ} {ts : List Token} {m n : ℕ} → IsSyntaxFault ss l d ts m → IsSyntaxFault ss l d ts n → m ≡ n
 syntax_once {ss = ss} f g = elim (cut f.before f.rest g.before g.rest (sym f.split ∙ g.split)) [
   | alike p q ↦ sym f.left_is ∙ (ap length q ∙ g.left_is)
   | second_longer t mid p q ↦ absurd (f.dead t (mid ++ g.rest) (mid ++ g.viable.0) q
@@ -52,7 +52,7 @@ syntax_once {ss = ss} f g = elim (cut f.before f.rest g.before g.rest (sym f.spl
 too_deep : (l : ℕ) (xs ys : List ℕ) (k : ℕ) → ys ≡ xs → l < get_or ys k 0 → get_or xs k 0 ≤ l → ⊥
 too_deep l xs ys k e h i = let j : l < get_or xs k 0 = subst (λ z. l < get_or z k 0) e h in omega (arith, i, j)
 
-syntax_or_nesting : {ss : List Symbol} {l d : ℕ} {ts : List Token} {m n : ℕ} → FirstFault ss l d ts m → DeepFault ss l d ts n → ⊥
+syntax_or_nesting : {ss : List Symbol} {l d : ℕ} {ts : List Token} {m n : ℕ} → IsSyntaxFault ss l d ts m → IsTooDeep ss l d ts n → ⊥
 syntax_or_nesting {ss = ss} {l = l} {d = d} f g = elim (cut f.before f.rest g.before (g.t ∷ g.others) (sym f.split ∙ g.split)) [
   | alike p q ↦ f.dead g.t g.others g.viable.0 q (subst (λ x. Derives ss (x ++ (g.t ∷ g.viable.0))) (sym p) g.viable.1)
   | second_longer t mid p q ↦ f.dead t (mid ++ (g.t ∷ g.others)) (mid ++ (g.t ∷ g.viable.0)) q
@@ -64,14 +64,14 @@ syntax_or_nesting {ss = ss} {l = l} {d = d} f g = elim (cut f.before f.rest g.be
 ]
 
 -- the first of two nesting faults excludes the second
-earlier : {ss : List Symbol} {l d : ℕ} {ts : List Token} {m n : ℕ} (f : DeepFault ss l d ts m) (g : DeepFault ss l d ts n) (t : Token) (mid rest : List Token) →
+earlier : {ss : List Symbol} {l d : ℕ} {ts : List Token} {m n : ℕ} (f : IsTooDeep ss l d ts m) (g : IsTooDeep ss l d ts n) (t : Token) (mid rest : List Token) →
     g.before ≡ f.before ++ (t ∷ mid) → f.t ∷ f.others ≡ t ∷ rest → ⊥
 earlier {l = l} {d = d} f g t mid rest p q =
     let y = moved d _ _ (regrouped f.before g.before t f.t mid (g.t ∷ g.viable.0) p (heads f.t t f.others rest q)) g.viable.1 in
     too_deep l (levels d g.viable.1) (levels d y.0) (length f.before) y.1 (f.deep (mid ++ (g.t ∷ g.viable.0)) y.0)
     (g.first g.viable.0 g.viable.1 (length f.before) (further f.before g.before t mid p))
 
-nesting_once : {ss : List Symbol} {l d : ℕ} {ts : List Token} {m n : ℕ} → DeepFault ss l d ts m → DeepFault ss l d ts n → m ≡ n
+nesting_once : {ss : List Symbol} {l d : ℕ} {ts : List Token} {m n : ℕ} → IsTooDeep ss l d ts m → IsTooDeep ss l d ts n → m ≡ n
 nesting_once f g = elim (cut f.before (f.t ∷ f.others) g.before (g.t ∷ g.others) (sym f.split ∙ g.split)) [
   | alike p q ↦ sym f.left_is ∙ (ap length q ∙ g.left_is)
   | second_longer t mid p q ↦ absurd (earlier f g t mid (mid ++ (g.t ∷ g.others)) p q)

@@ -24,7 +24,7 @@ pub record IsParseFault (c : CutText) (f : TextFault) : Type 0 where
   pub offset_is : f.offset ≡ place_of c left
 
 -- the text has a cut, and its tokens are a file of the grammar within the limit of nesting
-pub record IsSound (text : List ℕ) : Type 0 where
+pub record IsParsable (text : List ℕ) : Type 0 where
   pub cut : CutText
   pub of_text : cut.text ≡ text
   pub is_cut : IsCut cut.text cut.pieces

@@ -38,8 +38,8 @@ use Rattle.go_ast.specs.declared.tree.Decl.TheVariants as decl
 use Rattle.go_ast.specs.declared.tree.File.{File}
 
 -- a token index as the view of itself
-abbrev pub same_place : ℕ → ℕ
-same_place n = n
+abbrev pub same_index : ℕ → ℕ
+same_index n = n
 
 abbrev pub values_view : Values → ℕ × List (tree.Item ExprTree)
 values_view v = (v.assign, exprs_view v.values.items)
@@ -101,10 +101,10 @@ abbrev pub var_values_view : VarValues → ℕ × List (tree.Item BasicTree)
 var_values_view v = (v.assign, list_view basic_view v.values.items)
 
 unfoldable pub global_view : VarSpec → GlobalTree
-global_view g = record { names = list_view same_place g.names.items; type_use = type_view g.var_type; values = option_view var_values_view g.values }
+global_view g = record { names = list_view same_index g.names.items; type_use = type_view g.var_type; values = option_view var_values_view g.values }
 
 unfoldable pub field_view : FieldDecl → FieldTree
-field_view f = record { names = list_view same_place f.names.items; type_use = type_view f.field_type }
+field_view f = record { names = list_view same_index f.names.items; type_use = type_view f.field_type }
 
 unfoldable pub body_view : TypeBody → BodyTree
 body_view (body.Type t) = tree.Other (type_view t)

@@ -222,10 +222,10 @@ abbrev pub is_update : Kind → Bool
 is_update = one_of (AddAssign ∷ SubAssign ∷ MulAssign ∷ DivAssign ∷ RemAssign ∷ [])
 
 -- a token of this kind may assign to a list of expressions, at this position of a statement
-abbrev pub sets : Setting → Kind → Bool
-sets Plain = one_of (Assign ∷ Define ∷ [])
-sets Head = one_of (Assign ∷ Define ∷ [])
-sets Post = is Assign
+abbrev pub may_set : Setting → Kind → Bool
+may_set Plain = one_of (Assign ∷ Define ∷ [])
+may_set Head = one_of (Assign ∷ Define ∷ [])
+may_set Post = is Assign
 
 -- a type may begin with a token of this kind
 abbrev pub begins_type : Kind → Bool
@@ -357,8 +357,8 @@ rules (MoreExpressions h) = Begins (is Comma) (One (is Comma) ∷ A (Expression 
 rules (SimpleRest s) =
     Begins is_step (One is_step ∷ []) ∷
     Begins is_update (One is_update ∷ A (Expression (in_head s)) ∷ []) ∷
-    Begins (sets s) (One (sets s) ∷ A (Expressions (in_head s)) ∷ []) ∷
-    Begins (is Comma) (One (is Comma) ∷ A (Expressions (in_head s)) ∷ One (sets s) ∷ A (Expressions (in_head s)) ∷ []) ∷
+    Begins (may_set s) (One (may_set s) ∷ A (Expressions (in_head s)) ∷ []) ∷
+    Begins (is Comma) (One (is Comma) ∷ A (Expressions (in_head s)) ∷ One (may_set s) ∷ A (Expressions (in_head s)) ∷ []) ∷
     nothing ∷ []
 rules IfHead =
     Begins (is Semicolon) (One (is Semicolon) ∷ A (Expression true) ∷ A IfBody ∷ []) ∷

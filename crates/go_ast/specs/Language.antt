@@ -28,7 +28,7 @@ levels d (by_rule a x) = levels d x
 
 -- The first syntax fault of a token list is at `rest`. Some text begins with the tokens before it, none with these and the first token of
 -- `rest`, and the whole list is no text. None of the tokens before it opens a level over the limit.
-pub record FirstFault (symbols : List Symbol) (limit d : ℕ) (ts : List Token) (left : ℕ) : Type 0 where
+pub record IsSyntaxFault (symbols : List Symbol) (limit d : ℕ) (ts : List Token) (left : ℕ) : Type 0 where
   pub before : List Token
   pub rest : List Token
   pub split : ts ≡ before ++ rest
@@ -40,7 +40,7 @@ pub record FirstFault (symbols : List Symbol) (limit d : ℕ) (ts : List Token) 
 
 -- The first nesting fault is at t. Some text begins with the tokens up to t, and in each such text t is the first to open a level over the
 -- limit.
-pub record DeepFault (symbols : List Symbol) (limit d : ℕ) (ts : List Token) (left : ℕ) : Type 0 where
+pub record IsTooDeep (symbols : List Symbol) (limit d : ℕ) (ts : List Token) (left : ℕ) : Type 0 where
   pub before : List Token
   pub t : Token
   pub others : List Token

@@ -5,7 +5,7 @@ use Rattle.go_ast.specs.declared.syntax.Token.{Token}
 use Rattle.go_ast.specs.declared.syntax.TokenFaultKind.{TokenFaultKind}
 use Rattle.go_ast.specs.declared.syntax.TokenFaultKind.TheVariants.{Syntax, Nesting}
 use Rattle.go_ast.specs.Grammar.{A, File}
-use Rattle.go_ast.specs.Language.{Derives, FirstFault, DeepFault, levels}
+use Rattle.go_ast.specs.Language.{Derives, IsSyntaxFault, IsTooDeep, levels}
 
 -- the number of levels of nesting that may be open at once
 abbrev pub limit : ℕ
@@ -24,5 +24,5 @@ pub record IsWhole (ts : List Token) : Type 0 where
 -- the verdict is right for the token list
 abbrev pub IsVerdict : List Token → Verdict → Type 0
 IsVerdict ts Whole = IsWhole ts
-IsVerdict ts (Faulty Syntax left) = FirstFault (A File ∷ []) limit 0 ts left
-IsVerdict ts (Faulty Nesting left) = DeepFault (A File ∷ []) limit 0 ts left
+IsVerdict ts (Faulty Syntax left) = IsSyntaxFault (A File ∷ []) limit 0 ts left
+IsVerdict ts (Faulty Nesting left) = IsTooDeep (A File ∷ []) limit 0 ts left

@@ -47,9 +47,9 @@ IsGroup P (single x) = P x
 IsGroup P (several o xs c) = IsOpenList P xs
 
 -- an optional value, where present, satisfies P
-abbrev pub Perhaps : {X : Type 0} → (X → Type 0) → Option X → Type 0
-Perhaps P None = Unit {0}
-Perhaps P (Some x) = P x
+abbrev pub IsNoneOr : {X : Type 0} → (X → Type 0) → Option X → Type 0
+IsNoneOr P None = Unit {0}
+IsNoneOr P (Some x) = P x
 
 -- every value
 abbrev pub Any : {X : Type 0} → X → Type 0
@@ -174,18 +174,18 @@ IsPost (Define es p fs) = ⊥
 IsPost s = IsSimple true s
 
 abbrev pub IsInit : InitTree → Type 0
-IsInit i = Perhaps (IsSimple true) i.simple
+IsInit i = IsNoneOr (IsSimple true) i.simple
 
 abbrev pub IsFor : ForTree → Type 0
 IsFor forever = Unit {0}
 IsFor (while e) = IsExprIn true e
-IsFor (clauses init s condition t post) = Perhaps (IsSimple true) init × Perhaps (IsExprIn true) condition × Perhaps IsPost post
+IsFor (clauses init s condition t post) = IsNoneOr (IsSimple true) init × IsNoneOr (IsExprIn true) condition × IsNoneOr IsPost post
 
 -- the declaration of local variables has a type, values, or both
 pub record IsLocal (l : LocalTree) : Type 0 where
   pub names : IsList Any l.names
   pub told : l.type_use ≡ None → l.values ≢ None
-  pub values : Perhaps (λ v. IsList (IsExprIn false) v.1) l.values
+  pub values : IsNoneOr (λ v. IsList (IsExprIn false) v.1) l.values
 
 unfoldable mutual
   pub IsStatement : StatementTree → Type 0
@@ -209,7 +209,7 @@ unfoldable mutual
   AreStatements (statement s (Some p) rest) = IsStatement s × (rest ≢ no_statement) × AreStatements rest
 
   pub IsIf : IfTree → Type 0
-  IsIf (if_tree p init e b rest) = Perhaps IsInit init × IsExprIn true e × IsBlock b × IsElse rest
+  IsIf (if_tree p init e b rest) = IsNoneOr IsInit init × IsExprIn true e × IsBlock b × IsElse rest
 
   pub IsElse : ElseTree → Type 0
   IsElse no_else = Unit {0}
@@ -220,7 +220,7 @@ unfoldable mutual
 
 pub record IsGlobal (g : GlobalTree) : Type 0 where
   pub names : IsList Any g.names
-  pub values : Perhaps (λ v. IsList Any v.1) g.values
+  pub values : IsNoneOr (λ v. IsList Any v.1) g.values
 
 abbrev pub IsField : FieldTree → Type 0
 IsField f = IsList Any f.names

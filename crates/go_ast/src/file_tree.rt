@@ -64,7 +64,7 @@ impl FileTree {
     }
 
     /// A file of this path and these tokens that shares the syntax tree of `self`. The tree must be that of its tokens too.
-    pub fn with_cut(
+    pub fn sharing_tree(
         &self,
         alloc: Global,
         path: Path,

@@ -7,7 +7,7 @@ use Rattle.go_ast.specs.declared.syntax.Token.{Token}
 use Rattle.go_ast.specs.declared.syntax.TokenFaultKind.TheVariants.{Syntax}
 use Rattle.go_ast.specs.Grammar.{Symbol, One, Opening, Close, A, Part, Rule, Begins, Otherwise, rules, Single, ImportItem, GlobalItem, TypeItem, LocalItem}
 use Rattle.go_ast.specs.Grammar.{AfterName, AfterSelector, Address, File}
-use Rattle.go_ast.specs.Language.{Among, tested, untested, below, Derives, ends, token, opening, closing, by_rule, FirstFault}
+use Rattle.go_ast.specs.Language.{Among, tested, untested, below, Derives, ends, token, opening, closing, by_rule, IsSyntaxFault}
 use Rattle.go_parser.specs.Machine.{Run, take, opens, closes, expand, refused, refused_opening, left_over, Stopped, Selects, first as selects_first, later, last}
 use Rattle.go_parser.proofs.Tables.{first, firsts, followed, nullable, nullables, implies, symbols_of}
 use Rattle.go_parser.proofs.Predictive.{and_left, and_right, rule_at, implied, no, Good, good_rule, followed_at, selected, goes_by, after_token}
@@ -97,7 +97,7 @@ stops_short (refused e) g (token h x) = no (sym e ∙ h)
 stops_short (refused_opening e) g (opening h x) = no (sym e ∙ h)
 stops_short left_over g x = elim x [ ]
 
-pub file_stops : {ts : List Token} {n : ℕ} → Run 0 (A File ∷ []) ts (Stopped Syntax n) → FirstFault (A File ∷ []) 200 0 ts n
+pub file_stops : {ts : List Token} {n : ℕ} → Run 0 (A File ∷ []) ts (Stopped Syntax n) → IsSyntaxFault (A File ∷ []) 200 0 ts n
 file_stops r =
     let f = stops_at r ((λ k e. cc), tt) refl in
     record {

@@ -19,11 +19,11 @@ use Rattle.go_ast.specs.declared.tree.ImportDecl.{ImportDecl}
 use Rattle.go_ast.specs.declared.tree.FuncDecl.{FuncDecl}
 use Rattle.go_ast.specs.declared.tree.Decl.TheVariants as decl
 use Rattle.go_ast.specs.declared.tree.File.{File}
-use Rattle.go_ast.specs.WellFormed.{IsSeparated, IsList, IsOpenList, IsGroup, Perhaps, Any, IsExprIn, IsLocal, IsGlobal, IsField, IsBody, IsTypeSpec}
+use Rattle.go_ast.specs.WellFormed.{IsSeparated, IsList, IsOpenList, IsGroup, IsNoneOr, Any, IsExprIn, IsLocal, IsGlobal, IsField, IsBody, IsTypeSpec}
 use Rattle.go_ast.specs.WellFormed.{IsParam, IsResult, IsBlock, IsFunc, IsImports, IsDecl, IsFile}
-use Rattle.go_parser.specs.Listed.{IsToldBy}
+use Rattle.go_parser.specs.Listed.{HasTypeOrValues}
 use Rattle.go_ast.specs.View.{option_view, list_view, item_view, group_view, ident_view, type_view, exprs_view}
-use Rattle.go_ast.specs.FileView.{same_place, values_view, local_view, import_view, var_values_view, global_view, field_view, body_view, type_spec_view}
+use Rattle.go_ast.specs.FileView.{same_index, values_view, local_view, import_view, var_values_view, global_view, field_view, body_view, type_spec_view}
 use Rattle.go_ast.specs.FileView.{param_view, results_view, block_view, func_view, imports_view, decl_view, file_view}
 
 pub if_ok : {Y E : Type 0} (P Q : Y → Type 0) (r : Result Y E) → ((y : Y) → P y → Q y) → IfOk r P → IfOk r Q
@@ -70,12 +70,12 @@ group_formed P view (group.Several o xs c) h = record { separated = separated_vi
 
 -- declarations
 
-pub global_formed : (g : VarSpec) → IsList Any (list_view same_place g.names.items) → Perhaps (λ v. IsList Any v.1) (option_view var_values_view g.values) →
+pub global_formed : (g : VarSpec) → IsList Any (list_view same_index g.names.items) → IsNoneOr (λ v. IsList Any v.1) (option_view var_values_view g.values) →
     IsGlobal (global_view g)
 unfolding global_view
 global_formed g n v = record { names = n; values = v }
 
-pub field_formed : (f : FieldDecl) → IsList Any (list_view same_place f.names.items) → IsField (field_view f)
+pub field_formed : (f : FieldDecl) → IsList Any (list_view same_index f.names.items) → IsField (field_view f)
 unfolding field_view
 field_formed f h = h
 
@@ -113,13 +113,13 @@ several_results_formed o ts c h = h
 some_none : {X : Type 0} {x : X} → Some x ≡ None → ⊥
 some_none e = cc
 
-pub told_by_values : (v : Values) → IsList (IsExprIn false) (exprs_view v.values.items) → IsToldBy None (Some v)
+pub told_by_values : (v : Values) → IsList (IsExprIn false) (exprs_view v.values.items) → HasTypeOrValues None (Some v)
 told_by_values v h = record { told = λ e f. some_none f; formed = h }
 
-pub told_by_type : (t : TypeExpr) (v : Option Values) → Perhaps (λ v. IsList (IsExprIn false) v.1) (option_view values_view v) → IsToldBy (Some t) v
+pub told_by_type : (t : TypeExpr) (v : Option Values) → IsNoneOr (λ v. IsList (IsExprIn false) v.1) (option_view values_view v) → HasTypeOrValues (Some t) v
 told_by_type t v h = record { told = λ e. absurd (some_none e); formed = h }
 
-pub local_formed : (l : LocalSpec) → IsList Any (list_view ident_view l.names.items) → IsToldBy l.local_type l.values → IsLocal (local_view l)
+pub local_formed : (l : LocalSpec) → IsList Any (list_view ident_view l.names.items) → HasTypeOrValues l.local_type l.values → IsLocal (local_view l)
 unfolding local_view
 local_formed l n t = record { names = n; told = t.told; values = t.formed }
 

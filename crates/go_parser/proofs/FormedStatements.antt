@@ -3,10 +3,10 @@ use Rattle.std.proofs.Common.{ℕ, ◌≡◌, ◌≢◌, Bool, true, false, List
 use Rattle.std.specs.List.{All}
 use Rattle.go_ast.specs.declared.syntax.StepOp.{StepOp}
 use Rattle.go_ast.specs.declared.syntax.UpdateOp.{UpdateOp}
-use Rattle.go_parser.specs.declared.words.Setting.{Setting}
-use Rattle.go_parser.specs.declared.words.Setting.TheVariants as setting
-use Rattle.go_parser.specs.declared.words.SetOp.{SetOp}
-use Rattle.go_parser.specs.declared.words.SetOp.TheVariants as set
+use Rattle.go_parser.specs.declared.token_classes.Setting.{Setting}
+use Rattle.go_parser.specs.declared.token_classes.Setting.TheVariants as setting
+use Rattle.go_parser.specs.declared.token_classes.SetOp.{SetOp}
+use Rattle.go_parser.specs.declared.token_classes.SetOp.TheVariants as set
 use Rattle.go_ast.specs.declared.tree.Expr.{Expr}
 use Rattle.go_ast.specs.declared.tree.ExprItem.{ExprItem}
 use Rattle.go_ast.specs.declared.tree.SimpleStmt.{SimpleStmt}
@@ -25,10 +25,10 @@ use Rattle.go_ast.specs.declared.tree.BlockItem.{BlockItem}
 use Rattle.go_ast.specs.declared.tree.IfStmt.{IfStmt}
 use Rattle.go_ast.specs.Tree as tree
 use Rattle.go_ast.specs.Grammar.{in_head}
-use Rattle.go_parser.specs.Words.{setting_of, IsAllowed}
-use Rattle.go_ast.specs.WellFormed.{IsList, IsGroup, Perhaps, IsExprIn, IsSimple, IsPost, IsInit, IsFor, IsLocal, IsStatement, AreStatements, IsBlock}
+use Rattle.go_parser.specs.TokenClasses.{setting_of, IsAllowed}
+use Rattle.go_ast.specs.WellFormed.{IsList, IsGroup, IsNoneOr, IsExprIn, IsSimple, IsPost, IsInit, IsFor, IsLocal, IsStatement, AreStatements, IsBlock}
 use Rattle.go_ast.specs.WellFormed.{IsIf, IsElse}
-use Rattle.go_parser.specs.Listed.{IsJoinedBy, IsListed, IsSimpleIn, AreReturned}
+use Rattle.go_parser.specs.Listed.{IsJoinedBy, IsListed, IsSimpleIn, AreReturnValues}
 use Rattle.go_ast.specs.View.{option_view, group_view, expr_view, expr_item_view, exprs_view}
 use Rattle.go_ast.specs.FileView.{local_view, simple_view, init_view, for_view, stmt_view, block_view, statements_view, if_view, else_view}
 use Rattle.go_parser.proofs.ListedSteps.{listed_none, listed_push, listed_list}
@@ -91,11 +91,11 @@ single_list P xs x e h same = listed_list P expr_item_view xs false (one_listed 
 
 pub bare_init_formed : (i : IfInit) → i.statement ≡ None → IsInit (init_view i)
 unfolding init_view
-bare_init_formed i e = subst (λ s. Perhaps (IsSimple true) (option_view simple_view s)) (sym e) tt
+bare_init_formed i e = subst (λ s. IsNoneOr (IsSimple true) (option_view simple_view s)) (sym e) tt
 
 pub init_formed : (i : IfInit) (s : SimpleStmt) → i.statement ≡ Some s → IsSimple true (simple_view s) → IsInit (init_view i)
 unfolding init_view
-init_formed i s e h = subst (λ s. Perhaps (IsSimple true) (option_view simple_view s)) (sym e) h
+init_formed i s e h = subst (λ s. IsNoneOr (IsSimple true) (option_view simple_view s)) (sym e) h
 
 pub forever_formed : IsFor (for_view for.Forever)
 unfolding for_view
@@ -106,7 +106,7 @@ unfolding for_view
 while_formed e h = h
 
 pub clauses_formed : (header : ForHeader) (i : Option SimpleStmt) (s : ℕ) (e : Option Expr) (t : ℕ) (p : Option SimpleStmt) → header ≡ for.Clauses i s e t p →
-    Perhaps (IsSimple true) (option_view simple_view i) → Perhaps (IsExprIn true) (option_view expr_view e) → Perhaps IsPost (option_view simple_view p) →
+    IsNoneOr (IsSimple true) (option_view simple_view i) → IsNoneOr (IsExprIn true) (option_view expr_view e) → IsNoneOr IsPost (option_view simple_view p) →
     IsFor (for_view header)
 unfolding for_view
 clauses_formed header i s e t p same a b c = subst (λ h. IsFor (for_view h)) (sym same) (a, b, c)
@@ -145,7 +145,7 @@ pub continue_formed : (p : ℕ) → IsStatement (stmt_view (stmt.Continue p))
 unfolding IsStatement stmt_view
 continue_formed p = tt
 
-pub return_formed : (p : ℕ) (es : _) → let x = stmt.Return p es in AreReturned (exprs_view es.items) → IsStatement (stmt_view x)
+pub return_formed : (p : ℕ) (es : _) → let x = stmt.Return p es in AreReturnValues (exprs_view es.items) → IsStatement (stmt_view x)
 unfolding IsStatement stmt_view
 return_formed p es h = h
 
@@ -185,7 +185,7 @@ block_formed o ss c w =
 
 -- `if` and `else`
 
-pub if_formed : (p : ℕ) (i : Option IfInit) (e : Expr) (b : BlockStmt) (rest : Else) → Perhaps IsInit (option_view init_view i) → IsExprIn true (expr_view e) →
+pub if_formed : (p : ℕ) (i : Option IfInit) (e : Expr) (b : BlockStmt) (rest : Else) → IsNoneOr IsInit (option_view init_view i) → IsExprIn true (expr_view e) →
     IsBlock (block_view b) → IsElse (else_view rest) →
     IsIf (if_view (roll-IfStmt (record { at = p; init = i; condition = e; body = b; otherwise = rest })))
 unfolding IsIf if_view roll-IfStmt denote.Hole.Carrier.roll

@@ -10,7 +10,7 @@ use Rattle.go_ast.specs.Tree.{Break, Continue, Return, BlockTree, block, Stateme
 use Rattle.go_ast.specs.Tree.{else_block}
 use Rattle.go_ast.specs.Flatten.{sign, sign_if, tokens_if, all_tokens, exprs_tokens, expr_tokens, simple_tokens, local_tokens, init_tokens, for_tokens}
 use Rattle.go_ast.specs.Flatten.{statement_tokens, block_tokens, statements_tokens, else_tokens}
-use Rattle.go_ast.specs.WellFormed.{Perhaps, IsList, IsExprIn, IsSimple, IsPost, IsInit, IsFor, IsLocal, IsStatement, IsBlock, AreStatements, IsElse}
+use Rattle.go_ast.specs.WellFormed.{IsNoneOr, IsList, IsExprIn, IsSimple, IsPost, IsInit, IsFor, IsLocal, IsStatement, IsBlock, AreStatements, IsElse}
 use Rattle.go_parser.proofs.OneValue.{Values}
 use Rattle.go_parser.proofs.Made.{Made, one, opens, closes, rule, along}
 use Rattle.go_parser.proofs.MadeExprs.{made_expr}
@@ -27,7 +27,7 @@ MakesBody b rest = (ss : List Symbol) (vs : Values ss) (ts : List Token) → Mad
     Made (A IfBody ∷ ss) ((b, rest), vs) (block_tokens b ++ (else_tokens rest ++ ts))
 
 -- the clause before the condition of an `if`
-if_init : (simple : Option SimpleTree) (semicolon : ℕ) (e : ExprTree) (b : BlockTree) (rest : ElseTree) → Perhaps (IsSimple true) simple → IsExprIn true e →
+if_init : (simple : Option SimpleTree) (semicolon : ℕ) (e : ExprTree) (b : BlockTree) (rest : ElseTree) → IsNoneOr (IsSimple true) simple → IsExprIn true e →
     MakesBody b rest →
     {ss : List Symbol} {vs : Values ss} {ts : List Token} → Made ss vs ts →
     Made (A IfHead ∷ ss) ((λ p. if_tree p (Some (record { simple = simple; semicolon = semicolon })) e b rest), vs)
@@ -43,19 +43,19 @@ if_init (Some s) semicolon e b rest w v f {ss = ss} {vs = vs} {ts = ts} m =
     (ap (λ x. ((λ p. if_tree p (Some (record { simple = Some x; semicolon = semicolon })) e b rest), vs)) k.says))
 
 -- the header of an `if` and its bodies
-if_head : (init : Option InitTree) (e : ExprTree) (b : BlockTree) (rest : ElseTree) → Perhaps IsInit init → IsExprIn true e → MakesBody b rest →
+if_head : (init : Option InitTree) (e : ExprTree) (b : BlockTree) (rest : ElseTree) → IsNoneOr IsInit init → IsExprIn true e → MakesBody b rest →
     {ss : List Symbol} {vs : Values ss} {ts : List Token} → Made ss vs ts →
     Made (A IfHead ∷ ss) ((λ p. if_tree p init e b rest), vs) (tokens_if init_tokens init ++ (expr_tokens e ++ (block_tokens b ++ (else_tokens rest ++ ts))))
 unfolding init_tokens
 if_head None e b rest w v f m = rule (below untested) (made_expr true e v _ _ _ (rule tested (f _ _ _ m) refl)) refl
 if_head (Some i) e b rest w v f m = if_init i.simple i.semicolon e b rest w v f m
 
-for_condition : (e : Option ExprTree) → Perhaps (IsExprIn true) e → {ss : List Symbol} {vs : Values ss} {ts : List Token} → Made ss vs ts →
+for_condition : (e : Option ExprTree) → IsNoneOr (IsExprIn true) e → {ss : List Symbol} {vs : Values ss} {ts : List Token} → Made ss vs ts →
     Made (A ForCondition ∷ ss) (e, vs) (tokens_if expr_tokens e ++ ts)
 for_condition None w m = rule (below untested) m refl
 for_condition (Some e) w m = rule tested (made_expr true e w _ _ _ m) refl
 
-for_post : (s : Option SimpleTree) → Perhaps IsPost s → {ss : List Symbol} {vs : Values ss} {ts : List Token} → Made ss vs ts →
+for_post : (s : Option SimpleTree) → IsNoneOr IsPost s → {ss : List Symbol} {vs : Values ss} {ts : List Token} → Made ss vs ts →
     Made (A ForPost ∷ ss) (s, vs) (tokens_if simple_tokens s ++ ts)
 for_post None w m = rule (below untested) m refl
 for_post (Some s) w {ss = ss} {vs = vs} {ts = ts} m =
@@ -63,8 +63,8 @@ for_post (Some s) w {ss = ss} {vs = vs} {ts = ts} m =
     along k.same (rule tested (made_expr true k.e k.proper _ _ _ k.made) (ap (λ x. (Some x, vs)) k.says))
 
 -- the clauses of a `for` from the first semicolon on, and its block
-for_rest : (s : ℕ) (condition : Option ExprTree) (t : ℕ) (post : Option SimpleTree) (b : BlockTree) → Perhaps (IsExprIn true) condition →
-    Perhaps IsPost post → MakesBlock b →
+for_rest : (s : ℕ) (condition : Option ExprTree) (t : ℕ) (post : Option SimpleTree) (b : BlockTree) → IsNoneOr (IsExprIn true) condition →
+    IsNoneOr IsPost post → MakesBlock b →
     {ss : List Symbol} {vs : Values ss} {ts : List Token} → Made ss vs ts →
     Made (A ForRest ∷ ss) ((λ init. (clauses init s condition t post, b)), vs)
     (sign kind.Semicolon s ∷ (tokens_if expr_tokens condition ++ (sign kind.Semicolon t ∷ (tokens_if simple_tokens post ++ (block_tokens b ++ ts)))))

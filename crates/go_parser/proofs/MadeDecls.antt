@@ -13,7 +13,7 @@ use Rattle.go_ast.specs.Tree.{TypeDecl, FuncDecl, FileTree}
 use Rattle.go_ast.specs.Flatten.{sign, sign_if, tokens_if, all_tokens, list_tokens, group_tokens, name_tokens, ident_tokens, basic_tokens, value_tokens}
 use Rattle.go_ast.specs.Flatten.{type_tokens, block_tokens, import_tokens, global_tokens, field_tokens, body_tokens, type_spec_tokens, receiver_tokens}
 use Rattle.go_ast.specs.Flatten.{param_tokens, result_tokens, func_tokens, imports_tokens, decl_tokens, flatten}
-use Rattle.go_ast.specs.WellFormed.{Any, Perhaps, IsList, IsGlobal, IsField, IsBody, IsTypeSpec, IsParam, IsOpenList, IsResult, IsFunc, IsBlock, IsImports}
+use Rattle.go_ast.specs.WellFormed.{Any, IsNoneOr, IsList, IsGlobal, IsField, IsBody, IsTypeSpec, IsParam, IsOpenList, IsResult, IsFunc, IsBlock, IsImports}
 use Rattle.go_ast.specs.WellFormed.{IsDecl, IsFile}
 use Rattle.go_parser.proofs.Values.{basic}
 use Rattle.go_parser.proofs.OneValue.{Values}
@@ -77,13 +77,13 @@ global_list p (x ∷ xs) w {vs = vs} {ts = ts} m =
     (rule tested (one refl (one_basic x.value (more_literals x.separator xs (behind_item x xs w.joined) (tail_of (λ x. Any x.value) x xs w.each) m)))
     (ap (λ z. (Some (p, with_separator z x.separator ∷ xs), vs)) (basic_back x.value)))
 
-global_values : (v : Option (ℕ × List (Item BasicTree))) → Perhaps (λ v. IsList Any v.1) v → {ss : List Symbol} {vs : Values ss} {ts : List Token} →
+global_values : (v : Option (ℕ × List (Item BasicTree))) → IsNoneOr (λ v. IsList Any v.1) v → {ss : List Symbol} {vs : Values ss} {ts : List Token} →
     Made ss vs ts →
     Made (A GlobalValues ∷ ss) (v, vs) (tokens_if (value_tokens basic_tokens) v ++ ts)
 global_values None w m = rule (below untested) m refl
 global_values (Some v) w m = global_list v.0 v.1 w m
 
-global_names : (xs : List (Item ℕ)) (t : TypeTree) (v : Option (ℕ × List (Item BasicTree))) → IsList Any xs → Perhaps (λ v. IsList Any v.1) v →
+global_names : (xs : List (Item ℕ)) (t : TypeTree) (v : Option (ℕ × List (Item BasicTree))) → IsList Any xs → IsNoneOr (λ v. IsList Any v.1) v →
     (ss : List Symbol) (vs : Values ss) (ts : List Token) → Made ss vs ts →
     Made (A (Single GlobalItem) ∷ ss) (record { names = xs; type_use = t; values = v }, vs)
     ((list_tokens kind.Comma name_tokens xs ++ (type_tokens t ++ tokens_if (value_tokens basic_tokens) v)) ++ ts)

@@ -9,13 +9,13 @@ use Rattle.go_ast.specs.declared.syntax.StepOp.{StepOp}
 use Rattle.go_ast.specs.declared.syntax.StepOp.TheVariants as step
 use Rattle.go_ast.specs.declared.syntax.UpdateOp.{UpdateOp}
 use Rattle.go_ast.specs.declared.syntax.UpdateOp.TheVariants as update
-use Rattle.go_ast.specs.Grammar.{Symbol, One, A, is_ident, is_step, is_update, sets, Setting, Plain, Head, Post, in_head, LocalItem, Single, MoreIdents}
+use Rattle.go_ast.specs.Grammar.{Symbol, One, A, is_ident, is_step, is_update, may_set, Setting, Plain, Head, Post, in_head, LocalItem, Single, MoreIdents}
 use Rattle.go_ast.specs.Grammar.{LocalRest, LocalValues, Expressions, MoreExpressions, SimpleRest}
 use Rattle.go_ast.specs.Language.{tested, untested, below}
 use Rattle.go_ast.specs.Tree.{Item, IdentTree, Named, Underscore, TypeTree, ExprTree, SimpleTree, Alone, Step, Update, Assign, Define, LocalTree}
 use Rattle.go_ast.specs.Flatten.{sign, sign_if, step_kind, update_kind, tokens_if, all_tokens, list_tokens, ident_tokens, exprs_tokens, value_tokens}
 use Rattle.go_ast.specs.Flatten.{type_tokens, expr_tokens, simple_tokens, local_tokens}
-use Rattle.go_ast.specs.WellFormed.{Any, Perhaps, IsList, IsExprIn, IsSimple, IsPost, IsLocal}
+use Rattle.go_ast.specs.WellFormed.{Any, IsNoneOr, IsList, IsExprIn, IsSimple, IsPost, IsLocal}
 use Rattle.go_parser.proofs.Predictive.{no}
 use Rattle.go_parser.proofs.Values.{step_op, update_op, ident, set_by}
 use Rattle.go_parser.proofs.OneValue.{Values}
@@ -82,12 +82,12 @@ simple_at Post (Update e op p f) w = w
 simple_at Post (Assign es p fs) w = w
 simple_at Post (Define es p fs) w = absurd w
 
-sets_assign : (s : Setting) → sets s kind.Assign ≡ true
+sets_assign : (s : Setting) → may_set s kind.Assign ≡ true
 sets_assign Plain = refl
 sets_assign Head = refl
 sets_assign Post = refl
 
-sets_define : (s : Setting) (es fs : List (Item ExprTree)) (p : ℕ) → IsSimpleAt s (Define es p fs) → sets s kind.Define ≡ true
+sets_define : (s : Setting) (es fs : List (Item ExprTree)) (p : ℕ) → IsSimpleAt s (Define es p fs) → may_set s kind.Define ≡ true
 sets_define Plain es fs p w = refl
 sets_define Head es fs p w = refl
 sets_define Post es fs p w = absurd w
@@ -100,7 +100,7 @@ set_tokens_apart e c es fs t ts =
     append_assoc (exprs_tokens (with_separator e c ∷ es)) (t ∷ exprs_tokens fs) ts
     ∙ apart (expr_tokens e) (sign_if kind.Comma c) (exprs_tokens es) (t ∷ (exprs_tokens fs ++ ts))
 
-set_more : (s : Setting) (k : Kind) (p : ℕ) → sets s k ≡ true → (x : ExprTree) (c : Option ℕ) (es fs : List (Item ExprTree)) → IsExprIn (in_head s) x →
+set_more : (s : Setting) (k : Kind) (p : ℕ) → may_set s k ≡ true → (x : ExprTree) (c : Option ℕ) (es fs : List (Item ExprTree)) → IsExprIn (in_head s) x →
     IsSome c →
     IsList (IsExprIn (in_head s)) es → IsList (IsExprIn (in_head s)) fs → (ss : List Symbol) (vs : Values ss) (ts : List Token) → Made ss vs ts →
     Spoken s ss vs (set_by (sign k p) (with_separator x c ∷ es) fs) ((exprs_tokens (with_separator x c ∷ es) ++ (sign k p ∷ exprs_tokens fs)) ++ ts)
@@ -115,7 +115,7 @@ set_more s k p a x (Some c) es fs u i v w ss vs ts m = record {
   says = refl;
 }
 
-set_starts : (s : Setting) (k : Kind) (p : ℕ) → sets s k ≡ true → (es fs : List (Item ExprTree)) →
+set_starts : (s : Setting) (k : Kind) (p : ℕ) → may_set s k ≡ true → (es fs : List (Item ExprTree)) →
     IsList (IsExprIn (in_head s)) es → IsList (IsExprIn (in_head s)) fs → (ss : List Symbol) (vs : Values ss) (ts : List Token) → Made ss vs ts →
     Spoken s ss vs (set_by (sign k p) es fs) ((exprs_tokens es ++ (sign k p ∷ exprs_tokens fs)) ++ ts)
 unfolding all_tokens
@@ -195,13 +195,13 @@ more_idents s xs b a {ss = ss} {vs = vs} {ts = ts} m =
     (λ p y v g us n. rule tested (one refl (one_ident y n)) (ap (λ z. ((λ x. with_separator x (Some p) ∷ g z), vs)) (ident_back y)))
     s xs b a
 
-local_values : (v : Option (ℕ × List (Item ExprTree))) → Perhaps (λ v. IsList (IsExprIn false) v.1) v →
+local_values : (v : Option (ℕ × List (Item ExprTree))) → IsNoneOr (λ v. IsList (IsExprIn false) v.1) v →
     {ss : List Symbol} {vs : Values ss} {ts : List Token} → Made ss vs ts →
     Made (A LocalValues ∷ ss) (v, vs) (tokens_if (value_tokens expr_tokens) v ++ ts)
 local_values None w m = rule (below untested) m refl
 local_values (Some v) w m = rule tested (one refl (made_exprs false v.1 w _ _ _ m)) refl
 
-local_rest : (t : Option TypeTree) (v : Option (ℕ × List (Item ExprTree))) → (t ≡ None → v ≢ None) → Perhaps (λ v. IsList (IsExprIn false) v.1) v →
+local_rest : (t : Option TypeTree) (v : Option (ℕ × List (Item ExprTree))) → (t ≡ None → v ≢ None) → IsNoneOr (λ v. IsList (IsExprIn false) v.1) v →
     {ss : List Symbol} {vs : Values ss} {ts : List Token} → Made ss vs ts →
     Made (A LocalRest ∷ ss) ((t, v), vs) (tokens_if type_tokens t ++ (tokens_if (value_tokens expr_tokens) v ++ ts))
 local_rest (Some t) v q w m = rule (below untested) (made_type t (local_values v w m)) refl
@@ -209,7 +209,7 @@ local_rest None None q w m = absurd (q refl refl)
 local_rest None (Some v) q w m = rule tested (one refl (made_exprs false v.1 w _ _ _ m)) refl
 
 local_names : (xs : List (Item IdentTree)) (t : Option TypeTree) (v : Option (ℕ × List (Item ExprTree))) → IsList Any xs → (t ≡ None → v ≢ None) →
-    Perhaps (λ v. IsList (IsExprIn false) v.1) v → (ss : List Symbol) (vs : Values ss) (ts : List Token) → Made ss vs ts →
+    IsNoneOr (λ v. IsList (IsExprIn false) v.1) v → (ss : List Symbol) (vs : Values ss) (ts : List Token) → Made ss vs ts →
     Made (A (Single LocalItem) ∷ ss) (record { names = xs; type_use = t; values = v }, vs)
     ((list_tokens kind.Comma ident_tokens xs ++ (tokens_if type_tokens t ++ tokens_if (value_tokens expr_tokens) v)) ++ ts)
 unfolding all_tokens

@@ -6,7 +6,7 @@ use Rattle.go_ast.specs.declared.syntax.Token.{Token}
 use Rattle.go_ast.specs.Grammar.{Symbol, One, A, rules, is, Links, AfterName, AfterSelector, AfterTypeName, AfterLiteralName, Address, Elements, Element}
 use Rattle.go_ast.specs.Grammar.{Expression, Unary, slice_type}
 use Rattle.go_parser.specs.Machine.{Run, take, refused, expand, Selects, first, later, last, at, Outcome}
-use Rattle.go_parser.specs.Lookahead.{behind, names_literal, begins_key}
+use Rattle.go_parser.specs.Lookahead.{the_rest, names_literal, begins_key}
 use Rattle.go_parser.specs.Parsing.{Leads}
 use Rattle.go_parser.proofs.KindTests.{is_only}
 
@@ -52,27 +52,27 @@ not_at j k [] d e = refl
 not_at j k (t ∷ ts) d e = subst (λ i. is k i ≡ false) (sym (is_only j t.kind e)) d
 
 -- a test of the tokens after the first
-behind_is : (t : Token) (ts rest : List Token) (c : Kind → Bool) (b : Bool) → ts ≡ t ∷ rest → at c (behind ts) ≡ b → at c rest ≡ b
-behind_is t ts rest c b e h = sym (ap (λ x. at c (behind x)) e) ∙ h
+behind_is : (t : Token) (ts rest : List Token) (c : Kind → Bool) (b : Bool) → ts ≡ t ∷ rest → at c (the_rest ts) ≡ b → at c rest ≡ b
+behind_is t ts rest c b e h = sym (ap (λ x. at c (the_rest x)) e) ∙ h
 
 -- names and literals
 
 literal_behind : {d : ℕ} {ss : List Symbol} {ts : List Token} {o : Outcome} →
-    (at (is kind.LeftBrace) ts || (at (is kind.Dot) ts && (at (is kind.Name) (behind ts) && at (is kind.LeftBrace) (behind (behind ts))))) ≡ true →
+    (at (is kind.LeftBrace) ts || (at (is kind.Dot) ts && (at (is kind.Name) (the_rest ts) && at (is kind.LeftBrace) (the_rest (the_rest ts))))) ≡ true →
     Run d (A AfterTypeName ∷ A Elements ∷ A (Links false) ∷ ss) ts o → Run d (A (AfterName false) ∷ ss) ts o
 literal_behind {ts = ts} h (expand (first e) r) =
     let brace : at (is kind.LeftBrace) ts ≡ false = not_at kind.Dot kind.LeftBrace ts refl e in
-    let g = and_right (at (is kind.Name) (behind ts)) (at (is kind.LeftBrace) (behind (behind ts)))
-    (and_right (at (is kind.Dot) ts) (at (is kind.Name) (behind ts) && at (is kind.LeftBrace) (behind (behind ts)))
-    (or_other (at (is kind.LeftBrace) ts) (at (is kind.Dot) ts && (at (is kind.Name) (behind ts) && at (is kind.LeftBrace) (behind (behind ts)))) h
+    let g = and_right (at (is kind.Name) (the_rest ts)) (at (is kind.LeftBrace) (the_rest (the_rest ts)))
+    (and_right (at (is kind.Dot) ts) (at (is kind.Name) (the_rest ts) && at (is kind.LeftBrace) (the_rest (the_rest ts)))
+    (or_other (at (is kind.LeftBrace) ts) (at (is kind.Dot) ts && (at (is kind.Name) (the_rest ts) && at (is kind.LeftBrace) (the_rest (the_rest ts)))) h
     brace)) in
     expand (later brace (first e)) (under_one (λ t rest f m r.
     under_one (λ u more g' n r. expand
-    (first (sym (ap (λ x. at (is kind.LeftBrace) (behind (behind x))) f ∙ ap (λ x. at (is kind.LeftBrace) (behind x)) g') ∙ g)) r) r) r)
+    (first (sym (ap (λ x. at (is kind.LeftBrace) (the_rest (the_rest x))) f ∙ ap (λ x. at (is kind.LeftBrace) (the_rest x)) g') ∙ g)) r) r) r)
 literal_behind {ts = ts} h (expand (later e last) r) =
     expand (first (or_other_left (at (is kind.LeftBrace) ts)
-    (at (is kind.Dot) ts && (at (is kind.Name) (behind ts) && at (is kind.LeftBrace) (behind (behind ts)))) h
-    (ap (λ b. b && (at (is kind.Name) (behind ts) && at (is kind.LeftBrace) (behind (behind ts)))) e))) r
+    (at (is kind.Dot) ts && (at (is kind.Name) (the_rest ts) && at (is kind.LeftBrace) (the_rest (the_rest ts)))) h
+    (ap (λ b. b && (at (is kind.Name) (the_rest ts) && at (is kind.LeftBrace) (the_rest (the_rest ts)))) e))) r
 
 pub unary_literal : (h : Bool) (d : ℕ) (ts : List Token) → at (is kind.Name) ts ≡ true → cond h false (names_literal ts) ≡ true →
     Leads (A (Unary h) ∷ []) (One (is kind.Name) ∷ A AfterTypeName ∷ A Elements ∷ A (Links h) ∷ []) [] d ts d ts
@@ -88,7 +88,7 @@ same_links true g (expand s r) = expand s r
 same_links false g (expand s r) = expand (later (g refl) s) r
 
 links_behind : (h : Bool) {d : ℕ} {ss : List Symbol} {ts : List Token} {o : Outcome} →
-    (h ≡ false → (at (is kind.LeftBrace) ts || (at (is kind.Dot) ts && (at (is kind.Name) (behind ts) && at (is kind.LeftBrace) (behind (behind ts))))) ≡
+    (h ≡ false → (at (is kind.LeftBrace) ts || (at (is kind.Dot) ts && (at (is kind.Name) (the_rest ts) && at (is kind.LeftBrace) (the_rest (the_rest ts))))) ≡
     false) →
     Run d (A (Links h) ∷ ss) ts o → Run d (A (AfterName h) ∷ ss) ts o
 links_behind true {ts = ts} g (expand (first e) r) =
@@ -96,15 +96,15 @@ links_behind true {ts = ts} g (expand (first e) r) =
 links_behind true g (expand (later e s) r) = expand (later e s) r
 links_behind false {ts = ts} g (expand (first e) r) =
     expand (later (not_at kind.Dot kind.LeftBrace ts refl e) (first e)) (under_one (λ t rest f m r. under_one (λ u more f' n r. same_links false (λ x.
-    sym (ap (λ y. at (is kind.LeftBrace) (behind (behind y))) f ∙ ap (λ y. at (is kind.LeftBrace) (behind y)) f')
-    ∙ and_off (at (is kind.Name) (behind ts)) (at (is kind.LeftBrace) (behind (behind ts)))
-    (and_off (at (is kind.Dot) ts) (at (is kind.Name) (behind ts) && at (is kind.LeftBrace) (behind (behind ts)))
-    (or_off_right (at (is kind.LeftBrace) ts) (at (is kind.Dot) ts && (at (is kind.Name) (behind ts) && at (is kind.LeftBrace) (behind (behind ts))))
+    sym (ap (λ y. at (is kind.LeftBrace) (the_rest (the_rest y))) f ∙ ap (λ y. at (is kind.LeftBrace) (the_rest y)) f')
+    ∙ and_off (at (is kind.Name) (the_rest ts)) (at (is kind.LeftBrace) (the_rest (the_rest ts)))
+    (and_off (at (is kind.Dot) ts) (at (is kind.Name) (the_rest ts) && at (is kind.LeftBrace) (the_rest (the_rest ts)))
+    (or_off_right (at (is kind.LeftBrace) ts) (at (is kind.Dot) ts && (at (is kind.Name) (the_rest ts) && at (is kind.LeftBrace) (the_rest (the_rest ts))))
     (g refl)) e)
-    (ap (λ y. at (is kind.Name) (behind y)) f ∙ (ap (at (is kind.Name)) f' ∙ n))) r) r) r)
+    (ap (λ y. at (is kind.Name) (the_rest y)) f ∙ (ap (at (is kind.Name)) f' ∙ n))) r) r) r)
 links_behind false {ts = ts} g (expand (later e s) r) =
     expand (later (or_off_left (at (is kind.LeftBrace) ts)
-    (at (is kind.Dot) ts && (at (is kind.Name) (behind ts) && at (is kind.LeftBrace) (behind (behind ts)))) (g refl)) (later e s)) r
+    (at (is kind.Dot) ts && (at (is kind.Name) (the_rest ts) && at (is kind.LeftBrace) (the_rest (the_rest ts)))) (g refl)) (later e s)) r
 
 cond_off : (h b : Bool) → cond h false b ≡ false → h ≡ false → b ≡ false
 cond_off true b e f = clash (sym f)
@@ -139,16 +139,16 @@ pub element_key : (d : ℕ) (ts : List Token) → begins_key ts ≡ true →
     Leads (A Element ∷ []) (One (is kind.Name) ∷ One (is kind.Colon) ∷ A (Expression false) ∷ []) [] d ts d ts
 element_key d ts e = record {
   text = refl;
-  leads = λ after o r. expand (first (and_left (at (is kind.Name) ts) (at (is kind.Colon) (behind ts)) e))
+  leads = λ after o r. expand (first (and_left (at (is kind.Name) ts) (at (is kind.Colon) (the_rest ts)) e))
       (under_one (λ t rest f m r. expand (first (behind_is t ts rest (is kind.Colon) true f
-      (and_right (at (is kind.Name) ts) (at (is kind.Colon) (behind ts)) e))) r) r);
+      (and_right (at (is kind.Name) ts) (at (is kind.Colon) (the_rest ts)) e))) r) r);
 }
 
 element_run : {d : ℕ} {ss : List Symbol} {ts : List Token} {o : Outcome} → begins_key ts ≡ false →
     Run d (A (Expression false) ∷ ss) ts o → Run d (A Element ∷ ss) ts o
 element_run {ts = ts} e (expand last (expand (first n) r)) =
     expand (first n) (under_one (λ t rest f m r. expand
-    (later (behind_is t ts rest (is kind.Colon) false f (and_off (at (is kind.Name) ts) (at (is kind.Colon) (behind ts)) e n)) last) r) r)
+    (later (behind_is t ts rest (is kind.Colon) false f (and_off (at (is kind.Name) ts) (at (is kind.Colon) (the_rest ts)) e n)) last) r) r)
 element_run e (expand last (expand (later n last) r)) = expand (later n last) r
 
 pub element_value : (d : ℕ) (ts : List Token) → begins_key ts ≡ false → Leads (A Element ∷ []) (A (Expression false) ∷ []) [] d ts d ts

@@ -15,7 +15,7 @@ use Rattle.go_ast.specs.Grammar.{Signature, Params, MoreParams, Result, Types, M
 use Rattle.go_ast.specs.Grammar.{MoreExpressions, SimpleRest, IfHead, IfAfter, IfBody, ElsePart, ElseBody, ForHead, ForAfter, ForRest, ForCondition}
 use Rattle.go_ast.specs.Grammar.{ForPost, TypeUse, AfterTypeName, Expression, Binaries, Unary, Operand, AfterName, AfterSelector, Links, Arguments}
 use Rattle.go_ast.specs.Grammar.{MoreArguments, Address, AfterLiteralName, Elements, ElementList, MoreElements, Element, AfterKey}
-use Rattle.go_ast.specs.Language.{levels, DeepFault, Among, tested, untested, below, Derives, ends, token, opening, closing, by_rule}
+use Rattle.go_ast.specs.Language.{levels, IsTooDeep, Among, tested, untested, below, Derives, ends, token, opening, closing, by_rule}
 use Rattle.go_parser.specs.Machine.{Run, take, opens, closes, expand, refused, refused_opening, left_over, too_deep, Stopped, Accepted, accept, Selects}
 use Rattle.go_parser.specs.Machine.{first as selects_first, later, last, at}
 use Rattle.go_parser.proofs.KindTests.{kinds, at_number}
@@ -618,7 +618,7 @@ accepts (opens e b r) = opening e (accepts r)
 accepts (closes r) = closing (accepts r)
 accepts (expand s r) = by_rule (selected s) (accepts r)
 
-pub deep_at : {d : ℕ} {ss : List Symbol} {ts : List Token} {n : ℕ} → Run d ss ts (Stopped Nesting n) → Good ss → alive ss ≡ true → DeepFault ss 200 d ts n
+pub deep_at : {d : ℕ} {ss : List Symbol} {ts : List Token} {n : ℕ} → Run d ss ts (Stopped Nesting n) → Good ss → alive ss ≡ true → IsTooDeep ss 200 d ts n
 deep_at {d = d} (take {c = c} {t = u} {ss = ss} {ts = ts} e r) g a =
     let f = deep_at r g (and_right (some_kind c kinds) (alive ss) a) in
     record {
@@ -687,5 +687,5 @@ deep_at {d = d} (too_deep {c = c} {t = u} {ss = ss} {ts = ts} e b) g a =
 
 -- at a file
 
-pub file_deep : {ts : List Token} {n : ℕ} → Run 0 (A File ∷ []) ts (Stopped Nesting n) → DeepFault (A File ∷ []) 200 0 ts n
+pub file_deep : {ts : List Token} {n : ℕ} → Run 0 (A File ∷ []) ts (Stopped Nesting n) → IsTooDeep (A File ∷ []) 200 0 ts n
 file_deep r = deep_at r ((λ k e. cc), tt) refl

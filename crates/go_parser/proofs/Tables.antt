@@ -4,7 +4,7 @@ use Rattle.std.proofs.Common.{◌≡◌, Bool, true, false, List, [], ◌∷◌,
 use Rattle.std.specs.Prelude.{◌&&◌, ◌||◌}
 use Rattle.go_ast.specs.declared.syntax.Kind.{Kind}
 use Rattle.go_ast.specs.declared.syntax.Kind.TheVariants as kind
-use Rattle.go_ast.specs.Grammar.{Symbol, One, Opening, Close, A, Part, Rule, Begins, Otherwise, rules, is, is_binary, is_ident, is_step, is_update, sets}
+use Rattle.go_ast.specs.Grammar.{Symbol, One, Opening, Close, A, Part, Rule, Begins, Otherwise, rules, is, is_binary, is_ident, is_step, is_update, may_set}
 use Rattle.go_ast.specs.Grammar.{one_of, begins_type, begins_operand, begins_expression, unless, Item, ImportItem, GlobalItem, TypeItem, LocalItem}
 use Rattle.go_ast.specs.Grammar.{Setting, Plain, Head, Post, File, Imports, Tops, GroupOf, Items, MoreItems, Single, MoreNames, GlobalValues, MoreLiterals}
 use Rattle.go_ast.specs.Grammar.{TypeBody, Fields, MoreFields, MoreIdents, LocalRest, LocalValues, FuncHead, ReceiverStar, ReceiverEnd, Signature, Params}
@@ -81,14 +81,14 @@ first Statement = λ k. one_of (kind.Var ∷ kind.LeftBrace ∷ kind.If ∷ kind
 first ReturnValues = begins_expression
 first (Expressions h) = begins_expression
 first (MoreExpressions h) = is kind.Comma
-first (SimpleRest s) = λ k. is_step k || (is_update k || (sets s k || is kind.Comma k))
+first (SimpleRest s) = λ k. is_step k || (is_update k || (may_set s k || is kind.Comma k))
 first IfHead = λ k. is kind.Semicolon k || begins_expression k
-first IfAfter = λ k. one_of (kind.LeftBrace ∷ kind.Semicolon ∷ kind.Comma ∷ []) k || (is_step k || (is_update k || sets Head k))
+first IfAfter = λ k. one_of (kind.LeftBrace ∷ kind.Semicolon ∷ kind.Comma ∷ []) k || (is_step k || (is_update k || may_set Head k))
 first IfBody = is kind.LeftBrace
 first ElsePart = is kind.Else
 first ElseBody = one_of (kind.If ∷ kind.LeftBrace ∷ [])
 first ForHead = λ k. one_of (kind.LeftBrace ∷ kind.Semicolon ∷ []) k || begins_expression k
-first ForAfter = λ k. one_of (kind.LeftBrace ∷ kind.Semicolon ∷ kind.Comma ∷ []) k || (is_step k || (is_update k || sets Head k))
+first ForAfter = λ k. one_of (kind.LeftBrace ∷ kind.Semicolon ∷ kind.Comma ∷ []) k || (is_step k || (is_update k || may_set Head k))
 first ForRest = is kind.Semicolon
 first ForCondition = begins_expression
 first ForPost = begins_expression

@@ -12,7 +12,7 @@ use Rattle.go_parser.specs.Machine.{Run, Accepted, Stopped, accept, left_over}
 use Rattle.go_ast.specs.Verdict.{IsVerdict, IsWhole, Faulty}
 use Rattle.go_parser.specs.Parsing.{Read}
 use Rattle.go_ast.specs.Kinds.{kinds_of}
-use Rattle.go_parser.specs.Parsed.{IsRefusedFor, refusal_of}
+use Rattle.go_parser.specs.ParseResults.{IsRefusalOfTokens, refusal_of}
 use Rattle.go_parser.proofs.Predictive.{accepts, file_deep}
 use Rattle.go_parser.proofs.EndOfText.{file_stops}
 use Rattle.go_parser.proofs.Shallow.{file_shallow}
@@ -36,7 +36,7 @@ stopped_verdict Syntax left ts r = file_stops r
 stopped_verdict Nesting left ts r = file_deep r
 
 pub refused_rightly : (c : CutText) (e : ParseError) (ts : List Token) → ts ≡ kinds_of c →
-    ((k : TokenFaultKind) (left : ℕ) → e ≡ error.Fault k left → Run 0 (A File ∷ []) ts (Stopped k left)) → IsRefusedFor c (refusal_of c e)
+    ((k : TokenFaultKind) (left : ℕ) → e ≡ error.Fault k left → Run 0 (A File ∷ []) ts (Stopped k left)) → IsRefusalOfTokens c (refusal_of c e)
 refused_rightly c error.Memory ts same h = tt
 refused_rightly c (error.Fault k left) ts same h = record {
   kind = k;

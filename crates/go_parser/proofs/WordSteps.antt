@@ -10,15 +10,15 @@ use Rattle.go_parser.specs.declared.parse_error.ParseError.{ParseError}
 use Rattle.go_parser.specs.declared.parse_error.ParseError.TheVariants.{Fault}
 use Rattle.go_ast.specs.declared.tree.Ident.{Ident}
 use Rattle.go_ast.specs.declared.tree.BasicLit.{BasicLit}
-use Rattle.go_parser.specs.declared.words.Setting.{Setting}
-use Rattle.go_parser.specs.declared.words.Setting.TheVariants as setting
-use Rattle.go_parser.specs.declared.words.SetOp.{SetOp}
-use Rattle.go_ast.specs.Grammar.{One, is_ident, is_literal, is_step, is_update, sets}
+use Rattle.go_parser.specs.declared.token_classes.Setting.{Setting}
+use Rattle.go_parser.specs.declared.token_classes.Setting.TheVariants as setting
+use Rattle.go_parser.specs.declared.token_classes.SetOp.{SetOp}
+use Rattle.go_ast.specs.Grammar.{One, is_ident, is_literal, is_step, is_update, may_set}
 use Rattle.go_parser.specs.Machine.{Run, take}
 use Rattle.go_parser.specs.Parsing.{Read, Fails}
 use Rattle.go_ast.specs.Flatten.{sign, step_kind, update_kind}
 use Rattle.go_parser.specs.Spelling.{ident_spelled, basic_spelled}
-use Rattle.go_parser.specs.Words.{step_of, update_of, set_of, either_set, plain_set, set_kind, setting_of, IsAllowed, ident_of, basic_of}
+use Rattle.go_parser.specs.TokenClasses.{step_of, update_of, set_of, either_set, plain_set, set_kind, setting_of, IsAllowed, ident_of, basic_of}
 use Rattle.go_parser.proofs.MachineSteps.{refuses_one, at_end, at_token}
 
 none_some : {X : Type 0} {x : X} → None ≡ Some x → ⊥
@@ -104,16 +104,16 @@ update_refused _ e = refl
 
 -- `=` and `:=`
 
-either_class : (k : Kind) (op : SetOp) → either_set k ≡ Some op → (sets (setting_of setting.Plain) k ≡ true) × (k ≡ set_kind op)
+either_class : (k : Kind) (op : SetOp) → either_set k ≡ Some op → (may_set (setting_of setting.Plain) k ≡ true) × (k ≡ set_kind op)
 either_class kind.Assign op e = (refl, ap set_kind (some_same e))
 either_class kind.Define op e = (refl, ap set_kind (some_same e))
 either_class _ op e = absurd (none_some e)
 
-plain_class : (k : Kind) (op : SetOp) → plain_set k ≡ Some op → (sets (setting_of setting.Post) k ≡ true) × (k ≡ set_kind op)
+plain_class : (k : Kind) (op : SetOp) → plain_set k ≡ Some op → (may_set (setting_of setting.Post) k ≡ true) × (k ≡ set_kind op)
 plain_class kind.Assign op e = (refl, ap set_kind (some_same e))
 plain_class _ op e = absurd (none_some e)
 
-pub set_class : (s : Setting) (k : Kind) (op : SetOp) → set_of s k ≡ Some op → (sets (setting_of s) k ≡ true) × (k ≡ set_kind op)
+pub set_class : (s : Setting) (k : Kind) (op : SetOp) → set_of s k ≡ Some op → (may_set (setting_of s) k ≡ true) × (k ≡ set_kind op)
 set_class setting.Plain k op e = either_class k op e
 set_class setting.Head k op e = either_class k op e
 set_class setting.Post k op e = plain_class k op e
@@ -127,16 +127,16 @@ set_allowed setting.Plain k op e = tt
 set_allowed setting.Head k op e = tt
 set_allowed setting.Post k op e = post_allowed k op e
 
-either_refused : (k : Kind) → either_set k ≡ None → sets (setting_of setting.Plain) k ≡ false
+either_refused : (k : Kind) → either_set k ≡ None → may_set (setting_of setting.Plain) k ≡ false
 either_refused kind.Assign e = absurd (some_none e)
 either_refused kind.Define e = absurd (some_none e)
 either_refused _ e = refl
 
-plain_refused : (k : Kind) → plain_set k ≡ None → sets (setting_of setting.Post) k ≡ false
+plain_refused : (k : Kind) → plain_set k ≡ None → may_set (setting_of setting.Post) k ≡ false
 plain_refused kind.Assign e = absurd (some_none e)
 plain_refused _ e = refl
 
-pub set_refused : (s : Setting) (k : Kind) → set_of s k ≡ None → sets (setting_of s) k ≡ false
+pub set_refused : (s : Setting) (k : Kind) → set_of s k ≡ None → may_set (setting_of s) k ≡ false
 set_refused setting.Plain k e = either_refused k e
 set_refused setting.Head k e = either_refused k e
 set_refused setting.Post k e = plain_refused k e

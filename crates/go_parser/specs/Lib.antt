@@ -8,5 +8,5 @@ pub mod Parsing
 pub mod Strength
 pub mod Lookahead
 pub mod Leaf
-pub mod Words
-pub mod Parsed
+pub mod TokenClasses
+pub mod ParseResults

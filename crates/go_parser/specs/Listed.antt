@@ -4,11 +4,11 @@ use Rattle.std.specs.List.{All}
 use Rattle.go_ast.specs.Tree.{Item, ExprTree, SimpleTree}
 use Rattle.go_ast.specs.declared.tree.TypeExpr.{TypeExpr}
 use Rattle.go_ast.specs.declared.tree.Values.{Values}
-use Rattle.go_parser.specs.declared.words.Setting.{Setting}
-use Rattle.go_parser.specs.declared.words.Setting.TheVariants as setting
+use Rattle.go_parser.specs.declared.token_classes.Setting.{Setting}
+use Rattle.go_parser.specs.declared.token_classes.Setting.TheVariants as setting
 use Rattle.go_ast.specs.View.{option_view, type_view}
 use Rattle.go_ast.specs.FileView.{values_view}
-use Rattle.go_ast.specs.WellFormed.{IsList, IsExprIn, IsSimple, IsPost, Perhaps}
+use Rattle.go_ast.specs.WellFormed.{IsList, IsExprIn, IsSimple, IsPost, IsNoneOr}
 use Rattle.go_parser.specs.Grouping.{Each}
 
 -- the list has at least one item; each but the last has its separator, which f gives, and the last has none
@@ -30,10 +30,10 @@ IsSimpleIn setting.Head s = IsSimple true s
 IsSimpleIn setting.Post s = IsPost s
 
 -- a declaration of local variables has a type, values, or both, and the values are well formed
-pub record IsToldBy (type_use : Option TypeExpr) (values : Option Values) : Type 0 where
+pub record HasTypeOrValues (type_use : Option TypeExpr) (values : Option Values) : Type 0 where
   pub told : option_view type_view type_use ≡ None → option_view values_view values ≢ None
-  pub formed : Perhaps (λ v. IsList (IsExprIn false) v.1) (option_view values_view values)
+  pub formed : IsNoneOr (λ v. IsList (IsExprIn false) v.1) (option_view values_view values)
 
 -- a `return` has no values, or a well-formed list of them
-abbrev pub AreReturned : List (Item ExprTree) → Type 0
-AreReturned es = (es ≡ []) ⊎ IsList (IsExprIn false) es
+abbrev pub AreReturnValues : List (Item ExprTree) → Type 0
+AreReturnValues es = (es ≡ []) ⊎ IsList (IsExprIn false) es

@@ -6,15 +6,15 @@ use Rattle.go_ast.specs.Grammar.{is}
 use Rattle.go_parser.specs.Machine.{at}
 
 -- the tokens after the first
-abbrev pub behind : List Token → List Token
-behind [] = []
-behind (t ∷ ts) = ts
+abbrev pub the_rest : List Token → List Token
+the_rest [] = []
+the_rest (t ∷ ts) = ts
 
 -- after the first token, a name, comes `{`, or `.`, a name and `{`: a composite literal begins
 abbrev pub names_literal : List Token → Bool
-names_literal ts = at (is LeftBrace) (behind ts) ||
-    (at (is Dot) (behind ts) && (at (is Name) (behind (behind ts)) && at (is LeftBrace) (behind (behind (behind ts)))))
+names_literal ts = at (is LeftBrace) (the_rest ts) ||
+    (at (is Dot) (the_rest ts) && (at (is Name) (the_rest (the_rest ts)) && at (is LeftBrace) (the_rest (the_rest (the_rest ts)))))
 
 -- a name and a colon come next
 abbrev pub begins_key : List Token → Bool
-begins_key ts = at (is Name) ts && at (is Colon) (behind ts)
+begins_key ts = at (is Name) ts && at (is Colon) (the_rest ts)

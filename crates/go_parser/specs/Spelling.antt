@@ -35,7 +35,7 @@ use Rattle.go_ast.specs.Tree as tree
 use Rattle.go_ast.specs.Flatten as flat
 use Rattle.go_ast.specs.Flatten.{sign_if}
 use Rattle.go_ast.specs.View.{list_view, ident_view, type_view, key_view, expr_view, literal_view, link_view, exprs_view}
-use Rattle.go_ast.specs.FileView.{same_place, local_view, simple_view, init_view, for_view, stmt_view, block_view, if_view, else_view, import_view}
+use Rattle.go_ast.specs.FileView.{same_index, local_view, simple_view, init_view, for_view, stmt_view, block_view, if_view, else_view, import_view}
 use Rattle.go_ast.specs.FileView.{basic_view, global_view, field_view, body_view, type_spec_view, receiver_view, param_view, results_view, func_view}
 use Rattle.go_ast.specs.FileView.{imports_view, decl_view, file_view}
 
@@ -63,7 +63,7 @@ exprs_spelled xs = flat.exprs_tokens (exprs_view xs)
 
 -- the tokens of names, separated by commas
 abbrev pub names_spelled : List (Item ℕ) → List Token
-names_spelled xs = flat.list_tokens kind.Comma flat.name_tokens (list_view same_place xs)
+names_spelled xs = flat.list_tokens kind.Comma flat.name_tokens (list_view same_index xs)
 
 abbrev pub ident_spelled : Ident → List Token
 ident_spelled i = flat.ident_tokens (ident_view i)

@@ -8,12 +8,12 @@ ghost use Rattle.go_ast.specs.View.{option_view, list_view};
 ghost use Rattle.go_ast.specs.FileView.{var_values_view, body_view, field_view, global_view, type_spec_view};
 ghost use Rattle.go_parser.specs.Spelling.{import_spelled, global_spelled, type_spec_spelled, body_spelled, field_spelled};
 ghost use Rattle.go_parser.specs.ListSpelling.{items_spelled};
-ghost use Rattle.go_ast.specs.WellFormed.{IsList, IsOpenList, Perhaps, Any, IsGlobal, IsField, IsBody, IsTypeSpec};
+ghost use Rattle.go_ast.specs.WellFormed.{IsList, IsOpenList, IsNoneOr, Any, IsGlobal, IsField, IsBody, IsTypeSpec};
 
 use crate::groups::Spec;
 use crate::names::{literals, names};
 use crate::short_lists::push;
-use crate::take::{Parsed, at, expect, goes_on, open, separator};
+use crate::tokens::{Parsed, at, expect, goes_on, open, separator};
 use crate::types::type_expr;
 use go_ast::syntax::{Kind, Token};
 use go_ast::tree::{FieldDecl, ImportSpec, Item, TypeBody, TypeSpec, VarSpec, VarValues};
@@ -73,7 +73,7 @@ impl Spec for TypeSpec {
 /// Parses the values of package-level variables, if there are any.
 fn var_values(alloc: Global, tokens: &[Token], depth: u32) -> Parsed<'_, Option<VarValues>>
     ensures exact { Parses (A GlobalValues ∷ []) (λ x. tokens_if (value_tokens basic_tokens) (option_view var_values_view x.0)) (λ x. x.1.now) depth tokens.now result }
-    ensures formed { IfOk result (λ x. Perhaps (λ v. IsList Any v.1) (option_view var_values_view x.0)) }
+    ensures formed { IfOk result (λ x. IsNoneOr (λ v. IsList Any v.1) (option_view var_values_view x.0)) }
 {
     if !at(tokens, Kind::Assign) {
         return Ok((None, tokens));

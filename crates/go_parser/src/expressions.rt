@@ -14,7 +14,7 @@ ghost use Rattle.go_parser.specs.Grouping.{IsUnary, IsOperand, IsLiteralIn, IsLi
 use crate::lookahead::{begins_key, begins_link, literal_is_named, type_is_named};
 use crate::operators::{at_leaf, at_prefix, binary_operator, leaf, open_prefix, strength_at};
 use crate::short_lists::push;
-use crate::take::{Parsed, at, expect, goes_on, open, separator};
+use crate::tokens::{Parsed, at, expect, goes_on, open, separator};
 use crate::types::{slice_type, type_name};
 use go_ast::syntax::{Kind, Token};
 use go_ast::tree::{CompositeLit, Element, Expr, ExprItem, Key, Link, Operand, TypeExpr};

@@ -10,10 +10,10 @@ ghost use Rattle.std.specs.List.{All};
 ghost use Rattle.go_ast.specs.WellFormed.{IsFunc, IsImports, IsDecl, IsFile};
 ghost use Rattle.go_ast.specs.FileView.{imports_view, decl_view, func_view, file_view};
 
-use crate::functions::{params, receiver_if, results};
+use crate::functions::{optional_receiver, params, results};
 use crate::groups::group;
 use crate::statements::block;
-use crate::take::{Parsed, at, expect, open};
+use crate::tokens::{Parsed, at, expect, open};
 use go_ast::syntax::{Kind, Token};
 use go_ast::tree::{Decl, File, FuncDecl, ImportDecl, ImportSpec, TypeSpec, VarSpec};
 use std::alloc::Global;
@@ -174,7 +174,7 @@ fn func(alloc: Global, tokens: &[Token], depth: u32) -> Parsed<'_, FuncDecl>
     ensures exact { Parses (A FuncHead ∷ []) (λ x. func_spelled x.0) (λ x. x.1.now) depth tokens.now result }
     ensures formed { IfOk result (λ x. IsFunc (func_view x.0)) }
 {
-    let (receiver, rest) = receiver_if(tokens, depth)?;
+    let (receiver, rest) = optional_receiver(tokens, depth)?;
     let (name, rest) = expect(rest, Kind::Name, depth)?;
     let ((open, inside), rest) = open(rest, Kind::LeftParen, depth)?;
     let ((params, close), rest) = params(alloc, rest, inside)?;

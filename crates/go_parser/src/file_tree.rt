@@ -1,7 +1,7 @@
 //! Parses a file from its text: scans it, then parses its tokens.
 ghost use Rattle.std.specs.Prelude.{◌≡◌, IfOk, IfErr, IsTrue};
-ghost use Rattle.go_parser.specs.Parsed.{IsTextRefusedFor};
-ghost use Rattle.go_ast.specs.Faults.{IsSound};
+ghost use Rattle.go_parser.specs.ParseResults.{IsRefusalOfText};
+ghost use Rattle.go_ast.specs.Faults.{IsParsable};
 ghost use Rattle.go_ast.specs.Kinds.{kinds_of};
 
 use crate::kinds::kinds_of;
@@ -15,7 +15,7 @@ use std::alloc::{AllocError, Global};
 /// Cuts a text into pieces and tokens.
 fn cut(alloc: Global, text: &FileText) -> Result<Pieces, ParseRefusal>
     ensures text { IfOk result (λ pieces. pieces.text ≡ text.now) }
-    ensures refused { IfErr result (IsTextRefusedFor text.now) }
+    ensures refused { IfErr result (IsRefusalOfText text.now) }
 {
     match scan(alloc, text) {
         Ok(pieces) => Ok(pieces),
@@ -28,8 +28,8 @@ fn cut(alloc: Global, text: &FileText) -> Result<Pieces, ParseRefusal>
 fn read(alloc: Global, path: &Path, pieces: Pieces) -> Result<FileTree, ParseRefusal>
     ensures path { IfOk result (λ file. file.path ≡ path.now) }
     ensures text { IfOk result (λ file. file.cut.text ≡ pieces.text) }
-    ensures sound { IfOk result (λ file. IsSound pieces.text) }
-    ensures refused { IfErr result (IsTextRefusedFor pieces.text) }
+    ensures sound { IfOk result (λ file. IsParsable pieces.text) }
+    ensures refused { IfErr result (IsRefusalOfText pieces.text) }
 {
     let _ = pieces.file();
     let Tree { file, tokens: _ } = parse(alloc, &pieces)?;
@@ -42,8 +42,8 @@ fn read(alloc: Global, path: &Path, pieces: Pieces) -> Result<FileTree, ParseRef
 pub fn parse_file(alloc: Global, path: &Path, text: &FileText) -> Result<FileTree, ParseRefusal>
     ensures path { IfOk result (λ file. file.path ≡ path.now) }
     ensures text { IfOk result (λ file. file.cut.text ≡ text.now) }
-    ensures sound { IfOk result (λ file. IsSound text.now) }
-    ensures refused { IfErr result (IsTextRefusedFor text.now) }
+    ensures sound { IfOk result (λ file. IsParsable text.now) }
+    ensures refused { IfErr result (IsRefusalOfText text.now) }
 {
     let pieces = cut(alloc, text)?;
     read(alloc, path, pieces)
@@ -71,17 +71,17 @@ fn shared(
     requires { kinds_of like.now.cut ≡ kinds_of pieces }
     ensures path { IfOk result (λ file. file.path ≡ path.now) }
     ensures text { IfOk result (λ file. file.cut.text ≡ pieces.text) }
-    ensures sound { IfOk result (λ file. IsSound pieces.text) }
+    ensures sound { IfOk result (λ file. IsParsable pieces.text) }
 {
     let _ = pieces.file();
     let _ = like.file();
     let path = path.clone()?;
-    like.with_cut(alloc, path, pieces)
+    like.sharing_tree(alloc, path, pieces)
 }
 
 /// Parses a Go file as `parse_file` does, but shares the syntax tree of `like` where the tokens are of the same kinds. This is so where
 /// only names or literals differ from `like`, as after a rename.
-pub fn parse_file_like(
+pub fn parse_file_sharing(
     alloc: Global,
     path: &Path,
     text: &FileText,
@@ -89,8 +89,8 @@ pub fn parse_file_like(
 ) -> Result<FileTree, ParseRefusal>
     ensures path { IfOk result (λ file. file.path ≡ path.now) }
     ensures text { IfOk result (λ file. file.cut.text ≡ text.now) }
-    ensures sound { IfOk result (λ file. IsSound text.now) }
-    ensures refused { IfErr result (IsTextRefusedFor text.now) }
+    ensures sound { IfOk result (λ file. IsParsable text.now) }
+    ensures refused { IfErr result (IsRefusalOfText text.now) }
 {
     let pieces = cut(alloc, text)?;
     if have_same_kinds(alloc, like.pieces(), &pieces)? {

@@ -12,15 +12,15 @@ ghost use Rattle.go_ast.specs.WellFormed.{IsOpenList, Any, IsParam, IsResult};
 
 use crate::names::idents;
 use crate::short_lists::push;
-use crate::take::{Parsed, at, expect, goes_on, open, separator};
+use crate::token_classes::{begins_type, ident};
+use crate::tokens::{Parsed, at, expect, goes_on, open, separator};
 use crate::types::type_expr;
-use crate::words::{begins_type, ident};
 use go_ast::syntax::{Kind, Token};
 use go_ast::tree::{Item, Param, Receiver, Results, TypeExpr};
 use std::alloc::Global;
 
 /// Parses the receiver of a method, if there is one. A function's name follows.
-pub(crate) fn receiver_if(tokens: &[Token], depth: u32) -> Parsed<'_, Option<Receiver>>
+pub(crate) fn optional_receiver(tokens: &[Token], depth: u32) -> Parsed<'_, Option<Receiver>>
     ensures { LeadsTo (A FuncHead ∷ []) (One (is Kind.Name) ∷ A Signature ∷ []) (λ x. tokens_if receiver_tokens (option_view receiver_view x.0)) (λ x. x.1.now) depth tokens.now result }
 {
     if !at(tokens, Kind::LeftParen) {

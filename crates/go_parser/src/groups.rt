@@ -10,7 +10,7 @@ ghost use Rattle.go_ast.specs.WellFormed.{IsOpenList, IsGroup};
 ghost use Rattle.go_ast.specs.View.{list_view, group_view};
 
 use crate::short_lists::push;
-use crate::take::{Parsed, at, expect, goes_on, open, separator};
+use crate::tokens::{Parsed, at, expect, goes_on, open, separator};
 use go_ast::syntax::{Kind, Token};
 use go_ast::tree::{Group, Item};
 use std::alloc::Global;

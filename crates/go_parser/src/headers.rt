@@ -9,12 +9,12 @@ ghost use Rattle.go_ast.specs.Flatten.{sign, tokens_if, init_tokens, expr_tokens
 ghost use Rattle.go_ast.specs.View.{option_view, expr_view};
 ghost use Rattle.go_ast.specs.FileView.{init_view, simple_view, for_view};
 ghost use Rattle.go_parser.specs.Spelling.{expr_spelled, init_spelled, for_spelled};
-ghost use Rattle.go_ast.specs.WellFormed.{Perhaps, IsExprIn, IsInit, IsFor, IsPost};
+ghost use Rattle.go_ast.specs.WellFormed.{IsNoneOr, IsExprIn, IsInit, IsFor, IsPost};
 
 use crate::lookahead::begins_expression;
 use crate::simple::{expr, simple, simple_rest};
-use crate::take::{Parsed, at, expect};
-use crate::words::Setting;
+use crate::token_classes::Setting;
+use crate::tokens::{Parsed, at, expect};
 use go_ast::syntax::{Kind, Token};
 use go_ast::tree::{Expr, ForHeader, IfInit, SimpleStmt};
 use std::alloc::Global;
@@ -27,7 +27,7 @@ pub(crate) fn if_header(
     depth: u32,
 ) -> Parsed<'_, (Option<IfInit>, Expr)>
     ensures exact { LeadsTo (A IfHead ∷ []) (A IfBody ∷ []) (λ x. tokens_if init_tokens (option_view init_view x.0.0) ++ expr_spelled x.0.1) (λ x. x.1.now) depth tokens.now result }
-    ensures formed { IfOk result (λ x. Perhaps IsInit (option_view init_view x.0.0) × IsExprIn true (expr_view x.0.1)) }
+    ensures formed { IfOk result (λ x. IsNoneOr IsInit (option_view init_view x.0.0) × IsExprIn true (expr_view x.0.1)) }
 {
     if at(tokens, Kind::Semicolon) {
         return bare_header(alloc, tokens, depth);
@@ -50,7 +50,7 @@ pub(crate) fn if_header(
 fn bare_header(alloc: Global, tokens: &[Token], depth: u32) -> Parsed<'_, (Option<IfInit>, Expr)>
     requires { at (is Kind.Semicolon) tokens.now ≡ true }
     ensures exact { LeadsTo (A IfHead ∷ []) (A IfBody ∷ []) (λ x. tokens_if init_tokens (option_view init_view x.0.0) ++ expr_spelled x.0.1) (λ x. x.1.now) depth tokens.now result }
-    ensures formed { IfOk result (λ x. Perhaps IsInit (option_view init_view x.0.0) × IsExprIn true (expr_view x.0.1)) }
+    ensures formed { IfOk result (λ x. IsNoneOr IsInit (option_view init_view x.0.0) × IsExprIn true (expr_view x.0.1)) }
 {
     let (semicolon, rest) = expect(tokens, Kind::Semicolon, depth)?;
     let (condition, rest) = expr(alloc, rest, depth, Setting::Head)?;
@@ -156,7 +156,7 @@ impl Clauses {
 /// Parses the clauses of a `for` after the first.
 fn for_clauses(alloc: Global, tokens: &[Token], depth: u32) -> Parsed<'_, Clauses>
     ensures exact { LeadsTo (A ForRest ∷ []) (A grammar.Block ∷ []) (λ x. sign Kind.Semicolon x.0.first ∷ (tokens_if expr_tokens (option_view expr_view x.0.condition) ++ (sign Kind.Semicolon x.0.second ∷ tokens_if simple_tokens (option_view simple_view x.0.post)))) (λ x. x.1.now) depth tokens.now result }
-    ensures formed { IfOk result (λ x. Perhaps (IsExprIn true) (option_view expr_view x.0.condition) × Perhaps IsPost (option_view simple_view x.0.post)) }
+    ensures formed { IfOk result (λ x. IsNoneOr (IsExprIn true) (option_view expr_view x.0.condition) × IsNoneOr IsPost (option_view simple_view x.0.post)) }
 {
     let ((first, condition), rest) = condition_clause(alloc, tokens, depth)?;
     match post_clause(alloc, rest, depth) {
@@ -184,7 +184,7 @@ fn condition_clause(
     depth: u32,
 ) -> Parsed<'_, (usize, Option<Expr>)>
     ensures exact { Parses (One (is Kind.Semicolon) ∷ A ForCondition ∷ []) (λ x. sign Kind.Semicolon x.0.0 ∷ tokens_if expr_tokens (option_view expr_view x.0.1)) (λ x. x.1.now) depth tokens.now result }
-    ensures formed { IfOk result (λ x. Perhaps (IsExprIn true) (option_view expr_view x.0.1)) }
+    ensures formed { IfOk result (λ x. IsNoneOr (IsExprIn true) (option_view expr_view x.0.1)) }
 {
     let (semicolon, rest) = expect(tokens, Kind::Semicolon, depth)?;
     if !begins_expression(rest) {
@@ -201,7 +201,7 @@ fn post_clause(
     depth: u32,
 ) -> Parsed<'_, (usize, Option<SimpleStmt>)>
     ensures exact { Parses (One (is Kind.Semicolon) ∷ A ForPost ∷ []) (λ x. sign Kind.Semicolon x.0.0 ∷ tokens_if simple_tokens (option_view simple_view x.0.1)) (λ x. x.1.now) depth tokens.now result }
-    ensures formed { IfOk result (λ x. Perhaps IsPost (option_view simple_view x.0.1)) }
+    ensures formed { IfOk result (λ x. IsNoneOr IsPost (option_view simple_view x.0.1)) }
 {
     let (semicolon, rest) = expect(tokens, Kind::Semicolon, depth)?;
     if !begins_expression(rest) {

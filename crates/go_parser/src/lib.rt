@@ -20,10 +20,10 @@ mod refusal;
 mod short_lists;
 mod simple;
 mod statements;
-mod take;
+mod token_classes;
+mod tokens;
 mod types;
-mod words;
 
-pub use file_tree::{parse_file, parse_file_like};
+pub use file_tree::{parse_file, parse_file_sharing};
 pub use parser::{Tree, flatten, parse};
 pub use refusal::ParseRefusal;

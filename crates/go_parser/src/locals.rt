@@ -7,15 +7,15 @@ ghost use Rattle.go_ast.specs.Flatten.{tokens_if, value_tokens, type_tokens, exp
 ghost use Rattle.go_ast.specs.View.{option_view, type_view, exprs_view};
 ghost use Rattle.go_ast.specs.FileView.{values_view, local_view};
 ghost use Rattle.go_parser.specs.Spelling.{local_spelled};
-ghost use Rattle.go_ast.specs.WellFormed.{IsList, Perhaps, IsExprIn, IsLocal};
-ghost use Rattle.go_parser.specs.Listed.{IsToldBy};
+ghost use Rattle.go_ast.specs.WellFormed.{IsList, IsNoneOr, IsExprIn, IsLocal};
+ghost use Rattle.go_parser.specs.Listed.{HasTypeOrValues};
 
 use crate::groups::Spec;
 use crate::names::idents;
 use crate::simple::exprs;
-use crate::take::{Parsed, at, expect};
+use crate::token_classes::Setting;
+use crate::tokens::{Parsed, at, expect};
 use crate::types::type_expr;
-use crate::words::Setting;
 use go_ast::syntax::{Kind, Token};
 use go_ast::tree::{LocalSpec, TypeExpr, Values};
 use std::alloc::Global;
@@ -47,21 +47,21 @@ fn type_or_values(
     depth: u32,
 ) -> Parsed<'_, (Option<TypeExpr>, Option<Values>)>
     ensures exact { Parses (A LocalRest ∷ []) (λ x. tokens_if type_tokens (option_view type_view x.0.0) ++ tokens_if (value_tokens expr_tokens) (option_view values_view x.0.1)) (λ x. x.1.now) depth tokens.now result }
-    ensures formed { IfOk result (λ x. IsToldBy x.0.0 x.0.1) }
+    ensures formed { IfOk result (λ x. HasTypeOrValues x.0.0 x.0.1) }
 {
     if at(tokens, Kind::Assign) {
         let (only_values, rest) = values(alloc, tokens, depth)?;
         return Ok(((None, Some(only_values)), rest));
     }
     let (local_type, rest) = type_expr(alloc, tokens, depth)?;
-    let (values, rest) = values_if(alloc, rest, depth)?;
+    let (values, rest) = optional_values(alloc, rest, depth)?;
     Ok(((Some(local_type), values), rest))
 }
 
 /// Parses the values of local variables after their type, if there are any.
-fn values_if(alloc: Global, tokens: &[Token], depth: u32) -> Parsed<'_, Option<Values>>
+fn optional_values(alloc: Global, tokens: &[Token], depth: u32) -> Parsed<'_, Option<Values>>
     ensures exact { Parses (A LocalValues ∷ []) (λ x. tokens_if (value_tokens expr_tokens) (option_view values_view x.0)) (λ x. x.1.now) depth tokens.now result }
-    ensures formed { IfOk result (λ x. Perhaps (λ v. IsList (IsExprIn false) v.1) (option_view values_view x.0)) }
+    ensures formed { IfOk result (λ x. IsNoneOr (λ v. IsList (IsExprIn false) v.1) (option_view values_view x.0)) }
 {
     if !at(tokens, Kind::Assign) {
         return Ok((None, tokens));

@@ -2,15 +2,15 @@
 ghost use Rattle.std.specs.Prelude.{◌≡◌, true, false, cond};
 ghost use Rattle.go_ast.specs.Grammar.{is, begins_expression};
 ghost use Rattle.go_parser.specs.Machine.{at};
-ghost use Rattle.go_parser.specs.Lookahead.{behind, names_literal, begins_key};
+ghost use Rattle.go_parser.specs.Lookahead.{the_rest, names_literal, begins_key};
 
 use crate::operators::{at_leaf, at_prefix};
-use crate::take::{at, next};
+use crate::tokens::{at, next};
 use go_ast::syntax::{Kind, Token};
 
 /// The tokens after the first.
-fn behind(tokens: &[Token]) -> &[Token]
-    ensures { result.now ≡ behind tokens.now }
+fn the_rest(tokens: &[Token]) -> &[Token]
+    ensures { result.now ≡ the_rest tokens.now }
 {
     match next(tokens) {
         Some((_, rest)) => rest,
@@ -22,10 +22,10 @@ fn behind(tokens: &[Token]) -> &[Token]
 fn names_literal(tokens: &[Token]) -> bool
     ensures { result ≡ names_literal tokens.now }
 {
-    let second = behind(tokens);
-    let third = behind(second);
+    let second = the_rest(tokens);
+    let third = the_rest(second);
     at(second, Kind::LeftBrace)
-        || at(second, Kind::Dot) && at(third, Kind::Name) && at(behind(third), Kind::LeftBrace)
+        || at(second, Kind::Dot) && at(third, Kind::Name) && at(the_rest(third), Kind::LeftBrace)
 }
 
 /// Whether a composite literal begins with the name that comes next. In a header none does.
@@ -46,7 +46,7 @@ pub(crate) fn type_is_named(tokens: &[Token], header: bool) -> bool
 pub(crate) fn begins_key(tokens: &[Token]) -> bool
     ensures { result ≡ begins_key tokens.now }
 {
-    at(tokens, Kind::Name) && at(behind(tokens), Kind::Colon)
+    at(tokens, Kind::Name) && at(the_rest(tokens), Kind::Colon)
 }
 
 /// Whether a selector, index or call comes next.

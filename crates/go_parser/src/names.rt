@@ -6,11 +6,11 @@ ghost use Rattle.go_parser.specs.Spelling.{names_spelled, idents_spelled};
 ghost use Rattle.go_parser.specs.ListSpelling.{basics_spelled};
 ghost use Rattle.go_ast.specs.WellFormed.{IsList, Any};
 ghost use Rattle.go_ast.specs.View.{list_view, ident_view};
-ghost use Rattle.go_ast.specs.FileView.{same_place, basic_view};
+ghost use Rattle.go_ast.specs.FileView.{same_index, basic_view};
 
 use crate::short_lists::push;
-use crate::take::{Parsed, expect, separator};
-use crate::words::{basic_lit, ident};
+use crate::token_classes::{basic_lit, ident};
+use crate::tokens::{Parsed, expect, separator};
 use go_ast::syntax::{Kind, Token};
 use go_ast::tree::{BasicLit, Ident, Item};
 use std::alloc::Global;
@@ -18,7 +18,7 @@ use std::alloc::Global;
 /// Parses one or more names, separated by commas.
 pub(crate) fn names(alloc: Global, tokens: &[Token], depth: u32) -> Parsed<'_, Vec<Item<usize>>>
     ensures exact { Parses (One (is Kind.Name) ∷ A MoreNames ∷ []) (λ x. names_spelled x.0.items) (λ x. x.1.now) depth tokens.now result }
-    ensures formed { IfOk result (λ x. IsList Any (list_view same_place x.0.items)) }
+    ensures formed { IfOk result (λ x. IsList Any (list_view same_index x.0.items)) }
 {
     let mut names = Vec::new(alloc);
     let mut rest = tokens;

@@ -12,7 +12,7 @@ ghost use Rattle.go_ast.specs.View.{expr_view};
 ghost use Rattle.go_parser.specs.Grouping.{IsOperand};
 
 use crate::parse_error::ParseError;
-use crate::take::{LIMIT, Parsed, binary_op, misplaced, next, prefix_op};
+use crate::tokens::{LIMIT, Parsed, bad_token, binary_op, next, prefix_op};
 use go_ast::syntax::{BinaryOp, Kind, PrefixOp, Token, TokenFaultKind};
 use go_ast::tree::Expr;
 
@@ -52,10 +52,10 @@ pub(crate) fn binary_operator(tokens: &[Token], depth: u32) -> Parsed<'_, (Binar
     ensures { Parses (One is_binary ∷ []) (λ x. sign (binary_kind x.0.0) x.0.1 ∷ []) (λ x. x.1.now) depth tokens.now result }
 {
     let Some((first, rest)) = next(tokens) else {
-        return Err(misplaced(tokens));
+        return Err(bad_token(tokens));
     };
     let Some(op) = binary_op(first.kind) else {
-        return Err(misplaced(tokens));
+        return Err(bad_token(tokens));
     };
     Ok(((op, first.place), rest))
 }
@@ -75,10 +75,10 @@ pub(crate) fn open_prefix(tokens: &[Token], depth: u32) -> Parsed<'_, (PrefixOp,
     ensures { OpensAs is_prefix (λ x. sign (prefix_kind x.0.0) x.0.1 ∷ []) (λ x. x.0.2) (λ x. x.1.now) depth tokens.now result }
 {
     let Some((first, rest)) = next(tokens) else {
-        return Err(misplaced(tokens));
+        return Err(bad_token(tokens));
     };
     let Some(op) = prefix_op(first.kind) else {
-        return Err(misplaced(tokens));
+        return Err(bad_token(tokens));
     };
     if depth >= LIMIT {
         return Err(ParseError::Fault(TokenFaultKind::Nesting, tokens.len()));
@@ -121,10 +121,10 @@ pub(crate) fn leaf(tokens: &[Token], depth: u32) -> Parsed<'_, Expr>
     ensures grouped { IfOk result (λ x. (h : Bool) → IsOperand h (expr_view x.0)) }
 {
     let Some((first, rest)) = next(tokens) else {
-        return Err(misplaced(tokens));
+        return Err(bad_token(tokens));
     };
     let Some(operand) = leaf_of(first.kind, first.place) else {
-        return Err(misplaced(tokens));
+        return Err(bad_token(tokens));
     };
     Ok((operand, rest))
 }

@@ -1,7 +1,7 @@
 //! Parses the tokens of a file into its syntax tree.
 ghost use Rattle.std.specs.Prelude.{◌≡◌, IfOk, IfErr};
 ghost use Rattle.go_ast.specs.Kinds.{kinds_of};
-ghost use Rattle.go_parser.specs.Parsed.{IsRefusedFor, Answers, refusal_of};
+ghost use Rattle.go_parser.specs.ParseResults.{IsRefusalOfTokens, IsParseResult, refusal_of};
 ghost use Rattle.go_ast.specs.Verdict.{IsWhole};
 ghost use Rattle.go_parser.specs.Spelling.{file_spelled};
 ghost use Rattle.go_ast.specs.FileView.{file_view};
@@ -11,7 +11,7 @@ use crate::file::file;
 use crate::kinds::{kinds_of, place_of};
 use crate::parse_error::ParseError;
 use crate::refusal::ParseRefusal;
-use crate::take::misplaced;
+use crate::tokens::bad_token;
 use go_ast::syntax::{Token, TokenFaultKind};
 use go_ast::tree::File;
 use go_scanner::{Pieces, TextFault};
@@ -27,14 +27,14 @@ pub struct Tree {
 
 /// The syntax tree of all the tokens, or the first fault.
 fn whole(alloc: Global, tokens: &[Token]) -> Result<File, ParseError>
-    ensures exact { Answers file_spelled tokens.now result }
+    ensures exact { IsParseResult file_spelled tokens.now result }
     ensures formed { IfOk result (λ file. IsFile (file_view file)) }
 {
     let (file, rest) = file(alloc, tokens, 0)?;
     if rest.is_empty() {
         Ok(file)
     } else {
-        Err(misplaced(rest))
+        Err(bad_token(rest))
     }
 }
 
@@ -59,7 +59,7 @@ fn refusal(pieces: &Pieces, error: ParseError) -> ParseRefusal
 pub fn parse(alloc: Global, pieces: &Pieces) -> Result<Tree, ParseRefusal>
     ensures tree { IfOk result (λ tree. IsTreeOf (file_view tree.file) (kinds_of pieces.now)) }
     ensures text { IfOk result (λ tree. IsWhole (kinds_of pieces.now)) }
-    ensures refused { IfErr result (IsRefusedFor pieces.now) }
+    ensures refused { IfErr result (IsRefusalOfTokens pieces.now) }
 {
     let tokens = kinds_of(alloc, pieces)?;
     match whole(alloc, &tokens) {

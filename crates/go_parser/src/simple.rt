@@ -1,11 +1,11 @@
 //! Parses simple statements and lists of expressions. Where parsing fails, trees that were parsed are dropped by a call of `drop`: an
 //! implicit drop is proved field by field.
 ghost use Rattle.std.specs.Prelude.{◌≡◌, ◌∷◌, ◌++◌, [], IfOk, true};
-ghost use Rattle.go_ast.specs.Grammar.{A, One, in_head, is, is_step, is_update, sets, Expression, Expressions, SimpleRest};
+ghost use Rattle.go_ast.specs.Grammar.{A, One, in_head, is, is_step, is_update, may_set, Expression, Expressions, SimpleRest};
 ghost use Rattle.go_parser.specs.Parsing.{Parses, Continues};
 ghost use Rattle.go_ast.specs.Flatten.{sign, sign_if, update_kind};
 ghost use Rattle.go_parser.specs.Spelling.{expr_spelled, exprs_spelled, simple_spelled};
-ghost use Rattle.go_parser.specs.Words.{setting_of};
+ghost use Rattle.go_parser.specs.TokenClasses.{setting_of};
 ghost use Rattle.go_ast.specs.WellFormed.{IsList, IsExprIn};
 ghost use Rattle.go_ast.specs.View.{expr_view, exprs_view, expr_item_view};
 ghost use Rattle.go_ast.specs.FileView.{simple_view};
@@ -13,8 +13,10 @@ ghost use Rattle.go_parser.specs.Listed.{IsSimpleIn, IsListed};
 
 use crate::expressions::expression;
 use crate::short_lists::push;
-use crate::take::{Parsed, at, expect, separator};
-use crate::words::{SetOp, Setting, at_set, at_step, at_update, in_header, set, step, update};
+use crate::token_classes::{
+    SetOp, Setting, at_set, at_step, at_update, in_header, set, step, update,
+};
+use crate::tokens::{Parsed, at, expect, separator};
 use go_ast::syntax::{Kind, Token, UpdateOp};
 use go_ast::tree::{Expr, ExprItem, SimpleStmt};
 use std::alloc::{AllocError, Global};
@@ -191,7 +193,7 @@ fn one_set(
     setting: Setting,
 ) -> Parsed<'_, SimpleStmt>
     requires { IsExprIn (in_head (setting_of setting)) (expr_view first) }
-    ensures exact { Continues (One (sets (setting_of setting)) ∷ A (Expressions (in_head (setting_of setting))) ∷ []) (expr_spelled first) (λ x. simple_spelled x.0) (λ x. x.1.now) depth tokens.now result }
+    ensures exact { Continues (One (may_set (setting_of setting)) ∷ A (Expressions (in_head (setting_of setting))) ∷ []) (expr_spelled first) (λ x. simple_spelled x.0) (λ x. x.1.now) depth tokens.now result }
     ensures formed { IfOk result (λ x. IsSimpleIn setting (simple_view x.0)) }
 {
     let single = first_expr(alloc, first, None)?;
@@ -207,7 +209,7 @@ fn several_set(
     setting: Setting,
 ) -> Parsed<'_, SimpleStmt>
     requires { IsExprIn (in_head (setting_of setting)) (expr_view first) }
-    ensures exact { Continues (One (is Kind.Comma) ∷ A (Expressions (in_head (setting_of setting))) ∷ One (sets (setting_of setting)) ∷ A (Expressions (in_head (setting_of setting))) ∷ []) (expr_spelled first) (λ x. simple_spelled x.0) (λ x. x.1.now) depth tokens.now result }
+    ensures exact { Continues (One (is Kind.Comma) ∷ A (Expressions (in_head (setting_of setting))) ∷ One (may_set (setting_of setting)) ∷ A (Expressions (in_head (setting_of setting))) ∷ []) (expr_spelled first) (λ x. simple_spelled x.0) (λ x. x.1.now) depth tokens.now result }
     ensures formed { IfOk result (λ x. IsSimpleIn setting (simple_view x.0)) }
 {
     let (comma, rest) = expect(tokens, Kind::Comma, depth)?;
@@ -225,7 +227,7 @@ fn assignment(
     setting: Setting,
 ) -> Parsed<'_, SimpleStmt>
     requires { IsList (IsExprIn (in_head (setting_of setting))) (exprs_view left.items) }
-    ensures exact { Continues (One (sets (setting_of setting)) ∷ A (Expressions (in_head (setting_of setting))) ∷ []) (exprs_spelled left.items) (λ x. simple_spelled x.0) (λ x. x.1.now) depth tokens.now result }
+    ensures exact { Continues (One (may_set (setting_of setting)) ∷ A (Expressions (in_head (setting_of setting))) ∷ []) (exprs_spelled left.items) (λ x. simple_spelled x.0) (λ x. x.1.now) depth tokens.now result }
     ensures formed { IfOk result (λ x. IsSimpleIn setting (simple_view x.0)) }
 {
     let ((op, at), rest) = set(tokens, depth, setting)?;

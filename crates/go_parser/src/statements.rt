@@ -10,15 +10,15 @@ ghost use Rattle.go_parser.specs.Spelling.{exprs_spelled, stmt_spelled, block_sp
 ghost use Rattle.go_ast.specs.WellFormed.{IsStatement, IsBlock, IsIf, IsElse};
 ghost use Rattle.go_ast.specs.View.{exprs_view};
 ghost use Rattle.go_ast.specs.FileView.{stmt_view, block_view, if_view, else_view};
-ghost use Rattle.go_parser.specs.Listed.{AreReturned};
+ghost use Rattle.go_parser.specs.Listed.{AreReturnValues};
 
 use crate::groups::group;
 use crate::headers::{for_header, if_header};
 use crate::lookahead::begins_expression;
 use crate::short_lists::push;
 use crate::simple::{exprs, simple};
-use crate::take::{Parsed, at, expect, open, separator};
-use crate::words::Setting;
+use crate::token_classes::Setting;
+use crate::tokens::{Parsed, at, expect, open, separator};
 use go_ast::syntax::{Kind, Token};
 use go_ast::tree::{BlockItem, BlockStmt, Else, ExprItem, IfStmt, LocalSpec, Stmt};
 use std::alloc::Global;
@@ -194,7 +194,7 @@ fn plain_statement(alloc: Global, tokens: &[Token], depth: u32) -> Parsed<'_, St
 /// Parses the values of a `return`, if there are any.
 fn return_values(alloc: Global, tokens: &[Token], depth: u32) -> Parsed<'_, Vec<ExprItem>>
     ensures exact { Parses (A ReturnValues ∷ []) (λ x. exprs_spelled x.0.items) (λ x. x.1.now) depth tokens.now result }
-    ensures formed { IfOk result (λ x. AreReturned (exprs_view x.0.items)) }
+    ensures formed { IfOk result (λ x. AreReturnValues (exprs_view x.0.items)) }
 {
     if !begins_expression(tokens) {
         return Ok((Vec::new(alloc), tokens));

@@ -6,7 +6,7 @@ ghost use Rattle.go_parser.specs.Spelling.{type_spelled};
 ghost use Rattle.go_ast.specs.View.{type_view};
 ghost use Rattle.go_parser.specs.Grouping.{is_literal_type, is_slice};
 
-use crate::take::{Parsed, at, expect, open};
+use crate::tokens::{Parsed, at, expect, open};
 use go_ast::syntax::{Kind, Token};
 use go_ast::tree::TypeExpr;
 use std::alloc::Global;

@@ -14,7 +14,7 @@ use Rattle.go_scanner.specs.declared.refusal.TextFault.{TextFault}
 use Rattle.go_scanner.specs.Strings.{IsBadString}
 use Rattle.go_scanner.specs.Pieces.{Breaks, IsBadInteger, IsFraction}
 use Rattle.go_scanner.specs.Families.{family_of}
-use Rattle.go_scanner.specs.Cuts.{CutsTo, IsWellEncoded, IsIllEncodedAt, BreaksFirst, IsFirstFault, mark_len}
+use Rattle.go_scanner.specs.Cuts.{CutsTo, IsWellEncoded, IsIllEncodedAt, IsFirstPieceFault, IsFirstFault, mark_len}
 use Rattle.go_scanner.proofs.StringLemmas.{same_parts}
 use Rattle.go_scanner.proofs.FrontLemmas.{no_bad_integer, no_fraction}
 use Rattle.go_scanner.proofs.OneCutLemmas.{one_piece}
@@ -133,7 +133,7 @@ one_ill_place text m n a b =
 ill_or_well : (text : List ℕ) (n : ℕ) → IsIllEncodedAt text n → IsWellEncoded text → ⊥
 ill_or_well text n ill well = ill.longest (length text) ill.short (omega arith) (subst IsWellEncoded (sym (take_all (length text) text (omega arith))) well)
 
-one_broken : (text : List ℕ) (f g : TextFault) → BreaksFirst text f → BreaksFirst text g → f ≡ g
+one_broken : (text : List ℕ) (f g : TextFault) → IsFirstPieceFault text f → IsFirstPieceFault text g → f ≡ g
 one_broken text f g a b =
     let to = one_place text (mark_len text) a.to b.to a.cut.0 b.cut.0 f.kind g.kind a.place b.place a.cut.2 b.cut.2 a.breaks b.breaks in
     let broken = one_break f.kind g.kind a.place b.place (drop b.to text) (subst (λ (i : ℕ). Breaks f.kind a.place (drop i text)) to a.breaks) b.breaks in
@@ -145,8 +145,8 @@ one_fault text f g a b =
     (λ (ill : (f.kind ≡ kinds.Encoding) × IsIllEncodedAt text f.offset). ⊎_elim
     (λ (other : (g.kind ≡ kinds.Encoding) × IsIllEncodedAt text g.offset).
     same_fault f g (ill.0 ∙ sym other.0) (one_ill_place text f.offset g.offset ill.1 other.1))
-    (λ (breaks : BreaksFirst text g). absurd (ill_or_well text f.offset ill.1 breaks.encoded)) b)
-    (λ (breaks : BreaksFirst text f). ⊎_elim
+    (λ (breaks : IsFirstPieceFault text g). absurd (ill_or_well text f.offset ill.1 breaks.encoded)) b)
+    (λ (breaks : IsFirstPieceFault text f). ⊎_elim
     (λ (ill : (g.kind ≡ kinds.Encoding) × IsIllEncodedAt text g.offset). absurd (ill_or_well text g.offset ill.1 breaks.encoded))
-    (λ (other : BreaksFirst text g). one_broken text f g breaks other) b)
+    (λ (other : IsFirstPieceFault text g). one_broken text f g breaks other) b)
     a

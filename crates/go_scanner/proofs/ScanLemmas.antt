@@ -7,7 +7,7 @@ use Rattle.go_scanner.specs.declared.piece.Piece.{Piece}
 use Rattle.go_scanner.specs.Cuts.{CutsUpTo, IsWellEncoded, mark_of, mark_len, byte_order_mark}
 use Rattle.go_scanner.specs.CutText.{IsCutText}
 use Rattle.go_scanner.specs.Pieces.{Stands}
-use Rattle.go_scanner.specs.Tokens.{tokens_of, tokens_due, semicolon, GoesOn}
+use Rattle.go_scanner.specs.Tokens.{tokens_of, tokens_due, semicolon, AddsTokensOf}
 use Rattle.go_scanner.proofs.CutLemmas.{CutsUpTo-push}
 use Rattle.go_scanner.proofs.TokenLemmas.{end_due, end_plain}
 
@@ -35,7 +35,7 @@ scanned_mark text pieces at pieces_are at_is fits = record {
 -- one more piece at the end
 pub scanned_more : (text : List ℕ) (pieces found more : List Piece) (due next : Option ℕ) (at size : ℕ) (class : Class) (rest : List ℕ)
     → Scanned text pieces found due at → rest ≡ drop at text → Stands rest class size → at + size ≤ length text
-    → GoesOn text found due (record { class = class; span = record { start = at; end = at + size } }) more next
+    → AddsTokensOf text found due (record { class = class; span = record { start = at; end = at + size } }) more next
     → Scanned text (pieces ++ (record { class = class; span = record { start = at; end = at + size } }) ∷ []) more next (at + size)
 scanned_more text pieces found more due next at size class rest before rest_is stands fits goes =
     let p : Piece = record { class = class; span = record { start = at; end = at + size } } in

@@ -55,7 +55,7 @@ pub record IsCut (text : List ℕ) (ps : List Piece) : Type 0 where
   pub cut : CutsUpTo text ps (length text)
 
 -- `fault` is the first broken rule of a well-encoded text: `pieces` cut the text up to offset `to`, where no piece can follow
-pub record BreaksFirst (text : List ℕ) (fault : TextFault) : Type 0 where
+pub record IsFirstPieceFault (text : List ℕ) (fault : TextFault) : Type 0 where
   pub encoded : IsWellEncoded text
   pub pieces : List Piece
   pub to : ℕ
@@ -66,4 +66,4 @@ pub record BreaksFirst (text : List ℕ) (fault : TextFault) : Type 0 where
 
 -- `fault` is the first fault of a text: it is ill encoded there, or a rule is broken after some pieces
 abbrev pub IsFirstFault : List ℕ → TextFault → Type 0
-IsFirstFault text fault = ((fault.kind ≡ Encoding) × IsIllEncodedAt text fault.offset) ⊎ BreaksFirst text fault
+IsFirstFault text fault = ((fault.kind ≡ Encoding) × IsIllEncodedAt text fault.offset) ⊎ IsFirstPieceFault text fault

@@ -2,7 +2,7 @@
 use Rattle.std.specs.Prelude.{ℕ, Bool, List, [], ◌∷◌, filter, slice_index, ◌==◌, ◌&&◌, ◌||◌, nat_le}
 use Rattle.go_scanner.specs.declared.keywords.Keyword.{Keyword}
 use Rattle.go_scanner.specs.declared.keywords.Keyword.TheVariants.{Break, Case, Chan, Const, Continue, Default, Defer, Else, Fallthrough, For, Func, Go, Goto}
-use Rattle.go_scanner.specs.declared.keywords.Keyword.TheVariants.{If, Import, Interface, Map, Package, Range, Return, Select, Struct, Switch, «Type», Var}
+use Rattle.go_scanner.specs.declared.keywords.Keyword.TheVariants.{If, Import, ExportData, Map, Package, Range, Return, Select, Struct, Switch, «Type», Var}
 
 -- the bytes of a keyword
 abbrev pub keyword_spelling : Keyword → List ℕ
@@ -21,7 +21,7 @@ keyword_spelling Go = 103 ∷ 111 ∷ []  -- go
 keyword_spelling Goto = 103 ∷ 111 ∷ 116 ∷ 111 ∷ []  -- goto
 keyword_spelling If = 105 ∷ 102 ∷ []  -- if
 keyword_spelling Import = 105 ∷ 109 ∷ 112 ∷ 111 ∷ 114 ∷ 116 ∷ []  -- import
-keyword_spelling Interface = 105 ∷ 110 ∷ 116 ∷ 101 ∷ 114 ∷ 102 ∷ 97 ∷ 99 ∷ 101 ∷ []  -- interface
+keyword_spelling ExportData = 105 ∷ 110 ∷ 116 ∷ 101 ∷ 114 ∷ 102 ∷ 97 ∷ 99 ∷ 101 ∷ []  -- export_data
 keyword_spelling Map = 109 ∷ 97 ∷ 112 ∷ []  -- map
 keyword_spelling Package = 112 ∷ 97 ∷ 99 ∷ 107 ∷ 97 ∷ 103 ∷ 101 ∷ []  -- package
 keyword_spelling Range = 114 ∷ 97 ∷ 110 ∷ 103 ∷ 101 ∷ []  -- range
@@ -34,7 +34,7 @@ keyword_spelling Var = 118 ∷ 97 ∷ 114 ∷ []  -- var
 
 -- all keywords, by alphabet
 abbrev pub all_keywords : List Keyword
-all_keywords = Break ∷ Case ∷ Chan ∷ Const ∷ Continue ∷ Default ∷ Defer ∷ Else ∷ Fallthrough ∷ For ∷ Func ∷ Go ∷ Goto ∷ If ∷ Import ∷ Interface ∷ Map ∷
+all_keywords = Break ∷ Case ∷ Chan ∷ Const ∷ Continue ∷ Default ∷ Defer ∷ Else ∷ Fallthrough ∷ For ∷ Func ∷ Go ∷ Goto ∷ If ∷ Import ∷ ExportData ∷ Map ∷
     Package ∷ Range ∷ Return ∷ Select ∷ Struct ∷ Switch ∷ «Type» ∷ Var ∷ []
 
 -- the keywords among `ks` that begin with the byte `first`

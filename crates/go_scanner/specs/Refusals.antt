@@ -5,6 +5,6 @@ use Rattle.go_scanner.specs.declared.refusal.ScanRefusal.TheVariants.{Fault, Mem
 use Rattle.go_scanner.specs.Cuts.{IsFirstFault}
 
 -- a refusal by a fault names the first fault of the text; want of memory claims nothing
-abbrev pub RefusedRightly : List ℕ → ScanRefusal → Type 0
-RefusedRightly text (Fault fault) = IsFirstFault text fault
-RefusedRightly text Memory = Unit {0}
+abbrev pub IsRefusalOfCut : List ℕ → ScanRefusal → Type 0
+IsRefusalOfCut text (Fault fault) = IsFirstFault text fault
+IsRefusalOfCut text Memory = Unit {0}

@@ -69,5 +69,5 @@ tokens_due text None ps = tokens_of text ps
 tokens_due text (Some at) ps = if line_ends text ps then semicolon at ∷ tokens_of text ps else tokens_of text ps
 
 -- the tokens `found` with `due` grow by the piece p to the tokens `more` with `next`, whichever pieces follow
-abbrev pub GoesOn : List ℕ → List Piece → Option ℕ → Piece → List Piece → Option ℕ → Type 0
-GoesOn text found due p more next = (rest : List Piece) → more ++ tokens_due text next rest ≡ found ++ tokens_due text due (p ∷ rest)
+abbrev pub AddsTokensOf : List ℕ → List Piece → Option ℕ → Piece → List Piece → Option ℕ → Type 0
+AddsTokensOf text found due p more next = (rest : List Piece) → more ++ tokens_due text next rest ≡ found ++ tokens_due text due (p ∷ rest)

@@ -2,7 +2,7 @@
 ghost use Rattle.std.specs.Prelude.{◌≡◌, ◌≤◌, IfOk, IfErr, length};
 ghost use Rattle.go_scanner.specs.Cuts.{IsCut, mark_len, mark_of};
 ghost use Rattle.go_scanner.specs.CutText.{IsCutText};
-ghost use Rattle.go_scanner.specs.Refusals.{RefusedRightly};
+ghost use Rattle.go_scanner.specs.Refusals.{IsRefusalOfCut};
 
 use crate::encoding::encoding_fault;
 use crate::front::front;
@@ -34,7 +34,7 @@ fn mark(text: &[u8]) -> (Trail<Piece>, usize)
 /// The pieces and tokens of a text, or its first fault.
 fn cut(alloc: Global, text: &[u8]) -> Result<(Trail<Piece>, Vec<Piece>), ScanRefusal>
     ensures cut { IfOk result (λ found. IsCutText text.now found.0.items found.1.items) }
-    ensures refused { IfErr result (RefusedRightly text.now) }
+    ensures refused { IfErr result (IsRefusalOfCut text.now) }
 {
     if let Some(offset) = encoding_fault(text) {
         let kind = FaultKind::Encoding;
@@ -71,7 +71,7 @@ fn cut(alloc: Global, text: &[u8]) -> Result<(Trail<Piece>, Vec<Piece>), ScanRef
 /// Scans a Go file, or answers its first fault. The result shares the file's bytes.
 pub fn scan(alloc: Global, file: &FileText) -> Result<Pieces, ScanRefusal>
     ensures cut { IfOk result (λ pieces. (pieces.text ≡ file.now) × IsCut pieces.text pieces.pieces) }
-    ensures refused { IfErr result (RefusedRightly file.now) }
+    ensures refused { IfErr result (IsRefusalOfCut file.now) }
 {
     let (pieces, tokens) = cut(alloc, file.bytes())?;
     let file = file.clone()?;

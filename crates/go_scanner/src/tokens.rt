@@ -1,7 +1,7 @@
 //! Makes tokens of pieces: drops trivia and inserts semicolons (Go specification, "Semicolons").
 ghost use Rattle.std.specs.Prelude.{◌≡◌, ◌==◌, ◌≤◌, length, IfOk};
 ghost use Rattle.std.specs.List.{list_any};
-ghost use Rattle.go_scanner.specs.Tokens.{is_trivia, ends_statement, ends_line, GoesOn};
+ghost use Rattle.go_scanner.specs.Tokens.{is_trivia, ends_statement, ends_line, AddsTokensOf};
 
 use crate::keywords::Keyword;
 use crate::operators::Operator;
@@ -85,7 +85,7 @@ pub fn add_piece(
 ) -> Result<Option<usize>, AllocError>
     requires order { piece.now.span.start ≤ piece.now.span.end }
     requires fits { piece.now.span.end ≤ length text.now }
-    ensures { IfOk result (λ next. GoesOn text.now found.old.items due piece.now found.new.items next) }
+    ensures { IfOk result (λ next. AddsTokensOf text.now found.old.items due piece.now found.new.items next) }
 {
     if !is_trivia(piece.class) {
         found.push(*piece)?;

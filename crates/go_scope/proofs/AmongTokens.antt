@@ -12,7 +12,7 @@ use Rattle.go_scope.specs.Site.{Site}
 use Rattle.go_scope.specs.ExpressionSites.{sites_if, list_sites}
 use Rattle.go_scope.specs.StatementSites.{separated_sites, group_sites}
 use Rattle.go_scope.specs.Trees.{AreRising}
-use Rattle.go_scope.specs.WellFormed.{IsUpTo}
+use Rattle.go_scope.specs.WellFormed.{IsNotAfter}
 use Rattle.go_scope.proofs.Regions.{Each, EachPair, each_map}
 
 abbrev pub position : ℕ → ℕ → Position
@@ -77,7 +77,7 @@ option_among rank f t h (Some x) = h x
 -- where token indices rise, positions do
 
 abbrev pub UpTo : Site → Site → Type 0
-UpTo x y = IsUpTo x.place y.place
+UpTo x y = IsNotAfter x.place y.place
 
 -- in a file, at this token or after it
 abbrev pub StandsFrom : ℕ → ℕ → Site → Type 0

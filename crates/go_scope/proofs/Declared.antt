@@ -8,11 +8,11 @@ use Rattle.go_scope.specs.declared.model.Identifier.{Identifier}
 use Rattle.go_scope.specs.declared.model.Position.{Position}
 use Rattle.go_scope.specs.declared.model.Role.{Role}
 use Rattle.go_scope.specs.Bindings.{Layout, Names}
-use Rattle.go_scope.specs.Site.{Site, found_site, sites_layout, sites_names}
-use Rattle.go_scope.specs.Parsed.{spelled_file}
+use Rattle.go_scope.specs.Site.{Site, or_blank, sites_layout, sites_names}
+use Rattle.go_scope.specs.SpelledFiles.{spelled_file}
 use Rattle.go_scope.specs.FileSites.{file_sites, files_sites, universe, universe_site, package_sites}
 use Rattle.go_scope.specs.Trees.{AreRising, IsNumbered, AreNumbered}
-use Rattle.go_scope.specs.Found.{site_of, Adds}
+use Rattle.go_scope.specs.IdentifierViews.{site_of, AddsTo}
 use Rattle.go_scope.specs.Table.{role_at, place_at, name_at, layout_of, names_of}
 use Rattle.std.proofs.lemmas.List.Elements.{All-cons, All-head, All-tail}
 use Rattle.std.proofs.lemmas.List.{length-map}
@@ -85,7 +85,7 @@ unfolding files_sites
 no_files = refl
 
 pub package_made : (none found : List Identifier) (files : List FileParts) (rank : ℕ) → none ≡ [] → rank ≡ length files →
-    Adds none found (map universe_site universe ++ files_sites 0 (map spelled_file (take rank files))) →
+    AddsTo none found (map universe_site universe ++ files_sites 0 (map spelled_file (take rank files))) →
     map site_of found ≡ package_sites (map spelled_file files)
 unfolding package_sites
 package_made none found files rank en er h =
@@ -99,12 +99,12 @@ package_numbered files rank e w =
     let P : List FileParts → Type 0 = λ fs. AreNumbered (map spelled_file fs) in
     subst P (ap (λ k. take k files) e ∙ take-length files) w
 
-same_role : (xs : List Identifier) (i : ℕ) → role_at (slice_get xs i) ≡ (found_site (slice_get (map site_of xs) i)).role
+same_role : (xs : List Identifier) (i : ℕ) → role_at (slice_get xs i) ≡ (or_blank (slice_get (map site_of xs) i)).role
 same_role [] i = refl
 same_role (x ∷ xs) zero = refl
 same_role (x ∷ xs) (suc i) = same_role xs i
 
-same_place : (xs : List Identifier) (i : ℕ) → place_at (slice_get xs i) ≡ (found_site (slice_get (map site_of xs) i)).place
+same_place : (xs : List Identifier) (i : ℕ) → place_at (slice_get xs i) ≡ (or_blank (slice_get (map site_of xs) i)).place
 same_place [] i = refl
 same_place (x ∷ xs) zero = refl
 same_place (x ∷ xs) (suc i) = same_place xs i
@@ -116,9 +116,9 @@ pub layout-sites : (xs : List Identifier) → layout_of xs ≡ sites_layout (map
 unfolding layout_made
 layout-sites xs =
     ap (λ r. layout_made r (λ i. place_at (slice_get xs i))) (fun_ext (same_role xs)) ∙
-    ap (layout_made (λ i. (found_site (slice_get (map site_of xs) i)).role)) (fun_ext (same_place xs))
+    ap (layout_made (λ i. (or_blank (slice_get (map site_of xs) i)).role)) (fun_ext (same_place xs))
 
-same_name : (xs : List Identifier) (i : ℕ) → name_at (slice_get xs i) ≡ (found_site (slice_get (map site_of xs) i)).name
+same_name : (xs : List Identifier) (i : ℕ) → name_at (slice_get xs i) ≡ (or_blank (slice_get (map site_of xs) i)).name
 same_name [] i = refl
 same_name (x ∷ xs) zero = refl
 same_name (x ∷ xs) (suc i) = same_name xs i

@@ -6,19 +6,19 @@ use Rattle.go_scope.specs.declared.model.Block.{Block}
 use Rattle.go_scope.specs.declared.model.Block.TheVariants.{Universe, Package, File, Inner}
 use Rattle.go_scope.specs.declared.model.Position.{Position}
 use Rattle.go_scope.specs.Bindings.{Layout, MayDeclare, SameBlock, InScope, block_of, start_of}
-use Rattle.go_scope.specs.Open.{EndsBehind, IsOver}
-use Rattle.go_scope.specs.Scopes.{scope_in, Holds, Nests}
-use Rattle.go_scope.specs.WellFormed.{FollowBlocks, IsLaidOut, IsIn, IsUpTo}
+use Rattle.go_scope.specs.OpenBlocks.{EndsAfter, IsOver}
+use Rattle.go_scope.specs.Scopes.{scope_for, Holds, Nests}
+use Rattle.go_scope.specs.WellFormed.{InBlockOrder, IsLaidOut, InBlock, IsNotAfter}
 use Rattle.go_scope.proofs.Nesting.{NestsAt}
 
 -- an inner block that lies in another inner block
-same_file : (l : Layout) (e f g a b : ℕ) → f ≡ g → IsIn l e (Inner g a b) → IsIn l e (Inner f a b)
-same_file l e f g a b same h = let P : ℕ → Type 0 = λ k. IsIn l e (Inner k a b) in subst P (sym same) h
+same_file : (l : Layout) (e f g a b : ℕ) → f ≡ g → InBlock l e (Inner g a b) → InBlock l e (Inner f a b)
+same_file l e f g a b same h = let P : ℕ → Type 0 = λ k. InBlock l e (Inner k a b) in subst P (sym same) h
 
 reopened : (l : Layout) (size : ℕ) → IsLaidOut l size → (d f e : ℕ) → MayDeclare l d → MayDeclare l f → MayDeclare l e → f < e → e < d → (B C : Block) →
-    IsIn l d B → IsIn l f B → IsIn l e C → Nests B C → Nests C Package → ⊥
+    InBlock l d B → InBlock l f B → InBlock l e C → Nests B C → Nests C Package → ⊥
 reopened l size h d f e md mf me fe ed (Inner k a b) (Inner g a' b') hd hf he n i =
-    let round : IsIn l e (Inner k a' b') = same_file l e k g a' b' n.0 he in
+    let round : InBlock l e (Inner k a' b') = same_file l e k g a' b' n.0 he in
     let starts : (a ≤ start_of (l.role d)) × (start_of (l.role d) ≤ b) = h.well_formed.starts d k a b md hd in
     let before : start_of (l.role e) < a = h.ordered.before e d k a' b' a b ed me md round hd n.1 n.2 in
     let behind : b ≤ start_of (l.role e) = h.ordered.behind f e k a b a' b' fe mf me hf round n.1 n.2 in
@@ -41,8 +41,8 @@ pub stays_open : (l : Layout) (size : ℕ) → IsLaidOut l size → (d f e : ℕ
     NestsAt l d e → Nests (block_of (l.role e)) Package → ⊥
 stays_open l size h d f e md mf me fe ed same n i = reopened l size h d f e md mf me fe ed (block_of (l.role d)) (block_of (l.role e)) refl same refl n i
 
-closed : (l : Layout) → FollowBlocks l → (e d : ℕ) → e < d → MayDeclare l e → MayDeclare l d → (B C : Block) → IsIn l e B → IsIn l d C → (p : Position) →
-    Holds (scope_in B (start_of (l.role e))) p → Holds (scope_in C (start_of (l.role d))) p → Nests B C → Nests C Package → ⊥
+closed : (l : Layout) → InBlockOrder l → (e d : ℕ) → e < d → MayDeclare l e → MayDeclare l d → (B C : Block) → InBlock l e B → InBlock l d C → (p : Position) →
+    Holds (scope_for B (start_of (l.role e))) p → Holds (scope_for C (start_of (l.role d))) p → Nests B C → Nests C Package → ⊥
 closed l o e d lt me md (Inner f a b) (Inner g a' b') he hd p x y n i =
     let behind : b ≤ start_of (l.role d) = o.behind e d f a b a' b' lt me md he (same_file l d f g a' b' n.0 hd) n.1 n.2 in
     omega (arith, x.2, y.1)
@@ -60,19 +60,19 @@ closed l o e d lt me md (File f) Package he hd p x y n i = absurd i
 closed l o e d lt me md (File f) (File g) he hd p x y n i = absurd i
 
 -- a later declaration in an inner block is not in the scope of an earlier one in a block inside of that block
-pub not_seen_within : (l : Layout) → FollowBlocks l → (e d u : ℕ) → e < d → MayDeclare l e → MayDeclare l d → InScope l e u → InScope l d u →
+pub not_seen_within : (l : Layout) → InBlockOrder l → (e d u : ℕ) → e < d → MayDeclare l e → MayDeclare l d → InScope l e u → InScope l d u →
     NestsAt l e d → Nests (block_of (l.role d)) Package → ⊥
 not_seen_within l o e d u lt me md x y n i = closed l o e d lt me md (block_of (l.role e)) (block_of (l.role d)) refl refl (l.place u) x y n i
 
 -- the ends of blocks
 
-seen_before_end : (B : Block) (s : ℕ) (p : Position) → Holds (scope_in B s) p → EndsBehind B p
+seen_before_end : (B : Block) (s : ℕ) (p : Position) → Holds (scope_for B s) p → EndsAfter B p
 seen_before_end (Inner f a b) s p h = (h.0, h.2)
 seen_before_end (File f) s p h = tt
 seen_before_end Package s p h = tt
 seen_before_end Universe s p h = tt
 
-declared_before_end : (l : Layout) (size : ℕ) → IsLaidOut l size → (d : ℕ) → MayDeclare l d → (B : Block) → IsIn l d B → EndsBehind B (l.place d)
+declared_before_end : (l : Layout) (size : ℕ) → IsLaidOut l size → (d : ℕ) → MayDeclare l d → (B : Block) → InBlock l d B → EndsAfter B (l.place d)
 declared_before_end l size h d may (Inner f a b) is =
     let stands : ((l.place d).file ≡ f) × ((l.place d).index < start_of (l.role d)) = h.placed.before_scope d f a b may is in
     let starts : (a ≤ start_of (l.role d)) × (start_of (l.role d) ≤ b) = h.well_formed.starts d f a b may is in
@@ -82,8 +82,8 @@ declared_before_end l size h d may Package is = tt
 declared_before_end l size h d may Universe is = tt
 
 -- an identifier between a declaration and a position before the end of its block is before that end too
-between : (l : Layout) (size : ℕ) → IsLaidOut l size → (e u v : ℕ) → MayDeclare l e → IsUpTo (l.place e) (l.place u) → IsUpTo (l.place u) (l.place v) →
-    (B : Block) → IsIn l e B → EndsBehind B (l.place v) → EndsBehind B (l.place u)
+between : (l : Layout) (size : ℕ) → IsLaidOut l size → (e u v : ℕ) → MayDeclare l e → IsNotAfter (l.place e) (l.place u) → IsNotAfter (l.place u) (l.place v) →
+    (B : Block) → InBlock l e B → EndsAfter B (l.place v) → EndsAfter B (l.place u)
 between l size h e u v may first second (Inner f a b) is end =
     let file : (l.place e).file ≡ f = (h.placed.before_scope e f a b may is).0 in
     let to : (l.place v).file ≡ f = end.0 in
@@ -98,9 +98,9 @@ between l size h e u v may first second Universe is end = tt
 
 -- a block that has ended at one position has ended at all later positions
 pub over_from : (l : Layout) (size : ℕ) → IsLaidOut l size → (e u : ℕ) → MayDeclare l e → e < u → u < size →
-    (EndsBehind (block_of (l.role e)) (l.place u) → ⊥) → IsOver l size u e
+    (EndsAfter (block_of (l.role e)) (l.place u) → ⊥) → IsOver l size u e
 over_from l size h e u may less within ended v le lt end = elim (cases_order u v) [
-  | inl same ↦ (let P : ℕ → Type 0 = λ k. EndsBehind (block_of (l.role e)) (l.place k) in ended (subst P (sym same) end))
+  | inl same ↦ (let P : ℕ → Type 0 = λ k. EndsAfter (block_of (l.role e)) (l.place k) in ended (subst P (sym same) end))
   | inr o ↦ elim o [
     | inl before ↦ ended
         (between l size h e u v may (h.placed.rising e u less within) (h.placed.rising u v before lt) (block_of (l.role e)) refl end)
@@ -115,7 +115,7 @@ over_later l size m n e le over v nv lt end = over v (let mv : m ≤ v = omega a
 
 pub over_apart : (l : Layout) (size : ℕ) → IsLaidOut l size → (m e d : ℕ) → m ≤ d → d < size → MayDeclare l d → SameBlock l e d → IsOver l size m e → ⊥
 over_apart l size h m e d le lt may same over =
-    let P : Block → Type 0 = λ b. EndsBehind b (l.place d) in
+    let P : Block → Type 0 = λ b. EndsAfter b (l.place d) in
     over d le lt (subst P (sym same) (declared_before_end l size h d may (block_of (l.role d)) refl))
 
 pub over_unseen : (l : Layout) (size m e u : ℕ) → m ≤ u → u < size → InScope l e u → IsOver l size m e → ⊥
@@ -123,8 +123,8 @@ over_unseen l size m e u le lt seen over = over u le lt (seen_before_end (block_
 
 -- the scope of a declaration in an inner block begins after it
 
-not_before : (l : Layout) (size : ℕ) → IsLaidOut l size → (e u : ℕ) → MayDeclare l e → IsUpTo (l.place u) (l.place e) → (B : Block) → IsIn l e B →
-    Holds (scope_in B (start_of (l.role e))) (l.place u) → Nests B Package → ⊥
+not_before : (l : Layout) (size : ℕ) → IsLaidOut l size → (e u : ℕ) → MayDeclare l e → IsNotAfter (l.place u) (l.place e) → (B : Block) → InBlock l e B →
+    Holds (scope_for B (start_of (l.role e))) (l.place u) → Nests B Package → ⊥
 not_before l size h e u may up (Inner f a b) is seen i =
     let stands : ((l.place e).file ≡ f) × ((l.place e).index < start_of (l.role e)) = h.placed.before_scope e f a b may is in
     let own : (l.place e).file ≡ f = stands.0 in
@@ -136,9 +136,9 @@ not_before l size h e u may up Universe is seen i = absurd i
 not_before l size h e u may up Package is seen i = absurd i
 not_before l size h e u may up (File f) is seen i = absurd i
 
-same_place : (l : Layout) (u e : ℕ) → u ≡ e → IsUpTo (l.place u) (l.place e)
+same_place : (l : Layout) (u e : ℕ) → u ≡ e → IsNotAfter (l.place u) (l.place e)
 same_place l u e same =
-    let P : ℕ → Type 0 = λ k. IsUpTo (l.place u) (l.place k) in
+    let P : ℕ → Type 0 = λ k. IsNotAfter (l.place u) (l.place k) in
     subst P same (inr (refl, let le : (l.place u).index ≤ (l.place u).index = omega arith in le))
 
 pub seen_behind : (l : Layout) (size : ℕ) → IsLaidOut l size → (e u : ℕ) → MayDeclare l e → e < size → InScope l e u →

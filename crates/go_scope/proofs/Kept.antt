@@ -6,7 +6,7 @@ use Rattle.std.proofs.lemmas.List.{get_or-set_same, get_or-set_other}
 use Rattle.std.specs.Prelude.{◌↔◌}
 use Rattle.std.proofs.lemmas.Bool.{cases_order}
 use Rattle.go_scope.specs.Bindings.{Layout, Names}
-use Rattle.go_scope.specs.Known.{AreMarks, AreBindings, IsBinding}
+use Rattle.go_scope.specs.Contents.{AreExactMarks, AreBindings, IsBinding}
 use Rattle.go_scope.proofs.Uniqueness.{same_or_not}
 
 -- a fact of each entry of a list stays true when a right entry is appended
@@ -50,14 +50,14 @@ module _ {A : Type 0} (P : ℕ → A → Type 0) where
 pub sized_next : {A : Type 0} (xs new : List A) (y : A) (n : ℕ) → length xs ≡ n → new ≡ xs ++ (y ∷ []) → length new ≡ n + 1
 sized_next xs new y n s e = ap length e ∙ length-append xs (y ∷ []) ∙ (omega arith)
 
-pub marks_next : (P : ℕ → Type 0) (n : ℕ) (marks new : List Bool) (mark : Bool) → AreMarks P n marks → new ≡ marks ++ (mark ∷ []) → IsTrue mark ↔ P n →
-    AreMarks P (n + 1) new
+pub marks_next : (P : ℕ → Type 0) (n : ℕ) (marks new : List Bool) (mark : Bool) → AreExactMarks P n marks → new ≡ marks ++ (mark ∷ []) → IsTrue mark ↔ P n →
+    AreExactMarks P (n + 1) new
 marks_next P n marks new mark h e m = record {
   sized = sized_next marks new mark n h.sized e;
   exact = each_next (λ k x. IsTrue x ↔ P k) marks new mark n h.sized e m h.exact;
 }
 
-pub marks_none : (P : ℕ → Type 0) (marks : List Bool) → marks ≡ [] → AreMarks P 0 marks
+pub marks_none : (P : ℕ → Type 0) (marks : List Bool) → marks ≡ [] → AreExactMarks P 0 marks
 marks_none P marks e = record { sized = ap length e; exact = λ d x lt. absurd (omega arith) }
 
 pub bindings_none : (l : Layout) (names : Names) (bindings : List (Option ℕ)) → bindings ≡ [] → AreBindings l names 0 bindings

@@ -10,7 +10,7 @@ use Rattle.go_scope.specs.Scopes.{Holds, IsInside}
 use Rattle.go_scope.specs.Bindings.{Layout, Names, MayDeclare, SameBlock, InScope, Declares, Displaces, Counts, BindsAt, block_of, scope_of, may_declare}
 use Rattle.go_scope.specs.Bindings.{is_left_name}
 use Rattle.go_scope.specs.Named.{is_unnamed_import, named_where, named_sites}
-use Rattle.go_scope.specs.Site.{Site, found_site, sites_layout, sites_names}
+use Rattle.go_scope.specs.Site.{Site, or_blank, sites_layout, sites_names}
 use Rattle.go_scope.specs.WellFormed.{WellFormed}
 use Rattle.go_scope.proofs.NamedSites.{place_stays}
 
@@ -121,7 +121,7 @@ where_stays true (Some name) x e = inr (x.place.file, (refl, not_declaring x.rol
 where_stays true None x e = inl (refl, refl)
 where_stays false name x e = inl (refl, refl)
 
-sites_stay : (names : ℕ → Option (List ℕ)) (xs : List Site) (d : ℕ) → SiteStays (found_site (slice_get (named_sites names xs) d)) (found_site (slice_get xs d))
+sites_stay : (names : ℕ → Option (List ℕ)) (xs : List Site) (d : ℕ) → SiteStays (or_blank (slice_get (named_sites names xs) d)) (or_blank (slice_get xs d))
 unfolding named_sites
 sites_stay names [] d = inl (refl, refl)
 sites_stay names (x ∷ xs) zero = where_stays (is_unnamed_import x.role) (names 0) x refl

@@ -6,19 +6,19 @@ use Rattle.std.proofs.Math.ListN.{set, replicate}
 use Rattle.std.proofs.lemmas.Bool.{cases_order}
 use Rattle.std.proofs.lemmas.List.{length-set, get_or-replicate, length-replicate}
 use Rattle.indexmap.specs.IndexMap.{IndexMap, get}
-use Rattle.go_scope.specs.contracts.outer.OuterNamePartialEq.TheImpl as equal
+use Rattle.go_scope.specs.contracts.outer_blocks.OuterNamePartialEq.TheImpl as equal
 use Rattle.go_scope.specs.declared.links.Links.{Links}
 use Rattle.go_scope.specs.declared.model.Block.{Block}
 use Rattle.go_scope.specs.declared.model.Block.TheVariants.{Universe, Package, File, Inner}
 use Rattle.go_scope.specs.declared.model.Identifier.{Identifier}
-use Rattle.go_scope.specs.declared.outer.OuterBlock.{OuterBlock}
-use Rattle.go_scope.specs.declared.outer.OuterBlock.TheVariants as outer
-use Rattle.go_scope.specs.declared.outer.OuterName.{OuterName}
+use Rattle.go_scope.specs.declared.outer_blocks.OuterBlock.{OuterBlock}
+use Rattle.go_scope.specs.declared.outer_blocks.OuterBlock.TheVariants as outer
+use Rattle.go_scope.specs.declared.outer_blocks.OuterName.{OuterName}
 use Rattle.go_scope.specs.Bindings.{Layout, Names, block_of}
-use Rattle.go_scope.specs.Leading.{Leads, LeadsInside, IsFirstIn}
-use Rattle.go_scope.specs.Numbering.{number_at, told, AreBelow}
-use Rattle.go_scope.specs.Open.{IsLastOpen, AreLasts, AreLinked, AreLinks, AreNear, IsSeenInside}
-use Rattle.go_scope.specs.Outer.{block_in, outer_of, AreOuter}
+use Rattle.go_scope.specs.Leading.{IsLead, IsLeadInside, IsFirstIn}
+use Rattle.go_scope.specs.Numbering.{number_at, numerals, AreBelow}
+use Rattle.go_scope.specs.OpenBlocks.{IsLastOpen, AreLasts, AreLinked, AreNameLinks, AreNearest, IsVisibleInside}
+use Rattle.go_scope.specs.OuterBlocks.{block_in, outer_of, AreOuter}
 use Rattle.go_scope.specs.Scopes.{Nests}
 use Rattle.go_scope.specs.Table.{IsNearest, layout_of}
 use Rattle.go_scope.proofs.Following.{over_later}
@@ -71,18 +71,18 @@ equal_fields x y = search rules
 
 module _ (l : Layout) (names : Names) (d : ℕ) where
   -- the next identifier is not the first declaration of its name in a block
-  first_kept : (name : List ℕ) (block : Block) (o : Option ℕ) → (Leads l names d → names d ≡ name → block_of (l.role d) ≡ block → ⊥) →
+  first_kept : (name : List ℕ) (block : Block) (o : Option ℕ) → (IsLead l names d → names d ≡ name → block_of (l.role d) ≡ block → ⊥) →
       IsFirstIn l names name block d o → IsFirstIn l names name block (d + 1) o
   first_kept name block None other h = λ e lt leads named in_block. elim (same_or_not e d) [
     | inl same ↦
-        let P : ℕ → Type 0 = λ v. Leads l names v × (names v ≡ name) × (block_of (l.role v) ≡ block) in
+        let P : ℕ → Type 0 = λ v. IsLead l names v × (names v ≡ name) × (block_of (l.role v) ≡ block) in
         let here = subst P same (leads, named, in_block) in
         other here.0 here.1 here.2
     | inr not ↦ h e (below e d lt not) leads named in_block
   ]
   first_kept name block (Some e) other h = (let lt : e < d = h.0 in omega arith, h.1, h.2, h.3)
 
-  first_by : (own key : OuterName) (b : Bool) (o : Option ℕ) → equal.ghosts.eq own key ≡ b → Leads l names d → names d ≡ own.name ∷ [] →
+  first_by : (own key : OuterName) (b : Bool) (o : Option ℕ) → equal.ghosts.eq own key ≡ b → IsLead l names d → names d ≡ own.name ∷ [] →
       block_of (l.role d) ≡ block_in own.block → IsFirstIn l names (key.name ∷ []) (block_in key.block) d o →
       IsFirstIn l names (key.name ∷ []) (block_in key.block) (d + 1) (cond b (Some d) o)
   first_by own key true o e leads named in_block h =
@@ -97,7 +97,7 @@ module _ (l : Layout) (names : Names) (d : ℕ) where
       let z : true ≡ false = sym t ∙ e in cc)
       h
 
-  pub outer_with : {S : Type 0} (found after : IndexMap OuterName ℕ S) (own : OuterName) → Leads l names d → names d ≡ own.name ∷ [] →
+  pub outer_with : {S : Type 0} (found after : IndexMap OuterName ℕ S) (own : OuterName) → IsLead l names d → names d ≡ own.name ∷ [] →
       block_of (l.role d) ≡ block_in own.block →
       ((key : OuterName) → get equal.ghosts.eq after key ≡ cond (equal.ghosts.eq own key) (Some d) (get equal.ghosts.eq found key)) →
       AreOuter l names d found → AreOuter l names (d + 1) after
@@ -105,7 +105,7 @@ module _ (l : Layout) (names : Names) (d : ℕ) where
       let P : Option ℕ → Type 0 = λ o. IsFirstIn l names (key.name ∷ []) (block_in key.block) (d + 1) o in
       subst P (sym (up key)) (first_by own key (equal.ghosts.eq own key) (get equal.ghosts.eq found key) refl leads named in_block (h key))
 
-  pub outer_without : {S : Type 0} (found : IndexMap OuterName ℕ S) → (Leads l names d → Nests (block_of (l.role d)) Package) →
+  pub outer_without : {S : Type 0} (found : IndexMap OuterName ℕ S) → (IsLead l names d → Nests (block_of (l.role d)) Package) →
       AreOuter l names d found → AreOuter l names (d + 1) found
   outer_without found inner h key =
       first_kept (key.name ∷ []) (block_in key.block) (get equal.ghosts.eq found key)
@@ -125,29 +125,29 @@ module _ (l : Layout) (size : ℕ) (names : Names) where
       }
 
   -- the next identifier is no declaration of a name in an inner block
-  still_last : (d : ℕ) (name : List ℕ) (o : Option ℕ) → (LeadsInside l names name d → ⊥) → IsLastOpen l size names name d o →
+  still_last : (d : ℕ) (name : List ℕ) (o : Option ℕ) → (IsLeadInside l names name d → ⊥) → IsLastOpen l size names name d o →
       IsLastOpen l size names name (d + 1) o
   still_last d name None other h = λ e lt k. elim (same_or_not e d) [
-    | inl same ↦ (let P : ℕ → Type 0 = λ v. LeadsInside l names name v in absurd (other (subst P same k)))
+    | inl same ↦ (let P : ℕ → Type 0 = λ v. IsLeadInside l names name v in absurd (other (subst P same k)))
     | inr not ↦ over_later l size d (d + 1) e (omega arith) (h e (below e d lt not) k)
   ]
   still_last d name (Some b) other h = (
     (let lt : b < d = h.0 in omega arith),
     h.1,
     λ e above lt k. elim (same_or_not e d) [
-      | inl same ↦ (let P : ℕ → Type 0 = λ v. LeadsInside l names name v in absurd (other (subst P same k)))
+      | inl same ↦ (let P : ℕ → Type 0 = λ v. IsLeadInside l names name v in absurd (other (subst P same k)))
       | inr not ↦ over_later l size d (d + 1) e (omega arith) (h.2 e above (below e d lt not) k)
     ],
   )
 
-  pub lasts_without : (d : ℕ) (last : List (Option ℕ)) → (Leads l names d → Nests (block_of (l.role d)) Package → ⊥) → AreLasts l size names d last →
+  pub lasts_without : (d : ℕ) (last : List (Option ℕ)) → (IsLead l names d → Nests (block_of (l.role d)) Package → ⊥) → AreLasts l size names d last →
       AreLasts l size names (d + 1) last
   lasts_without d last other h = record {
     sized = h.sized;
     each = λ name x lt. still_last d (name ∷ []) (get_or last name x) (λ k. other k.leads k.inner) (h.each name x lt);
   }
 
-  pub lasts_with : (d name : ℕ) (last : List (Option ℕ)) → name < size → names d ≡ name ∷ [] → Leads l names d → Nests (block_of (l.role d)) Package →
+  pub lasts_with : (d name : ℕ) (last : List (Option ℕ)) → name < size → names d ≡ name ∷ [] → IsLead l names d → Nests (block_of (l.role d)) Package →
       AreLasts l size names d last → AreLasts l size names (d + 1) (set last name (Some d))
   lasts_with d name last lt named leads inner h =
       let sized : length last ≡ size = h.sized in
@@ -160,10 +160,10 @@ module _ (l : Layout) (size : ℕ) (names : Names) where
       }
 
   pub linked_next : (d : ℕ) (around new : List (Option ℕ)) (next : Option ℕ) → new ≡ around ++ (next ∷ []) →
-      (LeadsInside l names (names d) d → IsLastOpen l size names (names d) d next) → AreLinked l size names d around → AreLinked l size names (d + 1) new
+      (IsLeadInside l names (names d) d → IsLastOpen l size names (names d) d next) → AreLinked l size names d around → AreLinked l size names (d + 1) new
   linked_next d around new next e p h = record {
     sized = sized_next around new next d h.sized e;
-    each = each_next (λ k x. LeadsInside l names (names k) k → IsLastOpen l size names (names k) k x) around new next d h.sized e p h.each;
+    each = each_next (λ k x. IsLeadInside l names (names k) k → IsLastOpen l size names (names k) k x) around new next d h.sized e p h.each;
   }
 
   -- no identifiers
@@ -182,11 +182,11 @@ module _ (l : Layout) (size : ℕ) (names : Names) where
   linked_none around e = record { sized = ap length e; each = λ d x lt k. absurd (omega arith) }
 
 pub near_next : (l : Layout) (names : Names) (u : ℕ) (around new : List (Option ℕ)) (next : Option ℕ) → length around ≡ u → new ≡ around ++ (next ∷ []) →
-    ((Leads l names u → ⊥) → IsNearest l (IsSeenInside l names (names u) u) next) → AreNear l names u around → AreNear l names (u + 1) new
+    ((IsLead l names u → ⊥) → IsNearest l (IsVisibleInside l names (names u) u) next) → AreNearest l names u around → AreNearest l names (u + 1) new
 near_next l names u around new next sized e p h =
-    each_next (λ k x. (Leads l names k → ⊥) → IsNearest l (IsSeenInside l names (names k) k) x) around new next u sized e p h
+    each_next (λ k x. (IsLead l names k → ⊥) → IsNearest l (IsVisibleInside l names (names k) k) x) around new next u sized e p h
 
-pub near_none : (l : Layout) (names : Names) (around : List (Option ℕ)) → AreNear l names 0 around
+pub near_none : (l : Layout) (names : Names) (around : List (Option ℕ)) → AreNearest l names 0 around
 near_none l names around u x lt k = absurd (omega arith)
 
 pub outer_none : {S : Type 0} (l : Layout) (names : Names) (found : IndexMap OuterName ℕ S) → ((key : OuterName) → get equal.ghosts.eq found key ≡ None) →
@@ -197,7 +197,7 @@ outer_none l names found none key =
 
 -- the links of identifiers
 
-module _ (xs : List Identifier) (numbers : List ℕ) (n : ℕ) (links : Links) (h : AreLinks xs numbers n links) (numbered : AreBelow (length xs) numbers)
+module _ (xs : List Identifier) (numbers : List ℕ) (n : ℕ) (links : Links) (h : AreNameLinks xs numbers n links) (numbered : AreBelow (length xs) numbers)
     (within : n < length xs) (i : ℕ) (is : i ≡ number_at numbers n) where
   pub last_within : i < length links.last.items
   last_within =
@@ -205,9 +205,9 @@ module _ (xs : List Identifier) (numbers : List ℕ) (n : ℕ) (links : Links) (
       let below : number_at numbers n < length xs = numbered n within in
       omega arith
 
-  pub last_opened : (o x : Option ℕ) → o ≡ get_or links.last.items i x → IsLastOpen (layout_of xs) (length xs) (told numbers) (told numbers n) n o
+  pub last_opened : (o x : Option ℕ) → o ≡ get_or links.last.items i x → IsLastOpen (layout_of xs) (length xs) (numerals numbers) (numerals numbers n) n o
   last_opened o x e =
       let below : number_at numbers n < length xs = numbered n within in
-      let P : ℕ → Type 0 = λ k. IsLastOpen (layout_of xs) (length xs) (told numbers) (told numbers n) n (get_or links.last.items k x) in
-      let Q : Option ℕ → Type 0 = λ a. IsLastOpen (layout_of xs) (length xs) (told numbers) (told numbers n) n a in
+      let P : ℕ → Type 0 = λ k. IsLastOpen (layout_of xs) (length xs) (numerals numbers) (numerals numbers n) n (get_or links.last.items k x) in
+      let Q : Option ℕ → Type 0 = λ a. IsLastOpen (layout_of xs) (length xs) (numerals numbers) (numerals numbers n) n a in
       subst Q (sym e) (subst P (sym is) (h.lasts.each (number_at numbers n) x below))

@@ -7,9 +7,9 @@ use Rattle.go_scope.specs.declared.model.Block.{Block}
 use Rattle.go_scope.specs.declared.model.Block.TheVariants.{Universe, Package, File, Inner}
 use Rattle.go_scope.specs.declared.model.Role.{Role}
 use Rattle.go_scope.specs.declared.model.Role.TheVariants.{Use, Declaring, LeftName, Implied, NotLexical}
-use Rattle.go_scope.specs.Scopes.{scope_in, Holds, IsInside}
+use Rattle.go_scope.specs.Scopes.{scope_for, Holds, IsInside}
 use Rattle.go_scope.specs.Bindings.{Layout, Names, IsBoundTo, block_of, start_of, scope_of, is_use, is_left_name, may_declare}
-use Rattle.go_scope.specs.Moves.{moved_place, moved_block, moved_start, moved_role, KnownIn, IsMoved}
+use Rattle.go_scope.specs.Moves.{moved_place, moved_block, moved_start, moved_role, HasKnownEnds, IsMoved}
 use Rattle.go_scope.proofs.Alike.{Alike, alike_sym, bound_alike}
 
 may_moved : (m : ℕ → ℕ → ℕ) (r : Role) → may_declare (moved_role m r) ≡ may_declare r
@@ -74,7 +74,7 @@ module _ (Known : ℕ → ℕ → Type 0) (m : ℕ → ℕ → ℕ) (up : (f a b
       let p : a ≤ b = le_back f a b ka kb (omega arith) in
       let q : b ≤ a = le_back f b a kb ka (omega arith) in omega arith
 
-  blocks_back : (B C : Block) (s t : ℕ) → KnownIn Known B s → KnownIn Known C t → moved_block m B ≡ moved_block m C → B ≡ C
+  blocks_back : (B C : Block) (s t : ℕ) → HasKnownEnds Known B s → HasKnownEnds Known C t → moved_block m B ≡ moved_block m C → B ≡ C
   blocks_back (Inner f a b) (Inner g c d) s t k j e = inner f g a b c d k.0 k.1 j.0 j.1 (cc) (cc) (cc)
     where
       inner : (f g a b c d : ℕ) → Known f a → Known f b → Known g c → Known g d → f ≡ g → m f a ≡ m g c → m f b ≡ m g d → Inner f a b ≡ Inner g c d
@@ -100,8 +100,8 @@ module _ (Known : ℕ → ℕ → Type 0) (m : ℕ → ℕ → ℕ) (up : (f a b
   blocks_back Universe Package s t k j e = cc
   blocks_back Universe Universe s t k j e = refl
 
-  holds_moved : (B : Block) (s : ℕ) (p : Position) → KnownIn Known B s → Known p.file p.index →
-      Holds (scope_in B s) p ↔ Holds (scope_in (moved_block m B) (moved_start m B s)) (moved_place m p)
+  holds_moved : (B : Block) (s : ℕ) (p : Position) → HasKnownEnds Known B s → Known p.file p.index →
+      Holds (scope_for B s) p ↔ Holds (scope_for (moved_block m B) (moved_start m B s)) (moved_place m p)
   holds_moved (Inner f a b) s p k j = (
     (λ x. let P : ℕ → Type 0 = λ h. (m f s ≤ m h p.index) × (m h p.index < m f b) in
         let kp : Known f p.index = (let Q : ℕ → Type 0 = λ h. Known h p.index in subst Q x.0 j) in
@@ -116,8 +116,8 @@ module _ (Known : ℕ → ℕ → Type 0) (m : ℕ → ℕ → ℕ) (up : (f a b
   holds_moved Package s p k j = ((λ x. x), (λ x. x))
   holds_moved Universe s p k j = ((λ x. x), (λ x. x))
 
-  inside_moved : (B C : Block) (s t : ℕ) → KnownIn Known B s → KnownIn Known C t →
-      IsInside (scope_in B s) (scope_in C t) ↔ IsInside (scope_in (moved_block m B) (moved_start m B s)) (scope_in (moved_block m C) (moved_start m C t))
+  inside_moved : (B C : Block) (s t : ℕ) → HasKnownEnds Known B s → HasKnownEnds Known C t →
+      IsInside (scope_for B s) (scope_for C t) ↔ IsInside (scope_for (moved_block m B) (moved_start m B s)) (scope_for (moved_block m C) (moved_start m C t))
   inside_moved (Inner f a b) (Inner g c d) s t k j = (
     (λ x. let P : ℕ → Type 0 = λ h. (m g t ≤ m h s) × (m h b ≤ m g d) in
         let Q : ℕ → Type 0 = λ h. Known h s × Known h b in
@@ -163,8 +163,8 @@ module _ (Known : ℕ → ℕ → Type 0) (m : ℕ → ℕ → ℕ) (l k : Layou
   start_at : (d : ℕ) → start_of (k.role d) ≡ moved_start m (block_of (l.role d)) (start_of (l.role d))
   start_at d = ap start_of (v.roles d) ∙ start_moved m (l.role d)
 
-  scope_at : (d : ℕ) → scope_of (k.role d) ≡ scope_in (moved_block m (block_of (l.role d))) (moved_start m (block_of (l.role d)) (start_of (l.role d)))
-  scope_at d = ap (λ B. scope_in B (start_of (k.role d))) (block_at d) ∙ ap (λ s. scope_in (moved_block m (block_of (l.role d))) s) (start_at d)
+  scope_at : (d : ℕ) → scope_of (k.role d) ≡ scope_for (moved_block m (block_of (l.role d))) (moved_start m (block_of (l.role d)) (start_of (l.role d)))
+  scope_at d = ap (λ B. scope_for B (start_of (k.role d))) (block_at d) ∙ ap (λ s. scope_for (moved_block m (block_of (l.role d))) s) (start_at d)
 
   pub moved_alike : Alike l k
   moved_alike = record {

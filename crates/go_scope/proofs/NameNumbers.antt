@@ -5,15 +5,15 @@ use Rattle.std.proofs.Common.{subst, arith}
 use Rattle.std.specs.Prelude.{◌↔◌, slice_index_or}
 use Rattle.std.proofs.lemmas.Bool.{cases_order}
 use Rattle.indexmap.specs.IndexMap.{IndexMap, get}
-use Rattle.go_scope.specs.contracts.numbering.SpelledPartialEq.TheImpl as equal
+use Rattle.go_scope.specs.contracts.numbering.NameBytesPartialEq.TheImpl as equal
 use Rattle.go_scope.specs.declared.model.Identifier.{Identifier}
 use Rattle.go_scope.specs.declared.model.Role.{Role}
 use Rattle.go_scope.specs.declared.model.Role.TheVariants.{Use, Declaring, LeftName, Implied, NotLexical}
-use Rattle.go_scope.specs.declared.numbering.Spelled.{Spelled}
+use Rattle.go_scope.specs.declared.numbering.NameBytes.{NameBytes}
 use Rattle.go_scope.specs.Bindings.{Layout, Names, Declares, Counts, BindsAt, IsBoundTo, use_bound, own, is_use, is_left_name, may_declare}
 use Rattle.go_scope.specs.ByToken.{IsFirstBelow}
-use Rattle.go_scope.specs.Known.{IsBinding, AreBound}
-use Rattle.go_scope.specs.Numbering.{is_lexical, IsLexical, HasName, AreFirsts, told, TellApart}
+use Rattle.go_scope.specs.Contents.{IsBinding, AreBound}
+use Rattle.go_scope.specs.Numbering.{is_lexical, IsLexical, HasName, AreFirsts, numerals, Distinguish}
 use Rattle.go_scope.specs.Table.{layout_of, names_of, IsFirstOf}
 use Rattle.go_scope.proofs.TokenRows.{widen, widen_found}
 
@@ -29,10 +29,10 @@ module _ (l : Layout) (names : Names) (u : ℕ) (own : List ℕ) (is : names u �
   later_by key first o true d f h = still (HasName l names key) u first o f.within (f.holds.0, f.holds.1 ∙ d.0 refl) h
   later_by key first o false d f h = widen (HasName l names key) u o (λ has. let t : false ≡ true = d.1 (sym is ∙ has.1) in cc) h
 
-equal_bytes : (x y : Spelled) → equal.ghosts.eq x y ≡ true ↔ (x.bytes.now ≡ y.bytes.now)
+equal_bytes : (x y : NameBytes) → equal.ghosts.eq x y ≡ true ↔ (x.bytes.now ≡ y.bytes.now)
 equal_bytes x y = search rules
 
-module _ {S : Type 0} (l : Layout) (names : Names) (u : ℕ) (firsts : IndexMap Spelled ℕ S) (name : Spelled) (is : name.bytes.now ≡ names u)
+module _ {S : Type 0} (l : Layout) (names : Names) (u : ℕ) (firsts : IndexMap NameBytes ℕ S) (name : NameBytes) (is : name.bytes.now ≡ names u)
     (h : AreFirsts l names u firsts) where
   found_here : (first : ℕ) → get equal.ghosts.eq firsts name ≡ Some first → IsFirstOf (HasName l names name.bytes.now) u first
   found_here first e = let P : Option ℕ → Type 0 = λ o. IsFirstBelow (HasName l names name.bytes.now) u o in subst P e (h name)
@@ -49,7 +49,7 @@ module _ {S : Type 0} (l : Layout) (names : Names) (u : ℕ) (firsts : IndexMap 
       subst P is (widen_found (HasName l names name.bytes.now) u first (found_here first e))
 
 -- a name that is not looked up is not entered
-pub firsts_skip : {S : Type 0} (l : Layout) (names : Names) (u : ℕ) (firsts : IndexMap Spelled ℕ S) → (IsLexical l u → ⊥) → AreFirsts l names u firsts →
+pub firsts_skip : {S : Type 0} (l : Layout) (names : Names) (u : ℕ) (firsts : IndexMap NameBytes ℕ S) → (IsLexical l u → ⊥) → AreFirsts l names u firsts →
     AreFirsts l names (u + 1) firsts
 firsts_skip l names u firsts none h key = widen (HasName l names key.bytes.now) u (get equal.ghosts.eq firsts key) (λ has. none has.0) (h key)
 
@@ -80,8 +80,8 @@ abbrev pub head_of : List ℕ → ℕ
 head_of [] = 0
 head_of (n ∷ ns) = n
 
-pub numbers_agree : (xs : List Identifier) (numbers : List ℕ) → TellApart (layout_of xs) (names_of xs) (length xs) numbers →
-    Agree (layout_of xs) (told numbers) (names_of xs)
+pub numbers_agree : (xs : List Identifier) (numbers : List ℕ) → Distinguish (layout_of xs) (names_of xs) (length xs) numbers →
+    Agree (layout_of xs) (numerals numbers) (names_of xs)
 numbers_agree xs numbers h d e dl el =
     let t = h d e (lexical_in_range xs d dl) (lexical_in_range xs e el) dl el in
     ((λ same. t.0 (ap head_of same)), (λ same. ap (λ n. n ∷ []) (t.1 same)))
@@ -144,11 +144,11 @@ binding_agree l m n a u (Some d) h = bound_agree l m n a u d h
 
 -- declarations and bindings by numbers are those by names
 pub found_by_names : (xs : List Identifier) (numbers : List ℕ) (k : ℕ) (declaring : List Bool) (bound : List (Option ℕ)) →
-    TellApart (layout_of xs) (names_of xs) (length xs) numbers → AreBound (layout_of xs) (told numbers) k declaring bound →
+    Distinguish (layout_of xs) (names_of xs) (length xs) numbers → AreBound (layout_of xs) (numerals numbers) k declaring bound →
     AreBound (layout_of xs) (names_of xs) k declaring bound
 found_by_names xs numbers k declaring bound apart h =
     let l = layout_of xs in
-    let m = told numbers in
+    let m = numerals numbers in
     let n = names_of xs in
     let a = numbers_agree xs numbers apart in
     record {

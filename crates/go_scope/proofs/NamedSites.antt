@@ -11,12 +11,12 @@ use Rattle.go_scope.specs.declared.model.Role.{Role}
 use Rattle.go_scope.specs.declared.model.Role.TheVariants.{Use, Declaring, LeftName, Implied, NotLexical}
 use Rattle.go_scope.specs.Bindings.{Layout, MayDeclare, IsLeftName, block_of, start_of, may_declare, is_left_name}
 use Rattle.go_scope.specs.FileSites.{SpelledFile, package_sites}
-use Rattle.go_scope.specs.Found.{site_of}
+use Rattle.go_scope.specs.IdentifierViews.{site_of}
 use Rattle.go_scope.specs.Named.{is_unnamed_import, named_where, named_site, named_sites}
-use Rattle.go_scope.specs.Site.{Site, found_site, sites_layout}
+use Rattle.go_scope.specs.Site.{Site, or_blank, sites_layout}
 use Rattle.go_scope.specs.Table.{layout_of}
 use Rattle.go_scope.specs.Trees.{AreNumbered}
-use Rattle.go_scope.specs.WellFormed.{WellFormed, AreImportsLevel, FollowBlocks, IsUpTo, FollowPlaces, IsLaidOut, IsIn}
+use Rattle.go_scope.specs.WellFormed.{WellFormed, ImportsCoverFiles, InBlockOrder, IsNotAfter, InPlaceOrder, IsLaidOut, InBlock}
 use Rattle.go_scope.proofs.Declared.{layout-sites}
 use Rattle.go_scope.proofs.PackagePlaces.{package_follows_places}
 use Rattle.go_scope.proofs.PackageRegions.{From, may_at, each_at, not_may, package_agrees, package_well_formed, package_follows_blocks}
@@ -39,7 +39,7 @@ site_stays true None x = inl refl
 site_stays false name x = inl refl
 
 role_stays : (names : ℕ → Option (List ℕ)) (xs : List Site) (d : ℕ) →
-    RoleStays (found_site (slice_get (named_sites names xs) d)).role (found_site (slice_get xs d)).role
+    RoleStays (or_blank (slice_get (named_sites names xs) d)).role (or_blank (slice_get xs d)).role
 unfolding named_sites
 role_stays names [] d = inl refl
 role_stays names (x ∷ xs) zero = site_stays (is_unnamed_import x.role) (names 0) x
@@ -51,7 +51,7 @@ stays_in_place true None x = refl
 stays_in_place false name x = refl
 
 pub place_stays : (names : ℕ → Option (List ℕ)) (xs : List Site) (d : ℕ) →
-    (found_site (slice_get (named_sites names xs) d)).place ≡ (found_site (slice_get xs d)).place
+    (or_blank (slice_get (named_sites names xs) d)).place ≡ (or_blank (slice_get xs d)).place
 unfolding named_sites
 place_stays names [] d = refl
 place_stays names (x ∷ xs) zero = stays_in_place (is_unnamed_import x.role) (names 0) x
@@ -65,8 +65,8 @@ not_left h e = cc
 
 module _ (k l : Layout) (n : ℕ) (finite : (d : ℕ) → MayDeclare k d → d < n) (roles : (d : ℕ) → RoleStays (k.role d) (l.role d))
     (places : (d : ℕ) → k.place d ≡ l.place d)
-    (w : WellFormed l) (level : AreImportsLevel l) where
-  inner_stays : (d f a b : ℕ) → IsIn k d (Inner f a b) → k.role d ≡ l.role d
+    (w : WellFormed l) (level : ImportsCoverFiles l) where
+  inner_stays : (d f a b : ℕ) → InBlock k d (Inner f a b) → k.role d ≡ l.role d
   inner_stays d f a b i = elim (roles d) [ inl e ↦ e | inr h ↦ absurd (file_not_inner h.0 f a b (sym (ap block_of h.1) ∙ i)) ]
 
   left_stays : (d : ℕ) → IsLeftName k d → k.role d ≡ l.role d
@@ -75,13 +75,13 @@ module _ (k l : Layout) (n : ℕ) (finite : (d : ℕ) → MayDeclare k d → d <
   may : (d : ℕ) → k.role d ≡ l.role d → MayDeclare k d → MayDeclare l d
   may d e m = sym (ap may_declare e) ∙ m
 
-  within : (d f a b : ℕ) → k.role d ≡ l.role d → IsIn k d (Inner f a b) → IsIn l d (Inner f a b)
+  within : (d f a b : ℕ) → k.role d ≡ l.role d → InBlock k d (Inner f a b) → InBlock l d (Inner f a b)
   within d f a b e i = sym (ap block_of e) ∙ i
 
   left : (d : ℕ) → k.role d ≡ l.role d → IsLeftName k d → IsLeftName l d
   left d e m = sym (ap is_left_name e) ∙ m
 
-  pub imports_stay_level : AreImportsLevel k
+  pub imports_stay_level : ImportsCoverFiles k
   imports_stay_level d f i = elim (roles d) [ inl e ↦ ap start_of e ∙ level d f (sym (ap block_of e) ∙ i) | inr h ↦ ap start_of h.1 ]
 
   pub stays_well_formed : WellFormed k
@@ -131,7 +131,7 @@ module _ (k l : Layout) (n : ℕ) (finite : (d : ℕ) → MayDeclare k d → d <
         subst P (sym (places x)) (w.left_directly x z f a b a' b' (left x e m) (may z h mz) (within x f a b e i) (within z f a' b' h j) lt le);
   }
 
-  pub follow_blocks_still : FollowBlocks l → FollowBlocks k
+  pub follow_blocks_still : InBlockOrder l → InBlockOrder k
   follow_blocks_still o = record {
     before = λ d g f a b a' b' lt md mg i j out within_it.
         let e = inner_stays d f a b i in
@@ -145,11 +145,11 @@ module _ (k l : Layout) (n : ℕ) (finite : (d : ℕ) → MayDeclare k d → d <
         subst P (sym h) (o.behind d g f a b a' b' lt (may d e md) (may g h mg) (within d f a b e i) (within g f a' b' h j) out within_it);
   }
 
-  pub follow_places_still : (size : ℕ) → FollowPlaces l size → FollowPlaces k size
+  pub follow_places_still : (size : ℕ) → InPlaceOrder l size → InPlaceOrder k size
   follow_places_still size o = record {
     rising = λ u v less lt.
-        let P : Position → Type 0 = λ p. IsUpTo p (k.place v) in
-        let Q : Position → Type 0 = λ p. IsUpTo (l.place u) p in
+        let P : Position → Type 0 = λ p. IsNotAfter p (k.place v) in
+        let Q : Position → Type 0 = λ p. IsNotAfter (l.place u) p in
         subst P (sym (places u)) (subst Q (sym (places v)) (o.rising u v less lt));
     before_scope = λ d f a b md i.
         let e = inner_stays d f a b i in
@@ -163,14 +163,14 @@ unfolding named_sites
 named_length names [] = refl
 named_length names (x ∷ xs) = let h : length (named_sites (λ k. names (suc k)) xs) ≡ length xs = named_length (λ k. names (suc k)) xs in omega arith
 
-pub named_well_formed : (names : ℕ → Option (List ℕ)) (xs : List Site) → WellFormed (sites_layout xs) → AreImportsLevel (sites_layout xs) →
+pub named_well_formed : (names : ℕ → Option (List ℕ)) (xs : List Site) → WellFormed (sites_layout xs) → ImportsCoverFiles (sites_layout xs) →
     WellFormed (sites_layout (named_sites names xs))
 named_well_formed names xs w level =
     stays_well_formed (sites_layout (named_sites names xs)) (sites_layout xs) (length (named_sites names xs)) (may_at (named_sites names xs))
     (role_stays names xs) (place_stays names xs) w level
 
-pub named_level : (names : ℕ → Option (List ℕ)) (xs : List Site) → WellFormed (sites_layout xs) → AreImportsLevel (sites_layout xs) →
-    AreImportsLevel (sites_layout (named_sites names xs))
+pub named_level : (names : ℕ → Option (List ℕ)) (xs : List Site) → WellFormed (sites_layout xs) → ImportsCoverFiles (sites_layout xs) →
+    ImportsCoverFiles (sites_layout (named_sites names xs))
 named_level names xs w level =
     imports_stay_level (sites_layout (named_sites names xs)) (sites_layout xs) (length (named_sites names xs)) (may_at (named_sites names xs))
     (role_stays names xs) (place_stays names xs) w level
@@ -181,7 +181,7 @@ named_laid_out names xs h =
     let k = sites_layout (named_sites names xs) in
     let l = sites_layout xs in
     let n = length (named_sites names xs) in
-    let P : ℕ → Type 0 = λ size. FollowPlaces k size in
+    let P : ℕ → Type 0 = λ size. InPlaceOrder k size in
     record {
       well_formed = named_well_formed names xs h.well_formed h.imports;
       imports = named_level names xs h.well_formed h.imports;
@@ -204,8 +204,8 @@ level_site x f h = level_role x.role f (λ m. elim (h m) [
 ])
 
 -- the scopes of imports with a name begin at the start of their files
-pub package_level : (files : List SpelledFile) → AreNumbered files → AreImportsLevel (sites_layout (package_sites files))
-package_level files w d f i = level_site (found_site (slice_get (package_sites files) d)) f
+pub package_level : (files : List SpelledFile) → AreNumbered files → ImportsCoverFiles (sites_layout (package_sites files))
+package_level files w d f i = level_site (or_blank (slice_get (package_sites files) d)) f
     (each_at (From 0) (λ m. not_may m) (package_sites files) (package_agrees files w).0 d) i
 
 -- one more identifier of the program's list

@@ -5,11 +5,11 @@ use Rattle.go_scope.specs.declared.model.Position.{Position}
 use Rattle.go_scope.specs.declared.model.Block.{Block}
 use Rattle.go_scope.specs.declared.model.Block.TheVariants.{Universe, Package, File, Inner}
 use Rattle.go_scope.specs.declared.model.Scope.TheVariants.{WholeFile}
-use Rattle.go_scope.specs.Scopes.{scope_in, Holds, IsInside}
+use Rattle.go_scope.specs.Scopes.{scope_for, Holds, IsInside}
 use Rattle.go_scope.specs.declared.model.Role.{Role}
 use Rattle.go_scope.specs.declared.model.Role.TheVariants.{Use, Declaring, LeftName, Implied, NotLexical}
 use Rattle.go_scope.specs.Bindings.{Layout, MayDeclare, IsLeftName, InScope, block_of, start_of, scope_of, is_left_name, may_declare}
-use Rattle.go_scope.specs.WellFormed.{WellFormed, IsIn}
+use Rattle.go_scope.specs.WellFormed.{WellFormed, InBlock}
 use Rattle.go_scope.proofs.Nesting.{Nested}
 use Rattle.go_scope.specs.Scopes.{Nests}
 
@@ -32,9 +32,9 @@ abbrev NestOrPart : Block → Block → Type 0
 NestOrPart (Inner f a b) (Inner g a' b') = f ≡ g → ((b ≤ a') ⊎ (b' ≤ a)) ⊎ (((a' < a) × (b ≤ b')) ⊎ (((a < a') × (b' ≤ b)) ⊎ ((a ≡ a') × (b ≡ b'))))
 NestOrPart _ _ = Unit {0}
 
-nest_or_part : (l : Layout) → WellFormed l → (d e : ℕ) → MayDeclare l d → MayDeclare l e → (B C : Block) → IsIn l d B → IsIn l e C → NestOrPart B C
+nest_or_part : (l : Layout) → WellFormed l → (d e : ℕ) → MayDeclare l d → MayDeclare l e → (B C : Block) → InBlock l d B → InBlock l e C → NestOrPart B C
 nest_or_part l w d e md me (Inner f a b) (Inner g a' b') hd he = λ same.
-    w.blocks d e f a b a' b' md me hd (let P : ℕ → Type 0 = λ k. IsIn l e (Inner k a' b') in subst P (sym same) he)
+    w.blocks d e f a b a' b' md me hd (let P : ℕ → Type 0 = λ k. InBlock l e (Inner k a' b') in subst P (sym same) he)
 nest_or_part l w d e md me _ _ hd he = tt
 
 same_inner : (f g a b a' b' : ℕ) → f ≡ g → a ≡ a' → b ≡ b' → Inner f a b ≡ Inner g a' b'
@@ -74,11 +74,11 @@ abbrev pub Starts : Block → ℕ → Type 0
 Starts (Inner f a b) s = (a ≤ s) × (s ≤ b)
 Starts _ s = Unit {0}
 
-pub starts_at : (l : Layout) → WellFormed l → (d : ℕ) → MayDeclare l d → (B : Block) → IsIn l d B → Starts B (start_of (l.role d))
+pub starts_at : (l : Layout) → WellFormed l → (d : ℕ) → MayDeclare l d → (B : Block) → InBlock l d B → Starts B (start_of (l.role d))
 starts_at l w d md (Inner f a b) h = w.starts d f a b md h
 starts_at l w d md _ h = tt
 
-within : (B : Block) (s : ℕ) (p : Position) → Starts B s → Holds (scope_in B s) p → Within B p
+within : (B : Block) (s : ℕ) (p : Position) → Starts B s → Holds (scope_for B s) p → Within B p
 within (Inner f a b) s p h x = (x.0, omega arith, x.2)
 within (File f) s p h x = x
 within Package s p h x = tt
@@ -114,7 +114,7 @@ transitive_blocks (File f) (File g) C p m n x z = absurd m
 transitive_blocks (File f) Universe C p m n x z = absurd n
 transitive_blocks Universe B C p m n x z = absurd m
 
-later_smaller : (B : Block) (s t : ℕ) (p : Position) → s ≤ t → Holds (scope_in B t) p → Holds (scope_in B s) p
+later_smaller : (B : Block) (s t : ℕ) (p : Position) → s ≤ t → Holds (scope_for B t) p → Holds (scope_for B s) p
 later_smaller (Inner f a b) s t p h x = (x.0, omega arith, x.2)
 later_smaller (File f) s t p h x = x
 later_smaller Package s t p h x = tt
@@ -125,17 +125,17 @@ abbrev BeginsOutside : Block → Block → ℕ → Type 0
 BeginsOutside (Inner f a b) (Inner g a' b') s = f ≡ g → a' < a → b ≤ b' → (s < a) ⊎ (b ≤ s)
 BeginsOutside _ _ s = Unit {0}
 
-begins_outside_at : (l : Layout) → WellFormed l → (d e : ℕ) → MayDeclare l d → MayDeclare l e → (B C : Block) → IsIn l d B → IsIn l e C →
+begins_outside_at : (l : Layout) → WellFormed l → (d e : ℕ) → MayDeclare l d → MayDeclare l e → (B C : Block) → InBlock l d B → InBlock l e C →
     BeginsOutside B C (start_of (l.role e))
 begins_outside_at l w d e md me (Inner f a b) (Inner g a' b') hd he = λ same.
-    w.begins_outside d e f a b a' b' md me hd (let P : ℕ → Type 0 = λ k. IsIn l e (Inner k a' b') in subst P (sym same) he)
+    w.begins_outside d e f a b a' b' md me hd (let P : ℕ → Type 0 = λ k. InBlock l e (Inner k a' b') in subst P (sym same) he)
 begins_outside_at l w d e md me _ _ hd he = tt
 
 Pair : Block → Block → Type 0
 Pair B C = (B ≡ Package) × ((f : ℕ) × (C ≡ File f))
 
-nests_in : (B C : Block) (s t : ℕ) (p : Position) → Starts B s → BeginsOutside B C t → Holds (scope_in B s) p → Holds (scope_in C t) p → Nests B C →
-    IsInside (scope_in B s) (scope_in C t) ⊎ Pair B C
+nests_in : (B C : Block) (s t : ℕ) (p : Position) → Starts B s → BeginsOutside B C t → Holds (scope_for B s) p → Holds (scope_for C t) p → Nests B C →
+    IsInside (scope_for B s) (scope_for C t) ⊎ Pair B C
 unfolding Pair
 nests_in (Inner f a b) (Inner g c d) s t p st o x y n = elim (o n.0 n.1 n.2) [ inl h ↦ inl (n.0, omega arith, n.2) | inr h ↦ absurd (omega arith) ]
 nests_in (Inner f a b) (File g) s t p st o x y n = inl n
@@ -151,9 +151,9 @@ nests_in (File f) (File g) s t p st o x y n = absurd n
 nests_in (File f) Universe s t p st o x y n = inl tt
 nests_in Universe C s t p st o x y n = absurd n
 
-in_nests : (B C : Block) (s t : ℕ) (p : Position) → Starts B s → Starts C t → NestOrPart B C → BeginsOutside C B s → Holds (scope_in B s) p →
-    Holds (scope_in C t) p →
-    IsInside (scope_in B s) (scope_in C t) → (B ≡ C) ⊎ (Nests B C ⊎ Pair C B)
+in_nests : (B C : Block) (s t : ℕ) (p : Position) → Starts B s → Starts C t → NestOrPart B C → BeginsOutside C B s → Holds (scope_for B s) p →
+    Holds (scope_for C t) p →
+    IsInside (scope_for B s) (scope_for C t) → (B ≡ C) ⊎ (Nests B C ⊎ Pair C B)
 unfolding Pair
 in_nests (Inner f a b) (Inner g c d) s t p sb sc n o x y i =
     elim (compare_blocks (Inner f a b) (Inner g c d) p n (within (Inner f a b) s p sb x) (within (Inner g c d) t p sc y)) [
@@ -184,10 +184,10 @@ abbrev Directly : Block → Block → Position → Type 0
 Directly (Inner f a b) (Inner g a' b') p = f ≡ g → a < a' → b' ≤ b → (p.index < a') ⊎ (b' ≤ p.index)
 Directly _ _ p = Unit {0}
 
-directly_at : (l : Layout) → WellFormed l → (x z : ℕ) → IsLeftName l x → MayDeclare l z → (B C : Block) → IsIn l x B → IsIn l z C → Directly B C (l.place x)
-directly_at l w x z left mz (Inner f a b) (Inner g a' b') hx hz = λ same.
-    w.left_directly x z f a b a' b' left mz hx (let P : ℕ → Type 0 = λ k. IsIn l z (Inner k a' b') in subst P (sym same) hz)
-directly_at l w x z left mz _ _ hx hz = tt
+direct_at : (l : Layout) → WellFormed l → (x z : ℕ) → IsLeftName l x → MayDeclare l z → (B C : Block) → InBlock l x B → InBlock l z C → Directly B C (l.place x)
+direct_at l w x z left mz (Inner f a b) (Inner g a' b') hx hz = λ same.
+    w.left_directly x z f a b a' b' left mz hx (let P : ℕ → Type 0 = λ k. InBlock l z (Inner k a' b') in subst P (sym same) hz)
+direct_at l w x z left mz _ _ hx hz = tt
 
 is_direct : (B C : Block) (p : Position) → NestOrPart C B → Directly B C p → Within B p → Within C p → (f : ℕ) → (a : ℕ) → (b : ℕ) → B ≡ Inner f a b →
     (C ≡ B) ⊎ Nests B C
@@ -214,7 +214,7 @@ module _ (l : Layout) (w : WellFormed l) where
       let P : Block → Type 0 = λ B. Within B (l.place x) in
       subst P (sym i.3) (i.4, i.5, omega arith)
 
-  not_holds_itself : (B : Block) (s t : ℕ) (p : Position) → ((f : ℕ) × (a : ℕ) × (b : ℕ) × (B ≡ Inner f a b)) → t ≤ s → p.index < t → Holds (scope_in B s) p → ⊥
+  not_holds_itself : (B : Block) (s t : ℕ) (p : Position) → ((f : ℕ) × (a : ℕ) × (b : ℕ) × (B ≡ Inner f a b)) → t ≤ s → p.index < t → Holds (scope_for B s) p → ⊥
   not_holds_itself (Inner f a b) s t p i le lt h = omega arith
   not_holds_itself (File f) s t p i le lt h = let e : File f ≡ Inner i.0 i.1 i.2 = i.3 in cc
   not_holds_itself Package s t p i le lt h = let e : Package ≡ Inner i.0 i.1 i.2 = i.3 in cc
@@ -230,13 +230,13 @@ module _ (l : Layout) (w : WellFormed l) where
     transitive = λ a b c u ma mb mc m n ha hb hc. transitive_blocks (block_of (l.role a)) (block_of (l.role b)) (block_of (l.role c)) (l.place u) m n
         (scope_within l w a u ma ha) (scope_within l w c u mc hc);
     shrinking = λ a b u ma mb s lt hb.
-        let P : Block → Type 0 = λ B. Holds (scope_in B (start_of (l.role a))) (l.place u) in
+        let P : Block → Type 0 = λ B. Holds (scope_for B (start_of (l.role a))) (l.place u) in
         subst P (sym s) (later_smaller (block_of (l.role b)) (start_of (l.role a)) (start_of (l.role b)) (l.place u) (w.in_order a b ma mb s lt) hb);
     direct = λ x z left mz hz.
         let i = w.left_inner x left in
         is_direct (block_of (l.role x)) (block_of (l.role z)) (l.place x)
         (nest_or_part l w z x mz (left_may (l.role x) left) (block_of (l.role z)) (block_of (l.role x)) refl refl)
-        (directly_at l w x z left mz (block_of (l.role x)) (block_of (l.role z)) refl refl)
+        (direct_at l w x z left mz (block_of (l.role x)) (block_of (l.role z)) refl refl)
         (left_in x left) (scope_within l w z x mz hz) i.0 i.1 i.2 i.3;
     earlier = λ a x ma left s ha.
         let i = w.left_inner x left in
@@ -252,7 +252,7 @@ module _ (l : Layout) (w : WellFormed l) where
     left_inner = λ x left imp.
         let i = w.left_inner x left in
         let e : Inner i.0 i.1 i.2 ≡ File imp.0 = sym i.3 ∙ imp.1 in cc;
-    package_holds = λ a u p. let P : Block → Type 0 = λ B. Holds (scope_in B (start_of (l.role a))) (l.place u) in subst P (sym p) tt;
+    package_holds = λ a u p. let P : Block → Type 0 = λ B. Holds (scope_for B (start_of (l.role a))) (l.place u) in subst P (sym p) tt;
     inside_nests = λ a b u ma mb ha hb i. in_nests (block_of (l.role a)) (block_of (l.role b)) (start_of (l.role a)) (start_of (l.role b)) (l.place u)
         (starts_at l w a ma (block_of (l.role a)) refl) (starts_at l w b mb (block_of (l.role b)) refl)
         (nest_or_part l w a b ma mb (block_of (l.role a)) (block_of (l.role b)) refl refl)
@@ -262,17 +262,17 @@ module _ (l : Layout) (w : WellFormed l) where
         (begins_outside_at l w a b ma mb (block_of (l.role a)) (block_of (l.role b)) refl refl) ha hb n;
   }
 
-inside_same : (B : Block) (s t : ℕ) → t ≤ s → IsInside (scope_in B s) (scope_in B t)
+inside_same : (B : Block) (s t : ℕ) → t ≤ s → IsInside (scope_for B s) (scope_for B t)
 inside_same (Inner f a b) s t le = (refl, le, omega arith)
 inside_same (File f) s t le = refl
 inside_same Package s t le = tt
 inside_same Universe s t le = tt
 
-import_inside : (B C : Block) (s t : ℕ) → Pair B C → IsInside (scope_in C t) (scope_in B s)
+import_inside : (B C : Block) (s t : ℕ) → Pair B C → IsInside (scope_for C t) (scope_for B s)
 unfolding Pair
 import_inside B C s t h =
-    let P : Block → Type 0 = λ D. IsInside (scope_in D t) (scope_in B s) in
-    let Q : Block → Type 0 = λ D. IsInside (WholeFile h.1.0) (scope_in D s) in
+    let P : Block → Type 0 = λ D. IsInside (scope_for D t) (scope_for B s) in
+    let Q : Block → Type 0 = λ D. IsInside (WholeFile h.1.0) (scope_for D s) in
     subst P (sym h.1.1) (subst Q (sym h.0) tt)
 
 -- two scopes that share a position nest
@@ -287,7 +287,7 @@ scopes_nest l w d e md me p hd he =
     elim (compare_blocks B C p (nest_or_part l w d e md me B C refl refl) (within B s p (starts_at l w d md B refl) hd)
     (within C t p (starts_at l w e me C refl) he)) [
       | inl same ↦
-          let P : Block → Type 0 = λ D. IsInside (scope_in B s) (scope_in D t) ⊎ IsInside (scope_in D t) (scope_in B s) in
+          let P : Block → Type 0 = λ D. IsInside (scope_for B s) (scope_for D t) ⊎ IsInside (scope_for D t) (scope_for B s) in
           subst P same (elim (cases_order s t) [
             | inl k ↦ inl (inside_same B s t (omega arith))
             | inr o ↦ elim o [ inl lt ↦ inr (inside_same B t s (omega arith)) | inr gt ↦ inl (inside_same B s t (omega arith)) ]

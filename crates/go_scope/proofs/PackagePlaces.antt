@@ -8,9 +8,9 @@ use Rattle.go_scope.specs.declared.model.Block.TheVariants.{Inner}
 use Rattle.go_scope.specs.declared.model.Position.{Position}
 use Rattle.go_scope.specs.Bindings.{MayDeclare, start_of}
 use Rattle.go_scope.specs.FileSites.{SpelledFile, file_sites, files_sites, universe, universe_site, package_sites}
-use Rattle.go_scope.specs.Site.{Site, Source, found_site, sites_layout}
+use Rattle.go_scope.specs.Site.{Site, Source, or_blank, sites_layout}
 use Rattle.go_scope.specs.Trees.{IsNumbered, AreNumbered}
-use Rattle.go_scope.specs.WellFormed.{IsIn, FollowPlaces}
+use Rattle.go_scope.specs.WellFormed.{InBlock, InPlaceOrder}
 use Rattle.go_scope.proofs.AmongTokens.{UpTo, StandsFrom, position, places_rise}
 use Rattle.go_scope.proofs.AmongTrees.{file_among}
 use Rattle.go_scope.proofs.PackageRegions.{From, frame, package_agrees}
@@ -64,27 +64,27 @@ package_rises fs w =
 
 -- by the numbers of identifiers
 
-each_below : (P : Site → Type 0) (xs : List Site) → Each P xs → (v : ℕ) → v < length xs → P (found_site (slice_get xs v))
+each_below : (P : Site → Type 0) (xs : List Site) → Each P xs → (v : ℕ) → v < length xs → P (or_blank (slice_get xs v))
 each_below P [] h v lt = absurd (omega arith)
 each_below P (x ∷ xs) h zero lt = h.0
 each_below P (x ∷ xs) h (suc v) lt = each_below P xs h.1 v (omega arith)
 
 pair_below : (R : Site → Site → Type 0) (xs : List Site) → EachPair R xs → (u v : ℕ) → u < v → v < length xs →
-    R (found_site (slice_get xs u)) (found_site (slice_get xs v))
+    R (or_blank (slice_get xs u)) (or_blank (slice_get xs v))
 pair_below R [] h u v less lt = absurd (omega arith)
 pair_below R (x ∷ xs) h u zero less lt = absurd (omega arith)
 pair_below R (x ∷ xs) h zero (suc v) less lt = each_below (R x) xs h.0 v (omega arith)
 pair_below R (x ∷ xs) h (suc u) (suc v) less lt = pair_below R xs h.1 u v (omega arith) (omega arith)
 
 module _ (xs : List Site) (each : Each (From 0) xs) (pairs : EachPair Related xs) where
-  before_scope : (d f a b : ℕ) → MayDeclare (sites_layout xs) d → IsIn (sites_layout xs) d (Inner f a b) →
+  before_scope : (d f a b : ℕ) → MayDeclare (sites_layout xs) d → InBlock (sites_layout xs) d (Inner f a b) →
       (((sites_layout xs).place d).file ≡ f) × (((sites_layout xs).place d).index < start_of ((sites_layout xs).role d))
   before_scope d f a b may block =
       let s = frame xs each pairs d f a b may block in
       let same : s.0 ≡ f = inner_file s.0 s.1.from s.1.to f a b (sym s.1.block ∙ block) in
       (s.1.stands.0 ∙ same, s.1.stands.1)
 
-pub package_follows_places : (fs : List SpelledFile) → AreNumbered fs → FollowPlaces (sites_layout (package_sites fs)) (length (package_sites fs))
+pub package_follows_places : (fs : List SpelledFile) → AreNumbered fs → InPlaceOrder (sites_layout (package_sites fs)) (length (package_sites fs))
 package_follows_places fs w = record {
   rising = pair_below UpTo (package_sites fs) (package_rises fs w);
   before_scope = before_scope (package_sites fs) (package_agrees fs w).0 (package_agrees fs w).1;

@@ -5,8 +5,8 @@ use Rattle.std.proofs.lemmas.List.Elements.{All-head, All-tail}
 use Rattle.std.proofs.lemmas.Bool.{cases_order}
 use Rattle.go_scope.specs.declared.model.Block.TheVariants.{Inner}
 use Rattle.go_scope.specs.Bindings.{Layout, MayDeclare, start_of, is_left_name, may_declare}
-use Rattle.go_scope.specs.WellFormed.{WellFormed, FollowBlocks, IsIn}
-use Rattle.go_scope.specs.Site.{Site, Source, found_site, sites_layout}
+use Rattle.go_scope.specs.WellFormed.{WellFormed, InBlockOrder, InBlock}
+use Rattle.go_scope.specs.Site.{Site, Source, or_blank, sites_layout}
 use Rattle.go_scope.specs.FileSites.{SpelledFile, file_sites, files_sites, universe, universe_site, package_sites}
 use Rattle.go_scope.specs.Trees.{IsNumbered, AreNumbered}
 use Rattle.go_scope.proofs.Nests.{left_may}
@@ -112,33 +112,33 @@ package_agrees fs w =
 pub not_may : {A : Type 0} → false ≡ true → A
 not_may e = cc
 
-pub each_at : (P : Site → Type 0) → P (found_site (slice_get [] 0)) → (xs : List Site) → Each P xs → (d : ℕ) → P (found_site (slice_get xs d))
+pub each_at : (P : Site → Type 0) → P (or_blank (slice_get [] 0)) → (xs : List Site) → Each P xs → (d : ℕ) → P (or_blank (slice_get xs d))
 each_at P p [] a d = p
 each_at P p (x ∷ xs) a zero = a.0
 each_at P p (x ∷ xs) a (suc d) = each_at P p xs a.1 d
 
-pair_at : (R : Site → Site → Type 0) → ((x : Site) → R x (found_site (slice_get [] 0))) → ((y : Site) → R (found_site (slice_get [] 0)) y) →
+pair_at : (R : Site → Site → Type 0) → ((x : Site) → R x (or_blank (slice_get [] 0))) → ((y : Site) → R (or_blank (slice_get [] 0)) y) →
     (xs : List Site) → EachPair R xs →
-    (d e : ℕ) → d < e → R (found_site (slice_get xs d)) (found_site (slice_get xs e))
-pair_at R p q [] a d e h = q (found_site (slice_get [] e))
+    (d e : ℕ) → d < e → R (or_blank (slice_get xs d)) (or_blank (slice_get xs e))
+pair_at R p q [] a d e h = q (or_blank (slice_get [] e))
 pair_at R p q (x ∷ xs) a zero zero h = absurd (omega arith)
 pair_at R p q (x ∷ xs) a zero (suc e) h = each_at (R x) (p x) xs a.0 e
 pair_at R p q (x ∷ xs) a (suc d) zero h = absurd (omega arith)
 pair_at R p q (x ∷ xs) a (suc d) (suc e) h = pair_at R p q xs a.1 d e (omega arith)
 
-pub may_at : (xs : List Site) (d : ℕ) → may_declare (found_site (slice_get xs d)).role ≡ true → d < length xs
+pub may_at : (xs : List Site) (d : ℕ) → may_declare (or_blank (slice_get xs d)).role ≡ true → d < length xs
 may_at [] d m = cc
 may_at (x ∷ xs) zero m = omega arith
 may_at (x ∷ xs) (suc d) m = let less : d < length xs = may_at xs d m in omega arith
 
 module _ (xs : List Site) (each : Each (From 0) xs) (pairs : EachPair Related xs) where
   abbrev at : ℕ → Site
-  at d = found_site (slice_get xs d)
+  at d = or_blank (slice_get xs d)
 
   abbrev l : Layout
   l = sites_layout xs
 
-  pub frame : (d f a b : ℕ) → MayDeclare l d → IsIn l d (Inner f a b) → (g : ℕ) × Framed g (at d)
+  pub frame : (d f a b : ℕ) → MayDeclare l d → InBlock l d (Inner f a b) → (g : ℕ) × Framed g (at d)
   frame d f a b m e = elim (each_at (From 0) (λ w. not_may w) xs each d m) [
     | inl flat ↦ absurd (flat.apart f a b e)
     | inr s ↦ (s.0, s.1.1)
@@ -153,11 +153,11 @@ module _ (xs : List Site) (each : Each (From 0) xs) (pairs : EachPair Related xs
   pair : (d e : ℕ) → d < e → MayDeclare l d → MayDeclare l e → Pair (at d) (at e)
   pair d e lt = pair_at Related (λ x mx m. not_may m) (λ y m. not_may m) xs pairs d e lt
 
-  same_from : (d e g p q p' q' : ℕ) → d ≡ e → IsIn l d (Inner g p q) → IsIn l e (Inner g p' q') → p ≡ p'
-  same_from d e g p q p' q' s hd he = let P : ℕ → Type 0 = λ v. IsIn l v (Inner g p q) in inner_from g p q g p' q' (sym (subst P s hd) ∙ he)
+  same_from : (d e g p q p' q' : ℕ) → d ≡ e → InBlock l d (Inner g p q) → InBlock l e (Inner g p' q') → p ≡ p'
+  same_from d e g p q p' q' s hd he = let P : ℕ → Type 0 = λ v. InBlock l v (Inner g p q) in inner_from g p q g p' q' (sym (subst P s hd) ∙ he)
 
-  same_to : (d e g p q p' q' : ℕ) → d ≡ e → IsIn l d (Inner g p q) → IsIn l e (Inner g p' q') → q ≡ q'
-  same_to d e g p q p' q' s hd he = let P : ℕ → Type 0 = λ v. IsIn l v (Inner g p q) in inner_to g p q g p' q' (sym (subst P s hd) ∙ he)
+  same_to : (d e g p q p' q' : ℕ) → d ≡ e → InBlock l d (Inner g p q) → InBlock l e (Inner g p' q') → q ≡ q'
+  same_to d e g p q p' q' s hd he = let P : ℕ → Type 0 = λ v. InBlock l v (Inner g p q) in inner_to g p q g p' q' (sym (subst P s hd) ∙ he)
 
   pub sites_well_formed : WellFormed l
   sites_well_formed = record {
@@ -202,7 +202,7 @@ module _ (xs : List Site) (each : Each (From 0) xs) (pairs : EachPair Related xs
     ];
   }
 
-  pub sites_follow_blocks : FollowBlocks l
+  pub sites_follow_blocks : InBlockOrder l
   sites_follow_blocks = record {
     before = λ d e g p q p' q' lt md me hd he o i. ((pair d e lt md me).agree g p q p' q' hd he).first_outside o i;
     behind = λ d e g p q p' q' lt md me hd he o i. ((pair d e lt md me).agree g p q p' q' hd he).second_outside o i;
@@ -211,5 +211,5 @@ module _ (xs : List Site) (each : Each (From 0) xs) (pairs : EachPair Related xs
 pub package_well_formed : (fs : List SpelledFile) → AreNumbered fs → WellFormed (sites_layout (package_sites fs))
 package_well_formed fs w = let h = package_agrees fs w in sites_well_formed (package_sites fs) h.0 h.1
 
-pub package_follows_blocks : (fs : List SpelledFile) → AreNumbered fs → FollowBlocks (sites_layout (package_sites fs))
+pub package_follows_blocks : (fs : List SpelledFile) → AreNumbered fs → InBlockOrder (sites_layout (package_sites fs))
 package_follows_blocks fs w = let h = package_agrees fs w in sites_follow_blocks (package_sites fs) h.0 h.1

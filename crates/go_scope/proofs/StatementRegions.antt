@@ -20,7 +20,7 @@ use Rattle.go_ast.specs.declared.syntax.Token.{Token}
 use Rattle.go_ast.specs.Flatten.{sign, sign_if, tokens_if, all_tokens, item_tokens, list_tokens, group_tokens, ident_tokens, type_tokens, value_tokens}
 use Rattle.go_ast.specs.Flatten.{expr_tokens, exprs_tokens, simple_tokens}
 use Rattle.go_ast.specs.Flatten.{local_tokens, init_tokens, for_tokens, statement_tokens, block_tokens, statements_tokens, if_tokens, else_tokens}
-use Rattle.go_ast.specs.WellFormed.{IsSeparated, IsGroup, Perhaps, IsPost, IsFor, IsLocal, IsStatement, IsBlock, AreStatements, IsIf, IsElse}
+use Rattle.go_ast.specs.WellFormed.{IsSeparated, IsGroup, IsNoneOr, IsPost, IsFor, IsLocal, IsStatement, IsBlock, AreStatements, IsIf, IsElse}
 use Rattle.go_ast.specs.Tree.{Item, Group, single, several, IdentTree, Named, Underscore, ExprTree, Number, Text, Name, Blank, Composite, Paren, Prefix}
 use Rattle.go_ast.specs.Tree.{Address, Chain, Binary, SimpleTree, Alone, Step, Update, Assign, Define, LocalTree, InitTree, ForTree, forever, while}
 use Rattle.go_ast.specs.Tree.{clauses, StatementTree, Empty, Var, Simple, Inner, If, For, Break, Continue, Return, BlockTree, block, StatementTrees}
@@ -187,7 +187,7 @@ init_if_fits s p b k (Some i) h =
       ),
     )
 
-post_if_plain : (s : Source) (b : Block) (q : ℕ) (x : Option SimpleTree) → Perhaps IsPost x → Plain (sites_if (simple_sites s b q) x)
+post_if_plain : (s : Source) (b : Block) (q : ℕ) (x : Option SimpleTree) → IsNoneOr IsPost x → Plain (sites_if (simple_sites s b q) x)
 post_if_plain s b q None h = tt
 post_if_plain s b q (Some x) h = post_plain s b q x h
 

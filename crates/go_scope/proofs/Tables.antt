@@ -6,8 +6,8 @@ use Rattle.std.proofs.lemmas.Option.{slice_get-get_or}
 use Rattle.go_ast.specs.SourceFile.{FileParts}
 use Rattle.go_scope.specs.declared.model.Identifier.{Identifier}
 use Rattle.go_scope.specs.Bindings.{Layout, Names, MayDeclare}
-use Rattle.go_scope.specs.Found.{site_of}
-use Rattle.go_scope.specs.Scoped.{ScopedPackage, layout_in, names_in}
+use Rattle.go_scope.specs.IdentifierViews.{site_of}
+use Rattle.go_scope.specs.Packages.{ScopedPackage, layout_in, names_in}
 use Rattle.go_scope.specs.Site.{Site, sites_layout, sites_names}
 use Rattle.go_scope.specs.Table.{layout_of, names_of, IsFirstOf}
 use Rattle.go_scope.proofs.Declared.{in_sites}

@@ -5,8 +5,8 @@ use Rattle.std.proofs.lemmas.Bool.{cases_lt, cases_eq}
 use Rattle.std.proofs.lemmas.Option.{slice_get-get_or}
 use Rattle.go_scope.specs.declared.model.Position.{Position}
 use Rattle.go_scope.specs.Bindings.{Layout}
-use Rattle.go_scope.specs.Table.{StandsAt}
-use Rattle.go_scope.specs.ByToken.{Numbers, Notes, first, later, NotesIdentifier, stands, stands_nowhere, IsFirstBelow, AreIdentifiers, AreRanksOf}
+use Rattle.go_scope.specs.Table.{LiesAt}
+use Rattle.go_scope.specs.ByToken.{Numbers, SetsIfUnset, first, later, EntersIdentifier, stands, stands_nowhere, IsFirstBelow, AreIdentifiers, AreRanksOf}
 
 -- one more number, which does not satisfy P
 pub widen : (P : ℕ → Type 0) (n : ℕ) (o : Option ℕ) → (P n → ⊥) → IsFirstBelow P n o → IsFirstBelow P (n + 1) o
@@ -24,7 +24,7 @@ first_now P n o e p h =
     record { within = omega arith; holds = p; first = λ u lt q. none u lt q }
 
 -- a number is entered at the one token where it satisfies P
-note_more : (P : (file token : ℕ) → ℕ → Type 0) (n : ℕ) (old new : Numbers) (place : Position) → Notes old new place n → P place.file place.index n →
+note_more : (P : (file token : ℕ) → ℕ → Type 0) (n : ℕ) (old new : Numbers) (place : Position) → SetsIfUnset old new place n → P place.file place.index n →
     ((f t : ℕ) → P f t n → (f ≡ place.file) × (t ≡ place.index)) → ((f t : ℕ) → IsFirstBelow (P f t) n (old f t)) → (f t : ℕ) →
     IsFirstBelow (P f t) (n + 1) (new f t)
 note_more P n old new place s here only h f t =
@@ -55,7 +55,7 @@ place_or d None = d
 place_or d (Some p) = p
 
 -- the next of a list of positions
-pub next_rank : (places : List Position) (n : ℕ) (old new : Numbers) (d : Position) → n < length places → Notes old new (get_or places n d) n →
+pub next_rank : (places : List Position) (n : ℕ) (old new : Numbers) (d : Position) → n < length places → SetsIfUnset old new (get_or places n d) n →
     AreRanksOf places n old → AreRanksOf places (n + 1) new
 next_rank places n old new d lt s h =
     let is : slice_get places n ≡ Some (get_or places n d) = slice_get-get_or places n d lt in
@@ -63,9 +63,9 @@ next_rank places n old new d lt s h =
     (λ f t e. let same : record { file = f; index = t } ≡ get_or places n d = ap (place_or d) (sym e ∙ is) in (ap (λ p. p.file) same, ap (λ p. p.index) same)) h
 
 -- the next identifier
-pub next_identifier : (l : Layout) (n : ℕ) (old new : Numbers) → NotesIdentifier l n old new → AreIdentifiers l n old → AreIdentifiers l (n + 1) new
-next_identifier l n old new (stands is notes) h = note_more (λ f t u. StandsAt l (record { file = f; index = t }) u) n old new (l.place n) notes
+pub next_identifier : (l : Layout) (n : ℕ) (old new : Numbers) → EntersIdentifier l n old new → AreIdentifiers l n old → AreIdentifiers l (n + 1) new
+next_identifier l n old new (stands is notes) h = note_more (λ f t u. LiesAt l (record { file = f; index = t }) u) n old new (l.place n) notes
     (is, refl, refl) (λ f t s. (sym s.1, sym s.2)) h
 next_identifier l n old new (stands_nowhere none kept) h = λ f t.
-    subst (IsFirstBelow (StandsAt l (record { file = f; index = t })) (n + 1)) (sym (kept f t))
-    (widen (StandsAt l (record { file = f; index = t })) n (old f t) (λ s. none s.0) (h f t))
+    subst (IsFirstBelow (LiesAt l (record { file = f; index = t })) (n + 1)) (sym (kept f t))
+    (widen (LiesAt l (record { file = f; index = t })) n (old f t) (λ s. none s.0) (h f t))

@@ -3,8 +3,8 @@ use Rattle.std.proofs.Common.{ℕ, suc, ◌≡◌, ◌<◌, ◌≤◌, inl, inr,
 use Rattle.std.specs.Option.{ForSome}
 use Rattle.std.proofs.lemmas.Bool.{cases_order}
 use Rattle.go_scope.specs.Bindings.{Layout, Names}
-use Rattle.go_scope.specs.Leading.{LeadsInside}
-use Rattle.go_scope.specs.Open.{IsOver, IsLastOpen, AreLinked}
+use Rattle.go_scope.specs.Leading.{IsLeadInside}
+use Rattle.go_scope.specs.OpenBlocks.{IsOver, IsLastOpen, AreLinked}
 use Rattle.go_scope.proofs.Following.{over_later}
 
 -- d is the next declaration or comes after it
@@ -27,17 +27,17 @@ left_less at (Some e) d is h =
 module _ (l : Layout) (size : ℕ) (names : Names) (name : List ℕ) where
   -- the properties of the next declaration
   abbrev pub IsKnown : ℕ → Option ℕ → Type 0
-  IsKnown n at = ForSome at (λ d. (d < n) × LeadsInside l names name d)
+  IsKnown n at = ForSome at (λ d. (d < n) × IsLeadInside l names name d)
 
   pub last_known : (n : ℕ) (at : Option ℕ) → IsLastOpen l size names name n at → IsKnown n at
   last_known n None h = λ x e. cc
   last_known n (Some d) h = λ x e.
       let same : d ≡ x = cc in
-      let P : ℕ → Type 0 = λ v. (v < n) × LeadsInside l names name v in
+      let P : ℕ → Type 0 = λ v. (v < n) × IsLeadInside l names name v in
       subst P same (h.0, h.1)
 
   -- a declaration whose block is not over is left
-  pub last_left : (n : ℕ) (at : Option ℕ) → IsLastOpen l size names name n at → (e : ℕ) → e < n → LeadsInside l names name e →
+  pub last_left : (n : ℕ) (at : Option ℕ) → IsLastOpen l size names name n at → (e : ℕ) → e < n → IsLeadInside l names name e →
       (IsOver l size n e → ⊥) → IsLeft at e
   last_left n None h e lt k lives = lives (h e lt k)
   last_left n (Some d) h e lt k lives = elim (cases_order e d) [
@@ -46,7 +46,7 @@ module _ (l : Layout) (size : ℕ) (names : Names) (name : List ℕ) where
   ]
 
   -- the next declaration after d
-  next_last : (n : ℕ) (around : List (Option ℕ)) (d : ℕ) (next x : Option ℕ) → AreLinked l size names n around → (d < n) × LeadsInside l names name d →
+  next_last : (n : ℕ) (around : List (Option ℕ)) (d : ℕ) (next x : Option ℕ) → AreLinked l size names n around → (d < n) × IsLeadInside l names name d →
       next ≡ get_or around d x → IsLastOpen l size names name d next
   next_last n around d next x h k e =
       let P : Option ℕ → Type 0 = λ y. IsLastOpen l size names (names d) d y in
@@ -56,7 +56,7 @@ module _ (l : Layout) (size : ℕ) (names : Names) (name : List ℕ) where
   module _ (n : ℕ) (around : List (Option ℕ)) (at next x : Option ℕ) (d : ℕ) (h : AreLinked l size names n around) (is : at ≡ Some d)
       (en : next ≡ get_or around d x) (k : IsKnown n at) where
     -- a declaration that is left at d, other than d, is left after d
-    pub walk_left : (e : ℕ) → LeadsInside l names name e → (IsOver l size d e → ⊥) → IsLeft at e → (e ≡ d → ⊥) → IsLeft next e
+    pub walk_left : (e : ℕ) → IsLeadInside l names name e → (IsOver l size d e → ⊥) → IsLeft at e → (e ≡ d → ⊥) → IsLeft next e
     walk_left e inside lives left other =
         let P : Option ℕ → Type 0 = λ a. IsLeft a e in
         let le : e ≤ d = subst P is left in
@@ -76,7 +76,7 @@ module _ (l : Layout) (size : ℕ) (names : Names) (name : List ℕ) where
     walk_ends = left_less at next d is (λ e is_next. (last_known d next (next_last n around d next x h (k d is) en) e is_next).0)
 
   -- a declaration whose block is over is dropped
-  dropped : (n d : ℕ) (next : Option ℕ) → d < n → IsOver l size n d → ((e : ℕ) → d < e → e < n → LeadsInside l names name e → IsOver l size n e) →
+  dropped : (n d : ℕ) (next : Option ℕ) → d < n → IsOver l size n d → ((e : ℕ) → d < e → e < n → IsLeadInside l names name e → IsOver l size n e) →
       IsLastOpen l size names name d next →
       IsLastOpen l size names name n next
   dropped n d None lt over later h = λ e below k. elim (cases_order e d) [

@@ -6,7 +6,7 @@ use Rattle.go_scope.specs.declared.model.Position.{Position}
 use Rattle.go_scope.specs.declared.model.Block.{Block}
 use Rattle.go_scope.specs.declared.model.Block.TheVariants.{Universe, Package, File}
 use Rattle.go_scope.specs.declared.model.Scope.{Scope}
-use Rattle.go_scope.specs.Scopes.{scope_in, Holds, IsInside}
+use Rattle.go_scope.specs.Scopes.{scope_for, Holds, IsInside}
 
 -- an identifier of this role may declare: it is declaring, a left name of `:=`, or predeclared
 abbrev pub may_declare : Role → Bool
@@ -58,7 +58,7 @@ start_of (NotLexical p) = 0
 
 -- the scope of a declaration of this role
 abbrev pub scope_of : Role → Scope
-scope_of r = scope_in (block_of r) (start_of r)
+scope_of r = scope_for (block_of r) (start_of r)
 
 -- The roles and positions of a package's identifiers by number, predeclared names included. The role beyond the last one is that of a `_`.
 pub record Layout : Type 0 where

@@ -3,7 +3,7 @@ use Rattle.std.specs.Prelude.{ℕ, ◌≡◌, ◌<◌, Bool, true, false, List, 
 use Rattle.std.specs.Global.{Vec}
 use Rattle.go_scope.specs.declared.model.Position.{Position}
 use Rattle.go_scope.specs.Bindings.{Layout, IsIdentifier, is_implied}
-use Rattle.go_scope.specs.Table.{StandsAt, IsFirstOf}
+use Rattle.go_scope.specs.Table.{LiesAt, IsFirstOf}
 use Rattle.go_scope.specs.declared.by_token.ByToken.{ByToken}
 
 -- a number, or none, for each file and token index
@@ -11,8 +11,8 @@ abbrev pub Numbers : Type 0
 Numbers = (file token : ℕ) → Option ℕ
 
 -- the number of a token in the row of its file
-abbrev pub number_in : List (Option ℕ) → ℕ → Option ℕ
-number_in row token = slice_index_or row token None
+abbrev pub row_number : List (Option ℕ) → ℕ → Option ℕ
+row_number row token = slice_index_or row token None
 
 -- the items of an optional row
 abbrev pub row_at : Option (Vec (Option ℕ)) → List (Option ℕ)
@@ -20,8 +20,8 @@ row_at None = []
 row_at (Some row) = row.items
 
 -- the numbers of the program's table
-abbrev pub number_at : ByToken → Numbers
-number_at b file token = number_in (row_at (slice_get b.rows.items file)) token
+abbrev pub numbers_in : ByToken → Numbers
+numbers_in b file token = row_number (row_at (slice_get b.rows.items file)) token
 
 -- in a file's row the number of one token is set, and all others stay
 pub record SetsToken (old new : ℕ → Option ℕ) (token number : ℕ) : Type 0 where
@@ -34,14 +34,14 @@ pub record Sets (old new : Numbers) (place : Position) (number : ℕ) : Type 0 w
   pub elsewhere : (f t : ℕ) → (f ≡ place.file → t ≡ place.index → ⊥) → new f t ≡ old f t
 
 -- the number of one position is set unless it has one, and all others stay
-pub data Notes (old new : Numbers) (place : Position) (number : ℕ) : Type 0 where
-  first : old place.file place.index ≡ None → Sets old new place number → Notes old new place number
-  later : {earlier : ℕ} → old place.file place.index ≡ Some earlier → ((f t : ℕ) → new f t ≡ old f t) → Notes old new place number
+pub data SetsIfUnset (old new : Numbers) (place : Position) (number : ℕ) : Type 0 where
+  first : old place.file place.index ≡ None → Sets old new place number → SetsIfUnset old new place number
+  later : {earlier : ℕ} → old place.file place.index ≡ Some earlier → ((f t : ℕ) → new f t ≡ old f t) → SetsIfUnset old new place number
 
 -- the identifier u is entered at its position; a predeclared name changes nothing
-pub data NotesIdentifier (l : Layout) (u : ℕ) (old new : Numbers) : Type 0 where
-  stands : IsIdentifier l u → Notes old new (l.place u) u → NotesIdentifier l u old new
-  stands_nowhere : (IsIdentifier l u → ⊥) → ((f t : ℕ) → new f t ≡ old f t) → NotesIdentifier l u old new
+pub data EntersIdentifier (l : Layout) (u : ℕ) (old new : Numbers) : Type 0 where
+  stands : IsIdentifier l u → SetsIfUnset old new (l.place u) u → EntersIdentifier l u old new
+  stands_nowhere : (IsIdentifier l u → ⊥) → ((f t : ℕ) → new f t ≡ old f t) → EntersIdentifier l u old new
 
 -- `found` is the first number below n that satisfies P, or none where no such number does
 abbrev pub IsFirstBelow : (ℕ → Type 0) → ℕ → Option ℕ → Type 0
@@ -49,7 +49,7 @@ IsFirstBelow P n found = MatchOption found ((u : ℕ) → u < n → P u → ⊥)
 
 -- `found` gives for each token its first identifier below n, or none
 abbrev pub AreIdentifiers : Layout → ℕ → Numbers → Type 0
-AreIdentifiers l n found = (file token : ℕ) → IsFirstBelow (StandsAt l (record { file = file; index = token })) n (found file token)
+AreIdentifiers l n found = (file token : ℕ) → IsFirstBelow (LiesAt l (record { file = file; index = token })) n (found file token)
 
 -- `found` gives for each token the first rank below n at which the list `places` has its position, or none
 abbrev pub AreRanksOf : List Position → ℕ → Numbers → Type 0
@@ -61,5 +61,5 @@ number_if true number = None
 number_if false number = number
 
 -- the number at the position of d, or none where d is a predeclared name
-abbrev pub number_of : Layout → Numbers → ℕ → Option ℕ
-number_of l numbers d = number_if (is_implied (l.role d)) (numbers (l.place d).file (l.place d).index)
+abbrev pub number_at_place_of : Layout → Numbers → ℕ → Option ℕ
+number_at_place_of l numbers d = number_if (is_implied (l.role d)) (numbers (l.place d).file (l.place d).index)

@@ -34,11 +34,11 @@ moved_role move Use = Use
 moved_role move (NotLexical purpose) = NotLexical purpose
 
 -- `Known` includes the token indices of the block's ends and of the scope's start
-abbrev pub KnownIn : (ℕ → ℕ → Type 0) → Block → ℕ → Type 0
-KnownIn Known (Inner file from to) start = Known file from × Known file to × Known file start
-KnownIn Known (File file) start = Unit {0}
-KnownIn Known Package start = Unit {0}
-KnownIn Known Universe start = Unit {0}
+abbrev pub HasKnownEnds : (ℕ → ℕ → Type 0) → Block → ℕ → Type 0
+HasKnownEnds Known (Inner file from to) start = Known file from × Known file to × Known file start
+HasKnownEnds Known (File file) start = Unit {0}
+HasKnownEnds Known Package start = Unit {0}
+HasKnownEnds Known Universe start = Unit {0}
 
 -- k is l with its positions moved; `move` keeps the order of the indices in `Known`, which include all that the layout has
 pub record IsMoved (Known : ℕ → ℕ → Type 0) (move : ℕ → ℕ → ℕ) (l k : Layout) : Type 0 where
@@ -46,4 +46,4 @@ pub record IsMoved (Known : ℕ → ℕ → Type 0) (move : ℕ → ℕ → ℕ)
   pub places : (d : ℕ) → k.place d ≡ moved_place move (l.place d)
   pub increasing : (f a b : ℕ) → Known f a → Known f b → a < b → move f a < move f b
   pub known_place : (d : ℕ) → Known (l.place d).file (l.place d).index
-  pub known_block : (d : ℕ) → KnownIn Known (block_of (l.role d)) (start_of (l.role d))
+  pub known_block : (d : ℕ) → HasKnownEnds Known (block_of (l.role d)) (start_of (l.role d))

@@ -5,7 +5,7 @@ use Rattle.go_scope.specs.declared.model.Block.TheVariants.{File}
 use Rattle.go_scope.specs.declared.model.Role.{Role}
 use Rattle.go_scope.specs.declared.model.Role.TheVariants.{Declaring, NotLexical}
 use Rattle.go_scope.specs.declared.model.Purpose.TheVariants.{UnnamedImport}
-use Rattle.go_scope.specs.Scoped.{ScopedPackage}
+use Rattle.go_scope.specs.Packages.{ScopedPackage}
 use Rattle.go_scope.specs.Site.{Site}
 
 -- the role is that of the string literal of an import without a name
@@ -33,8 +33,8 @@ named_sites names [] = []
 named_sites names (x ∷ xs) = named_site (names 0) x ∷ named_sites (λ u. names (suc u)) xs
 
 -- the package in which imports without a name declare the names that are given
-abbrev pub named : (ℕ → Option (List ℕ)) → ScopedPackage → ScopedPackage
-named names p = record { files = p.files; sites = named_sites names p.sites }
+abbrev pub with_names : (ℕ → Option (List ℕ)) → ScopedPackage → ScopedPackage
+with_names names p = record { files = p.files; sites = named_sites names p.sites }
 
 -- an optional name without its borrow
 abbrev pub name_value : Option (Bor (List ℕ)) → Option (List ℕ)

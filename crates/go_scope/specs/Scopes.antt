@@ -7,11 +7,11 @@ use Rattle.go_scope.specs.declared.model.Scope.{Scope}
 use Rattle.go_scope.specs.declared.model.Scope.TheVariants.{Everywhere, WholePackage, WholeFile, Interval}
 
 -- the scope of a declaration in a block: the whole block, or in an inner block from the token `start` to its end
-abbrev pub scope_in : Block → ℕ → Scope
-scope_in Universe start = Everywhere
-scope_in Package start = WholePackage
-scope_in (File file) start = WholeFile file
-scope_in (Inner file from to) start = Interval file start to
+abbrev pub scope_for : Block → ℕ → Scope
+scope_for Universe start = Everywhere
+scope_for Package start = WholePackage
+scope_for (File file) start = WholeFile file
+scope_for (Inner file from to) start = Interval file start to
 
 -- the position is in the scope
 abbrev pub Holds : Scope → Position → Type 0

@@ -22,14 +22,14 @@ abbrev pub site : Source → ℕ → Role → Site
 site s i role = record { place = record { file = s.rank; index = i }; name = s.spell i; role = role }
 
 -- an optional identifier; where there is none, a `_` without a name
-abbrev pub found_site : Option Site → Site
-found_site None = record { place = record { file = 0; index = 0 }; name = []; role = NotLexical Blank }
-found_site (Some x) = x
+abbrev pub or_blank : Option Site → Site
+or_blank None = record { place = record { file = 0; index = 0 }; name = []; role = NotLexical Blank }
+or_blank (Some x) = x
 
 -- the layout of a list of identifiers
 abbrev pub sites_layout : List Site → Layout
-sites_layout xs = record { role = λ i. (found_site (slice_get xs i)).role; place = λ i. (found_site (slice_get xs i)).place }
+sites_layout xs = record { role = λ i. (or_blank (slice_get xs i)).role; place = λ i. (or_blank (slice_get xs i)).place }
 
 -- the names of a list of identifiers
 abbrev pub sites_names : List Site → Names
-sites_names xs = λ i. (found_site (slice_get xs i)).name
+sites_names xs = λ i. (or_blank (slice_get xs i)).name

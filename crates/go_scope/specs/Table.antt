@@ -7,7 +7,7 @@ use Rattle.go_scope.specs.declared.model.Purpose.TheVariants.{Blank}
 use Rattle.go_scope.specs.declared.model.Identifier.{Identifier}
 use Rattle.go_scope.specs.Scopes.{Nests}
 use Rattle.go_scope.specs.Bindings.{Layout, Names, SameBlock, InScope, IsIdentifier, block_of}
-use Rattle.go_scope.specs.Leading.{Leads}
+use Rattle.go_scope.specs.Leading.{IsLead}
 
 -- the role of an optional identifier
 abbrev pub role_at : Option Identifier → Role
@@ -34,7 +34,7 @@ names_of xs = λ i. name_at (slice_get xs i)
 
 -- d is the first declaration of the name in its block, and u is in its scope
 abbrev pub IsCandidate : Layout → Names → List ℕ → ℕ → ℕ → Type 0
-IsCandidate l names name u d = (names d ≡ name) × InScope l d u × Leads l names d
+IsCandidate l names name u d = (names d ≡ name) × InScope l d u × IsLead l names d
 
 -- the declaration a takes a use from b, where both have its name and it is in both scopes: a is first in the same block, or its block lies
 -- in b's
@@ -47,8 +47,8 @@ IsNearest l P None = (d : ℕ) → P d → ⊥
 IsNearest l P (Some b) = P b × ((d : ℕ) → P d → (d ≡ b) ⊎ Precedes l b d)
 
 -- u is an identifier in a file, at this position
-abbrev pub StandsAt : Layout → Position → ℕ → Type 0
-StandsAt l place u = IsIdentifier l u × ((l.place u).file ≡ place.file) × ((l.place u).index ≡ place.index)
+abbrev pub LiesAt : Layout → Position → ℕ → Type 0
+LiesAt l place u = IsIdentifier l u × ((l.place u).file ≡ place.file) × ((l.place u).index ≡ place.index)
 
 -- u is the first number below `size` that satisfies P
 pub record IsFirstOf (P : ℕ → Type 0) (size u : ℕ) : Type 0 where
@@ -58,4 +58,4 @@ pub record IsFirstOf (P : ℕ → Type 0) (size u : ℕ) : Type 0 where
 
 -- u is the first of `size` identifiers at this position
 abbrev pub IsFoundAt : Layout → ℕ → Position → ℕ → Type 0
-IsFoundAt l size place u = IsFirstOf (StandsAt l place) size u
+IsFoundAt l size place u = IsFirstOf (LiesAt l place) size u

@@ -1,7 +1,7 @@
 //! A table of numbers by file and token: each number is found in one step.
 ghost use Rattle.std.specs.Prelude.{◌≡◌, ◌<◌, ◌≤◌, ℕ, None, length, slice_get, IfOk, OnOk};
-ghost use Rattle.go_scope.specs.ByToken.{number_at, number_in, row_at, Sets, SetsToken, Notes, NotesIdentifier, AreIdentifiers};
-ghost use Rattle.go_scope.specs.Scoped.{layout_in};
+ghost use Rattle.go_scope.specs.ByToken.{numbers_in, row_number, row_at, Sets, SetsToken, SetsIfUnset, EntersIdentifier, AreIdentifiers};
+ghost use Rattle.go_scope.specs.Packages.{layout_in};
 
 use crate::identifiers::Identifiers;
 use crate::model::Position;
@@ -16,7 +16,7 @@ pub struct ByToken {
 
 /// Extends a row so that it includes a token.
 fn reach(row: &mut Vec<Option<usize>>, token: usize) -> Result<(), AllocError>
-    ensures kept { OnOk result ((t : ℕ) → number_in row.new.items t ≡ number_in row.old.items t) }
+    ensures kept { OnOk result ((t : ℕ) → row_number row.new.items t ≡ row_number row.old.items t) }
     ensures reached { OnOk result (token < length row.new.items) }
 {
     if row.len() <= token {
@@ -30,7 +30,7 @@ fn reach(row: &mut Vec<Option<usize>>, token: usize) -> Result<(), AllocError>
 
 /// Sets the number of a token in one file's row.
 fn set_token(row: &mut Vec<Option<usize>>, token: usize, number: usize) -> Result<(), AllocError>
-    ensures { OnOk result (SetsToken (number_in row.old.items) (number_in row.new.items) token number) }
+    ensures { OnOk result (SetsToken (row_number row.old.items) (row_number row.new.items) token number) }
 {
     reach(row, token)?;
     row[token] = Some(number);
@@ -39,7 +39,7 @@ fn set_token(row: &mut Vec<Option<usize>>, token: usize, number: usize) -> Resul
 
 /// A row without numbers, as long as the file has tokens.
 fn row_of(alloc: Global, file: &FileTree) -> Result<Vec<Option<usize>>, AllocError>
-    ensures { IfOk result (λ row. (t : ℕ) → number_in row.items t ≡ None) }
+    ensures { IfOk result (λ row. (t : ℕ) → row_number row.items t ≡ None) }
 {
     vec![in alloc; None; file.pieces().tokens().len()]
 }
@@ -47,7 +47,7 @@ fn row_of(alloc: Global, file: &FileTree) -> Result<Vec<Option<usize>>, AllocErr
 impl ByToken {
     /// The empty table, with room for the tokens of these files.
     fn over(alloc: Global, files: &[FileTree]) -> Result<ByToken, AllocError>
-        ensures { IfOk result (λ found. (file token : ℕ) → number_at found file token ≡ None) }
+        ensures { IfOk result (λ found. (file token : ℕ) → numbers_in found file token ≡ None) }
     {
         let mut rows = Vec::with_capacity(alloc, files.len())?;
         for file in files {
@@ -58,7 +58,7 @@ impl ByToken {
 
     /// The empty table.
     pub fn new(alloc: Global) -> ByToken
-        ensures { (file token : ℕ) → number_at result file token ≡ None }
+        ensures { (file token : ℕ) → numbers_in result file token ≡ None }
     {
         ByToken {
             rows: Vec::new(alloc),
@@ -67,7 +67,7 @@ impl ByToken {
 
     /// The number of a token, if it has one.
     pub fn get(&self, place: Position) -> Option<usize>
-        ensures { result ≡ number_at self.now place.file place.index }
+        ensures { result ≡ numbers_in self.now place.file place.index }
     {
         let row = self.rows.get(place.file)?;
         *row.get(place.index)?
@@ -85,14 +85,14 @@ impl ByToken {
 
     /// A token index of a file from which on no token has a number.
     pub fn width(&self, file: usize) -> usize
-        ensures { (token : ℕ) → result ≤ token → number_at self.now file token ≡ None }
+        ensures { (token : ℕ) → result ≤ token → numbers_in self.now file token ≡ None }
     {
         self.row(file).len()
     }
 
     /// Extends the table so that it includes a file.
     fn reach_file(&mut self, alloc: Global, file: usize) -> Result<(), AllocError>
-        ensures kept { OnOk result ((f t : ℕ) → number_at self.new f t ≡ number_at self.old f t) }
+        ensures kept { OnOk result ((f t : ℕ) → numbers_in self.new f t ≡ numbers_in self.old f t) }
         ensures reached { OnOk result (file < length self.new.rows.items) }
     {
         while self.rows.len() <= file {
@@ -103,7 +103,7 @@ impl ByToken {
 
     /// Sets the number of a token.
     fn set(&mut self, alloc: Global, place: Position, number: usize) -> Result<(), AllocError>
-        ensures { OnOk result (Sets (number_at self.old) (number_at self.new) place number) }
+        ensures { OnOk result (Sets (numbers_in self.old) (numbers_in self.new) place number) }
     {
         self.reach_file(alloc, place.file)?;
         set_token(&mut self.rows[place.file], place.index, number)
@@ -111,7 +111,7 @@ impl ByToken {
 
     /// Sets the number of a token, unless it has one.
     pub fn note(&mut self, alloc: Global, place: Position, number: usize) -> Result<(), AllocError>
-        ensures { OnOk result (Notes (number_at self.old) (number_at self.new) place number) }
+        ensures { OnOk result (SetsIfUnset (numbers_in self.old) (numbers_in self.new) place number) }
     {
         match self.get(place) {
             Some(_) => Ok(()),
@@ -121,14 +121,14 @@ impl ByToken {
 }
 
 /// Enters an identifier at its token. A predeclared name has none.
-fn note_identifier(
+fn enter_identifier(
     alloc: Global,
     found: &mut ByToken,
     identifiers: &Identifiers,
     u: usize,
 ) -> Result<(), AllocError>
     requires { u < length identifiers.now.sites }
-    ensures { OnOk result (NotesIdentifier (layout_in identifiers.now) u (number_at found.old) (number_at found.new)) }
+    ensures { OnOk result (EntersIdentifier (layout_in identifiers.now) u (numbers_in found.old) (numbers_in found.new)) }
 {
     if identifiers.role(u).is_implied() {
         return Ok(());
@@ -138,11 +138,11 @@ fn note_identifier(
 
 /// The identifier of each token of a package.
 pub fn identifiers_by_token(alloc: Global, identifiers: &Identifiers) -> Result<ByToken, AllocError>
-    ensures { IfOk result (λ found. AreIdentifiers (layout_in identifiers.now) (length identifiers.now.sites) (number_at found)) }
+    ensures { IfOk result (λ found. AreIdentifiers (layout_in identifiers.now) (length identifiers.now.sites) (numbers_in found)) }
 {
     let mut found = ByToken::over(alloc, identifiers.files())?;
     for u in 0..identifiers.len() {
-        note_identifier(alloc, &mut found, identifiers, u)?;
+        enter_identifier(alloc, &mut found, identifiers, u)?;
     }
     Ok(found)
 }

@@ -1,11 +1,11 @@
 //! Finds which declarations count, and to which one each identifier is bound.
 ghost use Rattle.std.specs.Prelude.{◌≡◌, ◌<◌, ◌↔◌, ◌⊎◌, ◌∷◌, [], true, length, IsTrue};
 ghost use Rattle.go_scope.specs.Bindings.{Counts, IsUse, is_use, is_left_name, is_implied, scope_of};
-ghost use Rattle.go_scope.specs.Known.{AreDeclared, IsBinding};
-ghost use Rattle.go_scope.specs.Leading.{Leads, GivesWay, IsInPackage};
+ghost use Rattle.go_scope.specs.Contents.{AreDeclared, IsBinding};
+ghost use Rattle.go_scope.specs.Leading.{IsLead, IsDisplacedImport, IsDeclaredInPackage};
 ghost use Rattle.go_scope.specs.WellFormed.{IsLaidOut};
-ghost use Rattle.go_scope.specs.Numbering.{told};
-ghost use Rattle.go_scope.specs.Open.{AreLinks};
+ghost use Rattle.go_scope.specs.Numbering.{numerals};
+ghost use Rattle.go_scope.specs.OpenBlocks.{AreNameLinks};
 ghost use Rattle.go_scope.specs.Table.{layout_of};
 
 use crate::declaring::DeclaredIn;
@@ -13,7 +13,7 @@ use crate::links::Links;
 use crate::model::{Block, Identifier, Role, Scope};
 use crate::nearest::binding;
 use crate::numbering::number_at;
-use crate::outer::{OuterBlock, first_outside};
+use crate::outer_blocks::{OuterBlock, first_outside};
 use crate::resolve::role_at;
 
 impl Role {
@@ -59,16 +59,16 @@ impl Role {
 fn leads(identifiers: &[Identifier], names: &[usize], declared: &DeclaredIn, d: usize) -> bool
     requires in_range { d < length identifiers.now }
     requires declared { AreDeclared identifiers.now names.now declared.now }
-    ensures { IsTrue result ↔ Leads (layout_of identifiers.now) (told names.now) d }
+    ensures { IsTrue result ↔ IsLead (layout_of identifiers.now) (numerals names.now) d }
 {
     declared.leading[d]
 }
 
 /// Whether d is an import whose name the package block declares too.
-fn gives_way(identifiers: &[Identifier], names: &[usize], links: &Links, d: usize) -> bool
+fn is_displaced_import(identifiers: &[Identifier], names: &[usize], links: &Links, d: usize) -> bool
     requires in_range { d < length identifiers.now }
-    requires linked { AreLinks identifiers.now names.now (length identifiers.now) links.now }
-    ensures { IsTrue result ↔ GivesWay (layout_of identifiers.now) (told names.now) d }
+    requires linked { AreNameLinks identifiers.now names.now (length identifiers.now) links.now }
+    ensures { IsTrue result ↔ IsDisplacedImport (layout_of identifiers.now) (numerals names.now) d }
 {
     match role_at(identifiers, d).block() {
         Block::File(_) => is_package_level(identifiers, names, links, number_at(names, d)),
@@ -78,8 +78,8 @@ fn gives_way(identifiers: &[Identifier], names: &[usize], links: &Links, d: usiz
 
 /// Whether the package block declares a name, given by its number.
 fn is_package_level(identifiers: &[Identifier], names: &[usize], links: &Links, name: usize) -> bool
-    requires { AreLinks identifiers.now names.now (length identifiers.now) links.now }
-    ensures { IsTrue result ↔ IsInPackage (layout_of identifiers.now) (told names.now) (name ∷ []) }
+    requires { AreNameLinks identifiers.now names.now (length identifiers.now) links.now }
+    ensures { IsTrue result ↔ IsDeclaredInPackage (layout_of identifiers.now) (numerals names.now) (name ∷ []) }
 {
     first_outside(&links.outer, name, OuterBlock::Package).is_some()
 }
@@ -88,16 +88,17 @@ fn is_package_level(identifiers: &[Identifier], names: &[usize], links: &Links, 
 fn counts(identifiers: &[Identifier], names: &[usize], declared: &DeclaredIn, d: usize) -> bool
     requires in_range { d < length identifiers.now }
     requires declared { AreDeclared identifiers.now names.now declared.now }
-    ensures { IsTrue result ↔ Counts (layout_of identifiers.now) (told names.now) d }
+    ensures { IsTrue result ↔ Counts (layout_of identifiers.now) (numerals names.now) d }
 {
-    leads(identifiers, names, declared, d) && !gives_way(identifiers, names, &declared.links, d)
+    leads(identifiers, names, declared, d)
+        && !is_displaced_import(identifiers, names, &declared.links, d)
 }
 
 /// Whether an identifier is a lexical use: also a left name of `:=` that does not declare.
 fn is_use(identifiers: &[Identifier], names: &[usize], declared: &DeclaredIn, d: usize) -> bool
     requires in_range { d < length identifiers.now }
     requires declared { AreDeclared identifiers.now names.now declared.now }
-    ensures { IsTrue result ↔ IsUse (layout_of identifiers.now) (told names.now) d }
+    ensures { IsTrue result ↔ IsUse (layout_of identifiers.now) (numerals names.now) d }
 {
     role_at(identifiers, d).is_use_unless(declared.declaring[d])
 }
@@ -112,7 +113,7 @@ pub(crate) fn bound_to(
     requires in_range { d < length identifiers.now }
     requires laid_out { IsLaidOut (layout_of identifiers.now) (length identifiers.now) }
     requires declared { AreDeclared identifiers.now names.now declared.now }
-    ensures { IsBinding (layout_of identifiers.now) (told names.now) d result }
+    ensures { IsBinding (layout_of identifiers.now) (numerals names.now) d result }
 {
     if is_use(identifiers, names, declared, d) {
         binding(identifiers, names, &declared.links, d)

@@ -2,9 +2,9 @@
 ghost use Rattle.std.specs.Prelude.{◌≡◌, OnOk};
 ghost use Rattle.go_scope.specs.ExpressionSites.{sites_if, list_sites};
 ghost use Rattle.go_scope.specs.FileSites.{global_name, member_name, spec_sites, global_sites, field_sites, body_sites, type_spec_sites, receiver_sites, param_sites, result_sites, func_role, func_sites, import_name, import_purpose, import_sites, imports_sites, decl_sites, file_sites};
-ghost use Rattle.go_scope.specs.Found.{source_of, Adds};
+ghost use Rattle.go_scope.specs.IdentifierViews.{as_source, AddsTo};
 ghost use Rattle.go_ast.specs.View.{option_view, list_view, group_view};
-ghost use Rattle.go_ast.specs.FileView.{same_place, global_view, field_view, body_view, type_spec_view, receiver_view, param_view, results_view, func_view, import_view, imports_view, decl_view, file_view};
+ghost use Rattle.go_ast.specs.FileView.{same_index, global_view, field_view, body_view, type_spec_view, receiver_view, param_view, results_view, func_view, import_view, imports_view, decl_view, file_view};
 
 use crate::expressions::add_type;
 use crate::model::{Block, Identifier, Purpose, Role};
@@ -23,7 +23,7 @@ fn add_globals<'a>(
     found: &mut Vec<Identifier<'a>>,
     names: &[Item<usize>],
 ) -> Result<(), AllocError>
-    ensures { OnOk result (Adds found.old.items found.new.items (list_sites (global_name (source_of source.now)) (list_view same_place names.now))) }
+    ensures { OnOk result (AddsTo found.old.items found.new.items (list_sites (global_name (as_source source.now)) (list_view same_index names.now))) }
 {
     for item in names {
         source.add(found, item.value, Role::Declaring(Block::Package, 0))?;
@@ -37,7 +37,7 @@ fn add_members<'a>(
     found: &mut Vec<Identifier<'a>>,
     names: &[Item<usize>],
 ) -> Result<(), AllocError>
-    ensures { OnOk result (Adds found.old.items found.new.items (list_sites (member_name (source_of source.now)) (list_view same_place names.now))) }
+    ensures { OnOk result (AddsTo found.old.items found.new.items (list_sites (member_name (as_source source.now)) (list_view same_index names.now))) }
 {
     for item in names {
         source.add(found, item.value, Role::NotLexical(Purpose::Member))?;
@@ -51,7 +51,7 @@ fn add_var_spec<'a>(
     found: &mut Vec<Identifier<'a>>,
     spec: &VarSpec,
 ) -> Result<(), AllocError>
-    ensures { OnOk result (Adds found.old.items found.new.items (global_sites (source_of source.now) (global_view spec.now))) }
+    ensures { OnOk result (AddsTo found.old.items found.new.items (global_sites (as_source source.now) (global_view spec.now))) }
 {
     add_globals(source, found, &spec.names)?;
     add_type(source, found, &spec.var_type)
@@ -63,7 +63,7 @@ fn add_field<'a>(
     found: &mut Vec<Identifier<'a>>,
     field: &FieldDecl,
 ) -> Result<(), AllocError>
-    ensures { OnOk result (Adds found.old.items found.new.items (field_sites (source_of source.now) (field_view field.now))) }
+    ensures { OnOk result (AddsTo found.old.items found.new.items (field_sites (as_source source.now) (field_view field.now))) }
 {
     add_members(source, found, &field.names)?;
     add_type(source, found, &field.field_type)
@@ -75,7 +75,7 @@ fn add_body<'a>(
     found: &mut Vec<Identifier<'a>>,
     body: &TypeBody,
 ) -> Result<(), AllocError>
-    ensures { OnOk result (Adds found.old.items found.new.items (body_sites (source_of source.now) (body_view body.now))) }
+    ensures { OnOk result (AddsTo found.old.items found.new.items (body_sites (as_source source.now) (body_view body.now))) }
 {
     match body {
         TypeBody::Type(type_expr) => add_type(source, found, type_expr),
@@ -94,7 +94,7 @@ fn add_type_spec<'a>(
     found: &mut Vec<Identifier<'a>>,
     spec: &TypeSpec,
 ) -> Result<(), AllocError>
-    ensures { OnOk result (Adds found.old.items found.new.items (type_spec_sites (source_of source.now) (type_spec_view spec.now))) }
+    ensures { OnOk result (AddsTo found.old.items found.new.items (type_spec_sites (as_source source.now) (type_spec_view spec.now))) }
 {
     source.add(found, spec.name, Role::Declaring(Block::Package, 0))?;
     add_body(source, found, &spec.body)
@@ -108,7 +108,7 @@ fn add_receiver<'a>(
     start: usize,
     receiver: &Option<Receiver>,
 ) -> Result<(), AllocError>
-    ensures { OnOk result (Adds found.old.items found.new.items (sites_if (receiver_sites (source_of source.now) block start) (option_view receiver_view receiver.now))) }
+    ensures { OnOk result (AddsTo found.old.items found.new.items (sites_if (receiver_sites (as_source source.now) block start) (option_view receiver_view receiver.now))) }
 {
     match receiver {
         None => Ok(()),
@@ -127,7 +127,7 @@ fn add_param<'a>(
     start: usize,
     param: &Param,
 ) -> Result<(), AllocError>
-    ensures { OnOk result (Adds found.old.items found.new.items (param_sites (source_of source.now) block start (param_view param.now))) }
+    ensures { OnOk result (AddsTo found.old.items found.new.items (param_sites (as_source source.now) block start (param_view param.now))) }
 {
     add_idents(source, found, Role::Declaring(block, start), &param.names)?;
     add_type(source, found, &param.param_type)
@@ -141,7 +141,7 @@ fn add_params<'a>(
     start: usize,
     params: &[Item<Param>],
 ) -> Result<(), AllocError>
-    ensures { OnOk result (Adds found.old.items found.new.items (list_sites (param_sites (source_of source.now) block start) (list_view param_view params.now))) }
+    ensures { OnOk result (AddsTo found.old.items found.new.items (list_sites (param_sites (as_source source.now) block start) (list_view param_view params.now))) }
 {
     for item in params {
         add_param(source, found, block, start, &item.value)?;
@@ -155,7 +155,7 @@ fn add_results<'a>(
     found: &mut Vec<Identifier<'a>>,
     results: &Results,
 ) -> Result<(), AllocError>
-    ensures { OnOk result (Adds found.old.items found.new.items (result_sites (source_of source.now) (results_view results.now))) }
+    ensures { OnOk result (AddsTo found.old.items found.new.items (result_sites (as_source source.now) (results_view results.now))) }
 {
     match results {
         Results::None => Ok(()),
@@ -171,7 +171,7 @@ fn add_results<'a>(
 
 /// The role of a function's name: a method is a member, `init` is declared in no block, any other function in the package block.
 fn function_role(source: &RankedFile<'_>, func: &FuncDecl) -> Role
-    ensures { result ≡ func_role (option_view receiver_view func.now.receiver) ((source_of source.now).spell func.now.name) }
+    ensures { result ≡ func_role (option_view receiver_view func.now.receiver) ((as_source source.now).spell func.now.name) }
 {
     match &func.receiver {
         Some(_) => Role::NotLexical(Purpose::Member),
@@ -188,7 +188,7 @@ fn add_func<'a>(
     found: &mut Vec<Identifier<'a>>,
     func: &FuncDecl,
 ) -> Result<(), AllocError>
-    ensures { OnOk result (Adds found.old.items found.new.items (func_sites (source_of source.now) (func_view func.now))) }
+    ensures { OnOk result (AddsTo found.old.items found.new.items (func_sites (as_source source.now) (func_view func.now))) }
 {
     let start = func.body.open;
     let block = Block::Inner(source.rank, start, func.body.close);
@@ -205,7 +205,7 @@ fn add_import_name<'a>(
     found: &mut Vec<Identifier<'a>>,
     name: Option<usize>,
 ) -> Result<(), AllocError>
-    ensures { OnOk result (Adds found.old.items found.new.items (import_name (source_of source.now) name)) }
+    ensures { OnOk result (AddsTo found.old.items found.new.items (import_name (as_source source.now) name)) }
 {
     match name {
         None => Ok(()),
@@ -229,7 +229,7 @@ fn add_import_spec<'a>(
     found: &mut Vec<Identifier<'a>>,
     spec: &ImportSpec,
 ) -> Result<(), AllocError>
-    ensures { OnOk result (Adds found.old.items found.new.items (import_sites (source_of source.now) (import_view spec.now))) }
+    ensures { OnOk result (AddsTo found.old.items found.new.items (import_sites (as_source source.now) (import_view spec.now))) }
 {
     add_import_name(source, found, spec.name)?;
     let role = Role::NotLexical(import_purpose(spec.name));
@@ -242,7 +242,7 @@ fn add_imports<'a>(
     found: &mut Vec<Identifier<'a>>,
     decl: &ImportDecl,
 ) -> Result<(), AllocError>
-    ensures { OnOk result (Adds found.old.items found.new.items (imports_sites (source_of source.now) (imports_view decl.now))) }
+    ensures { OnOk result (AddsTo found.old.items found.new.items (imports_sites (as_source source.now) (imports_view decl.now))) }
 {
     match &decl.group {
         Group::Single(spec) => add_import_spec(source, found, spec),
@@ -261,7 +261,7 @@ fn add_var_specs<'a>(
     found: &mut Vec<Identifier<'a>>,
     group: &Group<VarSpec>,
 ) -> Result<(), AllocError>
-    ensures { OnOk result (Adds found.old.items found.new.items (spec_sites (global_sites (source_of source.now)) (group_view global_view group.now))) }
+    ensures { OnOk result (AddsTo found.old.items found.new.items (spec_sites (global_sites (as_source source.now)) (group_view global_view group.now))) }
 {
     match group {
         Group::Single(spec) => add_var_spec(source, found, spec),
@@ -280,7 +280,7 @@ fn add_type_specs<'a>(
     found: &mut Vec<Identifier<'a>>,
     group: &Group<TypeSpec>,
 ) -> Result<(), AllocError>
-    ensures { OnOk result (Adds found.old.items found.new.items (spec_sites (type_spec_sites (source_of source.now)) (group_view type_spec_view group.now))) }
+    ensures { OnOk result (AddsTo found.old.items found.new.items (spec_sites (type_spec_sites (as_source source.now)) (group_view type_spec_view group.now))) }
 {
     match group {
         Group::Single(spec) => add_type_spec(source, found, spec),
@@ -299,7 +299,7 @@ fn add_decl<'a>(
     found: &mut Vec<Identifier<'a>>,
     decl: &Decl,
 ) -> Result<(), AllocError>
-    ensures { OnOk result (Adds found.old.items found.new.items (decl_sites (source_of source.now) (decl_view decl.now))) }
+    ensures { OnOk result (AddsTo found.old.items found.new.items (decl_sites (as_source source.now) (decl_view decl.now))) }
 {
     match decl {
         Decl::Var { group, .. } => add_var_specs(source, found, group),
@@ -314,7 +314,7 @@ pub(crate) fn add_file<'a>(
     found: &mut Vec<Identifier<'a>>,
     file: &File,
 ) -> Result<(), AllocError>
-    ensures { OnOk result (Adds found.old.items found.new.items (file_sites (source_of source.now) (file_view file.now))) }
+    ensures { OnOk result (AddsTo found.old.items found.new.items (file_sites (as_source source.now) (file_view file.now))) }
 {
     source.add(found, file.name, Role::NotLexical(Purpose::PackageClause))?;
     for import in &file.imports {

@@ -1,22 +1,22 @@
 //! Collects the identifiers of a package from the syntax trees of its files.
 ghost use Rattle.std.specs.Prelude.{◌≡◌, ◌∷◌, [], OnOk, IfOk, map};
 ghost use Rattle.go_scope.specs.FileSites.{universe, universe_site, package_sites};
-ghost use Rattle.go_scope.specs.Found.{Adds, site_of};
-ghost use Rattle.go_scope.specs.Parsed.{spelled_file};
-ghost use Rattle.go_scope.specs.Scoped.{scoped};
+ghost use Rattle.go_scope.specs.IdentifierViews.{AddsTo, site_of};
+ghost use Rattle.go_scope.specs.SpelledFiles.{spelled_file};
+ghost use Rattle.go_scope.specs.Packages.{scoped};
 ghost use Rattle.go_scope.specs.Trees.{AreNumbered};
 
+use crate::capacity::identifier_count;
 use crate::declarations::add_file;
 use crate::identifiers::Identifiers;
 use crate::model::{Block, Identifier, Position, Role};
-use crate::room::identifier_count;
 use crate::source::RankedFile;
 use go_ast::FileTree;
 use std::alloc::{AllocError, Global};
 
 /// Adds a predeclared name.
 fn add_predeclared<'a>(found: &mut Vec<Identifier<'a>>, name: &'a [u8]) -> Result<(), AllocError>
-    ensures { OnOk result (Adds found.old.items found.new.items (universe_site name.now ∷ [])) }
+    ensures { OnOk result (AddsTo found.old.items found.new.items (universe_site name.now ∷ [])) }
 {
     let place = Position { file: 0, index: 0 };
     let role = Role::Implied(Block::Universe, 0);
@@ -26,7 +26,7 @@ fn add_predeclared<'a>(found: &mut Vec<Identifier<'a>>, name: &'a [u8]) -> Resul
 
 /// Adds the predeclared names.
 fn add_universe(found: &mut Vec<Identifier<'_>>) -> Result<(), AllocError>
-    ensures { OnOk result (Adds found.old.items found.new.items (map universe_site universe)) }
+    ensures { OnOk result (AddsTo found.old.items found.new.items (map universe_site universe)) }
 {
     add_predeclared(found, b"bool")?;
     add_predeclared(found, b"int")?;

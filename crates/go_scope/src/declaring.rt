@@ -2,10 +2,10 @@
 ghost use Rattle.std.specs.Prelude.{ℕ, List, ◌≡◌, ◌<◌, ◌+◌, ◌↔◌, length, IsTrue, IfOk, OnOk};
 ghost use Rattle.std.specs.Option.{ForSome};
 ghost use Rattle.go_scope.specs.Bindings.{Declares, MayDeclare};
-ghost use Rattle.go_scope.specs.Known.{AreDeclared, AreFirst};
-ghost use Rattle.go_scope.specs.Leading.{HoldsAt, IsLeader, Leads};
-ghost use Rattle.go_scope.specs.Numbering.{told, AreBelow};
-ghost use Rattle.go_scope.specs.Open.{AreLinks};
+ghost use Rattle.go_scope.specs.Contents.{AreDeclared, AreDeclaredUpTo};
+ghost use Rattle.go_scope.specs.Leading.{IsInScopeOf, IsPrior, IsLead};
+ghost use Rattle.go_scope.specs.Numbering.{numerals, AreBelow};
+ghost use Rattle.go_scope.specs.OpenBlocks.{AreNameLinks};
 ghost use Rattle.go_scope.specs.Table.{layout_of};
 ghost use Rattle.go_scope.specs.WellFormed.{IsLaidOut, WellFormed};
 
@@ -13,7 +13,7 @@ use crate::inner_blocks::first_inside;
 use crate::links::Links;
 use crate::model::Identifier;
 use crate::numbering::number_at;
-use crate::outer::first_outside;
+use crate::outer_blocks::first_outside;
 use crate::resolve::{in_scope, role_at};
 use std::alloc::{AllocError, Global};
 
@@ -27,7 +27,7 @@ pub struct DeclaredIn {
 
 /// Whether an identifier declares, and whether it is the first declaration of its name in its block.
 #[derive(Clone, Copy)]
-struct Standing {
+struct DeclareFlags {
     declares: bool,
     leads: bool,
 }
@@ -38,8 +38,8 @@ fn leader(identifiers: &[Identifier], names: &[usize], links: &Links, d: usize) 
     requires laid_out { IsLaidOut (layout_of identifiers.now) (length identifiers.now) }
     requires numbered { AreBelow (length identifiers.now) names.now }
     requires may_declare { MayDeclare (layout_of identifiers.now) d }
-    requires linked { AreLinks identifiers.now names.now d links.now }
-    ensures { IsLeader (layout_of identifiers.now) (told names.now) d result }
+    requires linked { AreNameLinks identifiers.now names.now d links.now }
+    ensures { IsPrior (layout_of identifiers.now) (numerals names.now) d result }
 {
     match role_at(identifiers, d).block().outer() {
         None => first_inside(identifiers, names, links, d),
@@ -51,7 +51,7 @@ fn leader(identifiers: &[Identifier], names: &[usize], links: &Links, d: usize) 
 fn holds(identifiers: &[Identifier], d: Option<usize>, u: usize) -> bool
     requires first { ForSome d (λ e. e < length identifiers.now) }
     requires second { u < length identifiers.now }
-    ensures { IsTrue result ↔ HoldsAt (layout_of identifiers.now) d u }
+    ensures { IsTrue result ↔ IsInScopeOf (layout_of identifiers.now) d u }
 {
     match d {
         None => false,
@@ -64,33 +64,33 @@ fn declares(identifiers: &[Identifier], names: &[usize], leader: Option<usize>, 
     requires in_range { d < length identifiers.now }
     requires well_formed { WellFormed (layout_of identifiers.now) }
     requires may_declare { MayDeclare (layout_of identifiers.now) d }
-    requires leader { IsLeader (layout_of identifiers.now) (told names.now) d leader }
-    ensures { IsTrue result ↔ Declares (layout_of identifiers.now) (told names.now) d }
+    requires leader { IsPrior (layout_of identifiers.now) (numerals names.now) d leader }
+    ensures { IsTrue result ↔ Declares (layout_of identifiers.now) (numerals names.now) d }
 {
     !role_at(identifiers, d).is_left_name() || !holds(identifiers, leader, d)
 }
 
 /// Whether d, which may declare, does so and is first, given the first declaration of its name in its block before it.
-fn standing_behind(
+fn flags_after(
     identifiers: &[Identifier],
     names: &[usize],
     leader: Option<usize>,
     d: usize,
-) -> Standing
+) -> DeclareFlags
     requires in_range { d < length identifiers.now }
     requires well_formed { WellFormed (layout_of identifiers.now) }
     requires may_declare { MayDeclare (layout_of identifiers.now) d }
-    requires leader { IsLeader (layout_of identifiers.now) (told names.now) d leader }
-    ensures declares { IsTrue result.declares ↔ Declares (layout_of identifiers.now) (told names.now) d }
-    ensures leads { IsTrue result.leads ↔ Leads (layout_of identifiers.now) (told names.now) d }
+    requires leader { IsPrior (layout_of identifiers.now) (numerals names.now) d leader }
+    ensures declares { IsTrue result.declares ↔ Declares (layout_of identifiers.now) (numerals names.now) d }
+    ensures leads { IsTrue result.leads ↔ IsLead (layout_of identifiers.now) (numerals names.now) d }
 {
     let declares = declares(identifiers, names, leader, d);
     match leader {
-        None => Standing {
+        None => DeclareFlags {
             declares,
             leads: declares,
         },
-        Some(_) => Standing {
+        Some(_) => DeclareFlags {
             declares,
             leads: false,
         },
@@ -98,19 +98,19 @@ fn standing_behind(
 }
 
 /// Whether d declares, and whether it is first, given the links of the identifiers before it.
-fn standing_of(identifiers: &[Identifier], names: &[usize], links: &Links, d: usize) -> Standing
+fn flags_of(identifiers: &[Identifier], names: &[usize], links: &Links, d: usize) -> DeclareFlags
     requires in_range { d < length identifiers.now }
     requires laid_out { IsLaidOut (layout_of identifiers.now) (length identifiers.now) }
     requires numbered { AreBelow (length identifiers.now) names.now }
-    requires linked { AreLinks identifiers.now names.now d links.now }
-    ensures declares { IsTrue result.declares ↔ Declares (layout_of identifiers.now) (told names.now) d }
-    ensures leads { IsTrue result.leads ↔ Leads (layout_of identifiers.now) (told names.now) d }
+    requires linked { AreNameLinks identifiers.now names.now d links.now }
+    ensures declares { IsTrue result.declares ↔ Declares (layout_of identifiers.now) (numerals names.now) d }
+    ensures leads { IsTrue result.leads ↔ IsLead (layout_of identifiers.now) (numerals names.now) d }
 {
     if role_at(identifiers, d).may_declare() {
         let leader = leader(identifiers, names, links, d);
-        standing_behind(identifiers, names, leader, d)
+        flags_after(identifiers, names, leader, d)
     } else {
-        Standing {
+        DeclareFlags {
             declares: false,
             leads: false,
         }
@@ -120,7 +120,7 @@ fn standing_of(identifiers: &[Identifier], names: &[usize], links: &Links, d: us
 impl DeclaredIn {
     /// No identifiers yet, with room for all of them.
     fn new(alloc: Global, identifiers: &[Identifier]) -> Result<DeclaredIn, AllocError>
-        ensures { IfOk result (λ declared. (numbers : List ℕ) → AreFirst identifiers.now numbers 0 declared) }
+        ensures { IfOk result (λ declared. (numbers : List ℕ) → AreDeclaredUpTo identifiers.now numbers 0 declared) }
     {
         let links = Links::new(alloc, identifiers)?;
         let declaring = Vec::with_capacity(alloc, identifiers.len())?;
@@ -142,11 +142,11 @@ impl DeclaredIn {
         requires in_range { d < length identifiers.now }
         requires laid_out { IsLaidOut (layout_of identifiers.now) (length identifiers.now) }
         requires numbered { AreBelow (length identifiers.now) names.now }
-        requires first { AreFirst identifiers.now names.now d self.old }
-        ensures { OnOk result (AreFirst identifiers.now names.now (d + 1) self.new) }
+        requires first { AreDeclaredUpTo identifiers.now names.now d self.old }
+        ensures { OnOk result (AreDeclaredUpTo identifiers.now names.now (d + 1) self.new) }
     {
         self.links.close(identifiers, names, d);
-        let standing = standing_of(identifiers, names, &self.links, d);
+        let standing = flags_of(identifiers, names, &self.links, d);
         self.links.link(identifiers, names, d, standing.leads)?;
         self.declaring.push(standing.declares)?;
         self.leading.push(standing.leads)?;

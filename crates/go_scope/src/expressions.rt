@@ -1,7 +1,7 @@
 //! Collects the identifiers of types and expressions.
 ghost use Rattle.std.specs.Prelude.{OnOk};
 ghost use Rattle.go_scope.specs.ExpressionSites.{type_sites, expr_sites, link_sites, literal_sites};
-ghost use Rattle.go_scope.specs.Found.{source_of, Adds};
+ghost use Rattle.go_scope.specs.IdentifierViews.{as_source, AddsTo};
 ghost use Rattle.go_ast.specs.View.{type_view, expr_view, link_view, literal_view};
 ghost use Rattle.go_ast.specs.Tree.{no_link};
 
@@ -16,7 +16,7 @@ pub(crate) fn add_type<'a>(
     found: &mut Vec<Identifier<'a>>,
     type_expr: &TypeExpr,
 ) -> Result<(), AllocError>
-    ensures { OnOk result (Adds found.old.items found.new.items (type_sites (source_of source.now) (type_view type_expr.now))) }
+    ensures { OnOk result (AddsTo found.old.items found.new.items (type_sites (as_source source.now) (type_view type_expr.now))) }
 {
     match type_expr {
         TypeExpr::Local(name) => source.add(found, *name, Role::Use),
@@ -36,7 +36,7 @@ pub(crate) fn add_expr<'a>(
     found: &mut Vec<Identifier<'a>>,
     expr: &Expr,
 ) -> Result<(), AllocError>
-    ensures { OnOk result (Adds found.old.items found.new.items (expr_sites (source_of source.now) (expr_view expr.now))) }
+    ensures { OnOk result (AddsTo found.old.items found.new.items (expr_sites (as_source source.now) (expr_view expr.now))) }
 {
     match expr {
         Expr::Number(_) | Expr::Text(_) => Ok(()),
@@ -70,7 +70,7 @@ fn add_link<'a>(
     found: &mut Vec<Identifier<'a>>,
     link: &Link,
 ) -> Result<(), AllocError>
-    ensures { OnOk result (Adds found.old.items found.new.items (link_sites (source_of source.now) (link_view link.now no_link))) }
+    ensures { OnOk result (AddsTo found.old.items found.new.items (link_sites (as_source source.now) (link_view link.now no_link))) }
 {
     match link {
         Link::Selector { name, .. } => {
@@ -93,7 +93,7 @@ fn add_literal<'a>(
     found: &mut Vec<Identifier<'a>>,
     literal: &CompositeLit,
 ) -> Result<(), AllocError>
-    ensures { OnOk result (Adds found.old.items found.new.items (literal_sites (source_of source.now) (literal_view literal.now))) }
+    ensures { OnOk result (AddsTo found.old.items found.new.items (literal_sites (as_source source.now) (literal_view literal.now))) }
 {
     add_type(source, found, &literal.literal_type)?;
     for element in &literal.elements {

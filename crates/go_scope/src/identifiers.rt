@@ -1,8 +1,8 @@
 //! The identifiers of a package, before they are bound.
 ghost use Rattle.std.specs.Prelude.{ℕ, ◌≡◌, ◌<◌, ◌↔◌, length, map, IsTrue, MatchOption, slice_get};
 ghost use Rattle.go_ast.specs.SourceFile.{source_of, offset_of};
-ghost use Rattle.go_scope.specs.Found.{site_of};
-ghost use Rattle.go_scope.specs.Scoped.{layout_in, names_in, IsPlaceOf, BeginsAt};
+ghost use Rattle.go_scope.specs.IdentifierViews.{site_of};
+ghost use Rattle.go_scope.specs.Packages.{layout_in, names_in, IsPlaceOf, IsAtPlace};
 ghost use Rattle.go_scope.specs.Table.{layout_of, IsFirstOf};
 ghost use Rattle.go_scope.specs.WellFormed.{WellFormed, IsLaidOut};
 
@@ -23,8 +23,8 @@ impl<'a> Model for Identifiers<'a> {
     ghost use Rattle.std.specs.Prelude.{length, map};
     ghost use Rattle.std.specs.Coded.{codes};
     ghost use Rattle.go_ast.specs.contracts.tree.File as e;
-    ghost use Rattle.go_scope.specs.Found.{site_of};
-    ghost use Rattle.go_scope.specs.Scoped.{ScopedPackage};
+    ghost use Rattle.go_scope.specs.IdentifierViews.{site_of};
+    ghost use Rattle.go_scope.specs.Packages.{ScopedPackage};
     ghost use Rattle.go_scope.specs.Table.{layout_of};
     ghost use Rattle.go_scope.specs.WellFormed.{IsLaidOut};
 
@@ -128,15 +128,15 @@ impl<'a> Identifiers<'a> {
     /// Whether an identifier, or an import's string literal, begins at a place.
     fn begins_at(&self, u: usize, place: &Place) -> bool
         requires { u < length self.now.sites }
-        ensures { IsTrue result ↔ BeginsAt self.now place.now.path place.now.offset u }
+        ensures { IsTrue result ↔ IsAtPlace self.now place.now.path place.now.offset u }
     {
         !self.role(u).is_implied() && is_place(self.files(), self.place(u), place)
     }
 
     /// The identifier, or the import's string literal, that begins at a place.
     pub(crate) fn first_beginning_at(&self, place: &Place) -> Option<usize>
-        ensures { MatchOption result ((u : ℕ) → u < length self.now.sites → BeginsAt self.now place.now.path place.now.offset u → ⊥)
-            (λ u. IsFirstOf (BeginsAt self.now place.now.path place.now.offset) (length self.now.sites) u) }
+        ensures { MatchOption result ((u : ℕ) → u < length self.now.sites → IsAtPlace self.now place.now.path place.now.offset u → ⊥)
+            (λ u. IsFirstOf (IsAtPlace self.now place.now.path place.now.offset) (length self.now.sites) u) }
     {
         for u in 0..self.len() {
             if self.begins_at(u, place) {

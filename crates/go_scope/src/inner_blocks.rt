@@ -2,9 +2,9 @@
 ghost use Rattle.std.specs.Prelude.{◌≡◌, ◌<◌, ◌↔◌, ◌∷◌, [], length, IsTrue};
 ghost use Rattle.go_scope.specs.Bindings.{MayDeclare, block_of};
 ghost use Rattle.go_scope.specs.declared.model.Block.TheVariants.{Package};
-ghost use Rattle.go_scope.specs.Leading.{IsLeader};
-ghost use Rattle.go_scope.specs.Numbering.{number_at, told, AreBelow};
-ghost use Rattle.go_scope.specs.Open.{AreLinks, EndsBehind, IsLastOpen, IsSeenInside};
+ghost use Rattle.go_scope.specs.Leading.{IsPrior};
+ghost use Rattle.go_scope.specs.Numbering.{number_at, numerals, AreBelow};
+ghost use Rattle.go_scope.specs.OpenBlocks.{AreNameLinks, EndsAfter, IsLastOpen, IsVisibleInside};
 ghost use Rattle.go_scope.specs.Scopes.{Nests};
 ghost use Rattle.go_scope.specs.Table.{IsNearest, layout_of};
 ghost use Rattle.go_scope.specs.WellFormed.{IsLaidOut};
@@ -17,7 +17,7 @@ use crate::resolve::{in_scope, place_at, role_at};
 impl Block {
     /// Whether an inner block is of the position's file and ends after it. Any other block does not end.
     fn ends_behind(self, place: Position) -> bool
-        ensures { IsTrue result ↔ EndsBehind self place }
+        ensures { IsTrue result ↔ EndsAfter self place }
     {
         match self {
             Block::Inner(file, _, to) => place.file == file && place.index < to,
@@ -30,7 +30,7 @@ impl Block {
 fn lasts(identifiers: &[Identifier], d: usize, u: usize) -> bool
     requires first { d < length identifiers.now }
     requires second { u < length identifiers.now }
-    ensures { let l = layout_of identifiers.now in IsTrue result ↔ EndsBehind (block_of (l.role d)) (l.place u) }
+    ensures { let l = layout_of identifiers.now in IsTrue result ↔ EndsAfter (block_of (l.role d)) (l.place u) }
 {
     role_at(identifiers, d)
         .block()
@@ -38,7 +38,7 @@ fn lasts(identifiers: &[Identifier], d: usize, u: usize) -> bool
 }
 
 /// The last declaration of u's name, before u, in an inner block that has not ended. All later ones are in blocks that have ended.
-pub(crate) fn still_open(
+pub(crate) fn last_open(
     identifiers: &[Identifier],
     names: &[usize],
     links: &Links,
@@ -47,8 +47,8 @@ pub(crate) fn still_open(
     requires in_range { u < length identifiers.now }
     requires laid_out { IsLaidOut (layout_of identifiers.now) (length identifiers.now) }
     requires numbered { AreBelow (length identifiers.now) names.now }
-    requires linked { AreLinks identifiers.now names.now u links.now }
-    ensures { IsLastOpen (layout_of identifiers.now) (length identifiers.now) (told names.now) (told names.now u) u result }
+    requires linked { AreNameLinks identifiers.now names.now u links.now }
+    ensures { IsLastOpen (layout_of identifiers.now) (length identifiers.now) (numerals names.now) (numerals names.now u) u result }
 {
     let mut at = links.last[number_at(names, u)];
     while let Some(d) = at {
@@ -73,8 +73,8 @@ pub(crate) fn first_inside(
     requires numbered { AreBelow (length identifiers.now) names.now }
     requires may_declare { MayDeclare (layout_of identifiers.now) d }
     requires inner { Nests (block_of ((layout_of identifiers.now).role d)) Package }
-    requires linked { AreLinks identifiers.now names.now d links.now }
-    ensures { IsLeader (layout_of identifiers.now) (told names.now) d result }
+    requires linked { AreNameLinks identifiers.now names.now d links.now }
+    ensures { IsPrior (layout_of identifiers.now) (numerals names.now) d result }
 {
     let own = role_at(identifiers, d).block();
     let mut at = links.last[number_at(names, d)];
@@ -103,9 +103,9 @@ pub(crate) fn nearest_inside(
     requires in_range { u < length identifiers.now }
     requires laid_out { IsLaidOut (layout_of identifiers.now) (length identifiers.now) }
     requires numbered { AreBelow (length identifiers.now) names.now }
-    requires linked { AreLinks identifiers.now names.now u links.now }
+    requires linked { AreNameLinks identifiers.now names.now u links.now }
     ensures { let l = layout_of identifiers.now in
-        IsNearest l (IsSeenInside l (told names.now) (told names.now u) u) result }
+        IsNearest l (IsVisibleInside l (numerals names.now) (numerals names.now u) u) result }
 {
     let mut at = links.last[number_at(names, u)];
     while let Some(d) = at {

@@ -8,8 +8,8 @@ ghost use Rattle.go_scope.specs.Site.{sites_layout};
 ghost use Rattle.go_scope.specs.FileSites.{SpelledFile, package_sites};
 ghost use Rattle.go_scope.specs.Trees.{AreNumbered};
 ghost use Rattle.go_scope.specs.Bindings.{Layout, Names, BindsAt, IsBoundTo, IsUse, Counts, MayDeclare, IsLeftName, Declares, SameBlock, InScope, scope_of, block_of};
-ghost use Rattle.go_scope.specs.Named.{named};
-ghost use Rattle.go_scope.specs.Scoped.{ScopedPackage, layout_in, names_in};
+ghost use Rattle.go_scope.specs.Named.{with_names};
+ghost use Rattle.go_scope.specs.Packages.{ScopedPackage, layout_in, names_in};
 ghost use Rattle.go_scope.specs.WellFormed.{WellFormed};
 ghost use Rattle.go_scope.specs.Moves.{IsMoved};
 
@@ -60,7 +60,7 @@ pub fn uses_are_bound_to_imports()
 /// name that counts and has a scope inside the declaration's.
 pub fn bindings_stay_where_imports_are_named()
     ensures { (names : ℕ → Option (List ℕ)) → (p : ScopedPackage) → WellFormed (layout_in p) → (name : List ℕ) → (u d : ℕ) →
-        let laid = named names p in
+        let laid = with_names names p in
         BindsAt (layout_in p) (names_in p) name u d → ((f : ℕ) → block_of ((layout_in p).role d) ≡ File f → ⊥) →
         ((i f : ℕ) → Counts (layout_in laid) (names_in laid) i → block_of ((layout_in laid).role i) ≡ File f → names_in laid i ≡ name →
         InScope (layout_in laid) i u → IsInside (scope_of ((layout_in laid).role i)) (scope_of ((layout_in laid).role d)) → ⊥) →

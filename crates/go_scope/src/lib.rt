@@ -2,6 +2,8 @@
 #![tactic(auto)]
 
 pub mod by_token;
+mod capacity;
+mod contents;
 mod counting;
 mod declarations;
 pub mod declare;
@@ -9,16 +11,14 @@ mod declaring;
 mod expressions;
 pub mod identifiers;
 mod inner_blocks;
-mod known;
 pub mod laws;
 mod links;
 pub mod model;
 pub mod named;
 mod nearest;
 mod numbering;
-mod outer;
+mod outer_blocks;
 mod resolve;
-mod room;
 mod simple;
 mod source;
 mod statements;

@@ -1,18 +1,18 @@
 //! Links between the declarations of a name, made while the identifiers of a package are visited in order.
 ghost use Rattle.std.specs.Prelude.{ℕ, List, ◌≡◌, ◌<◌, ◌+◌, ◌↔◌, ◌∷◌, [], length, IsTrue, IfOk, OnOk};
-ghost use Rattle.go_scope.specs.Leading.{Leads, LeadsInside};
-ghost use Rattle.go_scope.specs.Numbering.{told, AreBelow};
-ghost use Rattle.go_scope.specs.Open.{AreLasts, AreLinks, IsLastOpen, IsSeenInside};
-ghost use Rattle.go_scope.specs.Outer.{AreOuter};
+ghost use Rattle.go_scope.specs.Leading.{IsLead, IsLeadInside};
+ghost use Rattle.go_scope.specs.Numbering.{numerals, AreBelow};
+ghost use Rattle.go_scope.specs.OpenBlocks.{AreLasts, AreNameLinks, IsLastOpen, IsVisibleInside};
+ghost use Rattle.go_scope.specs.OuterBlocks.{AreOuter};
 ghost use Rattle.go_scope.specs.Table.{IsNearest, layout_of};
 ghost use Rattle.go_scope.specs.WellFormed.{IsLaidOut};
 
-use crate::inner_blocks::{nearest_inside, still_open};
+use crate::capacity::name_room;
+use crate::inner_blocks::{last_open, nearest_inside};
 use crate::model::Identifier;
 use crate::numbering::number_at;
-use crate::outer::OuterName;
+use crate::outer_blocks::OuterName;
 use crate::resolve::role_at;
-use crate::room::name_room;
 use indexmap::IndexMap;
 use std::alloc::{AllocError, Global};
 
@@ -32,7 +32,7 @@ pub struct Links {
 impl Links {
     /// The links before any identifier is visited.
     pub(crate) fn new(alloc: Global, identifiers: &[Identifier]) -> Result<Links, AllocError>
-        ensures { IfOk result (λ links. (numbers : List ℕ) → AreLinks identifiers.now numbers 0 links) }
+        ensures { IfOk result (λ links. (numbers : List ℕ) → AreNameLinks identifiers.now numbers 0 links) }
     {
         let outer = IndexMap::with_capacity(alloc, name_room(identifiers))?;
         let last = vec![in alloc; None; identifiers.len()]?;
@@ -49,10 +49,10 @@ impl Links {
         requires in_range { u < length identifiers.now }
         requires laid_out { IsLaidOut (layout_of identifiers.now) (length identifiers.now) }
         requires numbered { AreBelow (length identifiers.now) names.now }
-        requires linked { AreLinks identifiers.now names.now u self.old }
-        ensures { AreLinks identifiers.now names.now u self.new }
+        requires linked { AreNameLinks identifiers.now names.now u self.old }
+        ensures { AreNameLinks identifiers.now names.now u self.new }
     {
-        let last = still_open(identifiers, names, self, u);
+        let last = last_open(identifiers, names, self, u);
         self.last[number_at(names, u)] = last;
     }
 
@@ -65,13 +65,13 @@ impl Links {
     ) -> Result<Option<usize>, AllocError>
         requires in_range { d < length identifiers.now }
         requires numbered { AreBelow (length identifiers.now) names.now }
-        requires leads { Leads (layout_of identifiers.now) (told names.now) d }
-        requires linked { AreLinks identifiers.now names.now d self.old }
-        ensures outer { OnOk result (AreOuter (layout_of identifiers.now) (told names.now) (d + 1) self.new.outer) }
-        ensures lasts { OnOk result (AreLasts (layout_of identifiers.now) (length identifiers.now) (told names.now) (d + 1) self.new.last.items) }
+        requires leads { IsLead (layout_of identifiers.now) (numerals names.now) d }
+        requires linked { AreNameLinks identifiers.now names.now d self.old }
+        ensures outer { OnOk result (AreOuter (layout_of identifiers.now) (numerals names.now) (d + 1) self.new.outer) }
+        ensures lasts { OnOk result (AreLasts (layout_of identifiers.now) (length identifiers.now) (numerals names.now) (d + 1) self.new.last.items) }
         ensures before { let l = layout_of identifiers.now in
-            IfOk result (λ before. LeadsInside l (told names.now) (told names.now d) d →
-            IsLastOpen l (length identifiers.now) (told names.now) (told names.now d) d before) }
+            IfOk result (λ before. IsLeadInside l (numerals names.now) (numerals names.now d) d →
+            IsLastOpen l (length identifiers.now) (numerals names.now) (numerals names.now d) d before) }
         ensures around { self.new.around ≡ self.old.around }
     {
         let name = number_at(names, d);
@@ -99,15 +99,15 @@ impl Links {
         requires in_range { d < length identifiers.now }
         requires laid_out { IsLaidOut (layout_of identifiers.now) (length identifiers.now) }
         requires numbered { AreBelow (length identifiers.now) names.now }
-        requires leading { IsTrue leads ↔ Leads (layout_of identifiers.now) (told names.now) d }
-        requires linked { AreLinks identifiers.now names.now d self.old }
-        ensures outer { OnOk result (AreOuter (layout_of identifiers.now) (told names.now) (d + 1) self.new.outer) }
-        ensures lasts { OnOk result (AreLasts (layout_of identifiers.now) (length identifiers.now) (told names.now) (d + 1) self.new.last.items) }
+        requires leading { IsTrue leads ↔ IsLead (layout_of identifiers.now) (numerals names.now) d }
+        requires linked { AreNameLinks identifiers.now names.now d self.old }
+        ensures outer { OnOk result (AreOuter (layout_of identifiers.now) (numerals names.now) (d + 1) self.new.outer) }
+        ensures lasts { OnOk result (AreLasts (layout_of identifiers.now) (length identifiers.now) (numerals names.now) (d + 1) self.new.last.items) }
         ensures before { let l = layout_of identifiers.now in
-            IfOk result (λ before. LeadsInside l (told names.now) (told names.now d) d →
-            IsLastOpen l (length identifiers.now) (told names.now) (told names.now d) d before) }
+            IfOk result (λ before. IsLeadInside l (numerals names.now) (numerals names.now d) d →
+            IsLastOpen l (length identifiers.now) (numerals names.now) (numerals names.now d) d before) }
         ensures near { let l = layout_of identifiers.now in
-            IfOk result (λ near. (Leads l (told names.now) d → ⊥) → IsNearest l (IsSeenInside l (told names.now) (told names.now d) d) near) }
+            IfOk result (λ near. (IsLead l (numerals names.now) d → ⊥) → IsNearest l (IsVisibleInside l (numerals names.now) (numerals names.now d) d) near) }
         ensures around { self.new.around ≡ self.old.around }
     {
         if leads {
@@ -128,9 +128,9 @@ impl Links {
         requires in_range { d < length identifiers.now }
         requires laid_out { IsLaidOut (layout_of identifiers.now) (length identifiers.now) }
         requires numbered { AreBelow (length identifiers.now) names.now }
-        requires leading { IsTrue leads ↔ Leads (layout_of identifiers.now) (told names.now) d }
-        requires linked { AreLinks identifiers.now names.now d self.old }
-        ensures { OnOk result (AreLinks identifiers.now names.now (d + 1) self.new) }
+        requires leading { IsTrue leads ↔ IsLead (layout_of identifiers.now) (numerals names.now) d }
+        requires linked { AreNameLinks identifiers.now names.now d self.old }
+        ensures { OnOk result (AreNameLinks identifiers.now names.now (d + 1) self.new) }
     {
         let next = self.place(identifiers, names, d, leads)?;
         self.around.push(next)?;

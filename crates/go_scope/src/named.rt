@@ -1,10 +1,10 @@
 //! Makes the table in which an import without a name declares the name of the package that it imports.
 ghost use Rattle.std.specs.Prelude.{◌≡◌, ◌<◌, map, IfOk};
-ghost use Rattle.go_scope.specs.Found.{site_of};
-ghost use Rattle.go_scope.specs.Named.{is_unnamed_import, name_value, name_given, named, named_site, named_sites};
+ghost use Rattle.go_scope.specs.IdentifierViews.{site_of};
+ghost use Rattle.go_scope.specs.Named.{is_unnamed_import, name_value, name_given, with_names, named_site, named_sites};
 
+use crate::contents::table_contents;
 use crate::identifiers::Identifiers;
-use crate::known::known_of;
 use crate::model::{Block, Identifier, Purpose, Role};
 use crate::table::ScopeTable;
 use std::alloc::{AllocError, Global};
@@ -72,7 +72,7 @@ fn known_table<'a>(
 ) -> Result<ScopeTable<'a>, AllocError>
     ensures { IfOk result (λ table. table ≡ identifiers.entry) }
 {
-    let known = known_of(alloc, &identifiers)?;
+    let known = table_contents(alloc, &identifiers)?;
     Ok(ScopeTable::new(identifiers, known))
 }
 
@@ -83,7 +83,7 @@ pub fn name_imports<'a>(
     plain: &Identifiers<'a>,
     names: &[Option<&'a [u8]>],
 ) -> Result<ScopeTable<'a>, AllocError>
-    ensures { IfOk result (λ laid. laid ≡ named (name_given names.now) plain.now) }
+    ensures { IfOk result (λ laid. laid ≡ with_names (name_given names.now) plain.now) }
 {
     plain.are_laid_out();
     let list = named_identifiers(alloc, plain.as_slice(), names)?;

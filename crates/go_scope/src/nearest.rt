@@ -1,16 +1,16 @@
 //! Finds the declaration to which a use is bound.
 ghost use Rattle.std.specs.Prelude.{ℕ, ◌≡◌, ◌<◌, length, MatchOption};
 ghost use Rattle.go_scope.specs.Bindings.{BindsAt};
-ghost use Rattle.go_scope.specs.Leading.{Leads};
-ghost use Rattle.go_scope.specs.Numbering.{told};
-ghost use Rattle.go_scope.specs.Open.{AreLinks, IsSeenInside};
+ghost use Rattle.go_scope.specs.Leading.{IsLead};
+ghost use Rattle.go_scope.specs.Numbering.{numerals};
+ghost use Rattle.go_scope.specs.OpenBlocks.{AreNameLinks, IsVisibleInside};
 ghost use Rattle.go_scope.specs.Table.{IsCandidate, IsNearest, layout_of};
 ghost use Rattle.go_scope.specs.WellFormed.{IsLaidOut};
 
 use crate::links::Links;
 use crate::model::Identifier;
 use crate::numbering::number_at;
-use crate::outer::{OuterBlock, first_outside};
+use crate::outer_blocks::{OuterBlock, first_outside};
 use crate::resolve::place_at;
 
 /// The declaration to which the use u is bound: the nearest one in an inner block, or else one of the package, the file or the universe.
@@ -22,10 +22,10 @@ pub(crate) fn binding(
 ) -> Option<usize>
     requires in_range { u < length identifiers.now }
     requires laid_out { IsLaidOut (layout_of identifiers.now) (length identifiers.now) }
-    requires follows { Leads (layout_of identifiers.now) (told names.now) u → ⊥ }
-    requires linked { AreLinks identifiers.now names.now (length identifiers.now) links.now }
+    requires follows { IsLead (layout_of identifiers.now) (numerals names.now) u → ⊥ }
+    requires linked { AreNameLinks identifiers.now names.now (length identifiers.now) links.now }
     ensures { let l = layout_of identifiers.now in
-        let named = told names.now in
+        let named = numerals names.now in
         MatchOption result ((d : ℕ) → BindsAt l named (named u) u d → ⊥) (λ d. BindsAt l named (named u) u d) }
 {
     match links.around[u] {
@@ -38,9 +38,9 @@ pub(crate) fn binding(
 /// one.
 fn outside(identifiers: &[Identifier], names: &[usize], links: &Links, u: usize) -> Option<usize>
     requires in_range { u < length identifiers.now }
-    requires linked { AreLinks identifiers.now names.now (length identifiers.now) links.now }
-    requires none_inside { let l = layout_of identifiers.now in (d : ℕ) → IsSeenInside l (told names.now) (told names.now u) u d → ⊥ }
-    ensures { let l = layout_of identifiers.now in IsNearest l (IsCandidate l (told names.now) (told names.now u) u) result }
+    requires linked { AreNameLinks identifiers.now names.now (length identifiers.now) links.now }
+    requires none_inside { let l = layout_of identifiers.now in (d : ℕ) → IsVisibleInside l (numerals names.now) (numerals names.now u) u d → ⊥ }
+    ensures { let l = layout_of identifiers.now in IsNearest l (IsCandidate l (numerals names.now) (numerals names.now u) u) result }
 {
     let name = number_at(names, u);
     let file = place_at(identifiers, u).file;

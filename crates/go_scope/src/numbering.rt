@@ -1,17 +1,17 @@
 //! Numbers the names of identifiers, so that later searches compare numbers and not bytes.
 ghost use Rattle.std.specs.Prelude.{◌≡◌, ◌<◌, ◌≤◌, ◌+◌, length, IfOk, OnOk};
-ghost use Rattle.go_scope.specs.Numbering.{is_lexical, number_at, AreBelow, AreFirsts, HasName, IsLexical, TellApart};
+ghost use Rattle.go_scope.specs.Numbering.{is_lexical, number_at, AreBelow, AreFirsts, HasName, IsLexical, Distinguish};
 ghost use Rattle.go_scope.specs.Table.{layout_of, names_of, IsFirstOf};
 
+use crate::capacity::name_room;
 use crate::model::{Identifier, Role};
 use crate::resolve::{name_at, role_at};
-use crate::room::name_room;
 use indexmap::IndexMap;
 use std::alloc::{AllocError, Global};
 
 /// The bytes of a name.
 #[derive(Clone, Copy, PartialEq, Eq, Hash)]
-pub struct Spelled<'a> {
+pub struct NameBytes<'a> {
     pub bytes: &'a [u8],
 }
 
@@ -29,7 +29,7 @@ impl Role {
 
 /// The number of the name of u, the next identifier: the number of the first identifier of that name.
 fn first_of<'a>(
-    firsts: &mut IndexMap<Spelled<'a>, usize>,
+    firsts: &mut IndexMap<NameBytes<'a>, usize>,
     identifiers: &[Identifier<'a>],
     u: usize,
 ) -> Result<usize, AllocError>
@@ -40,7 +40,7 @@ fn first_of<'a>(
     ensures number { IfOk result (λ n. IsFirstOf (HasName (layout_of identifiers.now) (names_of identifiers.now) (names_of identifiers.now u)) (u + 1) n) }
 {
     let bytes = name_at(identifiers, u);
-    let name = Spelled { bytes };
+    let name = NameBytes { bytes };
     match firsts.get(&name).copied() {
         Some(first) => Ok(first),
         None => {
@@ -52,7 +52,7 @@ fn first_of<'a>(
 
 /// The number of the name of u, the next identifier. It is 0 where the name is not looked up.
 fn next_number<'a>(
-    firsts: &mut IndexMap<Spelled<'a>, usize>,
+    firsts: &mut IndexMap<NameBytes<'a>, usize>,
     identifiers: &[Identifier<'a>],
     u: usize,
 ) -> Result<usize, AllocError>
@@ -75,7 +75,7 @@ pub(crate) fn numbers_of(
     alloc: Global,
     identifiers: &[Identifier],
 ) -> Result<Vec<usize>, AllocError>
-    ensures apart { IfOk result (λ numbers. TellApart (layout_of identifiers.now) (names_of identifiers.now) (length identifiers.now) numbers.items) }
+    ensures apart { IfOk result (λ numbers. Distinguish (layout_of identifiers.now) (names_of identifiers.now) (length identifiers.now) numbers.items) }
     ensures below { IfOk result (λ numbers. AreBelow (length identifiers.now) numbers.items) }
 {
     let mut firsts = IndexMap::with_capacity(alloc, name_room(identifiers))?;

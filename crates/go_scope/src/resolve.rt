@@ -3,7 +3,7 @@
 ghost use Rattle.std.specs.Prelude.{◌≡◌, ◌<◌, ◌↔◌, length, IsTrue};
 ghost use Rattle.go_scope.specs.Scopes.{Holds, Nests};
 ghost use Rattle.go_scope.specs.Bindings.{may_declare, block_of, start_of, is_left_name, InScope};
-ghost use Rattle.go_scope.specs.Scopes.{scope_in};
+ghost use Rattle.go_scope.specs.Scopes.{scope_for};
 ghost use Rattle.go_scope.specs.Table.{layout_of, names_of};
 
 use crate::model::{Block, Identifier, Position, Role, Scope};
@@ -53,7 +53,7 @@ impl Role {
 impl Scope {
     /// The scope of a declaration in a block: the whole block, or in an inner block from the token `start` to its end.
     pub(crate) fn in_block(block: Block, start: usize) -> Scope
-        ensures { result ≡ scope_in block start }
+        ensures { result ≡ scope_for block start }
     {
         match block {
             Block::Universe => Scope::Everywhere,

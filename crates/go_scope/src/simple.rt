@@ -2,7 +2,7 @@
 ghost use Rattle.std.specs.Prelude.{OnOk};
 ghost use Rattle.go_scope.specs.ExpressionSites.{sites_if, list_sites, type_sites, expr_sites, exprs_sites};
 ghost use Rattle.go_scope.specs.StatementSites.{ident_sites, left_sites, assigned_sites, simple_sites, value_sites, local_sites, group_sites, init_sites, for_sites};
-ghost use Rattle.go_scope.specs.Found.{source_of, Adds};
+ghost use Rattle.go_scope.specs.IdentifierViews.{as_source, AddsTo};
 ghost use Rattle.go_ast.specs.View.{option_view, group_view, list_view, ident_view, type_view, expr_view, exprs_view};
 ghost use Rattle.go_ast.specs.FileView.{local_view, values_view, simple_view, init_view, for_view};
 
@@ -20,7 +20,7 @@ pub(crate) fn add_exprs<'a>(
     found: &mut Vec<Identifier<'a>>,
     exprs: &[ExprItem],
 ) -> Result<(), AllocError>
-    ensures { OnOk result (Adds found.old.items found.new.items (exprs_sites (source_of source.now) (exprs_view exprs.now))) }
+    ensures { OnOk result (AddsTo found.old.items found.new.items (exprs_sites (as_source source.now) (exprs_view exprs.now))) }
 {
     for item in exprs {
         add_expr(source, found, &item.value)?;
@@ -35,7 +35,7 @@ pub(crate) fn add_idents<'a>(
     role: Role,
     idents: &[Item<Ident>],
 ) -> Result<(), AllocError>
-    ensures { OnOk result (Adds found.old.items found.new.items (list_sites (ident_sites (source_of source.now) role) (list_view ident_view idents.now))) }
+    ensures { OnOk result (AddsTo found.old.items found.new.items (list_sites (ident_sites (as_source source.now) role) (list_view ident_view idents.now))) }
 {
     for item in idents {
         add_ident(source, found, role, &item.value)?;
@@ -50,7 +50,7 @@ pub(crate) fn add_ident<'a>(
     role: Role,
     ident: &Ident,
 ) -> Result<(), AllocError>
-    ensures { OnOk result (Adds found.old.items found.new.items (ident_sites (source_of source.now) role (ident_view ident.now))) }
+    ensures { OnOk result (AddsTo found.old.items found.new.items (ident_sites (as_source source.now) role (ident_view ident.now))) }
 {
     match ident {
         Ident::Named(name) => source.add(found, *name, role),
@@ -66,7 +66,7 @@ fn add_left<'a>(
     following: usize,
     left: &Expr,
 ) -> Result<(), AllocError>
-    ensures { OnOk result (Adds found.old.items found.new.items (left_sites (source_of source.now) block following (expr_view left.now))) }
+    ensures { OnOk result (AddsTo found.old.items found.new.items (left_sites (as_source source.now) block following (expr_view left.now))) }
 {
     match left {
         Expr::Name(name) => source.add(found, *name, Role::LeftName(block, following)),
@@ -83,7 +83,7 @@ fn add_lefts<'a>(
     following: usize,
     lefts: &[ExprItem],
 ) -> Result<(), AllocError>
-    ensures { OnOk result (Adds found.old.items found.new.items (list_sites (left_sites (source_of source.now) block following) (exprs_view lefts.now))) }
+    ensures { OnOk result (AddsTo found.old.items found.new.items (list_sites (left_sites (as_source source.now) block following) (exprs_view lefts.now))) }
 {
     for item in lefts {
         add_left(source, found, block, following, &item.value)?;
@@ -97,7 +97,7 @@ fn add_assigned<'a>(
     found: &mut Vec<Identifier<'a>>,
     left: &Expr,
 ) -> Result<(), AllocError>
-    ensures { OnOk result (Adds found.old.items found.new.items (assigned_sites (source_of source.now) (expr_view left.now))) }
+    ensures { OnOk result (AddsTo found.old.items found.new.items (assigned_sites (as_source source.now) (expr_view left.now))) }
 {
     match left {
         Expr::Blank(name) => source.add(found, *name, Role::NotLexical(Purpose::Blank)),
@@ -111,7 +111,7 @@ fn add_all_assigned<'a>(
     found: &mut Vec<Identifier<'a>>,
     lefts: &[ExprItem],
 ) -> Result<(), AllocError>
-    ensures { OnOk result (Adds found.old.items found.new.items (list_sites (assigned_sites (source_of source.now)) (exprs_view lefts.now))) }
+    ensures { OnOk result (AddsTo found.old.items found.new.items (list_sites (assigned_sites (as_source source.now)) (exprs_view lefts.now))) }
 {
     for item in lefts {
         add_assigned(source, found, &item.value)?;
@@ -127,7 +127,7 @@ pub(crate) fn add_simple<'a>(
     following: usize,
     simple: &SimpleStmt,
 ) -> Result<(), AllocError>
-    ensures { OnOk result (Adds found.old.items found.new.items (simple_sites (source_of source.now) block following (simple_view simple.now))) }
+    ensures { OnOk result (AddsTo found.old.items found.new.items (simple_sites (as_source source.now) block following (simple_view simple.now))) }
 {
     match simple {
         SimpleStmt::Expr(expr) => add_expr(source, found, expr),
@@ -155,7 +155,7 @@ pub(crate) fn add_optional<'a>(
     following: usize,
     simple: &Option<SimpleStmt>,
 ) -> Result<(), AllocError>
-    ensures { OnOk result (Adds found.old.items found.new.items (sites_if (simple_sites (source_of source.now) block following) (option_view simple_view simple.now))) }
+    ensures { OnOk result (AddsTo found.old.items found.new.items (sites_if (simple_sites (as_source source.now) block following) (option_view simple_view simple.now))) }
 {
     match simple {
         None => Ok(()),
@@ -169,7 +169,7 @@ fn add_optional_type<'a>(
     found: &mut Vec<Identifier<'a>>,
     local_type: &Option<TypeExpr>,
 ) -> Result<(), AllocError>
-    ensures { OnOk result (Adds found.old.items found.new.items (sites_if (type_sites (source_of source.now)) (option_view type_view local_type.now))) }
+    ensures { OnOk result (AddsTo found.old.items found.new.items (sites_if (type_sites (as_source source.now)) (option_view type_view local_type.now))) }
 {
     match local_type {
         None => Ok(()),
@@ -183,7 +183,7 @@ fn add_values<'a>(
     found: &mut Vec<Identifier<'a>>,
     values: &Option<Values>,
 ) -> Result<(), AllocError>
-    ensures { OnOk result (Adds found.old.items found.new.items (sites_if (value_sites (source_of source.now)) (option_view values_view values.now))) }
+    ensures { OnOk result (AddsTo found.old.items found.new.items (sites_if (value_sites (as_source source.now)) (option_view values_view values.now))) }
 {
     match values {
         None => Ok(()),
@@ -199,7 +199,7 @@ pub(crate) fn add_local<'a>(
     following: usize,
     local: &LocalSpec,
 ) -> Result<(), AllocError>
-    ensures { OnOk result (Adds found.old.items found.new.items (local_sites (source_of source.now) block following (local_view local.now))) }
+    ensures { OnOk result (AddsTo found.old.items found.new.items (local_sites (as_source source.now) block following (local_view local.now))) }
 {
     add_idents(
         source,
@@ -219,7 +219,7 @@ pub(crate) fn add_locals<'a>(
     following: usize,
     group: &Group<LocalSpec>,
 ) -> Result<(), AllocError>
-    ensures { OnOk result (Adds found.old.items found.new.items (group_sites (local_sites (source_of source.now) block) following (group_view local_view group.now))) }
+    ensures { OnOk result (AddsTo found.old.items found.new.items (group_sites (local_sites (as_source source.now) block) following (group_view local_view group.now))) }
 {
     match group {
         Group::Single(local) => add_local(source, found, block, following, local),
@@ -240,7 +240,7 @@ pub(crate) fn add_init<'a>(
     block: Block,
     init: &Option<IfInit>,
 ) -> Result<(), AllocError>
-    ensures { OnOk result (Adds found.old.items found.new.items (sites_if (init_sites (source_of source.now) block) (option_view init_view init.now))) }
+    ensures { OnOk result (AddsTo found.old.items found.new.items (sites_if (init_sites (as_source source.now) block) (option_view init_view init.now))) }
 {
     match init {
         None => Ok(()),
@@ -254,7 +254,7 @@ fn add_condition<'a>(
     found: &mut Vec<Identifier<'a>>,
     condition: &Option<Expr>,
 ) -> Result<(), AllocError>
-    ensures { OnOk result (Adds found.old.items found.new.items (sites_if (expr_sites (source_of source.now)) (option_view expr_view condition.now))) }
+    ensures { OnOk result (AddsTo found.old.items found.new.items (sites_if (expr_sites (as_source source.now)) (option_view expr_view condition.now))) }
 {
     match condition {
         None => Ok(()),
@@ -270,7 +270,7 @@ pub(crate) fn add_header<'a>(
     brace: usize,
     header: &ForHeader,
 ) -> Result<(), AllocError>
-    ensures { OnOk result (Adds found.old.items found.new.items (for_sites (source_of source.now) block brace (for_view header.now))) }
+    ensures { OnOk result (AddsTo found.old.items found.new.items (for_sites (as_source source.now) block brace (for_view header.now))) }
 {
     match header {
         ForHeader::Forever => Ok(()),

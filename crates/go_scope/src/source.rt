@@ -14,11 +14,11 @@ pub struct RankedFile<'a> {
 }
 
 impl<'a> RankedFile<'a> {
-    ghost use Rattle.go_scope.specs.Found.{source_of, Adds};
+    ghost use Rattle.go_scope.specs.IdentifierViews.{as_source, AddsTo};
 
     /// The bytes of a token, or none beyond the last token.
     pub(crate) fn spelling(&self, token: usize) -> &'a [u8]
-        ensures { result.now ≡ (source_of self.now).spell token }
+        ensures { result.now ≡ (as_source self.now).spell token }
     {
         self.tree.spelling(token)
     }
@@ -30,7 +30,7 @@ impl<'a> RankedFile<'a> {
         token: usize,
         role: Role,
     ) -> Result<(), AllocError>
-        ensures { OnOk result (Adds found.old.items found.new.items (site (source_of self.now) token role ∷ [])) }
+        ensures { OnOk result (AddsTo found.old.items found.new.items (site (as_source self.now) token role ∷ [])) }
     {
         let name = self.spelling(token);
         let place = Position {

@@ -1,7 +1,7 @@
 //! Collects the identifiers of statements and blocks.
 ghost use Rattle.std.specs.Prelude.{OnOk};
 ghost use Rattle.go_scope.specs.StatementSites.{statement_sites, block_sites, if_sites, else_sites};
-ghost use Rattle.go_scope.specs.Found.{source_of, Adds};
+ghost use Rattle.go_scope.specs.IdentifierViews.{as_source, AddsTo};
 ghost use Rattle.go_ast.specs.FileView.{stmt_view, block_view, if_view, else_view};
 
 use crate::expressions::add_expr;
@@ -21,7 +21,7 @@ pub(crate) fn add_statement<'a>(
     following: usize,
     statement: &Stmt,
 ) -> Result<(), AllocError>
-    ensures { OnOk result (Adds found.old.items found.new.items (statement_sites (source_of source.now) block following (stmt_view statement.now))) }
+    ensures { OnOk result (AddsTo found.old.items found.new.items (statement_sites (as_source source.now) block following (stmt_view statement.now))) }
 {
     match statement {
         Stmt::Empty => Ok(()),
@@ -47,7 +47,7 @@ pub(crate) fn add_block<'a>(
     found: &mut Vec<Identifier<'a>>,
     block: &tree::BlockStmt,
 ) -> Result<(), AllocError>
-    ensures { OnOk result (Adds found.old.items found.new.items (block_sites (source_of source.now) (block_view block.now))) }
+    ensures { OnOk result (AddsTo found.old.items found.new.items (block_sites (as_source source.now) (block_view block.now))) }
 {
     let inner = Block::Inner(source.rank, block.open, block.close);
     for item in &block.statements {
@@ -65,7 +65,7 @@ fn add_if<'a>(
     following: usize,
     branch: &IfStmt,
 ) -> Result<(), AllocError>
-    ensures { OnOk result (Adds found.old.items found.new.items (if_sites (source_of source.now) following (if_view branch.now))) }
+    ensures { OnOk result (AddsTo found.old.items found.new.items (if_sites (as_source source.now) following (if_view branch.now))) }
 {
     let round = Block::Inner(source.rank, branch.at, following);
     add_init(source, found, round, &branch.init)?;
@@ -82,7 +82,7 @@ fn add_else<'a>(
     following: usize,
     otherwise: &Else,
 ) -> Result<(), AllocError>
-    ensures { OnOk result (Adds found.old.items found.new.items (else_sites (source_of source.now) following (else_view otherwise.now))) }
+    ensures { OnOk result (AddsTo found.old.items found.new.items (else_sites (as_source source.now) following (else_view otherwise.now))) }
 {
     match otherwise {
         Else::None => Ok(()),

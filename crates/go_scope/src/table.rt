@@ -1,14 +1,14 @@
 //! The table of a package: its identifiers, their scopes, and their bindings.
 ghost use Rattle.std.specs.Prelude.{ℕ, ◌≡◌, ◌<◌, ◌↔◌, length, IsTrue, MatchOption};
 ghost use Rattle.go_scope.specs.Bindings.{Declares, Counts, IsUse, scope_of};
-ghost use Rattle.go_scope.specs.ByToken.{number_at};
-ghost use Rattle.go_scope.specs.Known.{AreKnown};
-ghost use Rattle.go_scope.specs.Scoped.{layout_in, names_in, IsBoundIn, BeginsAt};
-ghost use Rattle.go_scope.specs.Table.{StandsAt, IsFirstOf, IsFoundAt};
+ghost use Rattle.go_scope.specs.ByToken.{numbers_in};
+ghost use Rattle.go_scope.specs.Contents.{AreTableContents};
+ghost use Rattle.go_scope.specs.Packages.{layout_in, names_in, IsBoundIn, IsAtPlace};
+ghost use Rattle.go_scope.specs.Table.{LiesAt, IsFirstOf, IsFoundAt};
 ghost use Rattle.go_scope.specs.WellFormed.{WellFormed};
 
+use crate::contents::TableContents;
 use crate::identifiers::Identifiers;
-use crate::known::KnownTable;
 use crate::model::{Position, Role, Scope};
 use base_files::Place;
 use go_ast::FileTree;
@@ -21,15 +21,15 @@ pub type DeclId = usize;
 #[derive(Drop)]
 pub struct ScopeTable<'a> {
     identifiers: Identifiers<'a>,
-    known: KnownTable,
+    known: TableContents,
 }
 
 impl<'a> Model for ScopeTable<'a> {
     ghost use Rattle.std.specs.Coded.{codes};
     ghost use Rattle.go_ast.specs.contracts.tree.File as e;
-    ghost use Rattle.go_scope.specs.Scoped.{ScopedPackage};
-    ghost use Rattle.go_scope.specs.ByToken.{number_at};
-    ghost use Rattle.go_scope.specs.Known.{AreKnown};
+    ghost use Rattle.go_scope.specs.Packages.{ScopedPackage};
+    ghost use Rattle.go_scope.specs.ByToken.{numbers_in};
+    ghost use Rattle.go_scope.specs.Contents.{AreTableContents};
 
     ghost Value = { ScopedPackage };
 
@@ -37,13 +37,13 @@ impl<'a> Model for ScopeTable<'a> {
 
     ghost view = { λ t. t.identifiers };
 
-    ghost invariant = { λ t. AreKnown t.identifiers t.known.declaring.items t.known.bindings.items (number_at t.known.numbers) };
+    ghost invariant = { λ t. AreTableContents t.identifiers t.known.declaring.items t.known.bindings.items (numbers_in t.known.numbers) };
 }
 
 impl<'a> ScopeTable<'a> {
     /// Joins a package's identifiers with their bindings.
-    pub(crate) fn new(identifiers: Identifiers<'a>, known: KnownTable) -> ScopeTable<'a>
-        requires { AreKnown identifiers known.declaring.items known.bindings.items (number_at known.numbers) }
+    pub(crate) fn new(identifiers: Identifiers<'a>, known: TableContents) -> ScopeTable<'a>
+        requires { AreTableContents identifiers known.declaring.items known.bindings.items (numbers_in known.numbers) }
         ensures { result ≡ identifiers.entry }
     {
         ScopeTable { identifiers, known }
@@ -119,7 +119,7 @@ impl<'a> ScopeTable<'a> {
 
     /// The identifier, or the import's string literal, of a token.
     pub fn identifier_at(&self, place: Position) -> Option<usize>
-        ensures { MatchOption result ((u : ℕ) → u < length self.now.sites → StandsAt (layout_in self.now) place u → ⊥)
+        ensures { MatchOption result ((u : ℕ) → u < length self.now.sites → LiesAt (layout_in self.now) place u → ⊥)
             (λ u. IsFoundAt (layout_in self.now) (length self.now.sites) place u) }
     {
         self.known.numbers.get(place)
@@ -127,8 +127,8 @@ impl<'a> ScopeTable<'a> {
 
     /// The identifier, or the import's string literal, that begins at a place.
     pub fn identifier_beginning_at(&self, place: &Place) -> Option<usize>
-        ensures { MatchOption result ((u : ℕ) → u < length self.now.sites → BeginsAt self.now place.now.path place.now.offset u → ⊥)
-            (λ u. IsFirstOf (BeginsAt self.now place.now.path place.now.offset) (length self.now.sites) u) }
+        ensures { MatchOption result ((u : ℕ) → u < length self.now.sites → IsAtPlace self.now place.now.path place.now.offset u → ⊥)
+            (λ u. IsFirstOf (IsAtPlace self.now place.now.path place.now.offset) (length self.now.sites) u) }
     {
         self.identifiers.first_beginning_at(place)
     }
@@ -143,7 +143,7 @@ impl<'a> ScopeTable<'a> {
 
     /// The declaration to which the identifier that begins at a place is bound, if any.
     pub fn resolve(&self, place: &Place) -> Option<DeclId>
-        ensures { let found = IsFirstOf (BeginsAt self.now place.now.path place.now.offset) (length self.now.sites) in
+        ensures { let found = IsFirstOf (IsAtPlace self.now place.now.path place.now.offset) (length self.now.sites) in
             MatchOption result ((u d : ℕ) → found u → IsBoundIn self.now u d → ⊥) (λ d. (u : ℕ) × (found u × IsBoundIn self.now u d)) }
     {
         match self.identifier_beginning_at(place) {

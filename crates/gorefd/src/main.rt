@@ -8,7 +8,7 @@ use fault::ProgramFault;
 use server_session::session_alone;
 use server_shared::OpenGate;
 use server_socket::serve;
-use server_words::{Words, WordsFault, read_words};
+use server_words::{RequestFault, Words, read_request};
 use std::env::Env;
 use std::fmt::Display;
 use std::io::{BufReader, BufWriter, ErrorKind};
@@ -29,7 +29,7 @@ fn run(rt: &(impl Input + Print + AllocGlobal)) -> Result<(), ProgramFault> {
 }
 
 /// Prints how many entries the settled journal has, and returns the exit status.
-fn settled<R: Print + Eprint>(rt: &R, entries: u64) -> ExitCode {
+fn print_settled<R: Print + Eprint>(rt: &R, entries: u64) -> ExitCode {
     match println!(rt; "settled {entries}") {
         Ok(()) => ExitCode::SUCCESS,
         Err(_) => ended(rt, ProgramFault::Write),
@@ -43,14 +43,14 @@ fn ended(rt: &impl Eprint, fault: impl Display + Drop) -> ExitCode {
 }
 
 /// Prints the text of words that make no request, and returns the exit status: 0 for help, 2 for a usage text.
-fn told<R: Print + Eprint>(rt: &R, fault: &WordsFault) -> ExitCode {
+fn print_fault<R: Print + Eprint>(rt: &R, fault: &RequestFault) -> ExitCode {
     match fault {
-        WordsFault::Memory => ended(rt, ProgramFault::Memory),
-        WordsFault::Help(text) => match print!(rt; "{text}") {
+        RequestFault::Memory => ended(rt, ProgramFault::Memory),
+        RequestFault::Help(text) => match print!(rt; "{text}") {
             Ok(()) => ExitCode::SUCCESS,
             Err(_) => ended(rt, ProgramFault::Write),
         },
-        WordsFault::Usage(text) => {
+        RequestFault::Usage(text) => {
             let _ = eprint!(rt; "{text}");
             ExitCode::from(2)
         }
@@ -58,13 +58,13 @@ fn told<R: Print + Eprint>(rt: &R, fault: &WordsFault) -> ExitCode {
 }
 
 /// The words of the command line, the first of which is the program's name.
-fn words<R: Env + AllocGlobal>(rt: &R) -> Result<Vec<String>, WordsFault> {
+fn words<R: Env + AllocGlobal>(rt: &R) -> Result<Vec<String>, RequestFault> {
     match std::env::args(rt) {
         Ok(words) => Ok(words.collect(rt.alloc())?),
-        Err(error) if error.kind() == ErrorKind::OutOfMemory => Err(WordsFault::Memory),
+        Err(error) if error.kind() == ErrorKind::OutOfMemory => Err(RequestFault::Memory),
         Err(_) => {
             let text = String::from_str(rt.alloc(), NOT_UTF8)?;
-            Err(WordsFault::Usage(text))
+            Err(RequestFault::Usage(text))
         }
     }
 }
@@ -72,17 +72,17 @@ fn words<R: Env + AllocGlobal>(rt: &R) -> Result<Vec<String>, WordsFault> {
 fn main(rt: HostRuntime) -> ExitCode {
     let words = match words(&rt) {
         Ok(words) => words,
-        Err(fault) => return told(&rt, &fault),
+        Err(fault) => return print_fault(&rt, &fault),
     };
-    match read_words(rt.alloc(), words.as_slice()) {
+    match read_request(rt.alloc(), words.as_slice()) {
         Ok(Words::Run) => match run(&rt) {
             Ok(()) => ExitCode::SUCCESS,
             Err(fault) => ended(&rt, fault),
         },
         Ok(Words::Serve(words)) => match serve(&rt, &words, &OpenGate) {
-            Ok(entries) => settled(&rt, entries),
+            Ok(entries) => print_settled(&rt, entries),
             Err(fault) => ended(&rt, fault),
         },
-        Err(fault) => told(&rt, &fault),
+        Err(fault) => print_fault(&rt, &fault),
     }
 }

@@ -3,33 +3,33 @@ use Rattle.std.proofs.Common.{ℕ, List, Result, Ok, Err, IfOk, subst}
 use Rattle.std.specs.declared.alloc.AllocError.{AllocError}
 use Rattle.build_unit.specs.declared.built.Built.{Built}
 use Rattle.build_unit.specs.declared.job.JobRecord.{JobRecord}
-use Rattle.build_carry.specs.Finished.{Gains}
+use Rattle.build_carry.specs.Finished.{GainsUnit}
 use Rattle.history_machine.specs.State.{State}
 use Rattle.history_machine.specs.Deliveries.{IsFresh, HasUnit}
-use Rattle.history_book.specs.Outcomes.{ComesTo, FinishesIn, HasTable}
+use Rattle.history_book.specs.Outcomes.{HasOutcome, FreshOutcome, FitsState}
 use Rattle.history_book.specs.declared.deliveries.Outcome.{Outcome}
 use Rattle.history_book.specs.declared.deliveries.Outcome.TheVariants.{Late, Known, Entered}
 
 module _ (state : State) (job : JobRecord) (built : Built) where
   module _ (fresh : IsFresh state job built) where
-    comes_to : (outcome : Outcome) → FinishesIn state built outcome → ComesTo state job built outcome
+    comes_to : (outcome : Outcome) → FreshOutcome state built outcome → HasOutcome state job built outcome
     comes_to Late comes = absurd comes
     comes_to Known comes = (fresh, subst (HasUnit state) fresh.same_package comes)
     comes_to (Entered finished known) comes = (
       fresh,
       subst (λ (p : List ℕ). HasUnit state p → ⊥) fresh.same_package comes.0,
-      subst (λ (p : List ℕ). Gains state.files state.finished p built.unit finished) fresh.same_package comes.1,
+      subst (λ (p : List ℕ). GainsUnit state.files state.finished p built.unit finished) fresh.same_package comes.1,
       comes.2,
       comes.3,
       comes.4,
     )
 
-    pub if_comes : (outcome : Result Outcome AllocError) → IfOk outcome (FinishesIn state built) → IfOk outcome (ComesTo state job built)
+    pub if_comes : (outcome : Result Outcome AllocError) → IfOk outcome (FreshOutcome state built) → IfOk outcome (HasOutcome state job built)
     if_comes (Ok outcome) comes = comes_to outcome comes
     if_comes (Err lack) comes = tt
 
   -- what is entered is of the state's packages
-  pub has_table : (outcome : Outcome) → ComesTo state job built outcome → HasTable state outcome
+  pub has_table : (outcome : Outcome) → HasOutcome state job built outcome → FitsState state outcome
   has_table Late comes = tt
   has_table Known comes = tt
   has_table (Entered finished known) comes = (comes.3, comes.5)

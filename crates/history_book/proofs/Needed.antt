@@ -7,13 +7,13 @@ use Rattle.history_machine.specs.declared.event.Event.{Event}
 use Rattle.history_machine.specs.declared.event.Event.TheVariants.{Look, Log, Commit, Undo, Redo, Take, Deliver, GiveBack}
 use Rattle.history_book.specs.declared.question.Asked.{Asked}
 use Rattle.history_book.specs.Needed.{entries_for, entries_needed}
-use Rattle.history_machine.specs.Journal.{kind_of}
+use Rattle.history_machine.specs.Journal.{event_kind}
 use Rattle.history_machine.specs.Machine.{Machine}
 use Rattle.history_machine.specs.Step.{BringsOut, HasPlace, HasRoom, entries_due}
 use Rattle.history_machine.proofs.Stepped.{place_made, place_there}
 
 place_for : (most due : ℕ) (out : JobsOut) (event : Event) (is_out : Bool) → (IsTrue is_out ↔ BringsOut out event) → due ≤ most →
-    (HasPlace most due out event ↔ (due + entries_for is_out (kind_of event) ≤ most))
+    (HasPlace most due out event ↔ (due + entries_for is_out (event_kind event) ≤ most))
 place_for most due out Look true is within = absurd (is.0 refl)
 place_for most due out (Log asked) true is within = absurd (is.0 refl)
 place_for most due out (Commit basis change) true is within = absurd (is.0 refl)
@@ -37,7 +37,7 @@ pub place_now : (most due : ℕ) (out : JobsOut) (event : Event) (is_out : Bool)
 place_now most due out event true is more = place_there most due out event (is.0 refl)
 place_now most due out event false is more = place_made most due out event (more (λ e. false≢true e))
 
-pub room_is : (m : Machine) (event : Event) (asked : Asked) (needed : ℕ) → asked.kind ≡ kind_of event → (IsTrue asked.is_out ↔ BringsOut m.out event) →
+pub room_is : (m : Machine) (event : Event) (asked : Asked) (needed : ℕ) → asked.kind ≡ event_kind event → (IsTrue asked.is_out ↔ BringsOut m.out event) →
     entries_due m ≤ m.limits.journal → needed ≡ entries_needed asked → (HasRoom m event ↔ (entries_due m + needed ≤ m.limits.journal))
 room_is m event asked needed kind is within same =
     subst (λ (n : ℕ). HasRoom m event ↔ (entries_due m + n ≤ m.limits.journal)) (sym same)

@@ -22,13 +22,13 @@ content_of h limits out = record {
 }
 
 -- the event gets this reply and leaves the new history, whatever the limits are and whichever Jobs are out
-abbrev pub Moves : History → Event → Reply → History → Type 0
-Moves old event reply new = (limits : Limits) (out : JobsOut) → AnswersOrLacks (content_of old limits out) event reply (content_of new limits out)
+abbrev pub AnswersInHistory : History → Event → Reply → History → Type 0
+AnswersInHistory old event reply new = (limits : Limits) (out : JobsOut) → AnswersOrLacks (content_of old limits out) event reply (content_of new limits out)
 
 -- the new history has `next` as its current state, and no state for redo, whichever Jobs are out
-abbrev pub IsChanged : Limits → History → State → History → Type 0
-IsChanged limits old next new = (out : JobsOut) → content_of new limits out ≡ changed (content_of old limits out) next.files next.finished
+abbrev pub GainsState : Limits → History → State → History → Type 0
+GainsState limits old next new = (out : JobsOut) → content_of new limits out ≡ changed (content_of old limits out) next.files next.finished
 
 -- both histories give the same content, whatever the limits are and whichever Jobs are out
-abbrev pub IsSame : History → History → Type 0
-IsSame old new = (limits : Limits) (out : JobsOut) → content_of new limits out ≡ content_of old limits out
+abbrev pub IsSameHistory : History → History → Type 0
+IsSameHistory old new = (limits : Limits) (out : JobsOut) → content_of new limits out ≡ content_of old limits out

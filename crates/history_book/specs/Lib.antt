@@ -4,7 +4,7 @@ pub mod Needed
 pub mod Handed
 pub mod Following
 pub mod Entered
-pub mod Current
+pub mod CurrentInputs
 pub mod Histories
 pub mod Fresh
 pub mod Questions

@@ -1,9 +1,9 @@
 //! Answers an event: changes the content, and adds the event's entry to the journal.
 ghost use Rattle.std.specs.Prelude.{◌≡◌, ◌+◌, ◌≤◌, length, vec_capacity};
-ghost use Rattle.history_machine.specs.Machine.{HasNumbers};
-ghost use Rattle.history_machine.specs.Kept.{IsEntryIf};
-ghost use Rattle.history_machine.specs.Journal.{basis_of, kind_of};
-ghost use Rattle.history_machine.specs.Step.{HasPlace, Keeps};
+ghost use Rattle.history_machine.specs.Machine.{HasNumbersLeft};
+ghost use Rattle.history_machine.specs.JournalSteps.{LeavesEntry};
+ghost use Rattle.history_machine.specs.Journal.{event_basis, event_kind};
+ghost use Rattle.history_machine.specs.Step.{HasPlace, EntersEvent};
 ghost use Rattle.history_book.specs.Entered.{entry_left, with_entry};
 
 use crate::content::Content;
@@ -44,13 +44,13 @@ pub fn answer<Q: Question>(
     asked: Asked,
     question: Q,
 ) -> (Q::Answer, Option<Entry>)
-    requires numbers { HasNumbers content.old }
+    requires numbers { HasNumbersLeft content.old }
     requires due { length journal.old.items + length content.old.out.jobs ≤ vec_capacity journal.old }
     requires place { HasPlace (vec_capacity journal.old) (length journal.old.items + length content.old.out.jobs) content.old.out (Q.event question) }
-    requires kind { asked.kind ≡ kind_of (Q.event question) }
-    requires basis { asked.basis ≡ basis_of content.old.current.number (Q.event question) }
-    ensures keeps { Keeps content.old journal.old.items (Q.event question) (Q.reply result.0) content.new journal.new.items }
-    ensures copy { IsEntryIf content.old.current.number (Q.event question) (Q.reply result.0) result.1 }
+    requires kind { asked.kind ≡ event_kind (Q.event question) }
+    requires basis { asked.basis ≡ event_basis content.old.current.number (Q.event question) }
+    ensures keeps { EntersEvent content.old journal.old.items (Q.event question) (Q.reply result.0) content.new journal.new.items }
+    ensures copy { LeavesEntry content.old.current.number (Q.event question) (Q.reply result.0) result.1 }
     ensures capacity { vec_capacity journal.new ≡ vec_capacity journal.old }
 {
     let answered = question.ask(content, journal.as_slice());

@@ -5,7 +5,7 @@ ghost use Rattle.history_book.specs.Questions.{logged};
 ghost use Rattle.history_machine.specs.Step.{looked, taken};
 ghost use Rattle.history_machine.specs.declared.event.Event.TheVariants.{Log, Look, Take};
 
-use crate::told::refusal_told;
+use crate::reasons::refusal_told;
 use crate::{Answered, Asked, Content, Question};
 use base_files::Refusal;
 use build_unit::Job;

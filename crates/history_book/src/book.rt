@@ -2,11 +2,11 @@
 ghost use Rattle.std.specs.Prelude.{◌≡◌, ◌+◌, ◌≤◌, ◌↔◌, IfOk, IsTrue, OnErr, OnOk, length, vec_capacity};
 ghost use Rattle.workspace_check.specs.Found.{KnowsVerdicts};
 ghost use Rattle.history_machine.specs.Machine.{content, opening};
-ghost use Rattle.history_machine.specs.Kept.{StepKept};
+ghost use Rattle.history_machine.specs.JournalSteps.{JournalStep};
 ghost use Rattle.history_machine.specs.Run.{IsReplay};
 ghost use Rattle.history_machine.specs.Step.{Step, done, entries_due};
 ghost use Rattle.history_machine.specs.declared.event.Event.TheVariants.{Commit, Deliver};
-ghost use Rattle.history_book.specs.Current.{BringsCurrent};
+ghost use Rattle.history_book.specs.CurrentInputs.{HasCurrentInputs};
 ghost use Rattle.history_book.specs.Handed.{handed};
 
 use crate::changing::enter_on_current;
@@ -105,8 +105,8 @@ impl Book {
     /// Makes one step of the machine, and returns a copy of the entry that it adds. Room is made before anything changes. So a refusal for
     /// want of memory, or of room in the journal, changes nothing and keeps no entry. The copy of the entry of a Job that is given back
     /// takes no memory.
-    pub fn step_kept<Q: Question>(&mut self, question: Q) -> (Q::Answer, Option<Entry>)
-        ensures { StepKept self.old (Q.event question) (Q.reply result.0) result.1 self.new }
+    pub fn journal_step<Q: Question>(&mut self, question: Q) -> (Q::Answer, Option<Entry>)
+        ensures { JournalStep self.old (Q.event question) (Q.reply result.0) result.1 self.new }
     {
         let asked = question.asked(&self.content);
         if !self.has_room(asked.entries_needed()) {
@@ -123,7 +123,7 @@ impl Book {
     pub fn step<Q: Question>(&mut self, question: Q) -> Q::Answer
         ensures { Step self.old (Q.event question) (Q.reply result) self.new }
     {
-        let (answer, kept) = self.step_kept(question);
+        let (answer, kept) = self.journal_step(question);
         drop(kept);
         answer
     }
@@ -147,7 +147,7 @@ impl Book {
     /// Makes the step of a `HandingIn::Deliver`. The Job, and what was built, are known to have the inputs of their package in the current
     /// files. It compares numbers and packages, and no text.
     pub fn deliver_on_current(&mut self, job: Job, built: Built) -> Handed
-        requires { BringsCurrent self.old.current.files job built }
+        requires { HasCurrentInputs self.old.current.files job built }
         ensures { Step self.old (Deliver job built) (handed result) self.new }
     {
         let asked = asked_of(EntryKind::Deliver, &job, &self.content);

@@ -2,14 +2,14 @@
 ghost use Rattle.std.specs.Prelude.{◌≡◌, ◌+◌, ◌≤◌, None, length, vec_capacity};
 ghost use Rattle.history_machine.specs.Journal.{edits_of, subject_after, told_of};
 ghost use Rattle.history_book.specs.Questions.{changing_event, edits_made};
-ghost use Rattle.history_machine.specs.Machine.{HasNumbers};
-ghost use Rattle.history_machine.specs.Step.{AnswersOrLacks, Keeps, committed, done};
+ghost use Rattle.history_machine.specs.Machine.{HasNumbersLeft};
+ghost use Rattle.history_machine.specs.Step.{AnswersOrLacks, EntersEvent, committed, done};
 ghost use Rattle.history_machine.specs.declared.event.Event.TheVariants.{Commit};
 
-use crate::told::refusal_told;
+use crate::reasons::refusal_told;
 use crate::{Answered, Asked, Content, Question, enter};
 use base_files::Refusal;
-use history_machine::{Entry, EntryKind, MadeEdits, Told};
+use history_machine::{Entry, EntryEdits, EntryKind, Told};
 use workspace_snapshot::MadeChange;
 
 /// A commit, an undo or a redo. The number is the basis: the state that the client believes to be current. The answer is the number of the
@@ -38,7 +38,7 @@ fn answered(outcome: Result<u64, Refusal>) -> Answered<Result<u64, Refusal>>
 }
 
 /// The answer to a commit, with what its entry keeps of it: the edits, if the change is admitted.
-fn answered_edits(outcome: Result<(u64, MadeEdits), Refusal>) -> Answered<Result<u64, Refusal>>
+fn answered_edits(outcome: Result<(u64, EntryEdits), Refusal>) -> Answered<Result<u64, Refusal>>
     ensures answer { done result.answer ≡ committed outcome }
     ensures out { result.out ≡ told_of (committed outcome) }
     ensures subject { result.subject ≡ subject_after None (committed outcome) }
@@ -60,7 +60,7 @@ fn answered_edits(outcome: Result<(u64, MadeEdits), Refusal>) -> Answered<Result
 
 /// Answers a commit. Its base is compared with the current files.
 fn commit(content: &mut Content, basis: u64, change: MadeChange) -> Answered<Result<u64, Refusal>>
-    requires { HasNumbers content.old }
+    requires { HasNumbersLeft content.old }
     ensures answer { AnswersOrLacks content.old (Commit basis change) (done result.answer) content.new }
     ensures out { result.out ≡ told_of (done result.answer) }
     ensures subject { result.subject ≡ subject_after None (done result.answer) }
@@ -75,7 +75,7 @@ fn commit_on_current(
     basis: u64,
     change: MadeChange,
 ) -> Answered<Result<u64, Refusal>>
-    requires numbers { HasNumbers content.old }
+    requires numbers { HasNumbersLeft content.old }
     requires base { change.base ≡ content.old.current.files }
     ensures answer { AnswersOrLacks content.old (Commit basis change) (done result.answer) content.new }
     ensures out { result.out ≡ told_of (done result.answer) }
@@ -92,10 +92,10 @@ pub(crate) fn enter_on_current(
     basis: u64,
     change: MadeChange,
 ) -> Result<u64, Refusal>
-    requires numbers { HasNumbers content.old }
+    requires numbers { HasNumbersLeft content.old }
     requires base { change.base ≡ content.old.current.files }
     requires room { length journal.old.items + 1 ≤ vec_capacity journal.old }
-    ensures keeps { Keeps content.old journal.old.items (Commit basis change) (done result) content.new journal.new.items }
+    ensures keeps { EntersEvent content.old journal.old.items (Commit basis change) (done result) content.new journal.new.items }
     ensures capacity { vec_capacity journal.new ≡ vec_capacity journal.old }
 {
     let answered = commit_on_current(content, basis, change);

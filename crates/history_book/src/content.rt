@@ -2,10 +2,10 @@
 ghost use Rattle.std.specs.Prelude.{◌≡◌, ◌↔◌, IfOk, IsTrue, length};
 ghost use Rattle.workspace_check.specs.Found.{KnowsVerdicts};
 ghost use Rattle.build_unit.specs.Jobs.{IsOut};
-ghost use Rattle.history_machine.specs.Machine.{HasNumbers, content, opening};
-ghost use Rattle.history_book.specs.Current.{BringsCurrent};
+ghost use Rattle.history_machine.specs.Machine.{HasNumbersLeft, content, opening};
+ghost use Rattle.history_book.specs.CurrentInputs.{HasCurrentInputs};
 ghost use Rattle.history_book.specs.Handed.{handed};
-ghost use Rattle.history_book.specs.Outcomes.{ComesTo};
+ghost use Rattle.history_book.specs.Outcomes.{HasOutcome};
 ghost use Rattle.history_machine.specs.Step.{AnswersOrLacks, committed, done, looked, taken};
 ghost use Rattle.history_machine.specs.declared.event.Event.TheVariants.{Commit, Deliver, GiveBack, Look, Redo, Take, Undo};
 
@@ -16,7 +16,7 @@ use crate::history::History;
 use base_files::{Limits, Refusal};
 use build_carry::Finished;
 use build_unit::{Built, Job, Out, PackageInputs, SharedPath};
-use history_machine::{MadeEdits, State, View, first_waiting};
+use history_machine::{EntryEdits, State, View, first_waiting};
 use std::alloc::{AllocError, Global};
 use std::marker::Model;
 use workspace_check::{Known, SharedKnown};
@@ -118,8 +118,8 @@ impl Content {
     }
 
     /// Admits a change whose base has the current files. Returns the new state's number and the change's edits.
-    fn admit(&mut self, change: MadeChange) -> Result<(u64, MadeEdits), Refusal>
-        requires numbers { HasNumbers self.old }
+    fn admit(&mut self, change: MadeChange) -> Result<(u64, EntryEdits), Refusal>
+        requires numbers { HasNumbersLeft self.old }
         requires base { change.base ≡ self.old.current.files }
         ensures answer { AnswersOrLacks self.old (Commit self.old.current.number change) (committed result) self.new }
         ensures edits { IfOk result (λ made. made.1 ≡ change.edits) }
@@ -130,14 +130,14 @@ impl Content {
             self.history.next,
             change,
         )?;
-        let number = self.history.go_on(self.limits, state)?;
+        let number = self.history.advance(self.limits, state)?;
         Ok((number, edits))
     }
 
     /// Admits a change where its basis is the current number and its base has the current files, byte for byte. Returns the new state's
     /// number, and the edits for the entry.
-    pub fn commit(&mut self, basis: u64, change: MadeChange) -> Result<(u64, MadeEdits), Refusal>
-        requires { HasNumbers self.old }
+    pub fn commit(&mut self, basis: u64, change: MadeChange) -> Result<(u64, EntryEdits), Refusal>
+        requires { HasNumbersLeft self.old }
         ensures answer { AnswersOrLacks self.old (Commit basis change) (committed result) self.new }
         ensures edits { IfOk result (λ made. made.1 ≡ change.edits) }
     {
@@ -154,8 +154,8 @@ impl Content {
         &mut self,
         basis: u64,
         change: MadeChange,
-    ) -> Result<(u64, MadeEdits), Refusal>
-        requires numbers { HasNumbers self.old }
+    ) -> Result<(u64, EntryEdits), Refusal>
+        requires numbers { HasNumbersLeft self.old }
         requires base { change.base ≡ self.old.current.files }
         ensures answer { AnswersOrLacks self.old (Commit basis change) (committed result) self.new }
         ensures edits { IfOk result (λ made. made.1 ≡ change.edits) }
@@ -169,7 +169,7 @@ impl Content {
 
     /// Makes the state before the current one current again, where the basis is the current number. Returns that state's number.
     pub fn undo(&mut self, basis: u64) -> Result<u64, Refusal>
-        requires { HasNumbers self.old }
+        requires { HasNumbersLeft self.old }
         ensures { AnswersOrLacks self.old (Undo basis) (done result) self.new }
     {
         self.history.undo(basis)
@@ -177,7 +177,7 @@ impl Content {
 
     /// Makes the state current again that the last undo left, where the basis is the current number. Returns that state's number.
     pub fn redo(&mut self, basis: u64) -> Result<u64, Refusal>
-        requires { HasNumbers self.old }
+        requires { HasNumbersLeft self.old }
         ensures { AnswersOrLacks self.old (Redo basis) (done result) self.new }
     {
         self.history.redo(basis)
@@ -185,7 +185,7 @@ impl Content {
 
     /// Hands out a Job of the first package that waits to be built, with the package's inputs.
     pub fn take(&mut self) -> Result<Job, Refusal>
-        requires { HasNumbers self.old }
+        requires { HasNumbersLeft self.old }
         ensures { AnswersOrLacks self.old Take (taken result) self.new }
     {
         let current = &self.history.current;
@@ -202,7 +202,7 @@ impl Content {
 
     /// Takes the Job back, and lets the outcome of its delivery into the current state. A Job that is not out comes back.
     fn enter(&mut self, job: Job, built: Built, outcome: Result<Outcome, AllocError>) -> Handed
-        requires { IfOk outcome (ComesTo self.old.current job built) }
+        requires { IfOk outcome (HasOutcome self.old.current job built) }
         ensures { AnswersOrLacks self.old (Deliver job built) (handed result) self.new }
     {
         match outcome {
@@ -231,7 +231,7 @@ impl Content {
 
     /// Answers a delivery that is known to have the inputs of its package in the current files. No text is compared.
     pub fn deliver_on_current(&mut self, job: Job, built: Built) -> Handed
-        requires { BringsCurrent self.old.current.files job built }
+        requires { HasCurrentInputs self.old.current.files job built }
         ensures { AnswersOrLacks self.old (Deliver job built) (handed result) self.new }
     {
         let outcome = outcome_on_current(self.alloc, &self.history.current, &job, &built);

@@ -2,8 +2,8 @@
 ghost use Rattle.std.specs.Prelude.{◌≡◌, IfOk, Some, slice_get};
 ghost use Rattle.base_files.specs.Packages.{package_paths};
 ghost use Rattle.build_unit.specs.Inputs.{AreInputs};
-ghost use Rattle.history_book.specs.Current.{BringsCurrent};
-ghost use Rattle.history_book.specs.Outcomes.{ComesTo, FinishesIn};
+ghost use Rattle.history_book.specs.CurrentInputs.{HasCurrentInputs};
+ghost use Rattle.history_book.specs.Outcomes.{HasOutcome, FreshOutcome};
 
 use crate::fresh::{fresh_number, number_of};
 use build_carry::{Finished, learned};
@@ -32,7 +32,7 @@ fn outcome_at(
 ) -> Result<Outcome, AllocError>
     requires number { slice_get (package_paths state.now.files) number ≡ Some built.now.package }
     requires inputs { AreInputs state.now.files built.now.package built.now.inputs }
-    ensures { IfOk result (FinishesIn state.now built.now) }
+    ensures { IfOk result (FreshOutcome state.now built.now) }
 {
     if state.finished.get(number).is_some() {
         return Ok(Outcome::Known);
@@ -52,7 +52,7 @@ pub(crate) fn outcome_of(
     job: &Job,
     built: &Built,
 ) -> Result<Outcome, AllocError>
-    ensures { IfOk result (ComesTo state.now job.now built.now) }
+    ensures { IfOk result (HasOutcome state.now job.now built.now) }
 {
     let Some(number) = fresh_number(alloc, state, job, built)? else {
         return Ok(Outcome::Late);
@@ -67,8 +67,8 @@ pub(crate) fn outcome_on_current(
     job: &Job,
     built: &Built,
 ) -> Result<Outcome, AllocError>
-    requires { BringsCurrent state.now.files job.now built.now }
-    ensures { IfOk result (ComesTo state.now job.now built.now) }
+    requires { HasCurrentInputs state.now.files job.now built.now }
+    ensures { IfOk result (HasOutcome state.now job.now built.now) }
 {
     let Some(number) = number_of(state, job, built) else {
         return Ok(Outcome::Late);

@@ -1,13 +1,13 @@
 //! Makes the state after a change.
 ghost use Rattle.std.specs.Prelude.{◌≡◌, IfOk, IsTrue};
 ghost use Rattle.workspace_check.specs.Found.{KnowsVerdicts};
-ghost use Rattle.build_carry.specs.Changes.{AreMarks};
-ghost use Rattle.build_carry.specs.Finished.{HasNone};
+ghost use Rattle.build_carry.specs.Changes.{MarkChanges};
+ghost use Rattle.build_carry.specs.Finished.{HasNoUnit};
 ghost use Rattle.build_carry.specs.Carried.{IsCarried};
 ghost use Rattle.history_book.specs.Following.{IsStateAfter};
 
 use build_carry::{Finished, Marks, carried_units, kept, marks_of, nothing_carried};
-use history_machine::{MadeEdits, State};
+use history_machine::{EntryEdits, State};
 use std::alloc::{AllocError, Global};
 use workspace_check::SharedKnown;
 use workspace_graph::Graph;
@@ -21,8 +21,8 @@ fn carried_by(
     files: &Graph,
     marks: &Marks,
 ) -> Result<(Finished, SharedKnown), AllocError>
-    requires before { AreMarks current.now.files files.now marks.now.before.items }
-    requires after { AreMarks files.now current.now.files marks.now.after.items }
+    requires before { MarkChanges current.now.files files.now marks.now.before.items }
+    requires after { MarkChanges files.now current.now.files marks.now.after.items }
     ensures units { IfOk result (λ carried. IsCarried current.now.files current.now.finished files.now carried.0) }
     ensures known { IfOk result (λ carried. KnowsVerdicts files.now carried.1) }
 {
@@ -33,7 +33,7 @@ fn carried_by(
 
 /// Whether no package of a state is finished, and nothing is known of any.
 fn has_nothing(current: &State) -> bool
-    ensures { IsTrue result → HasNone current.now.finished }
+    ensures { IsTrue result → HasNoUnit current.now.finished }
 {
     if !current.finished.is_empty() {
         return false;
@@ -47,7 +47,7 @@ fn carried_bare(
     current: &State,
     files: &Graph,
 ) -> Result<(Finished, SharedKnown), AllocError>
-    requires { HasNone current.now.finished }
+    requires { HasNoUnit current.now.finished }
     ensures units { IfOk result (λ carried. IsCarried current.now.files current.now.finished files.now carried.0) }
     ensures known { IfOk result (λ carried. KnowsVerdicts files.now carried.1) }
 {
@@ -79,7 +79,7 @@ pub(crate) fn state_after(
     current: &State,
     number: u64,
     change: MadeChange,
-) -> Result<(State, MadeEdits), AllocError>
+) -> Result<(State, EntryEdits), AllocError>
     requires { change.base ≡ current.now.files }
     ensures state { IfOk result (λ made. IsStateAfter current.now number change made.0) }
     ensures edits { IfOk result (λ made. made.1 ≡ change.edits) }
@@ -87,7 +87,7 @@ pub(crate) fn state_after(
     let (finished, known) = carried_over(alloc, current, &change)?;
     let change = change.into_change();
     let files = change.files;
-    let edits = MadeEdits::new(alloc, change.edits)?;
+    let edits = EntryEdits::new(alloc, change.edits)?;
     let state = State {
         number,
         files,

@@ -3,7 +3,7 @@ ghost use Rattle.std.specs.Prelude.{◌≡◌, ◌<◌, ◌↔◌, ℕ, Contains
 ghost use Rattle.std.specs.List.{All};
 ghost use Rattle.std.specs.List.Sorted.{IsStrictlyIncreasing};
 ghost use Rattle.base_files.specs.Packages.{package_paths};
-ghost use Rattle.workspace_graph.specs.Graphs.{HoldsPackages};
+ghost use Rattle.workspace_graph.specs.Graphs.{ListsPackages};
 ghost use Rattle.workspace_graph.specs.Packages.{IsInClosure};
 ghost use Rattle.build_unit.specs.Inputs.{AreInputs};
 ghost use Rattle.history_machine.specs.Deliveries.{IsFresh};
@@ -27,7 +27,7 @@ fn is_same_package(job: &Job, built: &Built) -> bool
 fn have_inputs(files: &Graph, closure: &[usize], job: &Job, built: &Built) -> bool
     requires numbers { All (λ number. number < length (package_paths files.now)) closure.now }
     requires rising { IsStrictlyIncreasing closure.now }
-    ensures { (p : List ℕ) → Contains (package_paths files.now) p → HoldsPackages files.now (IsInClosure files.now p) closure.now → IsTrue result ↔ (AreInputs files.now p job.now.inputs × AreInputs files.now p built.now.inputs) }
+    ensures { (p : List ℕ) → Contains (package_paths files.now) p → ListsPackages files.now (IsInClosure files.now p) closure.now → IsTrue result ↔ (AreInputs files.now p job.now.inputs × AreInputs files.now p built.now.inputs) }
 {
     are_inputs_of_both(files, closure, job.inputs(), built.inputs())
 }

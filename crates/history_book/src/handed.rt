@@ -1,5 +1,5 @@
 //! The answer to a Job that is handed in, and how the current state takes in a delivery.
-ghost use Rattle.history_book.specs.Outcomes.{HasTable, Settles};
+ghost use Rattle.history_book.specs.Outcomes.{FitsState, TakesInOutcome};
 ghost use Rattle.history_book.specs.Handed.{handed};
 
 use crate::deliveries::Outcome;
@@ -17,8 +17,8 @@ pub enum Handed {
 
 /// Lets the outcome of a delivery into the current state, and returns the answer.
 pub(crate) fn take_in(current: &mut State, outcome: Outcome) -> Handed
-    requires { HasTable current.old outcome }
-    ensures { Settles current.old outcome (handed result) current.new }
+    requires { FitsState current.old outcome }
+    ensures { TakesInOutcome current.old outcome (handed result) current.new }
 {
     match outcome {
         Outcome::Late => Handed::Refused(Refusal::Stale {

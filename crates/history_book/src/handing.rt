@@ -2,13 +2,13 @@
 ghost use Rattle.std.specs.Prelude.{◌≡◌, ◌+◌, ◌≤◌, ◌↔◌, IsTrue, None, Some, length, vec_capacity};
 ghost use Rattle.build_unit.specs.Jobs.{IsOut};
 ghost use Rattle.history_machine.specs.Journal.{subject_after, told_of};
-ghost use Rattle.history_machine.specs.Step.{AnswersOrLacks, Keeps};
+ghost use Rattle.history_machine.specs.Step.{AnswersOrLacks, EntersEvent};
 ghost use Rattle.history_machine.specs.declared.event.Event.TheVariants.{Deliver};
-ghost use Rattle.history_book.specs.Current.{BringsCurrent};
+ghost use Rattle.history_book.specs.CurrentInputs.{HasCurrentInputs};
 ghost use Rattle.history_book.specs.Handed.{handed};
 ghost use Rattle.history_book.specs.Questions.{handing_event};
 
-use crate::told::refusal_told;
+use crate::reasons::refusal_told;
 use crate::{Answered, Asked, Content, Handed, Question, enter};
 use base_files::Refusal;
 use build_unit::{Built, Job};
@@ -60,7 +60,7 @@ fn answered(ticket: u64, outcome: Handed) -> Answered<Handed>
 
 /// Answers a delivery that is known to have the inputs of its package in the current files.
 fn deliver_on_current(content: &mut Content, job: Job, built: Built) -> Answered<Handed>
-    requires { BringsCurrent content.old.current.files job built }
+    requires { HasCurrentInputs content.old.current.files job built }
     ensures answer { AnswersOrLacks content.old (Deliver job built) (handed result.answer) content.new }
     ensures out { result.out ≡ told_of (handed result.answer) }
     ensures subject { result.subject ≡ subject_after (Some job.ticket) (handed result.answer) }
@@ -78,9 +78,9 @@ pub(crate) fn enter_delivery(
     job: Job,
     built: Built,
 ) -> Handed
-    requires brings { BringsCurrent content.old.current.files job built }
+    requires brings { HasCurrentInputs content.old.current.files job built }
     requires room { length journal.old.items + 1 ≤ vec_capacity journal.old }
-    ensures keeps { Keeps content.old journal.old.items (Deliver job built) (handed result) content.new journal.new.items }
+    ensures keeps { EntersEvent content.old journal.old.items (Deliver job built) (handed result) content.new journal.new.items }
     ensures capacity { vec_capacity journal.new ≡ vec_capacity journal.old }
 {
     let asked = asked_of(EntryKind::Deliver, &job, content);

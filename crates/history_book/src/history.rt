@@ -3,7 +3,7 @@ ghost use Rattle.std.specs.Prelude.{◌≡◌, ◌+◌, ◌^◌, ◌<◌, ◌≤
 ghost use Rattle.history_machine.specs.Machine.{newest};
 ghost use Rattle.history_machine.specs.Step.{done};
 ghost use Rattle.history_machine.specs.declared.event.Event.TheVariants.{Redo, Undo};
-ghost use Rattle.history_book.specs.Histories.{IsChanged, IsSame, Moves};
+ghost use Rattle.history_book.specs.Histories.{GainsState, IsSameHistory, AnswersInHistory};
 
 use base_files::{Limits, Refusal};
 use history_machine::State;
@@ -35,15 +35,15 @@ fn keep_newest(states: &mut Vec<State>, depth: usize)
 
 impl History {
     /// Makes a state with the next number the current one, and drops all states that redo reaches. A visit begins.
-    pub fn go_on(&mut self, limits: Limits, next: State) -> Result<u64, AllocError>
+    pub fn advance(&mut self, limits: Limits, next: State) -> Result<u64, AllocError>
         requires next { self.old.next + 1 < 2 ^ 64 }
         requires visit { self.old.visit + 1 < 2 ^ 64 }
         requires number { next.number ≡ self.old.next }
         requires depth { length self.old.earlier.items + length self.old.later.items ≤ limits.undo_depth }
         ensures depth { length self.new.earlier.items + length self.new.later.items ≤ limits.undo_depth }
         ensures number { IfOk result (λ number. number ≡ self.old.next) }
-        ensures ok { OnOk result (IsChanged limits self.old next self.new) }
-        ensures err { OnErr result (IsSame self.old self.new) }
+        ensures ok { OnOk result (GainsState limits self.old next self.new) }
+        ensures err { OnErr result (IsSameHistory self.old self.new) }
     {
         self.earlier.reserve(1)?;
         let number = self.next;
@@ -59,7 +59,7 @@ impl History {
     /// Makes the state before the current one current again, where the basis is the current number. Returns that state's number.
     pub fn undo(&mut self, basis: u64) -> Result<u64, Refusal>
         requires { self.old.visit + 1 < 2 ^ 64 }
-        ensures moves { Moves self.old (Undo basis) (done result) self.new }
+        ensures moves { AnswersInHistory self.old (Undo basis) (done result) self.new }
         ensures count { length self.new.earlier.items + length self.new.later.items ≡ length self.old.earlier.items + length self.old.later.items }
     {
         let number = self.current.number;
@@ -81,7 +81,7 @@ impl History {
     /// Makes the state current again that the last undo left, where the basis is the current number. Returns that state's number.
     pub fn redo(&mut self, basis: u64) -> Result<u64, Refusal>
         requires { self.old.visit + 1 < 2 ^ 64 }
-        ensures moves { Moves self.old (Redo basis) (done result) self.new }
+        ensures moves { AnswersInHistory self.old (Redo basis) (done result) self.new }
         ensures count { length self.new.earlier.items + length self.new.later.items ≡ length self.old.earlier.items + length self.old.later.items }
     {
         let number = self.current.number;

@@ -14,7 +14,7 @@ mod handed;
 mod handing;
 mod history;
 mod question;
-mod told;
+mod reasons;
 
 pub use answering::{answer, enter};
 pub use asking::{Logging, Looking, Taking};

@@ -1,15 +1,15 @@
 //! The questions of a book: each is an event of one kind, and has a type for its answers.
 ghost use Rattle.std.specs.Prelude.{◌≡◌, ◌↔◌, IsTrue, None, false};
 ghost use Rattle.history_book.specs.Needed.{entries_needed};
-ghost use Rattle.history_machine.specs.Journal.{ShowsLine, basis_of, edits_of, kind_of, subject_after, subject_of, told_of};
-ghost use Rattle.history_machine.specs.Machine.{HasNumbers};
+ghost use Rattle.history_machine.specs.Journal.{ShowsLine, event_basis, edits_of, event_kind, subject_after, event_subject, told_of};
+ghost use Rattle.history_machine.specs.Machine.{HasNumbersLeft};
 ghost use Rattle.history_machine.specs.Step.{AnswersOrLacks, BringsOut, refused};
 ghost use Rattle.history_machine.specs.declared.event.Event.{Event};
 ghost use Rattle.history_machine.specs.declared.event.Reply.{Reply};
 
 use crate::content::Content;
 use base_files::Refusal;
-use history_machine::{Entry, EntryKind, MadeEdits, Told};
+use history_machine::{Entry, EntryEdits, EntryKind, Told};
 
 /// What the entry of an event keeps that is known before the answer, and whether the event's Job is out.
 #[derive(Clone, Copy)]
@@ -28,7 +28,7 @@ pub struct Answered<A> {
     /// The number of the entry that a log asks for, or the ticket of the Job that is handed out or in.
     pub subject: Option<u64>,
     /// The edits of an admitted change.
-    pub made: Option<MadeEdits>,
+    pub made: Option<EntryEdits>,
 }
 
 /// An event of one kind. The type of its answers determines which replies it may get.
@@ -43,22 +43,22 @@ pub trait Question {
 
     /// The kind of the event.
     fn kind(&self) -> EntryKind
-        ensures { result ≡ kind_of (event self.now) };
+        ensures { result ≡ event_kind (event self.now) };
 
     /// The kind and the basis of the event, and whether it hands in a Job that is out.
     fn asked(&self, content: &Content) -> Asked
-        ensures kind { result.kind ≡ kind_of (event self.now) }
-        ensures basis { result.basis ≡ basis_of content.now.current.number (event self.now) }
+        ensures kind { result.kind ≡ event_kind (event self.now) }
+        ensures basis { result.basis ≡ event_basis content.now.current.number (event self.now) }
         ensures out { IsTrue result.is_out ↔ BringsOut content.now.out (event self.now) };
 
     /// Answers the question: changes the content, but not the journal, of which a log is shown an entry. Room is made before anything
     /// changes, so want of memory changes nothing.
     fn ask(self, content: &mut Content, journal: &[Entry]) -> Answered<Self::Answer>
-        requires { HasNumbers content.old }
+        requires { HasNumbersLeft content.old }
         ensures answer { AnswersOrLacks content.old (event self) (reply result.answer) content.new }
         ensures shows { ShowsLine journal.now (event self) (reply result.answer) }
         ensures out { result.out ≡ told_of (reply result.answer) }
-        ensures subject { result.subject ≡ subject_after (subject_of (event self)) (reply result.answer) }
+        ensures subject { result.subject ≡ subject_after (event_subject (event self)) (reply result.answer) }
         ensures made { result.made ≡ edits_of (event self) (reply result.answer) };
 
     /// The answer that refuses the question, and brings back its Job and what was built.

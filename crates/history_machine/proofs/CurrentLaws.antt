@@ -9,7 +9,7 @@ use Rattle.std.proofs.lemmas.Option.{none-some, same_Some}
 use Rattle.base_files.specs.Packages.{package_paths}
 use Rattle.base_files.specs.Workspace.{Workspace}
 use Rattle.base_files.specs.declared.refusal.Refusal.TheVariants.{Memory, Moved, NothingToUndo, NothingToRedo, JournalFull, Stale, Already, NoJob}
-use Rattle.workspace_graph.proofs.Asked.{at_contains}
+use Rattle.workspace_graph.proofs.ByPath.{at_contains}
 use Rattle.workspace_graph.proofs.Filled.{set_elsewhere}
 use Rattle.workspace_check.proofs.Local.{same_back}
 use Rattle.build_unit.specs.declared.built.Built.{Built}
@@ -17,7 +17,7 @@ use Rattle.build_unit.specs.declared.job.JobRecord.{JobRecord}
 use Rattle.build_unit.specs.declared.unit.Unit.{Unit as PackageUnit}
 use Rattle.build_unit.specs.Units.{IsUnitOf}
 use Rattle.build_unit.proofs.Locality.{local_unit}
-use Rattle.build_carry.specs.Finished.{Table, Gains}
+use Rattle.build_carry.specs.Finished.{Table, GainsUnit}
 use Rattle.history_machine.specs.declared.event.Event.{Event}
 use Rattle.history_machine.specs.declared.event.Event.TheVariants.{Look, Log, Commit, Undo, Redo, Take, Deliver, GiveBack}
 use Rattle.history_machine.specs.declared.event.Reply.{Reply}
@@ -89,7 +89,7 @@ unit_built state job built fresh right =
     local_unit built.inputs state.files job.package built.unit there (same_back state.files built.inputs job.package same)
     (subst (λ p. IsUnitOf built.inputs p built.unit) fresh.same_package (right here))
 
-units_gained : (w : Workspace) (old : Table) (p : List ℕ) (unit : PackageUnit) (new : Table) → Gains w old p unit new → IsUnitOf w p unit → AreUnits w old →
+units_gained : (w : Workspace) (old : Table) (p : List ℕ) (unit : PackageUnit) (new : Table) → GainsUnit w old p unit new → IsUnitOf w p unit → AreUnits w old →
     AreUnits w new
 units_gained w old p unit new gains is u q other finished =
     let there = subst (λ (t : Table). slice_get t finished.0 ≡ Some (Some other)) gains.2 finished.2 in

@@ -8,7 +8,7 @@ use Rattle.history_machine.specs.declared.event.Reply.{Reply}
 use Rattle.history_machine.specs.declared.event.Reply.TheVariants.{Refused, Back}
 use Rattle.history_machine.specs.Journal.{Records, entry_of, told_of}
 use Rattle.history_machine.specs.Machine.{Machine}
-use Rattle.history_machine.specs.Run.{GoesOn, HasEntries}
+use Rattle.history_machine.specs.Run.{AppendsEntries, RunsAddEntries}
 use Rattle.history_machine.specs.Step.{Step}
 
 -- the journal after one event
@@ -32,12 +32,12 @@ after_step old event (Back JournalFull job unit) new s = ap (λ (m : Machine). m
 after_step old event reply new s = recorded_after old event reply new s.2
 
 goes_by : (o : Option Told) (current : ℕ) (old mid new : List Entry) (event : Event) (reply : Reply) (es : List (Event × Reply))
-    → MatchOption o (mid ≡ old) (λ told. mid ≡ old ++ entry_of current event reply told ∷ []) → GoesOn mid es new
-    → MatchOption o (GoesOn old es new) (λ told. (number : ℕ) × GoesOn (old ++ entry_of number event reply told ∷ []) es new)
-goes_by None current old mid new event reply es is rest = subst (λ (x : List Entry). GoesOn x es new) is rest
-goes_by (Some told) current old mid new event reply es is rest = (current, subst (λ (x : List Entry). GoesOn x es new) is rest)
+    → MatchOption o (mid ≡ old) (λ told. mid ≡ old ++ entry_of current event reply told ∷ []) → AppendsEntries mid es new
+    → MatchOption o (AppendsEntries old es new) (λ told. (number : ℕ) × AppendsEntries (old ++ entry_of number event reply told ∷ []) es new)
+goes_by None current old mid new event reply es is rest = subst (λ (x : List Entry). AppendsEntries x es new) is rest
+goes_by (Some told) current old mid new event reply es is rest = (current, subst (λ (x : List Entry). AppendsEntries x es new) is rest)
 
-pub has_entries : HasEntries
+pub has_entries : RunsAddEntries
 has_entries old [] new run = ap (λ (m : Machine). m.journal) run
 has_entries old (e ∷ es) new run =
     goes_by (told_of e.1) old.current.number old.journal run.0.journal new.journal e.0 e.1 es (after_step old e.0 e.1 run.0 run.1)

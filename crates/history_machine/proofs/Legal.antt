@@ -7,7 +7,7 @@ use Rattle.history_machine.specs.declared.event.Event.{Event}
 use Rattle.history_machine.specs.declared.event.Reply.{Reply}
 use Rattle.history_machine.specs.Machine.{Content, Machine, content, opening, with_journal}
 use Rattle.history_machine.specs.Run.{IsReplay, Run, RunsAreLegal}
-use Rattle.history_machine.specs.Step.{HasPlace, HasRoom, Keeps, Step}
+use Rattle.history_machine.specs.Step.{HasPlace, HasRoom, EntersEvent, Step}
 use Rattle.history_machine.proofs.Stepped.{kept_bounds, kept_step}
 
 pub Run-append : (old mid new : Machine) (es fs : List (Event × Reply)) → Run old es mid → Run mid fs new → Run old (es ++ fs) new
@@ -30,8 +30,8 @@ replay_on limits old event reply c journal step before =
     (is.0 ++ (event, reply) ∷ [], run_on (opening limits) old (with_journal c journal) is.0 event reply is.1 step))
 
 -- the invariant of a book with this content and this journal, which has room for so many entries
-abbrev pub BookHolds : Content → List Entry → ℕ → Type 0
-BookHolds c journal capacity =
+abbrev pub BookInvariant : Content → List Entry → ℕ → Type 0
+BookInvariant c journal capacity =
     (c.next ≤ length journal + 1)
     × (c.visit ≤ length journal)
     × (c.out.ticket ≤ length journal)
@@ -40,19 +40,19 @@ BookHolds c journal capacity =
     × ∥ IsReplay c.limits journal c ∥₁
 
 -- the invariant stays where the journal stays and its room doesn't shrink
-pub holds_still : (c : Content) (journal journals : List Entry) (capacity more : ℕ) → journals ≡ journal → capacity ≤ more → BookHolds c journal capacity →
-    BookHolds c journals more
+pub holds_still : (c : Content) (journal journals : List Entry) (capacity more : ℕ) → journals ≡ journal → capacity ≤ more → BookInvariant c journal capacity →
+    BookInvariant c journals more
 holds_still c journal journals capacity more same grows k =
-    subst (λ (x : List Entry). BookHolds c x more) (sym same) (k.0, k.1, k.2, k.3, omega (arith, grows, k.4), k.5)
+    subst (λ (x : List Entry). BookInvariant c x more) (sym same) (k.0, k.1, k.2, k.3, omega (arith, grows, k.4), k.5)
 
 -- the invariant stays where an event is answered, once there is room for its entry
 pub holds_on : (old new : Content) (journal mid journals : List Entry) (capacity more last : ℕ) (event : Event) (reply : Reply)
-    → BookHolds old journal capacity → mid ≡ journal → capacity ≤ more → last ≡ more
-    → HasRoom (with_journal old journal) event → HasPlace more (length mid + length old.out.jobs) old.out event → Keeps old mid event reply new journals
-    → BookHolds new journals last × Step (with_journal old journal) event reply (with_journal new journals)
+    → BookInvariant old journal capacity → mid ≡ journal → capacity ≤ more → last ≡ more
+    → HasRoom (with_journal old journal) event → HasPlace more (length mid + length old.out.jobs) old.out event → EntersEvent old mid event reply new journals
+    → BookInvariant new journals last × Step (with_journal old journal) event reply (with_journal new journals)
 holds_on old new journal mid journals capacity more last event reply k same grows is_last room place keeps =
     let m : Machine = with_journal old journal in
-    let kept : Keeps old journal event reply new journals = subst (λ (x : List Entry). Keeps old x event reply new journals) same keeps in
+    let kept : EntersEvent old journal event reply new journals = subst (λ (x : List Entry). EntersEvent old x event reply new journals) same keeps in
     let place_here : HasPlace more (length journal + length old.out.jobs) old.out event =
     subst (λ (x : List Entry). HasPlace more (length x + length old.out.jobs) old.out event) same place in
     let step : Step m event reply (with_journal new journals) = kept_step m event reply new journals room kept in

@@ -4,7 +4,7 @@ pub mod Fresh
 pub mod Replies
 pub mod Stepped
 pub mod Legal
-pub mod Kept
+pub mod JournalSteps
 pub mod Journaled
 pub mod NumberLaws
 pub mod RunLaws

@@ -8,7 +8,7 @@ use Rattle.history_machine.specs.declared.event.Reply.TheVariants.{Looked, Logge
 use Rattle.history_machine.specs.Journal.{Records}
 use Rattle.history_machine.specs.Machine.{Content, Machine, content, with_journal}
 use Rattle.history_machine.specs.Step.{Step, Answers}
-use Rattle.history_machine.specs.Run.{AddsEntry, Run, KeepsIfRefused, NumbersRise, NumbersAreNew, RefusalsKeepAll}
+use Rattle.history_machine.specs.Run.{AddsEntry, Run, KeepsIfRefused, NumbersRise, NumbersArePositive, RefusalsKeepAll}
 
 next_kept : (m n : Content) → n.next ≡ m.next → m.next ≤ n.next
 next_kept m n e = omega (arith, e)
@@ -63,7 +63,7 @@ numbers_rise start changed settled end basis next_basis first second change next
     let along = run_next changed between settled run in
     omega (arith, after, one, two, along)
 
-pub numbers_are_new : NumbersAreNew
+pub numbers_are_new : NumbersArePositive
 numbers_are_new limits settled end before basis number change run committed =
     let is : number ≡ settled.next = committed.1.1 in
     let along : 1 ≤ settled.next = run_next _ before settled run in

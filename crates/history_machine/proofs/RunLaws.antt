@@ -10,7 +10,7 @@ use Rattle.history_machine.specs.declared.event.Reply.TheVariants.{Looked, Logge
 use Rattle.history_machine.specs.State.{State}
 use Rattle.history_machine.specs.Machine.{Content, Machine, content, newest}
 use Rattle.history_machine.specs.Step.{Step, Answers}
-use Rattle.history_machine.specs.Run.{Run, IsAdmitted, IsQuiet, Restores, UndoRestores, RedoRestores, MovesCursor}
+use Rattle.history_machine.specs.Run.{Run, IsAdmitted, AdmitsNoChange, Restores, UndoRestores, RedoRestores, MovesCursor}
 
 -- the last element of a list, or `d` where it is empty
 last_or : State → List State → State
@@ -75,7 +75,7 @@ quiet_step old event (Back Memory job unit) new quiet s = same_machine old new s
 quiet_step old event (Back JournalFull job unit) new quiet s = same_machine old new s.2
 quiet_step old event reply new quiet s = quiet_answer (content old) event reply (content new) quiet s.1
 
-quiet_run : (old : Machine) (es : List (Event × Reply)) (new : Machine) → Run old es new → IsQuiet es → SameReach (content old) (content new)
+quiet_run : (old : Machine) (es : List (Event × Reply)) (new : Machine) → Run old es new → AdmitsNoChange es → SameReach (content old) (content new)
 quiet_run old [] new r quiet = same_machine old new r
 quiet_run old (e ∷ es) new r quiet =
     let first = quiet_step old e.0 e.1 r.0 quiet.0 r.1 in

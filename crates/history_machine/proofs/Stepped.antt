@@ -5,7 +5,7 @@ use Rattle.std.proofs.lemmas.List.Edits.{length-remove}
 use Rattle.std.proofs.lemmas.List.Elements.{at_from_Contains}
 use Rattle.std.proofs.lemmas.Option.{none-some, same_Some, slice_get_within}
 use Rattle.base_files.specs.declared.refusal.Refusal.TheVariants.{Memory, Moved, NothingToUndo, NothingToRedo, JournalFull, Stale, Already, NoJob}
-use Rattle.build_unit.specs.Jobs.{IsOut, JobsOut, Loses, label_of}
+use Rattle.build_unit.specs.Jobs.{IsOut, JobsOut, RemovesJob, label_of}
 use Rattle.build_unit.specs.declared.built.Built.{Built}
 use Rattle.build_unit.specs.declared.job.JobRecord.{JobRecord}
 use Rattle.history_machine.specs.declared.event.Event.{Event}
@@ -16,7 +16,7 @@ use Rattle.history_machine.specs.declared.entry.Entry.{Entry}
 use Rattle.history_machine.specs.declared.entry.Told.{Told}
 use Rattle.history_machine.specs.Journal.{Records, ShowsLine, entry_of, told_of}
 use Rattle.history_machine.specs.Machine.{Content, Machine, content, with_journal}
-use Rattle.history_machine.specs.Step.{Answers, BringsOut, HasPlace, HasRoom, Keeps, Step, entries_due, refused}
+use Rattle.history_machine.specs.Step.{Answers, BringsOut, HasPlace, HasRoom, EntersEvent, Step, entries_due, refused}
 
 -- ---- the entry
 
@@ -87,7 +87,7 @@ no_room_back old (GiveBack back) job unit new a = a
 
 -- an answered event with its entry is a step
 pub kept_step : (old : Machine) (event : Event) (reply : Reply) (c : Content) (journal : List Entry) → HasRoom old event →
-    Keeps (content old) old.journal event reply c journal → Step old event reply (with_journal c journal)
+    EntersEvent (content old) old.journal event reply c journal → Step old event reply (with_journal c journal)
 kept_step old event (Refused Memory) c journal room k = (k.0.0, same_machine old c journal k.0.1 k.2)
 kept_step old event (Refused JournalFull) c journal room k = absurd (no_room (content old) event c k.0)
 kept_step old event (Back Memory job unit) c journal room k = (k.0.0, k.0.1, same_machine old c journal k.0.2 k.2)
@@ -177,7 +177,7 @@ module _ (m : Machine) (most : ℕ) (due : entries_due m ≤ most) where
       let ticket : c.out.ticket ≡ m.out.ticket = ap (λ (o : JobsOut). o.ticket) out in
       record { next = omega (arith, next); visit = omega (arith, visit); ticket = omega (arith, ticket); room = omega (arith, room, jobs); limits = limits }
 
-  spent : (job : JobRecord) (out : JobsOut) (c : Content) → Loses m.out (label_of job) out → c.out ≡ out → c.next ≡ m.next → c.visit ≡ m.visit →
+  spent : (job : JobRecord) (out : JobsOut) (c : Content) → RemovesJob m.out (label_of job) out → c.out ≡ out → c.next ≡ m.next → c.visit ≡ m.visit →
       c.limits ≡ m.limits → Fits m most c
   spent job out c lost is next visit limits =
       let within : lost.place < length m.out.jobs = slice_get_within m.out.jobs lost.place (label_of job) lost.at in
@@ -223,7 +223,7 @@ module _ (m : Machine) (most : ℕ) (due : entries_due m ≤ most) where
 
 -- the event is answered and the journal gains its entry, or nothing changes
 answered_or_same : (old : Content) (journal : List Entry) (event : Event) (reply : Reply) (new : Content) (journals : List Entry) →
-    Keeps old journal event reply new journals
+    EntersEvent old journal event reply new journals
     → (Answers old event reply new × (length journals ≡ length journal + 1)) ⊎ ((new ≡ old) × (journals ≡ journal))
 answered_or_same old journal event (Refused Memory) new journals k = inr (k.0.1, k.2)
 answered_or_same old journal event (Back Memory job unit) new journals k = inr (k.0.2, k.2)
@@ -239,7 +239,7 @@ pub record AreBounded (c : Content) (entries most : ℕ) : Type 0 where
 
 pub kept_bounds : (old : Machine) (most : ℕ) (event : Event) (reply : Reply) (c : Content) (journal : List Entry) →
     AreBounded (content old) (length old.journal) most → HasPlace most (entries_due old) old.out event
-    → Keeps (content old) old.journal event reply c journal → AreBounded c (length journal) most × (c.limits ≡ old.limits)
+    → EntersEvent (content old) old.journal event reply c journal → AreBounded c (length journal) most × (c.limits ≡ old.limits)
 kept_bounds old most event reply c journal bounds place k = ⊎_elim
     (λ (is : Answers (content old) event reply c × (length journal ≡ length old.journal + 1)).
     let fits = answer_fits old most bounds.room event reply c place is.0 in (

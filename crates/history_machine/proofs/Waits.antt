@@ -4,8 +4,8 @@ use Rattle.std.proofs.lemmas.Bool.{false≢true}
 use Rattle.std.proofs.lemmas.Option.{same_Some, slice_get_within, slice_get-get_or}
 use Rattle.base_files.specs.Packages.{package_paths}
 use Rattle.workspace_graph.specs.Graphs.{OfPackage}
-use Rattle.workspace_graph.proofs.Asked.{at_contains, number}
-use Rattle.build_unit.specs.Jobs.{JobsOut, IsTaken}
+use Rattle.workspace_graph.proofs.ByPath.{at_contains, number}
+use Rattle.build_unit.specs.Jobs.{JobsOut, IsTakenInVisit}
 use Rattle.build_unit.specs.declared.unit.Unit.{Unit as PackageUnit}
 use Rattle.build_carry.proofs.FinishedUnits.{unit_at}
 use Rattle.history_machine.specs.State.{State}
@@ -13,7 +13,7 @@ use Rattle.history_machine.specs.Waiting.{IsWaiting, IsFirstWaiting}
 
 module _ (state : State) (out : JobsOut) (visit : ℕ) where
   pub waits : (n : ℕ) (p : List ℕ) → slice_get (package_paths state.files) n ≡ Some p →
-      ((unit : PackageUnit) → slice_get state.finished n ≡ Some (Some unit) → ⊥) → (IsTaken out visit p → ⊥) →
+      ((unit : PackageUnit) → slice_get state.finished n ≡ Some (Some unit) → ⊥) → (IsTakenInVisit out visit p → ⊥) →
       OfPackage state.files n (IsWaiting state out visit)
   waits n p at none untaken q there =
       subst (IsWaiting state out visit) (same_Some p q (sym at ∙ there)) (record {

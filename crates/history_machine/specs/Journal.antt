@@ -18,31 +18,31 @@ use Rattle.history_machine.specs.declared.event.Reply.{Reply}
 use Rattle.history_machine.specs.declared.event.Reply.TheVariants.{Looked, Logged, Done, Taken, Refused, Back}
 
 -- the kind of an event
-abbrev pub kind_of : Event → EntryKind
-kind_of Look = kind.Look
-kind_of (Log number) = kind.Log
-kind_of (Commit basis change) = kind.Commit
-kind_of (Undo basis) = kind.Undo
-kind_of (Redo basis) = kind.Redo
-kind_of Take = kind.Take
-kind_of (Deliver job built) = kind.Deliver
-kind_of (GiveBack job) = kind.GiveBack
+abbrev pub event_kind : Event → EntryKind
+event_kind Look = kind.Look
+event_kind (Log number) = kind.Log
+event_kind (Commit basis change) = kind.Commit
+event_kind (Undo basis) = kind.Undo
+event_kind (Redo basis) = kind.Redo
+event_kind Take = kind.Take
+event_kind (Deliver job built) = kind.Deliver
+event_kind (GiveBack job) = kind.GiveBack
 
 -- the basis that the event gives, the number of the event's Job, or else the number of the current state
-abbrev pub basis_of : ℕ → Event → ℕ
-basis_of current (Commit basis change) = basis
-basis_of current (Undo basis) = basis
-basis_of current (Redo basis) = basis
-basis_of current (Deliver job built) = job.number
-basis_of current (GiveBack job) = job.number
-basis_of current event = current
+abbrev pub event_basis : ℕ → Event → ℕ
+event_basis current (Commit basis change) = basis
+event_basis current (Undo basis) = basis
+event_basis current (Redo basis) = basis
+event_basis current (Deliver job built) = job.number
+event_basis current (GiveBack job) = job.number
+event_basis current event = current
 
 -- the number of the entry that a log asks for, or the ticket of the Job that the event hands in; other events have none
-abbrev pub subject_of : Event → Option ℕ
-subject_of (Log number) = Some number
-subject_of (Deliver job built) = Some job.ticket
-subject_of (GiveBack job) = Some job.ticket
-subject_of event = None
+abbrev pub event_subject : Event → Option ℕ
+event_subject (Log number) = Some number
+event_subject (Deliver job built) = Some job.ticket
+event_subject (GiveBack job) = Some job.ticket
+event_subject event = None
 
 -- the ticket of the Job that the reply hands out, or else this subject
 abbrev pub subject_after : Option ℕ → Reply → Option ℕ
@@ -77,8 +77,8 @@ told_of (Back refusal job unit) = option_map (λ why. told.Refused why) (reason_
 -- the entry of an event, its reply and this outcome, where `current` is the number of the current state before the event
 abbrev pub entry_of : ℕ → Event → Reply → Told → Entry
 entry_of current event reply out = record {
-  line = record { kind = kind_of event; basis = basis_of current event; out = out };
-  subject = subject_after (subject_of event) reply;
+  line = record { kind = event_kind event; basis = event_basis current event; out = out };
+  subject = subject_after (event_subject event) reply;
   edits = edits_of event reply;
 }
 

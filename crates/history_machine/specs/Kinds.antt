@@ -19,10 +19,10 @@ kind_name kind.Deliver = codes "deliver"
 kind_name kind.GiveBack = codes "give"
 
 -- the refusal that a reason stands for
-abbrev pub refusal_of : Reason → Refusal
-refusal_of (reason.Moved current) = refusal.Moved current
-refusal_of reason.NothingToUndo = refusal.NothingToUndo
-refusal_of reason.NothingToRedo = refusal.NothingToRedo
-refusal_of (reason.Stale current) = refusal.Stale current
-refusal_of reason.Already = refusal.Already
-refusal_of reason.NoJob = refusal.NoJob
+abbrev pub reason_refusal : Reason → Refusal
+reason_refusal (reason.Moved current) = refusal.Moved current
+reason_refusal reason.NothingToUndo = refusal.NothingToUndo
+reason_refusal reason.NothingToRedo = refusal.NothingToRedo
+reason_refusal (reason.Stale current) = refusal.Stale current
+reason_refusal reason.Already = refusal.Already
+reason_refusal reason.NoJob = refusal.NoJob

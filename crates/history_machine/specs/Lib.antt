@@ -7,7 +7,7 @@ pub mod Machine
 pub mod Waiting
 pub mod Deliveries
 pub mod Step
-pub mod Kept
+pub mod JournalSteps
 pub mod MayReply
 pub mod Run
 pub mod Current

@@ -3,10 +3,10 @@ use Rattle.std.specs.Prelude.{◌≡◌, ℕ, ◌+◌, ◌-◌, ◌^◌, ◌<◌
 use Rattle.std.specs.FinMap as map
 use Rattle.base_files.specs.Workspace.{Workspace}
 use Rattle.base_files.specs.declared.limits.Limits.{Limits}
-use Rattle.build_unit.specs.Jobs.{JobsOut, Loses, label_of}
+use Rattle.build_unit.specs.Jobs.{JobsOut, RemovesJob, label_of}
 use Rattle.build_unit.specs.declared.job.JobRecord.{JobRecord}
 use Rattle.build_unit.specs.declared.unit.Unit.{Unit as PackageUnit}
-use Rattle.build_carry.specs.Finished.{Table, Gains}
+use Rattle.build_carry.specs.Finished.{Table, GainsUnit}
 use Rattle.history_machine.specs.declared.view.View.{View}
 use Rattle.workspace_snapshot.specs.declared.snapshot.Snapshot.{Snapshot}
 use Rattle.workspace_snapshot.specs.declared.change.Change.{Change}
@@ -98,24 +98,24 @@ pub record BeginsVisit (old new : Content) : Type 0 where
   pub out : new.out ≡ old.out
 
 -- the next number, the count of visits and the next ticket can each grow by one within 64 bits
-pub record HasNumbers (c : Content) : Type 0 where
+pub record HasNumbersLeft (c : Content) : Type 0 where
   pub next : c.next + 1 < 2 ^ 64
   pub visit : c.visit + 1 < 2 ^ 64
   pub ticket : c.out.ticket + 1 < 2 ^ 64
 
 -- the Job was out, and is not out after the event; nothing else changes
-abbrev pub Returns : Content → JobRecord → Content → Type 0
-Returns old job new = (out : JobsOut) × Loses old.out (label_of job) out × (new ≡ record old { out = out })
+abbrev pub LosesJob : Content → JobRecord → Content → Type 0
+LosesJob old job new = (out : JobsOut) × RemovesJob old.out (label_of job) out × (new ≡ record old { out = out })
 
 -- the state with another table of finished units
 abbrev pub with_finished : State → Table → State
 with_finished state finished = record state { finished = finished }
 
 -- the Job was out, and is not out after the event; its package is finished in the current state, with this unit
-abbrev pub Enters : Content → JobRecord → PackageUnit → Content → Type 0
-Enters old job unit new =
-    (out : JobsOut) × (finished : Table) × Loses old.out (label_of job) out
-    × Gains old.current.files old.current.finished job.package unit finished
+abbrev pub FinishesPackage : Content → JobRecord → PackageUnit → Content → Type 0
+FinishesPackage old job unit new =
+    (out : JobsOut) × (finished : Table) × RemovesJob old.out (label_of job) out
+    × GainsUnit old.current.files old.current.finished job.package unit finished
     × (new ≡ record old { current = with_finished old.current finished; out = out })
 
 -- the snapshot of the current state

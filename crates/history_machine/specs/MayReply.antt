@@ -4,7 +4,7 @@ use Rattle.history_machine.specs.declared.event.Event.{Event}
 use Rattle.history_machine.specs.declared.event.Event.TheVariants.{Look, Log, Commit, Undo, Redo, Take, Deliver, GiveBack}
 use Rattle.history_machine.specs.declared.event.Reply.{Reply}
 use Rattle.history_machine.specs.declared.event.Reply.TheVariants.{Looked, Logged, Done, Taken, Refused, Back}
-use Rattle.history_machine.specs.Step.{IsBackOf}
+use Rattle.history_machine.specs.Step.{HandsOver}
 
 -- The reply is of a form that the event may get. `Looked` answers a look alone, `Logged` a log, `Taken` a Take, and `Done` any other event.
 -- `Back` answers only an event that brings a Job, and returns what it brought.
@@ -23,7 +23,7 @@ MayReply Take (Taken job) = ⊤
 MayReply Take (Refused refusal) = ⊤
 MayReply (Deliver job built) (Done number) = ⊤
 MayReply (Deliver job built) (Refused refusal) = ⊤
-MayReply (Deliver job built) (Back refusal back unit) = IsBackOf (Deliver job built) back unit
+MayReply (Deliver job built) (Back refusal back unit) = HandsOver (Deliver job built) back unit
 MayReply (GiveBack job) (Done number) = ⊤
-MayReply (GiveBack job) (Back refusal back unit) = IsBackOf (GiveBack job) back unit
+MayReply (GiveBack job) (Back refusal back unit) = HandsOver (GiveBack job) back unit
 MayReply event reply = ⊥

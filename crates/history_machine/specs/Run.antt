@@ -3,7 +3,7 @@ use Rattle.std.specs.Prelude.{◌≡◌, ℕ, ◌+◌, ◌<◌, ⊤, List, [], �
 use Rattle.std.specs.List.{AllByRecursion}
 use Rattle.base_files.specs.declared.limits.Limits.{Limits}
 use Rattle.base_files.specs.declared.refusal.Refusal.TheVariants.{Memory, JournalFull}
-use Rattle.build_unit.specs.Jobs.{JobsOut, Loses, label_of}
+use Rattle.build_unit.specs.Jobs.{JobsOut, RemovesJob, label_of}
 use Rattle.build_unit.specs.declared.job.JobRecord.{JobRecord}
 use Rattle.workspace_snapshot.specs.declared.change.Change.{Change}
 use Rattle.history_machine.specs.declared.event.Event.{Event}
@@ -33,14 +33,14 @@ IsLegal limits journal = (c : Content) × IsReplay limits journal c
 
 -- The new journal is the old one and the entries of these events, each with its reply, in their order. An event whose reply leaves no entry
 -- adds none.
-abbrev pub GoesOn : List Entry → List (Event × Reply) → List Entry → Type 0
-GoesOn journal [] new = new ≡ journal
-GoesOn journal (e ∷ es) new =
-    MatchOption (told_of e.1) (GoesOn journal es new) (λ told. (current : ℕ) × GoesOn (journal ++ entry_of current e.0 e.1 told ∷ []) es new)
+abbrev pub AppendsEntries : List Entry → List (Event × Reply) → List Entry → Type 0
+AppendsEntries journal [] new = new ≡ journal
+AppendsEntries journal (e ∷ es) new =
+    MatchOption (told_of e.1) (AppendsEntries journal es new) (λ told. (current : ℕ) × AppendsEntries (journal ++ entry_of current e.0 e.1 told ∷ []) es new)
 
 -- A run adds exactly the entries of its events to the journal, in their order.
-abbrev pub HasEntries : Type 0
-HasEntries = (old : Machine) (events : List (Event × Reply)) (new : Machine) → Run old events new → GoesOn old.journal events new.journal
+abbrev pub RunsAddEntries : Type 0
+RunsAddEntries = (old : Machine) (events : List (Event × Reply)) (new : Machine) → Run old events new → AppendsEntries old.journal events new.journal
 
 -- A run from the opening state leaves a legal journal, and its content is the replay of that journal.
 abbrev pub RunsAreLegal : Type 0
@@ -55,8 +55,8 @@ IsAdmitted (Redo basis) (Done number) = ⊤
 IsAdmitted event reply = ⊥
 
 -- no change, undo or redo among these events is admitted
-abbrev pub IsQuiet : List (Event × Reply) → Type 0
-IsQuiet = AllByRecursion (λ e. ¬ (IsAdmitted e.0 e.1))
+abbrev pub AdmitsNoChange : List (Event × Reply) → Type 0
+AdmitsNoChange = AllByRecursion (λ e. ¬ (IsAdmitted e.0 e.1))
 
 -- The reply is `Done`, and the state is current again, with its number. Or memory or room in the journal was wanting, and nothing changes.
 abbrev pub Restores : State → Machine → Reply → Machine → Type 0
@@ -69,7 +69,7 @@ Restores state old reply new = ⊥
 abbrev pub UndoRestores : Type 0
 UndoRestores = (start changed settled end : Machine) (basis number : ℕ) (change : Change) (between : List (Event × Reply)) (reply : Reply)
     → Step start (Commit basis change) (Done number) changed
-    → Run changed between settled → IsQuiet between
+    → Run changed between settled → AdmitsNoChange between
     → Step settled (Undo settled.current.number) reply end
     → Restores start.current settled reply end
 
@@ -77,7 +77,7 @@ UndoRestores = (start changed settled end : Machine) (basis number : ℕ) (chang
 abbrev pub RedoRestores : Type 0
 RedoRestores = (start undone settled end : Machine) (basis number : ℕ) (between : List (Event × Reply)) (reply : Reply)
     → Step start (Undo basis) (Done number) undone
-    → Run undone between settled → IsQuiet between
+    → Run undone between settled → AdmitsNoChange between
     → Step settled (Redo settled.current.number) reply end
     → Restores start.current settled reply end
 
@@ -95,8 +95,8 @@ NumbersRise = (start changed settled end : Machine) (basis next_basis first seco
     → first < second
 
 -- No change has the number 0, which is that of the opening state.
-abbrev pub NumbersAreNew : Type 0
-NumbersAreNew = (limits : Limits) (settled end : Machine) (before : List (Event × Reply)) (basis number : ℕ) (change : Change)
+abbrev pub NumbersArePositive : Type 0
+NumbersArePositive = (limits : Limits) (settled end : Machine) (before : List (Event × Reply)) (basis number : ℕ) (change : Change)
     → Run (opening limits) before settled
     → Step settled (Commit basis change) (Done number) end
     → 0 < number
@@ -108,7 +108,7 @@ AddsEntry old event reply rest new =
 
 -- the delivered Job is not out after the event, and the journal gains the entry of the event and its reply; nothing else changes
 abbrev pub SpendsJob : Machine → Event → Reply → JobRecord → Machine → Type 0
-SpendsJob old event reply job new = (out : JobsOut) × Loses old.out (label_of job) out × AddsEntry old event reply (record old { out = out }) new
+SpendsJob old event reply job new = (out : JobsOut) × RemovesJob old.out (label_of job) out × AddsEntry old event reply (record old { out = out }) new
 
 -- the machine after a refused event; a reply that is no refusal says nothing here
 abbrev pub KeepsIfRefused : Machine → Event → Reply → Machine → Type 0

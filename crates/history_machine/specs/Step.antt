@@ -15,7 +15,7 @@ use Rattle.build_carry.specs.Carried.{IsCarried}
 use Rattle.base_edits.specs.EditSet.{FileChanges}
 use Rattle.history_machine.specs.declared.entry.Entry.{Entry}
 use Rattle.history_machine.specs.Journal.{Records, ShowsLine, entry_of, told_of}
-use Rattle.history_machine.specs.Machine.{Content, Machine, BeginsVisit, Enters, FitsCurrent, IsOneBefore, Returns, changed, content, view_of}
+use Rattle.history_machine.specs.Machine.{Content, Machine, BeginsVisit, FinishesPackage, FitsCurrent, IsOneBefore, LosesJob, changed, content, view_of}
 use Rattle.history_machine.specs.Waiting.{IsNextJob, WaitsIn}
 use Rattle.history_machine.specs.Deliveries.{IsFresh, IsRightlyBuilt, HasUnit}
 
@@ -48,10 +48,10 @@ BringsJob (GiveBack job) = ⊤
 BringsJob event = ⊥
 
 -- the event hands in this Job, and what was built if it is a delivery
-abbrev pub IsBackOf : Event → JobRecord → Option Built → Type 0
-IsBackOf (Deliver job built) back unit = (back ≡ job) × (unit ≡ Some built)
-IsBackOf (GiveBack job) back unit = (back ≡ job) × (unit ≡ None)
-IsBackOf event back unit = ⊥
+abbrev pub HandsOver : Event → JobRecord → Option Built → Type 0
+HandsOver (Deliver job built) back unit = (back ≡ job) × (unit ≡ Some built)
+HandsOver (GiveBack job) back unit = (back ≡ job) × (unit ≡ None)
+HandsOver event back unit = ⊥
 
 -- the event may be refused for want of memory: all but a Job that is out and is given back
 abbrev pub MayLackMemory : JobsOut → Event → Type 0
@@ -74,26 +74,26 @@ Answers old (Redo basis) (Refused (Moved current)) new = ¬ (basis ≡ old.curre
 Answers old (Redo basis) (Refused NothingToRedo) new = (basis ≡ old.current.number) × (old.later ≡ []) × (new ≡ old)
 Answers old Take (Taken job) new = IsNextJob old job × (new ≡ record old { out = with_job old.out (label_of job) })
 Answers old Take (Refused NoJob) new = ((p : List ℕ) → WaitsIn old p → ⊥) × (new ≡ old)
-Answers old (Deliver job built) (Back NoJob back unit) new = ¬ (IsOut old.out job) × IsBackOf (Deliver job built) back unit × (new ≡ old)
-Answers old (Deliver job built) (Refused (Stale current)) new = ¬ (IsFresh old.current job built) × (current ≡ old.current.number) × Returns old job new
-Answers old (Deliver job built) (Refused Already) new = IsFresh old.current job built × HasUnit old.current job.package × Returns old job new
+Answers old (Deliver job built) (Back NoJob back unit) new = ¬ (IsOut old.out job) × HandsOver (Deliver job built) back unit × (new ≡ old)
+Answers old (Deliver job built) (Refused (Stale current)) new = ¬ (IsFresh old.current job built) × (current ≡ old.current.number) × LosesJob old job new
+Answers old (Deliver job built) (Refused Already) new = IsFresh old.current job built × HasUnit old.current job.package × LosesJob old job new
 Answers old (Deliver job built) (Done number) new =
-    IsFresh old.current job built × ¬ (HasUnit old.current job.package) × (number ≡ old.current.number) × Enters old job built.unit new
+    IsFresh old.current job built × ¬ (HasUnit old.current job.package) × (number ≡ old.current.number) × FinishesPackage old job built.unit new
     × IsRightlyBuilt built
-Answers old (GiveBack job) (Back NoJob back unit) new = ¬ (IsOut old.out job) × IsBackOf (GiveBack job) back unit × (new ≡ old)
-Answers old (GiveBack job) (Done number) new = (number ≡ old.current.number) × Returns old job new
+Answers old (GiveBack job) (Back NoJob back unit) new = ¬ (IsOut old.out job) × HandsOver (GiveBack job) back unit × (new ≡ old)
+Answers old (GiveBack job) (Done number) new = (number ≡ old.current.number) × LosesJob old job new
 Answers old event reply new = ⊥
 
 -- the content after an event that gets this reply; for want of memory nothing changes, and the event's Job comes back
 abbrev pub AnswersOrLacks : Content → Event → Reply → Content → Type 0
 AnswersOrLacks old event (Refused Memory) new = ¬ (BringsJob event) × (new ≡ old)
-AnswersOrLacks old event (Back Memory job unit) new = IsBackOf event job unit × MayLackMemory old.out event × (new ≡ old)
+AnswersOrLacks old event (Back Memory job unit) new = HandsOver event job unit × MayLackMemory old.out event × (new ≡ old)
 AnswersOrLacks old event reply new = Answers old event reply new
 
 -- Content and journal after an event that gets this reply. The journal gains the event's entry, except for want of memory, when nothing
 -- changes.
-abbrev pub Keeps : Content → List Entry → Event → Reply → Content → List Entry → Type 0
-Keeps old journal event reply new journals =
+abbrev pub EntersEvent : Content → List Entry → Event → Reply → Content → List Entry → Type 0
+EntersEvent old journal event reply new journals =
     AnswersOrLacks old event reply new × ShowsLine journal event reply
     × MatchOption (told_of reply) (journals ≡ journal) (λ told. journals ≡ journal ++ entry_of old.current.number event reply told ∷ [])
 
@@ -102,8 +102,8 @@ abbrev pub Step : Machine → Event → Reply → Machine → Type 0
 -- An event that is refused for want of memory, or of room in the journal, changes nothing and has no entry; its Job comes back.
 Step old event (Refused Memory) new = ¬ (BringsJob event) × (new ≡ old)
 Step old event (Refused JournalFull) new = ¬ (BringsJob event) × ¬ (HasRoom old event) × (new ≡ old)
-Step old event (Back Memory job unit) new = IsBackOf event job unit × MayLackMemory old.out event × (new ≡ old)
-Step old event (Back JournalFull job unit) new = IsBackOf event job unit × ¬ (HasRoom old event) × (new ≡ old)
+Step old event (Back Memory job unit) new = HandsOver event job unit × MayLackMemory old.out event × (new ≡ old)
+Step old event (Back JournalFull job unit) new = HandsOver event job unit × ¬ (HasRoom old event) × (new ≡ old)
 Step old event reply new = HasRoom old event × Answers (content old) event reply (content new) × Records old.current.number old.journal event reply new.journal
 
 -- the reply to a look with this answer

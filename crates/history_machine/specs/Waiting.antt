@@ -4,7 +4,7 @@ use Rattle.std.specs.List.{Contains}
 use Rattle.base_files.specs.Packages.{package_paths}
 use Rattle.workspace_graph.specs.Graphs.{OfPackage}
 use Rattle.build_unit.specs.Inputs.{AreInputs}
-use Rattle.build_unit.specs.Jobs.{JobsOut, IsTaken}
+use Rattle.build_unit.specs.Jobs.{JobsOut, IsTakenInVisit}
 use Rattle.build_unit.specs.declared.job.JobRecord.{JobRecord}
 use Rattle.build_unit.specs.declared.unit.Unit.{Unit as PackageUnit}
 use Rattle.build_carry.specs.Finished.{IsFinished}
@@ -15,7 +15,7 @@ use Rattle.history_machine.specs.Machine.{Content}
 pub record IsWaiting (state : State) (out : JobsOut) (visit : ℕ) (p : List ℕ) : Type 0 where
   pub is_package : Contains (package_paths state.files) p
   pub unfinished : (unit : PackageUnit) → IsFinished state.files state.finished p unit → ⊥
-  pub untaken : IsTaken out visit p → ⊥
+  pub untaken : IsTakenInVisit out visit p → ⊥
 
 -- p is the first package that waits, by the order of paths
 pub record IsFirstWaiting (state : State) (out : JobsOut) (visit : ℕ) (p : List ℕ) : Type 0 where

@@ -1,8 +1,8 @@
 //! The entries of the journal: one for each event, with its outcome.
 ghost use Rattle.std.specs.Prelude.{◌≡◌, ◌↔◌, IfOk, IsTrue};
-ghost use Rattle.history_machine.specs.Kinds.{kind_name, refusal_of};
+ghost use Rattle.history_machine.specs.Kinds.{kind_name, reason_refusal};
 
-use crate::same::{SameParts, same_sets};
+use crate::comparing::{SameParts, same_sets};
 use base_edits::EditSet;
 use base_files::Refusal;
 use std::alloc::{AllocError, Global};
@@ -54,7 +54,7 @@ pub enum Reason {
 impl Reason {
     /// The refusal that this reason stands for in a reply.
     pub fn refusal(self) -> Refusal
-        ensures { result ≡ refusal_of self }
+        ensures { result ≡ reason_refusal self }
     {
         match self {
             Reason::Moved { current } => Refusal::Moved { current },

@@ -5,9 +5,9 @@ ghost use Rattle.history_machine.specs.Run.{
   RedoRestores,
   MovesCursor,
   NumbersRise,
-  NumbersAreNew,
+  NumbersArePositive,
   RefusalsKeepAll,
-  HasEntries,
+  RunsAddEntries,
   RunsAreLegal,
 };
 
@@ -21,7 +21,7 @@ pub fn undo_and_redo_restore()
 /// Each state's number is given to no later state.
 pub fn numbers_are_used_once()
     ensures rise { NumbersRise }
-    ensures fresh { NumbersAreNew }
+    ensures fresh { NumbersArePositive }
 {}
 
 /// A refusal adds its entry to the journal. It changes nothing else, except that a delivery that is stale or already finished spends its
@@ -33,7 +33,7 @@ pub fn refusals_keep_all()
 /// A run adds exactly the entries of its events to the journal, in their order. So the content after a run from the opening state is the
 /// replay of its journal.
 pub fn journals_are_legal()
-    ensures entries { HasEntries }
+    ensures entries { RunsAddEntries }
     ensures legal { RunsAreLegal }
 {}
 

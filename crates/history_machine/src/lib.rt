@@ -1,22 +1,22 @@
 //! The history of a workspace as a machine: its states, its events, the entries of its journal, and its laws over every list of events.
 #![tactic(auto)]
 
+mod comparing;
 mod entry;
+mod entry_edits;
 mod event;
 mod laws;
-mod made;
-mod same;
 mod state;
 mod view;
 mod waiting;
 
 pub use entry::{Entry, EntryKind, Line, Reason, SharedEdits, Told};
+pub use entry_edits::{EntryEdits, entry_and_copy};
 pub use event::{Event, Reply};
 pub use laws::{
     finished_units_are_current, journals_are_legal, numbers_are_used_once, refusals_keep_all,
     undo_and_redo_restore,
 };
-pub use made::{MadeEdits, entry_twice};
 pub use state::State;
 pub use view::{KnownSnapshot, View};
 pub use waiting::first_waiting;

@@ -17,7 +17,7 @@ use Rattle.workspace_check.proofs.Members.{cases_contains}
 use Rattle.workspace_check.proofs.OneList.{checked_package}
 use Rattle.workspace_check.proofs.OnePackage.{one_checked}
 use Rattle.build_object.specs.Lines.{GlobalName, FunctionName, Plain, Method, Initializer}
-use Rattle.build_object.specs.Names.{spelled_in, is_named_init, is_initializer, receiver_called, function_named, function_behind, initializers_with}
+use Rattle.build_object.specs.Names.{spelled_in, is_named_init, is_initializer, name_of_receiver, function_named, function_behind, initializers_with}
 use Rattle.build_object.specs.Names.{functions_behind, function_names}
 use Rattle.law_faultless.specs.Stack.{Arity}
 use Rattle.refs_binding.specs.Uses.{IsPackage}
@@ -168,8 +168,8 @@ module _ (path : List ℕ) (files : List SourceFile) where
   by_receivers A ff fg None (Some t) n m e p q = let z : ⊥ = cc in absurd z
   by_receivers A ff fg (Some r) None n m e p q = let z : ⊥ = cc in absurd z
   by_receivers A ff fg (Some r) (Some t) n m e p q =
-      let z : Method (receiver_called path files ff r) n ≡ Method (receiver_called path files fg t) m = e in
-      let owner : receiver_called path files ff r ≡ receiver_called path files fg t = cc in
+      let z : Method (name_of_receiver path files ff r) n ≡ Method (name_of_receiver path files fg t) m = e in
+      let owner : name_of_receiver path files ff r ≡ name_of_receiver path files fg t = cc in
       let name : n ≡ m = cc in q r t refl refl (ap (λ (x : GlobalName). x.name) owner) name
 
 -- in a workspace without faults

@@ -21,9 +21,9 @@ use Rattle.types_expr.specs.Types.{PlainType}
 use Rattle.types_expr.specs.World.{World, Locals}
 use Rattle.types_stmt.specs.Checked.{Checked, check_items, check_group}
 use Rattle.types_stmt.specs.Sides.{Target}
-use Rattle.types_stmt.specs.Simple.{check_optional, check_condition, check_optional_condition, check_local}
-use Rattle.types_stmt.specs.Statements.{check_return, check_init, check_header, check_statement, check_block, check_statements, check_if, check_else}
-use Rattle.law_typing.specs.Turns.{InTurn, no_item, then_item, InGroup, alone, together, IfPresent, absent, present}
+use Rattle.types_stmt.specs.Simple.{check_optional_simple, check_condition, check_optional_condition, check_local}
+use Rattle.types_stmt.specs.Statements.{check_return, check_init, check_for_header, check_statement, check_block, check_statements, check_if, check_else}
+use Rattle.law_typing.specs.Sequences.{InTurn, no_item, then_item, InGroup, alone, together, IfPresent, absent, present}
 use Rattle.law_typing.specs.Simple.{ConditionIsTyped, SimpleIsTyped, LocalIsTyped}
 use Rattle.law_typing.specs.Statements.{InitIsTyped, an_init, HeaderIsTyped, endless, a_while, with_clauses, StatementIsTyped, nothing}
 use Rattle.law_typing.specs.Statements.{a_declaration, a_simple, an_inner_block, a_choice, a_loop, a_break, a_continue, BlockIsTyped, a_block}
@@ -32,10 +32,10 @@ use Rattle.law_typing.specs.Excused.{StatementIsExcused, in_return}
 use Rattle.law_typing.proofs.Simple.{condition_settled, simple_settled}
 use Rattle.law_typing.proofs.Locals.{local_settled}
 use Rattle.law_typing.proofs.Statements.{AreTargets, statement_settled, block_first}
-use Rattle.law_faultless.proofs.Strung.{Strung, strung_split, strung_le}
+use Rattle.law_faultless.proofs.NumberedTokens.{Strung, strung_split, strung_le}
 use Rattle.law_faultless.specs.Unbroken.{IsUnbroken}
 use Rattle.law_faultless.proofs.Named.{AreNamed, no_use}
-use Rattle.law_faultless.specs.Scopes.{AreResolved}
+use Rattle.law_faultless.specs.ResolvedNames.{AreResolved}
 use Rattle.law_faultless.proofs.KnownLocals.{past, past_append, resolved_left, resolved_right, AllKnown, plain_past}
 use Rattle.law_faultless.proofs.Leaves.{each_fine}
 use Rattle.law_faultless.proofs.Simples.{expr_known, exprs_known, simple_typed, local_typed}
@@ -76,9 +76,9 @@ module _ (w : World) (B : ℕ → Type 0) (s : Source) (u : IsUnbroken w) where
         plain_past w st.locals A (expr_sites s e) known (plain_expr s e),
       )
 
-  optional_typed : (A : List Site) (b : Block) (q n m : ℕ) (st : Checked) (x : Option SimpleTree) → (check_optional w st x).faults ≡ [] →
+  optional_typed : (A : List Site) (b : Block) (q n m : ℕ) (st : Checked) (x : Option SimpleTree) → (check_optional_simple w st x).faults ≡ [] →
       AllKnown w st.locals A → AreResolved w B A (sites_if (simple_sites s b q) x) → Strung B n (tokens_if simple_tokens x) m → m ≤ q →
-      Outcome w A (sites_if (simple_sites s b q) x) (IfPresent SimpleTree (SimpleIsTyped w) st.locals x) (check_optional w st x).locals
+      Outcome w A (sites_if (simple_sites s b q) x) (IfPresent SimpleTree (SimpleIsTyped w) st.locals x) (check_optional_simple w st x).locals
   optional_typed A b q n m st None f known r t le = (absent, known)
   optional_typed A b q n m st (Some x) f known r t le = let h = simple_typed w B s u A b q n m st x f known r t le in (present h.0, h.1)
 
@@ -98,7 +98,7 @@ module _ (w : World) (B : ℕ → Type 0) (s : Source) (u : IsUnbroken w) where
       let at : i.semicolon ≡ x.0 = x.1.1.0 in
       let h = optional_typed A b i.semicolon n x.0 st i.simple f known r x.1.0 (omega arith) in (present (an_init h.0), h.1)
 
-  before_optional : (st : Checked) (x : Option SimpleTree) → (check_optional w st x).faults ≡ [] → st.faults ≡ []
+  before_optional : (st : Checked) (x : Option SimpleTree) → (check_optional_simple w st x).faults ≡ [] → st.faults ≡ []
   before_optional st None h = h
   before_optional st (Some x) h = (simple_settled w st x h).0
 
@@ -106,10 +106,10 @@ module _ (w : World) (B : ℕ → Type 0) (s : Source) (u : IsUnbroken w) where
   before_test st None h = h
   before_test st (Some e) h = (condition_settled w st e h).0
 
-  header_typed : (A : List Site) (b : Block) (o n m : ℕ) (st : Checked) (x : ForTree) → (check_header w st x).faults ≡ [] → AllKnown w st.locals A →
+  header_typed : (A : List Site) (b : Block) (o n m : ℕ) (st : Checked) (x : ForTree) → (check_for_header w st x).faults ≡ [] → AllKnown w st.locals A →
       AreResolved w B A (for_sites s b o x) → Strung B n (for_tokens x) m → m ≤ o →
-      Outcome w A (for_sites s b o x) (HeaderIsTyped w st.locals x) (check_header w st x).locals
-  unfolding check_header for_sites for_tokens
+      Outcome w A (for_sites s b o x) (HeaderIsTyped w st.locals x) (check_for_header w st x).locals
+  unfolding check_for_header for_sites for_tokens
   header_typed A b o n m st tree.forever f known r t le = (endless, known)
   header_typed A b o n m st (tree.while e) f known r t le = let h = condition_typed A n m st e f known r t in (a_while h.0, h.1)
   header_typed A b o n m st (tree.clauses init p condition q post) f known r t le =
@@ -118,7 +118,7 @@ module _ (w : World) (B : ℕ → Type 0) (s : Source) (u : IsUnbroken w) where
       let third = sites_if (simple_sites s b o) post in
       let post_tokens = tokens_if simple_tokens post in
       let test_tokens = tokens_if expr_tokens condition in
-      let a = check_optional w st init in
+      let a = check_optional_simple w st init in
       let c = check_optional_condition w a condition in
       let f2 = before_optional c post f in
       let f1 = before_test a condition f2 in
@@ -130,7 +130,7 @@ module _ (w : World) (B : ℕ → Type 0) (s : Source) (u : IsUnbroken w) where
       let h2 = test_typed (past A first) (suc x.0) y.0 a condition f2 h1.1 (resolved_left w B (past A first) second third r2) y.1.0 in
       let h3 = optional_typed (past (past A first) second) b o (suc y.0) m c post f h2.1 (resolved_right w B (past A first) second third r2) y.1.1.1.1 le in (
         with_clauses h1.0 h2.0 h3.0,
-        known_join w (check_optional w c post).locals A first (second ++ third) (known_join w (check_optional w c post).locals
+        known_join w (check_optional_simple w c post).locals A first (second ++ third) (known_join w (check_optional_simple w c post).locals
             (past A first) second third h3.1),
       )
 
@@ -212,7 +212,7 @@ module _ (w : World) (B : ℕ → Type 0) (s : Source) (u : IsUnbroken w) where
     statement_typed results targets e A b q n m (tree.For p h x) st formed f known r t le =
         let block_b = blocks.Inner s.rank p q in
         let first = for_sites s block_b (open_of x) h in
-        let next = check_header w st h in
+        let next = check_for_header w st h in
         let y = strung_split B (suc n) (for_tokens h) (block_tokens x) m t.1.1 in
         let k = header_typed A block_b (open_of x) (suc n) y.0 st h (block_first w targets x next f) known (resolved_left w B A first (block_sites s x) r) y.1.0
         (opens x y.0 m y.1.1) in

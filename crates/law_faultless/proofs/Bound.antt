@@ -27,9 +27,9 @@ use Rattle.workspace_check.specs.Verdicts.{Verdicts, AreVerdicts}
 use Rattle.workspace_check.proofs.OnePackage.{layout_formed}
 use Rattle.refs_binding.specs.declared.declaration.Declaration.{Declaration}
 use Rattle.refs_binding.specs.declared.declaration.Declaration.TheVariants.{Predeclared, Declared}
-use Rattle.types_info.specs.Qualified.{IsBehindPackage}
+use Rattle.types_info.specs.QualifiedIdentifiers.{IsQualifiedByPath}
 use Rattle.refs_binding.specs.Binding.{by_scope, by_member}
-use Rattle.refs_binding.specs.Identifiers.{Stands}
+use Rattle.refs_binding.specs.Identifiers.{IsInFiles}
 use Rattle.refs_binding.specs.Uses.{IsPackage, IsBoundTo}
 use Rattle.refs_lookup.proofs.OnePlace.{same_files}
 use Rattle.refs_lookup.proofs.ExportedNames.{bound_behind}
@@ -42,8 +42,8 @@ use Rattle.law_faultless.proofs.Fine.{world_unbroken}
 use Rattle.law_faultless.proofs.LinksBound.{member_bound}
 use Rattle.law_faultless.proofs.Rules.{keeps_rules}
 use Rattle.law_faultless.proofs.Scoped.{file_resolved}
-use Rattle.law_faultless.specs.Roles.{is_to_be_bound}
-use Rattle.law_faultless.proofs.NamesMean.{names_mean, uses_bound, declared_counts}
+use Rattle.law_faultless.specs.Roles.{is_bound_role}
+use Rattle.law_faultless.proofs.MeaningfulNames.{names_mean, uses_bound, declared_counts}
 use Rattle.law_faultless.proofs.PackageWorlds.{strings_known, have_worlds, have_all_worlds}
 
 module _ (w : Workspace) (sound : ListsFaults w []) (known : Verdicts) (right : AreVerdicts w known) (p : Package) (is : IsPackage w known p) where
@@ -63,7 +63,7 @@ module _ (w : Workspace) (sound : ListsFaults w []) (known : Verdicts) (right : 
       keeps_rules w sound known right worlds p is file (uses_in s v) a (record { rank = file; spell = spelling_of s })
       (file_resolved w known p.path p is.is_checked file (uses_in s v) a unbroken (names_mean w sound known right p is file s at v judged))
 
-  pub source_at : (u : ℕ) → Stands p u → (s : SourceFile) × (slice_get p.files (p.layout.place u).file ≡ Some s)
+  pub source_at : (u : ℕ) → IsInFiles p u → (s : SourceFile) × (slice_get p.files (p.layout.place u).file ≡ Some s)
   source_at u stands =
       let h = is.is_checked in
       let at = p.layout.place u in
@@ -74,7 +74,7 @@ module _ (w : Workspace) (sound : ListsFaults w []) (known : Verdicts) (right : 
       )
 
   -- members
-  pub member_name_bound : (u : ℕ) → Stands p u → IsMemberName p u → (d : Declaration) × IsBoundTo w known p u d
+  pub member_name_bound : (u : ℕ) → IsInFiles p u → IsMemberName p u → (d : Declaration) × IsBoundTo w known p u d
   member_name_bound u stands name =
       let file = (p.layout.place u).file in
       let s = source_at u stands in
@@ -102,7 +102,7 @@ module _ (w : Workspace) (sound : ListsFaults w []) (known : Verdicts) (right : 
     ]
   ]
 
-  pub lexical_bound : (u : ℕ) → Stands p u → MayDeclare p.layout u ⊎ (is_use (p.layout.role u) ≡ true) → (d : Declaration) × IsBoundTo w known p u d
+  pub lexical_bound : (u : ℕ) → IsInFiles p u → MayDeclare p.layout u ⊎ (is_use (p.layout.role u) ≡ true) → (d : Declaration) × IsBoundTo w known p u d
   lexical_bound u stands h = elim (binding p.layout p.names formed u) [
     | inl n ↦ by_number u n.0 n.1
     | inr none ↦ absurd (unbound_no u stands.0 h none)
@@ -111,7 +111,7 @@ module _ (w : Workspace) (sound : ListsFaults w []) (known : Verdicts) (right : 
   -- names behind a dot
 
   abbrev IsBehindSome : ℕ → Type 0
-  IsBehindSome u = ((q : List ℕ) × IsBehindPackage p u q) ⊎ ((q : List ℕ) → IsBehindPackage p u q → ⊥)
+  IsBehindSome u = ((q : List ℕ) × IsQualifiedByPath p u q) ⊎ ((q : List ℕ) → IsQualifiedByPath p u q → ⊥)
 
   behind_at : (u : ℕ) → p.layout.role u ≡ NotLexical purpose.Selected → (i : ℕ) → (p.layout.place u).index ≡ i → IsBehindSome u
   behind_at u role zero e = inr (λ q b. let at : (p.layout.place u).index ≡ suc (suc b.before) = b.behind_dot in absurd (omega arith))
@@ -128,18 +128,18 @@ module _ (w : Workspace) (sound : ListsFaults w []) (known : Verdicts) (right : 
     ]
   ]
     where
-      moved : {q : List ℕ} (b : IsBehindPackage p u q) → BindsToken p (p.layout.place u).file before b.named.import
+      moved : {q : List ℕ} (b : IsQualifiedByPath p u q) → BindsToken p (p.layout.place u).file before b.named.import
       moved b =
           let at : (p.layout.place u).index ≡ suc (suc b.before) = b.behind_dot in
           let same : b.before ≡ before = omega arith in subst (λ k. BindsToken p (p.layout.place u).file k b.named.import) same b.named.binds
 
-  selected_bound : (u : ℕ) → Stands p u → p.layout.role u ≡ NotLexical purpose.Selected → (d : Declaration) × IsBoundTo w known p u d
+  selected_bound : (u : ℕ) → IsInFiles p u → p.layout.role u ≡ NotLexical purpose.Selected → (d : Declaration) × IsBoundTo w known p u d
   selected_bound u stands role = elim (behind_at u role (p.layout.place u).index refl) [
     | inl q ↦ (let d = bound_behind w sound known right p is u stands q.0 q.1 in (Declared q.0 d.0, d.1))
     | inr none ↦ member_name_bound u stands (a_selected role none)
   ]
 
-  by_role : (u : ℕ) → Stands p u → (r : Role) → p.layout.role u ≡ r → is_to_be_bound r ≡ true → (d : Declaration) × IsBoundTo w known p u d
+  by_role : (u : ℕ) → IsInFiles p u → (r : Role) → p.layout.role u ≡ r → is_bound_role r ≡ true → (d : Declaration) × IsBoundTo w known p u d
   by_role u stands Use role e = lexical_bound u stands (inr (ap is_use role))
   by_role u stands (Declaring block start) role e = lexical_bound u stands (inl (ap may_declare role))
   by_role u stands (LeftName block start) role e = lexical_bound u stands (inl (ap may_declare role))
@@ -153,5 +153,5 @@ module _ (w : Workspace) (sound : ListsFaults w []) (known : Verdicts) (right : 
   by_role u stands (NotLexical purpose.InitFunction) role e = absurd (true≢false (sym e))
   by_role u stands (NotLexical purpose.Blank) role e = absurd (true≢false (sym e))
 
-  pub identifier_bound : (u : ℕ) → Stands p u → is_to_be_bound (p.layout.role u) ≡ true → (d : Declaration) × IsBoundTo w known p u d
+  pub identifier_bound : (u : ℕ) → IsInFiles p u → is_bound_role (p.layout.role u) ≡ true → (d : Declaration) × IsBoundTo w known p u d
   identifier_bound u stands e = by_role u stands (p.layout.role u) refl e

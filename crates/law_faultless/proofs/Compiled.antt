@@ -3,7 +3,7 @@ use Rattle.std.proofs.Common.{ℕ, ◌≡◌, List, [], ap, sym, subst}
 use Rattle.std.specs.Prelude.{Contains}
 use Rattle.base_files.specs.Packages.{package_paths}
 use Rattle.base_files.specs.Workspace.{Workspace}
-use Rattle.types_declared.specs.Package.{Package, Interface}
+use Rattle.types_declared.specs.Package.{Package, ExportData}
 use Rattle.workspace_check.specs.FaultLists.{ListsFaults}
 use Rattle.workspace_check.specs.Verdicts.{Verdicts, AreVerdicts, IsPackageIn}
 use Rattle.workspace_check.proofs.Alike.{package_as}
@@ -18,7 +18,7 @@ use Rattle.law_faultless.proofs.Objects.{object_good}
 use Rattle.law_faultless.proofs.SettledQuestions.{function_settled}
 
 pub compiled_balanced : (w : Workspace) → ListsFaults w [] → (known : Verdicts) → AreVerdicts w known → (arity : FunctionName → Arity) →
-    AreArities w known arity → (p : List ℕ) → Contains (package_paths w) p → (i : Interface) (text : List ℕ) (u : IsCompiled w p i text) (f : Function) →
+    AreArities w known arity → (p : List ℕ) → Contains (package_paths w) p → (i : ExportData) (text : List ℕ) (u : IsCompiled w p i text) (f : Function) →
     Contains u.is_object.object.declarations (FunctionOf f) → IsBalanced arity 0 f.code 0
 compiled_balanced w sound known right arity arities p has i text u f here =
     let c = u.checked in

@@ -17,13 +17,13 @@ use Rattle.go_scope.specs.FileSites.{param_sites, result_sites, func_block, func
 use Rattle.go_scope.specs.FileSites.{decl_sites}
 use Rattle.types_expr.specs.Types.{PlainType}
 use Rattle.types_expr.specs.World.{World, Locals}
-use Rattle.law_typing.specs.Turns.{Rule, InTurn, no_item, then_item, InGroup, alone, together}
+use Rattle.law_typing.specs.Sequences.{Rule, InTurn, no_item, then_item, InGroup, alone, together}
 use Rattle.law_typing.specs.Declarations.{ParamIsTyped, a_param, AreTypes, no_type_left, also_type, AreResults, none_written, one_written}
 use Rattle.law_typing.specs.Declarations.{several_written, FunctionIsTyped, a_function, GlobalIsTyped, without_values, with_literals}
 use Rattle.law_typing.specs.Declarations.{FieldsAreTyped, no_field_left, also_field, BodyIsTyped, another_type, a_struct, TypeIsTyped}
 use Rattle.law_typing.specs.Declarations.{a_definition_of, DeclIsTyped, variables, types, one_function}
-use Rattle.law_faultless.specs.StatementsAsked.{FunctionAsks, in_body}
-use Rattle.law_faultless.specs.Linked.{IsLinked}
+use Rattle.law_faultless.specs.StatementAsking.{FunctionAsks, in_body}
+use Rattle.law_faultless.specs.MemberLinks.{IsLinked}
 use Rattle.law_faultless.proofs.ExpressionsUsed.{AreLinked, linked_append, Tells, type_links}
 use Rattle.law_faultless.proofs.SimpleUsed.{ident_links, idents_links}
 use Rattle.law_faultless.proofs.StatementsUsed.{block_links}

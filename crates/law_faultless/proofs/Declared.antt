@@ -16,23 +16,23 @@ use Rattle.go_scope.specs.declared.model.Role.TheVariants.{Use, Declaring, LeftN
 use Rattle.go_scope.specs.Bindings.{Layout, MayDeclare, may_declare, block_of, is_implied}
 use Rattle.go_scope.specs.FileSites.{universe, files_sites, package_sites}
 use Rattle.go_scope.specs.Named.{named_sites}
-use Rattle.go_scope.specs.Parsed.{spelled_file}
-use Rattle.go_scope.specs.Scoped.{ScopedPackage, scoped, names_in}
-use Rattle.go_scope.specs.Site.{Site, found_site}
+use Rattle.go_scope.specs.SpelledFiles.{spelled_file}
+use Rattle.go_scope.specs.Packages.{ScopedPackage, scoped, names_in}
+use Rattle.go_scope.specs.Site.{Site, or_blank}
 use Rattle.go_scope.proofs.PackageRegions.{may_at}
 use Rattle.types_declared.specs.Files.{package_name}
 use Rattle.law_tokens.specs.Covered.{AreSourceFiles}
 use Rattle.law_tokens.proofs.Ordered.{same_length}
 use Rattle.law_tokens.proofs.OwnPaths.{package_sources}
 use Rattle.law_tokens.proofs.HeldBytes.{source_file_at}
-use Rattle.types_declared.specs.Package.{Package, Interface}
+use Rattle.types_declared.specs.Package.{Package, ExportData}
 use Rattle.types_info.proofs.DeclKinds.{Holds}
 use Rattle.workspace_check.specs.FaultLists.{ListsFaults}
 use Rattle.workspace_check.specs.Verdicts.{Verdicts, IsSeenAs, seen, unseen, IsPackageIn}
 use Rattle.workspace_check.proofs.Closed.{to_package}
 use Rattle.workspace_check.proofs.OneList.{checked_package}
 use Rattle.refs_lookup.proofs.OnePlace.{names_of, same_layout, same_size, same_files}
-use Rattle.law_faultless.proofs.Told.{Told}
+use Rattle.law_faultless.proofs.DeclaringNames.{Told}
 use Rattle.law_faultless.proofs.FilesDecided.{IsGlobal}
 use Rattle.law_faultless.proofs.Spellings.{name_spelled}
 use Rattle.law_faultless.proofs.Numbers.{OfKind, IsTold, files_told, IsKept, universal, plain, laid, kept_at, clause_named}
@@ -116,11 +116,11 @@ package_not_blank : (w : Workspace) (known : Verdicts) (path : List ℕ) (p : Pa
 package_not_blank w known path p h e =
     first_not_blank h.files (package_sources w path h.files h.parsed) (ap package_name (sym (same_files w known path p h)) ∙ e)
 
-seen_not_blank : (w : Workspace) (sound : ListsFaults w []) (r q : List ℕ) (n : Option (List ℕ)) (i : Interface) → IsSeenAs w sound.known r q n i →
+seen_not_blank : (w : Workspace) (sound : ListsFaults w []) (r q : List ℕ) (n : Option (List ℕ)) (i : ExportData) → IsSeenAs w sound.known r q n i →
     n ≡ Some blank → ⊥
 seen_not_blank w sound r q _ _ (seen on sees) e =
     let x = checked_package w sound q (to_package w r q on.imported) in
-    package_not_blank w sound.known q x.checked x.is_package (sym x.is_interface.name ∙ same_Some (sound.known q).interface.name blank e)
+    package_not_blank w sound.known q x.checked x.is_package (sym x.is_export_data.name ∙ same_Some (sound.known q).export_data.name blank e)
 seen_not_blank w sound r q _ _ (unseen none) e = none-some blank e
 
 -- identifiers by their numbers
@@ -133,10 +133,10 @@ module _ (w : Workspace) (known : Verdicts) (path : List ℕ) (p : Package) (h :
   sites = (scoped h.files).sites
 
   abbrev pub old_site : ℕ → Site
-  old_site d = found_site (slice_get sites d)
+  old_site d = or_blank (slice_get sites d)
 
   abbrev pub new_site : ℕ → Site
-  new_site d = found_site (slice_get (named_sites given sites) d)
+  new_site d = or_blank (slice_get (named_sites given sites) d)
 
   pub sources : AreSourceFiles h.files
   sources = package_sources w path h.files h.parsed
@@ -210,7 +210,7 @@ module _ (w : Workspace) (sound : ListsFaults w []) (path : List ℕ) (p : Packa
         let own = h.is_package.is_laid.are_names d lt u in
         let as_blank : names d ≡ Some blank = g ∙ ap (λ x. Some x) named in
         none-some blank
-        (sym (own.unknown (λ q i. seen_not_blank w sound path q (h.name_of q) (h.interface_of q) (h.are_seen q) (sym (own.known q i) ∙ as_blank))) ∙ as_blank)
+        (sym (own.unknown (λ q i. seen_not_blank w sound path q (h.name_of q) (h.export_data_of q) (h.are_seen q) (sym (own.known q i) ∙ as_blank))) ∙ as_blank)
 
   pub not_blank : (d : ℕ) → MayDeclare p.layout d → p.names d ≡ blank → ⊥
   not_blank d m e = blank_by d m e (kept w sound.known path p h d (may_within w sound.known path p h d m))

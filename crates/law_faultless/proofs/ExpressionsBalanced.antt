@@ -11,24 +11,24 @@ use Rattle.types_expr.specs.World.{World, Locals, AField, underlying}
 use Rattle.types_expr.specs.Judge.{judge_type}
 use Rattle.law_typing.specs.Names.{IsType}
 use Rattle.law_typing.specs.Operators.{Prefixes, plus, negates, denies, follows}
-use Rattle.law_typing.specs.Meanings.{HasMeaning, number, text, name, composite, paren, prefix, address, chain, binary, LeadsTo, no_link, selector, index}
-use Rattle.law_typing.specs.Meanings.{call, CombinesTo, no_operand, operand, AreValues, no_argument, argument, IsLiteralOf, struct_literal, slice_literal}
+use Rattle.law_typing.specs.Meanings.{HasMeaning, number, text, name, composite, paren, prefix, address, chain, binary, LinksMean, no_link, selector, index}
+use Rattle.law_typing.specs.Meanings.{call, OperandsMean, no_operand, operand, AreValues, no_argument, argument, IsLiteralOf, struct_literal, slice_literal}
 use Rattle.law_typing.specs.Meanings.{AreFields, no_field, field, AreElements as AreSliceElements, no_element, element}
 use Rattle.law_typing.proofs.Naming.{type_true}
 use Rattle.build_object.specs.Lines.{FunctionName, Line, line_if_known}
 use Rattle.build_object.specs.Lines as line
 use Rattle.build_object.specs.Source.{Source}
 use Rattle.build_object.specs.Operands.{Operand, Values, plain, prefixed, operated, selected, indexed, called, settled, grouped, value_count}
-use Rattle.build_object.specs.Expressions.{argument_count, element_count, field_position, keyed_in, key_position, literal_of, typed_literal, operand_of}
+use Rattle.build_object.specs.Expressions.{argument_count, element_count, field_position, keyed_in, key_position, literal_code, typed_literal, operand_of}
 use Rattle.build_object.specs.Expressions.{operations, linked, argument_lines, literal_lines, keyed_lines, bare_lines, value_lines}
 use Rattle.law_faultless.specs.Stack.{Arity}
-use Rattle.law_faultless.specs.Asked.{Question, OfInteger, OfText, OfName, OfExport, OfMember, Asks, for_integer, for_text, for_name, in_composite, in_paren}
-use Rattle.law_faultless.specs.Asked.{in_prefix, in_address, in_chain, in_links, in_binary, in_operands, LinksAsk, for_member, for_export, behind_selector}
-use Rattle.law_faultless.specs.Asked.{in_index, behind_index, in_arguments, behind_call, OperandsAsk, in_operand, in_later_operand, ArgumentsAsk, in_argument}
-use Rattle.law_faultless.specs.Asked.{in_later_argument, LiteralAsks, in_elements, ElementsAsk, for_key, in_element, in_later_element}
-use Rattle.law_faultless.specs.Answered.{IsKnown, IsAnswered, MemberIsKnown}
-use Rattle.law_faultless.proofs.Turning.{Turns, none_turns, turns_as, turns_joined, turns_over, line_turns, turns_then, known_turns}
-use Rattle.law_faultless.proofs.Standing.{IsOneValue, Stands, Settles, plain_value, name_stands, prefixed_value, operated_turns}
+use Rattle.law_faultless.specs.Questions.{Question, OfInteger, OfText, OfName, OfExport, OfMember, Asks, for_integer, for_text, for_name, in_composite, in_paren}
+use Rattle.law_faultless.specs.Questions.{in_prefix, in_address, in_chain, in_links, in_binary, in_operands, LinksAsk, for_member, for_export, behind_selector}
+use Rattle.law_faultless.specs.Questions.{in_index, behind_index, in_arguments, behind_call, OperandsAsk, in_operand, in_later_operand, ArgumentsAsk, in_argument}
+use Rattle.law_faultless.specs.Questions.{in_later_argument, LiteralAsks, in_elements, ElementsAsk, for_key, in_element, in_later_element}
+use Rattle.law_faultless.specs.QuestionAnswers.{IsKnown, IsAnswered, MemberIsKnown}
+use Rattle.law_faultless.proofs.StackParts.{Turns, none_turns, turns_as, turns_joined, turns_over, line_turns, turns_then, known_turns}
+use Rattle.law_faultless.proofs.OperandStack.{IsOneValue, Stands, Settles, plain_value, name_stands, prefixed_value, operated_turns}
 use Rattle.law_faultless.proofs.LinksBalanced.{selected_stands, index_stands, called_stands}
 
 -- An operand that leaves what its meaning says leaves it as a whole chain too.
@@ -43,7 +43,7 @@ settles arity o Broken h = tt
 
 -- a chain as an expression
 chain_settles : (arity : FunctionName → Arity) (o : Operand) (m : Meaning) → Stands arity o m → Settles arity (settled o) m
-chain_settles arity o (Value k a) h = record { standing = ap (λ z. Values (value_count z)) h.standing; value = h.value; address = h.address }
+chain_settles arity o (Value k a) h = record { mode = ap (λ z. Values (value_count z)) h.mode; value = h.value; address = h.address }
 chain_settles arity o (TypeName t) h = tt
 chain_settles arity o (Function f) h = tt
 chain_settles arity o (BuiltinName b) h = tt
@@ -52,7 +52,7 @@ chain_settles arity o (Results ts) h = record { is = ap (λ z. Values (value_cou
 chain_settles arity o Broken h = tt
 
 grouped_value : (arity : FunctionName → Arity) (o : Operand) → IsOneValue arity o → IsOneValue arity (grouped o)
-grouped_value arity o v = record { standing = refl; value = v.value; address = v.address }
+grouped_value arity o v = record { mode = refl; value = v.value; address = v.address }
 
 pub argument_count_of : {w : World} {locals : Locals} {xs : ArgumentTrees} {ks : List Kind} → AreValues w locals xs ks → argument_count xs ≡ length ks
 unfolding argument_count
@@ -87,7 +87,7 @@ struct_turns : (arity : FunctionName → Arity) (s : Source) (x : TypeTree) (t :
 unfolding typed_literal
 struct_turns arity s x t owner keyed bare n h e f =
     subst (λ z. Turns arity 0 1 (typed_literal s z.type_of keyed bare n)) (sym (type_true s.world h))
-    (subst (λ z. Turns arity 0 1 (literal_of (is_struct z) t keyed bare n)) (sym e)
+    (subst (λ z. Turns arity 0 1 (literal_code (is_struct z) t keyed bare n)) (sym e)
     (turns_joined arity 0 1 1 (line.Zero t ∷ []) keyed (line_turns arity (line.Zero t) 0 1 refl refl (λ at i m. m)) f))
 
 slice_turns : (arity : FunctionName → Arity) (s : Source) (x : TypeTree) (t u : PlainType) (keyed bare : List Line) (n : ℕ) → IsType s.world x t →
@@ -96,7 +96,7 @@ slice_turns : (arity : FunctionName → Arity) (s : Source) (x : TypeTree) (t u 
 unfolding typed_literal
 slice_turns arity s x t u keyed bare n h e f =
     subst (λ z. Turns arity 0 1 (typed_literal s z.type_of keyed bare n)) (sym (type_true s.world h))
-    (subst (λ z. Turns arity 0 1 (literal_of (is_struct z) t keyed bare n)) (sym e)
+    (subst (λ z. Turns arity 0 1 (literal_code (is_struct z) t keyed bare n)) (sym e)
     (turns_joined arity 0 n 1 bare (line.MakeSlice n ∷ []) f (line_turns arity (line.MakeSlice n) n 1 refl refl (λ at i m. m))))
 
 binary_parts : (e : ExprTree) (rest : OperandTrees) → IsExpr (tree.Binary e rest) → IsExpr e × ((n : ℕ) × AreOperands n rest)
@@ -166,7 +166,7 @@ mutual
 
   -- operators behind a value
   operands_settle : (arity : FunctionName → Arity) (w : World) (s : Source) (slots : List ℕ) (locals : Locals) {m : Meaning} {rest : OperandTrees}
-      {r : Meaning} → CombinesTo w locals m rest r → (n : ℕ) → AreOperands n rest → (lines : List Line) →
+      {r : Meaning} → OperandsMean w locals m rest r → (n : ℕ) → AreOperands n rest → (lines : List Line) →
       Turns arity 0 1 lines → ((ls : List Line) → Turns arity 0 1 ls → Settles arity (plain ls) m) →
       Answers arity (over w s) slots (OperandsAsk w locals rest) → Settles arity (plain (operations (over w s) slots lines rest)) r
   operands_settle arity w s slots locals no_operand n f lines t v k = v lines t
@@ -176,7 +176,7 @@ mutual
       (λ ls u. plain_value arity ls u) (λ q a. k q (in_later_operand a))
 
   links_stand : (arity : FunctionName → Arity) (w : World) (s : Source) (slots : List ℕ) (locals : Locals) {m : Meaning} {links : LinkTrees} {r : Meaning} →
-      LeadsTo w locals m links r → AreLinks links → (o : Operand) →
+      LinksMean w locals m links r → AreLinks links → (o : Operand) →
       Stands arity o m → Answers arity (over w s) slots (LinksAsk w locals m links) → Stands arity (linked (over w s) slots o links) r
   links_stand arity w s slots locals no_link f o h k = h
   links_stand arity w s slots locals (selector {d} {n} {rest} x more) f o h k =

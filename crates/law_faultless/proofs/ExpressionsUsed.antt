@@ -13,13 +13,13 @@ use Rattle.law_typing.specs.Names.{NameMeans, a_local, a_bound, IsType}
 use Rattle.law_typing.specs.Names as names
 use Rattle.law_typing.specs.Links.{Selects}
 use Rattle.law_typing.specs.Links as links
-use Rattle.law_typing.specs.Meanings.{HasMeaning, LeadsTo, CombinesTo, AreValues, IsLiteralOf, AreFields, AreElements}
+use Rattle.law_typing.specs.Meanings.{HasMeaning, LinksMean, OperandsMean, AreValues, IsLiteralOf, AreFields, AreElements}
 use Rattle.law_typing.specs.Meanings as means
-use Rattle.law_faultless.specs.Asked.{Question, OfMember, Asks, in_composite, in_paren, in_prefix, in_address, in_chain, in_links, in_binary, in_operands}
-use Rattle.law_faultless.specs.Asked.{LinksAsk, for_member, behind_selector, in_index, behind_index, in_arguments, behind_call, OperandsAsk, in_operand}
-use Rattle.law_faultless.specs.Asked.{in_later_operand, ArgumentsAsk, in_argument, in_later_argument, LiteralAsks, in_elements, ElementsAsk, for_key}
-use Rattle.law_faultless.specs.Asked.{in_element, in_later_element}
-use Rattle.law_faultless.specs.Linked.{IsLinked}
+use Rattle.law_faultless.specs.Questions.{Question, OfMember, Asks, in_composite, in_paren, in_prefix, in_address, in_chain, in_links, in_binary, in_operands}
+use Rattle.law_faultless.specs.Questions.{LinksAsk, for_member, behind_selector, in_index, behind_index, in_arguments, behind_call, OperandsAsk, in_operand}
+use Rattle.law_faultless.specs.Questions.{in_later_operand, ArgumentsAsk, in_argument, in_later_argument, LiteralAsks, in_elements, ElementsAsk, for_key}
+use Rattle.law_faultless.specs.Questions.{in_element, in_later_element}
+use Rattle.law_faultless.specs.MemberLinks.{IsLinked}
 
 -- each of some identifiers is linked
 abbrev pub AreLinked : World → (ℕ → Type 0) → List Site → Type 0
@@ -74,7 +74,7 @@ mutual
       (combined_links w ls U s (λ n t m a. f n t m (in_operands a)) more)
 
   leads_links : (w : World) (ls : Locals) (U : ℕ → Type 0) (s : Source) {m r : Meaning} {ks : LinkTrees} → Tells w U (LinksAsk w ls m ks) →
-      LeadsTo w ls m ks r → AreLinked w U (link_sites s ks)
+      LinksMean w ls m ks r → AreLinked w U (link_sites s ks)
   leads_links w ls U s f means.no_link = tt
   leads_links w ls U s f (means.selector h more) = (selected w ls U f h, leads_links w ls U s (λ n t m a. f n t m (behind_selector h a)) more)
   leads_links w ls U s f (means.index {e} {rest} h i more) =
@@ -85,7 +85,7 @@ mutual
       (leads_links w ls U s (λ n t m a. f n t m (behind_call vs c a)) more)
 
   combined_links : (w : World) (ls : Locals) (U : ℕ → Type 0) (s : Source) {m r : Meaning} {os : OperandTrees} → Tells w U (OperandsAsk w ls os) →
-      CombinesTo w ls m os r → AreLinked w U (operand_sites s os)
+      OperandsMean w ls m os r → AreLinked w U (operand_sites s os)
   combined_links w ls U s f means.no_operand = tt
   combined_links w ls U s f (means.operand {e} {rest} h o more) =
       linked_append w U (expr_sites s e) (operand_sites s rest) (expr_links w ls U s (λ n t m a. f n t m (in_operand a)) h)

@@ -13,12 +13,12 @@ use Rattle.go_scope.specs.declared.model.Purpose.TheVariants as purpose
 use Rattle.go_scope.specs.declared.model.Role.{Role}
 use Rattle.go_scope.specs.declared.model.Role.TheVariants.{Use, Declaring, LeftName, Implied, NotLexical}
 use Rattle.go_scope.specs.Bindings.{block_of}
-use Rattle.go_scope.specs.Site.{Site, Source, site, found_site}
+use Rattle.go_scope.specs.Site.{Site, Source, site, or_blank}
 use Rattle.go_scope.specs.StatementSites.{separated_sites, group_sites}
 use Rattle.go_scope.specs.FileSites.{import_name, import_purpose, import_sites, imports_sites, spec_sites, decl_sites, file_sites, universe_site}
 use Rattle.types_info.proofs.DeclKinds.{Holds}
 use Rattle.law_tokens.proofs.Elements.{all_append}
-use Rattle.law_faultless.proofs.Told.{Told, IsNameIn, AllOf, front, back, decls_told}
+use Rattle.law_faultless.proofs.DeclaringNames.{Told, IsNameIn, AllOf, front, back, decls_told}
 
 -- the token is the name of what one of the declarations declares
 abbrev pub IsGlobal : List DeclTree → ℕ → Type 0
@@ -180,14 +180,14 @@ module _ (K : Kind → ℕ → Type 0) (s : Source) (f : FileTree) (h : AllOf K 
 
 -- by number
 
-pub paired_at : (T : Position → Type 0) (xs : List Site) → ArePaired T xs → (d f : ℕ) → block_of (found_site (slice_get xs d)).role ≡ File f →
-    ((found_site (slice_get xs (suc d))).role ≡ NotLexical purpose.ImportPath)
-    × (((found_site (slice_get xs (suc d))).place.file ≡ (found_site (slice_get xs d)).place.file) × T (found_site (slice_get xs (suc d))).place)
+pub paired_at : (T : Position → Type 0) (xs : List Site) → ArePaired T xs → (d f : ℕ) → block_of (or_blank (slice_get xs d)).role ≡ File f →
+    ((or_blank (slice_get xs (suc d))).role ≡ NotLexical purpose.ImportPath)
+    × (((or_blank (slice_get xs (suc d))).place.file ≡ (or_blank (slice_get xs d)).place.file) × T (or_blank (slice_get xs (suc d))).place)
 paired_at T [] h d f e = let z : ⊥ = cc in absurd z
 paired_at T (x ∷ xs) h zero f e = next_at xs (h.0 f e)
   where
-    next_at : (ys : List Site) → NextIs T x.place.file ys → ((found_site (slice_get ys 0)).role ≡ NotLexical purpose.ImportPath)
-        × (((found_site (slice_get ys 0)).place.file ≡ x.place.file) × T (found_site (slice_get ys 0)).place)
+    next_at : (ys : List Site) → NextIs T x.place.file ys → ((or_blank (slice_get ys 0)).role ≡ NotLexical purpose.ImportPath)
+        × (((or_blank (slice_get ys 0)).place.file ≡ x.place.file) × T (or_blank (slice_get ys 0)).place)
     next_at [] n = absurd n
     next_at (y ∷ ys) n = n
 paired_at T (x ∷ xs) h (suc d) f e = paired_at T xs h.1 d f e

@@ -15,10 +15,10 @@ use Rattle.types_expr.specs.Judge.{MemberUse}
 use Rattle.types_stmt.specs.Declarations.{check_file}
 use Rattle.law_typing.specs.Declarations.{FunctionIsTyped, DeclsAreTyped, no_decl, also_decl, FileIsTyped, a_file}
 use Rattle.build_object.specs.Sources.{type_before}
-use Rattle.law_faultless.specs.StatementsAsked.{FunctionAsks}
-use Rattle.law_faultless.specs.Files.{IsFunctionIn, this_function, later_function}
+use Rattle.law_faultless.specs.StatementAsking.{FunctionAsks}
+use Rattle.law_faultless.specs.TypedFunctions.{IsFunctionIn, this_function, later_function}
 use Rattle.law_faultless.proofs.FunctionsKnown.{member_found}
-use Rattle.law_faultless.specs.Linked.{IsUsedMember, IsLinked}
+use Rattle.law_faultless.specs.MemberLinks.{IsUsedMember, IsLinked}
 use Rattle.law_faultless.proofs.ExpressionsUsed.{AreLinked, linked_append, Tells}
 use Rattle.law_faultless.proofs.DeclarationsUsed.{decl_links, imports_links}
 

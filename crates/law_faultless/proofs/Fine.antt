@@ -10,13 +10,13 @@ use Rattle.go_ast.specs.SourceFile.{SourceFile, spelling_of}
 use Rattle.types_expr.specs.declared.symbol.Symbol.{Symbol}
 use Rattle.types_expr.specs.Types.{Signature, same_path}
 use Rattle.types_expr.specs.World.{World, Bound, Local, Means, BrokenVariable, BrokenFunction, BrokenType, ABrokenMethod, Field, Method, Definition, is_seen}
-use Rattle.types_expr.specs.World.{seen_method, method_of, a_method, first_member, field_of, struct_behind, owner, member_by}
-use Rattle.types_declared.specs.Bound.{PredeclaredMeans, a_type, a_truth, an_untruth, a_nil, a_function, IsMeantBy, HasSignature}
-use Rattle.types_declared.specs.Bound as bound
-use Rattle.types_declared.specs.Definitions.{IsSignature, IsMethod, IsDefinition, AreDefinitions}
-use Rattle.types_declared.specs.Package.{Package, Interface, Export, package_types, symbol_in}
+use Rattle.types_expr.specs.World.{seen_method, method_of, a_method, first_member, field_of, field_owner, owner, member_by}
+use Rattle.types_declared.specs.MeaningOf.{PredeclaredMeans, a_type, a_truth, an_untruth, a_nil, a_function, IsMeaningOf, HasSignature}
+use Rattle.types_declared.specs.MeaningOf as bound
+use Rattle.types_declared.specs.Definitions.{IsFoundSignature, IsFoundMethod, IsDefinition, AreDefinitions}
+use Rattle.types_declared.specs.Package.{Package, ExportData, Export, package_types, symbol_in}
 use Rattle.types_info.specs.Worlds.{IsWorldOf, IsName, is_bound, is_unbound, by_scope, by_package}
-use Rattle.types_check.specs.Interfaces.{IsInterface, IsExported}
+use Rattle.types_check.specs.Exports.{IsExportData, IsExported}
 use Rattle.workspace_check.specs.FaultLists.{ListsFaults}
 use Rattle.workspace_check.specs.Verdicts.{Verdicts, AreVerdicts, IsSeenAs, seen, unseen, IsPackageIn}
 use Rattle.workspace_check.proofs.Closed.{to_package}
@@ -45,7 +45,7 @@ predeclared_fine (a_function b) = no_value (λ k q. cc)
 
 module _ (w : Workspace) (sound : ListsFaults w []) (known : Verdicts) (right : AreVerdicts w known)
     (worlds : HaveAllWorlds w known) where
-  meant_fine : (p : Package) → IsPackage w known p → (d : ℕ) (b : Bound) → IsMeantBy p d b → IsFine b
+  meant_fine : (p : Package) → IsPackage w known p → (d : ℕ) (b : Bound) → IsMeaningOf p d b → IsFine b
   meant_fine p is d _ (bound.predeclared x means) = predeclared_fine means
   meant_fine p is d _ (bound.import_name x) = no_value (λ k q. cc)
   meant_fine p is d _ (bound.local x) = tt
@@ -70,12 +70,12 @@ module _ (w : Workspace) (sound : ListsFaults w []) (known : Verdicts) (right : 
         is_checked = subst (λ k. IsPackageIn w sound.known k x.checked) (sym path) x.is_package;
       })
 
-  export_fine : (r q name : List ℕ) (n : Option (List ℕ)) (i : Interface) → IsSeenAs w sound.known r q n i → (e : Export) → i.exported name ≡ Some e →
+  export_fine : (r q name : List ℕ) (n : Option (List ℕ)) (i : ExportData) → IsSeenAs w sound.known r q n i → (e : Export) → i.exported name ≡ Some e →
       IsFine (Means e.meaning)
   export_fine r q name _ _ (seen on sees) e found =
       let has = to_package w r q on.imported in
       let x = checked_package w sound q has in
-      let o = subst (IsExported x.checked name) found (x.is_interface.exported name) in
+      let o = subst (IsExported x.checked name) found (x.is_export_data.exported name) in
       meant_fine x.checked (other_package q has) o.declaration (Means e.meaning) o.by_declaration.means
   export_fine r q name _ _ (unseen none) e found = absurd (none-some e found)
 
@@ -86,39 +86,39 @@ module _ (w : Workspace) (sound : ListsFaults w []) (known : Verdicts) (right : 
   definition_fine : (p : Package) → IsPackage w known p → (rank : ℕ) (d : Definition) → IsDefinition p rank d → HasWholeMethods d
   unfolding HasWholeMethods
   definition_fine p is rank d h name m found none =
-      let x = subst (IsMethod p rank name) found (h.methods name) in
+      let x = subst (IsFoundMethod p rank name) found (h.methods name) in
       let s = function_whole w sound known right p is (worlds p is) m.symbol.rank x.0 x.1.is_method.has_rank in
-      let unsigned : (z : Signature) → HasSignature p x.0 z → ⊥ = subst (IsSignature p x.0) none x.2 in unsigned s.0 s.1
+      let unsigned : (z : Signature) → HasSignature p x.0 z → ⊥ = subst (IsFoundSignature p x.0) none x.2 in unsigned s.0 s.1
 
   nothing_fine : (d : Definition) → ((name : List ℕ) → d.method name ≡ None) → HasWholeMethods d
   unfolding HasWholeMethods
   nothing_fine d h name m found none = none-some m (sym (h name) ∙ found)
 
-  interface_fine : (r q : List ℕ) (n : Option (List ℕ)) (i : Interface) → IsSeenAs w sound.known r q n i → (rank : ℕ) → HasWholeMethods (i.definition rank)
-  interface_fine r q _ _ (seen on sees) rank =
+  export_data_fine : (r q : List ℕ) (n : Option (List ℕ)) (i : ExportData) → IsSeenAs w sound.known r q n i → (rank : ℕ) → HasWholeMethods (i.definition rank)
+  export_data_fine r q _ _ (seen on sees) rank =
       let has = to_package w r q on.imported in
-      let x = checked_package w sound q has in by_type x.checked (other_package q has) (sound.known q).interface x.is_interface rank (slice_get
+      let x = checked_package w sound q has in by_type x.checked (other_package q has) (sound.known q).export_data x.is_export_data rank (slice_get
       (package_types x.checked) rank) refl
     where
-      by_type : (c : Package) → IsPackage w known c → (i : Interface) → IsInterface c i → (rank : ℕ) → (o : Option _) → slice_get (package_types c) rank ≡ o →
+      by_type : (c : Package) → IsPackage w known c → (i : ExportData) → IsExportData c i → (rank : ℕ) → (o : Option _) → slice_get (package_types c) rank ≡ o →
           HasWholeMethods (i.definition rank)
       by_type c is i h rank None e = subst HasWholeMethods (sym (h.beyond rank e)) (nothing_fine _ (λ name. refl))
       by_type c is i h rank (Some d) e = definition_fine c is rank (i.definition rank) (h.definitions rank d e)
-  interface_fine r q _ _ (unseen none) rank = nothing_fine _ (λ name. refl)
+  export_data_fine r q _ _ (unseen none) rank = nothing_fine _ (λ name. refl)
 
   module _ (p : Package) (is : IsPackage w known p) where
-    pub seen_interface : (q : List ℕ) → (n : Option (List ℕ)) × IsSeenAs w sound.known p.path q n (p.interface_of q)
-    seen_interface q =
+    pub seen_export_data : (q : List ℕ) → (n : Option (List ℕ)) × IsSeenAs w sound.known p.path q n (p.export_data_of q)
+    seen_export_data q =
         let own = package_for w known sound.known right sound.right p is in
         let h = own.is_checked in
-        let interfaces : h.interface_of ≡ p.interface_of = sym (ap (λ (x : Package). x.interface_of) h.is_package.is_package) in
-        (h.name_of q, subst (λ (i : List ℕ → Interface). IsSeenAs w sound.known p.path q (h.name_of q) (i q)) interfaces (h.are_seen q))
+        let export_table : h.export_data_of ≡ p.export_data_of = sym (ap (λ (x : Package). x.export_data_of) h.is_package.is_package) in
+        (h.name_of q, subst (λ (i : List ℕ → ExportData). IsSeenAs w sound.known p.path q (h.name_of q) (i q)) export_table (h.are_seen q))
 
     name_fine : (file n : ℕ) (b : Bound) → IsName p file n b → IsFine b
     name_fine file n b (is_bound (by_scope {declaration = d} binds m)) = meant_fine p is d b m
     name_fine file n _ (is_bound (by_package {e} x)) =
         let o = x.exported.of_import in
-        let i = seen_interface o.path in export_fine p.path o.path _ i.0 (p.interface_of o.path) i.1 e o.exported
+        let i = seen_export_data o.path in export_fine p.path o.path _ i.0 (p.export_data_of o.path) i.1 e o.exported
     name_fine file n _ (is_unbound none) = no_value (λ k q. cc)
 
     one_definition : (defs : Symbol → Definition) → AreDefinitions p defs → (s : Symbol) → HasWholeMethods (defs s)
@@ -129,8 +129,8 @@ module _ (w : Workspace) (sound : ListsFaults w []) (known : Verdicts) (right : 
           (package_types p) s.rank) refl)
       | inr e ↦
           let other : s.package ≡ p.path → ⊥ = λ q. true≢false (sym ((bytes_decides p.path s.package).1 (sym q)) ∙ e) in
-          let i = seen_interface s.package in
-          subst HasWholeMethods (sym (are.imported s.package s.rank other)) (interface_fine p.path s.package i.0 (p.interface_of s.package) i.1 s.rank)
+          let i = seen_export_data s.package in
+          subst HasWholeMethods (sym (are.imported s.package s.rank other)) (export_data_fine p.path s.package i.0 (p.export_data_of s.package) i.1 s.rank)
     ]
       where
         own_definition : (defs : Symbol → Definition) → AreDefinitions p defs → (rank : ℕ) → (o : Option _) → slice_get (package_types p) rank ≡ o →
@@ -178,7 +178,7 @@ module _ (w : Workspace) (sound : ListsFaults w []) (known : Verdicts) (right : 
       functions = λ n e. subst IsFine e (name_fine file n (v.bound n) (judged.names n));
       methods = λ n t x e.
           let defs = judged.definitions in
-          let m = broken_member (field_of defs p.path (spelling_of s n) (struct_behind (λ z. (defs z).underlying) t))
+          let m = broken_member (field_of defs p.path (spelling_of s n) (field_owner (λ z. (defs z).underlying) t))
           (method_of defs p.path (spelling_of s n) (owner t)) x (sym (judged.member n t) ∙ e) in
           method_whole defs judged.are_definitions (spelling_of s n) (owner t) m.0 m.1.0 m.1.1;
       typed = λ n k e. subst IsFine e (name_fine file n (v.bound n) (judged.names n)) k refl;

@@ -8,17 +8,17 @@ use Rattle.law_typing.specs.Meanings.{HasMeaning}
 use Rattle.law_typing.specs.Statements.{StatementIsTyped}
 use Rattle.law_typing.specs.Declarations.{AreTypes, no_type_left, also_type, AreResults, none_written, one_written, several_written}
 use Rattle.law_typing.specs.Declarations.{FunctionIsTyped, a_function}
-use Rattle.types_declared.specs.Bound.{result_types}
+use Rattle.types_declared.specs.MeaningOf.{result_types}
 use Rattle.build_object.specs.Lines.{FunctionName, Line, End}
 use Rattle.build_object.specs.Source.{Source}
 use Rattle.build_object.specs.Expressions.{value_lines}
 use Rattle.build_object.specs.Statements.{Exits, no_exits, statement_lines, block_lines, body_lines}
 use Rattle.law_faultless.specs.Stack.{Arity, IsBalanced}
-use Rattle.law_faultless.specs.Asked.{Asks}
-use Rattle.law_faultless.specs.StatementsAsked.{StatementAsks, FunctionAsks, in_body}
-use Rattle.law_faultless.proofs.Turning.{behind, is_behind, behind_append, taken, put, Scans, scans_first, scans_second, runs_joined, Turns}
+use Rattle.law_faultless.specs.Questions.{Asks}
+use Rattle.law_faultless.specs.StatementAsking.{StatementAsks, FunctionAsks, in_body}
+use Rattle.law_faultless.proofs.StackParts.{behind, is_behind, behind_append, taken, put, Scans, scans_first, scans_second, runs_joined, Turns}
 use Rattle.law_faultless.proofs.ExpressionsBalanced.{Answers, expression_settles}
-use Rattle.law_faultless.proofs.Keeping.{Keeps}
+use Rattle.law_faultless.proofs.EmptyStacks.{Keeps}
 use Rattle.law_faultless.proofs.StatementsBalanced.{statement_keeps, block_keeps}
 
 -- The height before line n, if the lines run one after another. Behind the last line it stays.

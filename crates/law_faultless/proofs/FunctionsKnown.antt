@@ -18,17 +18,17 @@ use Rattle.law_typing.proofs.Naming.{type_true}
 use Rattle.law_typing.specs.Statements.{a_block, no_more}
 use Rattle.law_typing.specs.Declarations.{AreTypes, no_type_left, also_type, AreResults, none_written, one_written, several_written, KeepsInit}
 use Rattle.law_typing.specs.Declarations.{another_name, a_method, a_plain_one, FunctionIsTyped, a_function}
-use Rattle.law_typing.proofs.Reaching.{IsAt, held}
+use Rattle.law_typing.proofs.PartOutcomes.{IsAt, held}
 use Rattle.law_typing.proofs.Statements.{AreTargets}
 use Rattle.law_typing.proofs.Headers.{function_true}
 use Rattle.law_typing.proofs.Declarations.{decl_true}
 use Rattle.refs_lookup.proofs.LinkPlaces.{one_at_token}
 use Rattle.build_object.specs.Sources.{type_before}
-use Rattle.law_faultless.specs.Asked.{Question, OfMember}
-use Rattle.law_faultless.specs.StatementsAsked.{FunctionAsks, in_body}
-use Rattle.law_faultless.specs.Files.{IsFunctionIn, this_function, later_function}
+use Rattle.law_faultless.specs.Questions.{Question, OfMember}
+use Rattle.law_faultless.specs.StatementAsking.{FunctionAsks, in_body}
+use Rattle.law_faultless.specs.TypedFunctions.{IsFunctionIn, this_function, later_function}
 use Rattle.law_faultless.proofs.Used.{IsUsed, Met}
-use Rattle.law_faultless.proofs.Kept.{decls_keep}
+use Rattle.law_faultless.proofs.KeptUses.{decls_keep}
 use Rattle.law_faultless.proofs.StatementsKnown.{block_met}
 
 -- results want the types that are written

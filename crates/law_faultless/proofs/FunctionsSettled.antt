@@ -21,22 +21,22 @@ use Rattle.go_scope.specs.ExpressionSites.{sites_if, list_sites}
 use Rattle.go_scope.specs.StatementSites.{open_of, block_sites}
 use Rattle.go_scope.specs.Named.{is_unnamed_import}
 use Rattle.go_scope.specs.Site.{Site, Source, site}
-use Rattle.go_scope.specs.Table.{StandsAt}
+use Rattle.go_scope.specs.Table.{LiesAt}
 use Rattle.go_scope.specs.WellFormed.{WellFormed}
-use Rattle.types_declared.specs.Files.{ranked}
+use Rattle.types_declared.specs.Files.{ranked_files}
 use Rattle.law_tokens.proofs.Ordered.{one_stands}
 use Rattle.law_tokens.proofs.Elements.{all_right}
 use Rattle.types_expr.specs.Types.{Signature, Meaning, Value, TypeName, Function, BuiltinName, Results, Broken}
 use Rattle.types_expr.specs.Types.{Package as PackageName}
 use Rattle.types_expr.specs.World.{Bound, Means}
-use Rattle.types_declared.specs.Bound.{IsMeantBy, PredeclaredMeans, a_type, a_truth, an_untruth, a_nil, a_function, HasSignature}
-use Rattle.types_declared.specs.Bound as bound
-use Rattle.types_declared.specs.Package.{Package, Export, Interface, PlacedFunction, decl_functions, functions_in, package_functions, function_place, spelled}
+use Rattle.types_declared.specs.MeaningOf.{IsMeaningOf, PredeclaredMeans, a_type, a_truth, an_untruth, a_nil, a_function, HasSignature}
+use Rattle.types_declared.specs.MeaningOf as bound
+use Rattle.types_declared.specs.Package.{Package, Export, ExportData, PlacedFunction, decl_functions, functions_in, package_functions, function_place, spelled}
 use Rattle.types_declared.specs.Package.{spelled_at}
 use Rattle.types_declared.specs.Written.{BindsToken, ImportsPath}
 use Rattle.types_declared.proofs.Naming.{one_binding, one_import_path}
-use Rattle.types_check.specs.Interfaces.{IsExport, IsExported}
-use Rattle.types_info.specs.Worlds.{IsName, IsSelected, is_bound, is_unbound, by_scope, by_package}
+use Rattle.types_check.specs.Exports.{IsExport, IsExported}
+use Rattle.types_info.specs.Worlds.{IsName, DenotesExport, is_bound, is_unbound, by_scope, by_package}
 use Rattle.types_info.proofs.DeclKinds.{Holds, holds_got, holds_flat, holds_ranked}
 use Rattle.workspace_check.specs.FaultLists.{ListsFaults}
 use Rattle.workspace_check.specs.Verdicts.{Verdicts, AreVerdicts, IsSeenAs, seen, unseen, IsPackageIn}
@@ -46,13 +46,13 @@ use Rattle.workspace_check.proofs.OnePackage.{layout_formed}
 use Rattle.build_object.specs.Lines.{GlobalName, FunctionName, Plain, Initializer}
 use Rattle.build_object.specs.Names.{spelled_in, is_named_init, function_named, function_behind, initializers_with, functions_behind, function_names}
 use Rattle.build_object.specs.Source.{Source as CodeSource}
-use Rattle.build_object.specs.Sources.{IsGlobalAt, own as own_global, imported, IsBehindImport, IsGlobal, IsSourceOf}
-use Rattle.law_faultless.specs.Answered.{plain_arity}
+use Rattle.build_object.specs.Sources.{IsGlobalAt, own as own_global, imported, HasQualifier, IsGlobal, IsSourceOf}
+use Rattle.law_faultless.specs.QuestionAnswers.{plain_arity}
 use Rattle.law_faultless.specs.Stack.{Arity}
 use Rattle.refs_binding.specs.Uses.{IsPackage}
-use Rattle.law_faultless.specs.Open.{HasArity}
+use Rattle.law_faultless.specs.OpenQuestions.{HasArity}
 use Rattle.law_faultless.proofs.Numbers.{IsTold, IsKept, universal, plain, laid}
-use Rattle.law_faultless.proofs.Fine.{seen_interface}
+use Rattle.law_faultless.proofs.Fine.{seen_export_data}
 use Rattle.law_faultless.proofs.Lists.{all_flat}
 use Rattle.law_faultless.proofs.Scoped.{in_order}
 use Rattle.law_faultless.proofs.TypesBound.{Stands, Kept, all_kept, none_by_scope}
@@ -88,7 +88,7 @@ predeclared_no_function (a_function b) s e = cc
 stood : (m n : Meaning) → Means m ≡ Means n → m ≡ n
 stood m n e = cc
 
-meant_no_results : (p : Package) (d : ℕ) (b : Bound) → IsMeantBy p d b → (ts : List _) → b ≡ Means (Results ts) → ⊥
+meant_no_results : (p : Package) (d : ℕ) (b : Bound) → IsMeaningOf p d b → (ts : List _) → b ≡ Means (Results ts) → ⊥
 meant_no_results p d _ (bound.predeclared {m} is means) ts e = predeclared_no_results means ts (stood m (Results ts) e)
 meant_no_results p d _ (bound.import_name is) ts e = cc
 meant_no_results p d _ (bound.local is) ts e = cc
@@ -99,7 +99,7 @@ meant_no_results p d _ (bound.broken_function is s) ts e = cc
 meant_no_results p d _ (bound.definition is r whole) ts e = cc
 meant_no_results p d _ (bound.broken_definition is r broken) ts e = cc
 
-meant_no_package : (p : Package) (d : ℕ) (b : Bound) → IsMeantBy p d b → IsPackageLevel p.layout d → b ≡ Means PackageName → ⊥
+meant_no_package : (p : Package) (d : ℕ) (b : Bound) → IsMeaningOf p d b → IsPackageLevel p.layout d → b ≡ Means PackageName → ⊥
 meant_no_package p d _ (bound.predeclared {m} is means) level e = predeclared_no_package means (stood m PackageName e)
 meant_no_package p d _ (bound.import_name is) level e = let z : PackageBlock ≡ File is.is_import.0 = sym level ∙ is.is_import.1 in cc
 meant_no_package p d _ (bound.local is) level e = cc
@@ -169,7 +169,7 @@ pub record IsInFile (p : Package) (f : PlacedFunction) : Type 0 where
 
 pub in_file_of : (p : Package) (rank : ℕ) (f : PlacedFunction) → slice_get (package_functions p) rank ≡ Some f → IsInFile p f
 in_file_of p rank f e =
-    let r = holds_flat functions_in (ranked p.files) f (holds_got (package_functions p) rank f e) in
+    let r = holds_flat functions_in (ranked_files p.files) f (holds_got (package_functions p) rank f e) in
     let d = holds_flat (decl_functions r.0.0) r.0.1.tree.decls f r.1.1 in
     let n = function_in_decl r.0.0 d.0 f d.1.1 in
     let i = holds_ranked 0 p.files r.0 r.1.0 in
@@ -212,7 +212,7 @@ module _ (w : Workspace) (known : Verdicts) (path : List ℕ) (p : Package) (h :
 
   -- a function of the package's block
   module _ (d rank : ℕ) (f : PlacedFunction) (level : IsPackageLevel p.layout d) (has : slice_get (package_functions p) rank ≡ Some f)
-      (stands : StandsAt p.layout (function_place f) d) where
+      (stands : LiesAt p.layout (function_place f) d) where
     abbrev there : IsInFile p f
     there = in_file_of p rank f has
 
@@ -249,14 +249,14 @@ module _ (w : Workspace) (known : Verdicts) (path : List ℕ) (p : Package) (h :
 module _ (w : Workspace) (sound : ListsFaults w []) (known : Verdicts) (right : AreVerdicts w known) (arity : FunctionName → Arity)
     (arities : AreArities w known arity) where
   -- what a declared function takes and gives
-  declared_arity : (c : Package) → IsPackage w known c → (d : ℕ) → IsPackageLevel c.layout d → (b : Bound) → IsMeantBy c d b → (s : Signature) →
+  declared_arity : (c : Package) → IsPackage w known c → (d : ℕ) → IsPackageLevel c.layout d → (b : Bound) → IsMeaningOf c d b → (s : Signature) →
       b ≡ Means (Function s) → arity (Plain (record { path = c.path; name = c.names d })) ≡ plain_arity s
   declared_arity c is d level _ (bound.function {f} {s = t} x signature) s e =
       let same : t ≡ s = let z : Function t ≡ Function s = stood (Function t) (Function s) e in cc in
       let rank = x.1.0 in
       let declares = x.1.1.0 in
       let item : declares.item ≡ f = same_Some declares.item f (sym declares.has_rank ∙ x.1.1.1) in
-      let stands : StandsAt c.layout (function_place f) d = subst (λ (y : PlacedFunction). StandsAt c.layout (function_place y) d) item declares.stands in
+      let stands : LiesAt c.layout (function_place f) d = subst (λ (y : PlacedFunction). LiesAt c.layout (function_place y) d) item declares.stands in
       let name = function_is w known c.path c is.is_checked d rank f level x.1.1.1 stands in
       let plain_function = is_plain w known c.path c is.is_checked d rank f level x.1.1.1 stands in
       let written = arities c is rank (Plain (record { path = c.path; name = c.names d })) f name x.1.1.1 in
@@ -272,7 +272,7 @@ module _ (w : Workspace) (sound : ListsFaults w []) (known : Verdicts) (right : 
   declared_arity c is d level _ (bound.definition known r whole) s e = let z : ⊥ = cc in absurd z
   declared_arity c is d level _ (bound.broken_definition known r broken) s e = let z : ⊥ = cc in absurd z
 
-  function_level : (c : Package) (d : ℕ) (b : Bound) → IsMeantBy c d b → (s : Signature) → b ≡ Means (Function s) → IsPackageLevel c.layout d
+  function_level : (c : Package) (d : ℕ) (b : Bound) → IsMeaningOf c d b → (s : Signature) → b ≡ Means (Function s) → IsPackageLevel c.layout d
   function_level c d _ (bound.function x signature) s e = x.0
   function_level c d _ (bound.predeclared {m} known means) s e = absurd (predeclared_no_function means s (stood m (Function s) e))
   function_level c d _ (bound.import_name known) s e = let z : ⊥ = cc in absurd z
@@ -294,7 +294,7 @@ module _ (w : Workspace) (sound : ListsFaults w []) (known : Verdicts) (right : 
       of_path : other.path ≡ path
       is_export : IsExport other name e
 
-    exported_by : (r q name : List ℕ) (n : Option (List ℕ)) (i : Interface) → IsSeenAs w sound.known r q n i → (e : Export) → i.exported name ≡ Some e →
+    exported_by : (r q name : List ℕ) (n : Option (List ℕ)) (i : ExportData) → IsSeenAs w sound.known r q n i → (e : Export) → i.exported name ≡ Some e →
         Exported q name e
     exported_by r q name _ _ (seen on sees) e found =
         let has = to_package w r q on.imported in
@@ -303,15 +303,15 @@ module _ (w : Workspace) (sound : ListsFaults w []) (known : Verdicts) (right : 
           other = x.checked;
           is_other = other_package w sound known right q has;
           of_path = ap (λ (c : Package). c.path) x.is_package.is_package.is_package;
-          is_export = subst (IsExported x.checked name) found (x.is_interface.exported name);
+          is_export = subst (IsExported x.checked name) found (x.is_export_data.exported name);
         }
     exported_by r q name _ _ (unseen none) e found = absurd (none-some e found)
 
-    exported_at : (file n : ℕ) (e : Export) (x : IsSelected p file n e) → Exported x.exported.of_import.path (spelled p file n) e
+    exported_at : (file n : ℕ) (e : Export) (x : DenotesExport p file n e) → Exported x.exported.of_import.path (spelled p file n) e
     exported_at file n e x =
         let o = x.exported.of_import in
-        let i = seen_interface w sound known right (have_all_worlds w sound known right) p is o.path in
-        exported_by p.path o.path (spelled p file n) i.0 (p.interface_of o.path) i.1 e o.exported
+        let i = seen_export_data w sound known right (have_all_worlds w sound known right) p is o.path in
+        exported_by p.path o.path (spelled p file n) i.0 (p.export_data_of o.path) i.1 e o.exported
 
     -- no name means a call's results
     pub no_results : (file n : ℕ) (b : Bound) → IsName p file n b → (ts : List _) → b ≡ Means (Results ts) → ⊥
@@ -333,7 +333,7 @@ module _ (w : Workspace) (sound : ListsFaults w []) (known : Verdicts) (right : 
 
     module _ (file : ℕ) (f : SourceFile) (at : slice_get p.files file ≡ Some f) (n : ℕ) where
       -- a name is spelled as the declaration that it is bound to
-      named_as : (d u : ℕ) → u < p.size → StandsAt p.layout (record { file = file; index = n }) u → IsPackageLevel p.layout d →
+      named_as : (d u : ℕ) → u < p.size → LiesAt p.layout (record { file = file; index = n }) u → IsPackageLevel p.layout d →
           IsBoundTo p.layout p.names u d → p.names d ≡ spelled p file n
       named_as d u lt stands level b = names_same b ∙
           (spelled_told w known p.path p is.is_checked u lt stands.0 (outer b) f (ap (slice_get p.files) stands.1 ∙ at) ∙ ap (spelling_of f) stands.2 ∙
@@ -359,13 +359,13 @@ module _ (w : Workspace) (sound : ListsFaults w []) (known : Verdicts) (right : 
           outer (use_bound i x) g e = of_use i g e
           outer (own same counts) g e = let z : PackageBlock ≡ File g = sym level ∙ ap (λ k. block_of (p.layout.role k)) (sym same) ∙ e in cc
 
-      selected_here : {path : List ℕ} → IsBehindImport p file n path → Stands p file n (NotLexical purpose.Selected)
+      selected_here : {path : List ℕ} → HasQualifier p file n path → Stands p file n (NotLexical purpose.Selected)
       selected_here b = (b.identifier, (b.found.within, (b.found.holds, b.selected)))
 
-      exported_here : {e : Export} → IsSelected p file n e → Stands p file n (NotLexical purpose.Selected)
+      exported_here : {e : Export} → DenotesExport p file n e → Stands p file n (NotLexical purpose.Selected)
       exported_here x = (x.identifier, (x.found.within, (x.found.holds, x.selected)))
 
-      by_declaration : (d : ℕ) → BindsToken p file n d → (b : Bound) → IsMeantBy p d b → (s : Signature) → b ≡ Means (Function s) → (g : GlobalName) →
+      by_declaration : (d : ℕ) → BindsToken p file n d → (b : Bound) → IsMeaningOf p d b → (s : Signature) → b ≡ Means (Function s) → (g : GlobalName) →
           IsGlobalAt p file n g → arity (Plain g) ≡ plain_arity s
       by_declaration d binds b m s e _ (own_global {d = c} also level) =
           let own_level = function_level p d b m s e in
@@ -374,7 +374,7 @@ module _ (w : Workspace) (sound : ListsFaults w []) (known : Verdicts) (right : 
       by_declaration d binds b m s e _ (imported behind) =
           absurd (none_by_scope w known p.path p is.is_checked file n (selected_here behind) d binds)
 
-      by_export : (x : Export) → IsSelected p file n x → (s : Signature) → x.meaning ≡ Function s → (g : GlobalName) → IsGlobalAt p file n g →
+      by_export : (x : Export) → DenotesExport p file n x → (s : Signature) → x.meaning ≡ Function s → (g : GlobalName) → IsGlobalAt p file n g →
           arity (Plain g) ≡ plain_arity s
       by_export x selected s e _ (own_global {d = c} binds level) =
           absurd (none_by_scope w known p.path p is.is_checked file n (exported_here selected) c binds)

@@ -6,12 +6,12 @@ use Rattle.std.proofs.lemmas.Option.{none-some, same_Some}
 use Rattle.go_ast.specs.SourceFile.{SourceFile}
 use Rattle.go_ast.specs.Tree.{Item, DeclTree, VarDecl, TypeDecl, FuncDecl}
 use Rattle.go_scope.specs.declared.model.Position.{Position}
-use Rattle.types_declared.specs.Files.{Ranked, ranked, group_items}
+use Rattle.types_declared.specs.Files.{RankedSource, ranked_files, group_items}
 use Rattle.types_declared.specs.Package.{Package, PlacedVariable, PlacedType, PlacedFunction, variables_of, placed_type, decl_variables, decl_types}
 use Rattle.types_declared.specs.Package.{decl_functions, variables_in, types_in, functions_in, package_variables, package_types, package_functions}
 use Rattle.types_declared.specs.Package.{variable_place, function_place, type_place}
 use Rattle.types_info.proofs.DeclKinds.{Holds, held_flat, held_map}
-use Rattle.law_faultless.proofs.Told.{IsNameIn}
+use Rattle.law_faultless.proofs.DeclaringNames.{IsNameIn}
 use Rattle.law_faultless.proofs.FilesDecided.{IsGlobal}
 
 pub held_ranked : {X : Type 0} (n : ℕ) (xs : List X) (i : ℕ) (x : X) → slice_get xs i ≡ Some x → (k : ℕ) × ((k ≡ n + i) × Holds (enumerate_from n xs) (k, x))
@@ -59,18 +59,18 @@ pub declared_in : (p : Package) (file i : ℕ) (s : SourceFile) → slice_get p.
 declared_in p file i s at g =
     let k = held_ranked 0 p.files file s at in
     let same : k.0 ≡ file = let z : k.0 ≡ 0 + file = k.1.0 in omega arith in
-    let r : Ranked = (file, s) in
-    let there : Holds (ranked p.files) r = subst (λ n. Holds (ranked p.files) (n, s)) same k.1.1 in
+    let r : RankedSource = (file, s) in
+    let there : Holds (ranked_files p.files) r = subst (λ n. Holds (ranked_files p.files) (n, s)) same k.1.1 in
     elim (in_decl file g.0 i g.1.1) [
       | inl v ↦ (let n = held_number (package_variables p) v.0
-          (held_flat variables_in (ranked p.files) r v.0 there (held_flat (decl_variables file) s.tree.decls g.0 v.0 g.1.0 v.1.0)) in
+          (held_flat variables_in (ranked_files p.files) r v.0 there (held_flat (decl_variables file) s.tree.decls g.0 v.0 g.1.0 v.1.0)) in
           inl (n.0, (v.0, (n.1, v.1.1))))
       | inr o ↦ elim o [
         | inl v ↦ (let n = held_number (package_functions p) v.0
-            (held_flat functions_in (ranked p.files) r v.0 there (held_flat (decl_functions file) s.tree.decls g.0 v.0 g.1.0 v.1.0)) in
+            (held_flat functions_in (ranked_files p.files) r v.0 there (held_flat (decl_functions file) s.tree.decls g.0 v.0 g.1.0 v.1.0)) in
             inr (inl (n.0, (v.0, (n.1, v.1.1)))))
         | inr v ↦ (let n = held_number (package_types p) v.0
-            (held_flat types_in (ranked p.files) r v.0 there (held_flat (decl_types file) s.tree.decls g.0 v.0 g.1.0 v.1.0)) in
+            (held_flat types_in (ranked_files p.files) r v.0 there (held_flat (decl_types file) s.tree.decls g.0 v.0 g.1.0 v.1.0)) in
             inr (inr (n.0, (v.0, (n.1, v.1.1)))))
       ]
     ]

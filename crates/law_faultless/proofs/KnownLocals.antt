@@ -13,7 +13,7 @@ use Rattle.go_scope.proofs.Regions.{Each}
 use Rattle.types_expr.specs.Types.{PlainType, Typed, Value}
 use Rattle.types_expr.specs.World.{World, Locals, declared}
 use Rattle.law_typing.specs.Names.{NameMeans, a_local, a_bound}
-use Rattle.law_faultless.specs.Scopes.{may_be_local, IsOwn, IsEarlier, IsResolved, AreResolved}
+use Rattle.law_faultless.specs.ResolvedNames.{may_be_local, IsOwnLocal, IsEarlierLocal, IsResolved, AreResolved}
 use Rattle.law_faultless.proofs.Lists.{contained, all_held}
 use Rattle.law_faultless.proofs.Named.{IsNamed, AreNamed}
 
@@ -52,14 +52,14 @@ abbrev pub IsKnown : Option PlainType → Type 0
 IsKnown o = (t : PlainType) × (o ≡ Some t)
 
 abbrev pub Known : World → Locals → Site → Type 0
-Known w ls y = IsOwn w y → IsKnown (ls y.place.index)
+Known w ls y = IsOwnLocal w y → IsKnown (ls y.place.index)
 
 abbrev KnownBelow : World → Locals → ℕ → Site → Type 0
-KnownBelow w ls q y = IsOwn w y → suc (start_of y.role) ≤ q → IsKnown (ls y.place.index)
+KnownBelow w ls q y = IsOwnLocal w y → suc (start_of y.role) ≤ q → IsKnown (ls y.place.index)
 
 -- its scope does not begin before that token
 abbrev pub BeginsLater : World → ℕ → Site → Type 0
-BeginsLater w q y = IsOwn w y → q ≤ start_of y.role
+BeginsLater w q y = IsOwnLocal w y → q ≤ start_of y.role
 
 pub AllKnown : World → Locals → List Site → Type 0
 AllKnown w ls A = AllByRecursion (Known w ls) A
@@ -70,7 +70,7 @@ known_none w ls = tt
 
 -- names mean something
 
-earlier_typed : (w : World) (ls : Locals) (q n : ℕ) (A : List Site) → AllByRecursion (KnownBelow w ls q) A → n < q → IsEarlier w A n →
+earlier_typed : (w : World) (ls : Locals) (q n : ℕ) (A : List Site) → AllByRecursion (KnownBelow w ls q) A → n < q → IsEarlierLocal w A n →
     (t : PlainType) × NameMeans w ls n (Value (Typed t) true)
 earlier_typed w ls q n A known lt e =
     let begun : start_of e.local.role ≤ n = e.begun in

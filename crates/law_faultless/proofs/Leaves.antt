@@ -11,7 +11,7 @@ use Rattle.go_scope.specs.Site.{Site, Source}
 use Rattle.go_scope.specs.ExpressionSites.{list_sites, expr_sites, exprs_sites}
 use Rattle.go_scope.specs.StatementSites.{left_sites, assigned_sites}
 use Rattle.go_scope.proofs.PlainSites.{plain_expr}
-use Rattle.law_tokens.specs.Tokens.{is_name}
+use Rattle.law_tokens.specs.Tokens.{is_ident}
 use Rattle.law_tokens.proofs.CoveredExpressions.{expr_named}
 use Rattle.types_expr.specs.Types.{PlainType, Kind, Typed, Value}
 use Rattle.types_expr.specs.World.{World, Locals}
@@ -20,17 +20,17 @@ use Rattle.types_expr.specs.Places.{place_of}
 use Rattle.law_typing.specs.Operators.{IsUntyped}
 use Rattle.law_typing.specs.Meanings.{HasMeaning}
 use Rattle.law_typing.specs.Meanings as means
-use Rattle.law_typing.specs.Uses.{UsesBroken}
-use Rattle.law_typing.specs.Uses as uses
-use Rattle.law_typing.proofs.Conclusions.{one_meaning}
+use Rattle.law_typing.specs.BrokenUses.{UsesBroken}
+use Rattle.law_typing.specs.BrokenUses as uses
+use Rattle.law_typing.proofs.ExpressionLaws.{has_one_meaning}
 use Rattle.law_typing.proofs.Soundness.{sound}
-use Rattle.law_typing.proofs.Steps.{empty_first, empty_second, value_at_agrees}
+use Rattle.law_typing.proofs.Judgements.{empty_first, empty_second, value_at_agrees}
 use Rattle.types_stmt.specs.Sides.{no_name, defined_one, defined}
 use Rattle.law_typing.specs.Excused.{IsNoVariable, without_type, constant, AnyUsesBroken, this_one, a_later_one, IsBlank, underscored, IsNewName}
 use Rattle.law_typing.specs.Excused.{bound_to_itself, AssignedIsExcused, assigned_uses, assigned_without_type, later_assigned, DefinedIsExcused}
 use Rattle.law_typing.specs.Excused.{defined_uses, defined_no_variable, later_defined}
 use Rattle.law_tokens.proofs.Elements.{all_append, all_left, all_right}
-use Rattle.law_faultless.proofs.Strung.{Strung, strung_split, strung_le, stand_below}
+use Rattle.law_faultless.proofs.NumberedTokens.{Strung, strung_split, strung_le, stand_below}
 use Rattle.law_faultless.specs.Unbroken.{IsUnbroken}
 use Rattle.law_faultless.proofs.Named.{IsNamed, AreNamed, no_use, assignable_typed}
 use Rattle.law_faultless.proofs.KnownLocals.{BeginsLater, plain_later}
@@ -47,28 +47,28 @@ pub left_stands : (B : ℕ → Type 0) (s : Source) (b : Block) (q n m : ℕ) (e
 unfolding expr_tokens
 left_stands B s b q n m (tree.Name p) h = ((let at : p ≡ n = h.0 in let end : suc n ≡ m = h.1.1 in omega arith), tt)
 left_stands B s b q n m (tree.Blank p) h = ((let at : p ≡ n = h.0 in let end : suc n ≡ m = h.1.1 in omega arith), tt)
-left_stands B s b q n m (tree.Number p) h = stand_below B is_name s n m _ _ (expr_named s (tree.Number p)) h
-left_stands B s b q n m (tree.Text p) h = stand_below B is_name s n m _ _ (expr_named s (tree.Text p)) h
-left_stands B s b q n m (tree.Composite l) h = stand_below B is_name s n m _ _ (expr_named s (tree.Composite l)) h
-left_stands B s b q n m (tree.Paren o e c) h = stand_below B is_name s n m _ _ (expr_named s (tree.Paren o e c)) h
-left_stands B s b q n m (tree.Prefix o p e) h = stand_below B is_name s n m _ _ (expr_named s (tree.Prefix o p e)) h
-left_stands B s b q n m (tree.Address p l) h = stand_below B is_name s n m _ _ (expr_named s (tree.Address p l)) h
-left_stands B s b q n m (tree.Chain e ks) h = stand_below B is_name s n m _ _ (expr_named s (tree.Chain e ks)) h
-left_stands B s b q n m (tree.Binary e os) h = stand_below B is_name s n m _ _ (expr_named s (tree.Binary e os)) h
+left_stands B s b q n m (tree.Number p) h = stand_below B is_ident s n m _ _ (expr_named s (tree.Number p)) h
+left_stands B s b q n m (tree.Text p) h = stand_below B is_ident s n m _ _ (expr_named s (tree.Text p)) h
+left_stands B s b q n m (tree.Composite l) h = stand_below B is_ident s n m _ _ (expr_named s (tree.Composite l)) h
+left_stands B s b q n m (tree.Paren o e c) h = stand_below B is_ident s n m _ _ (expr_named s (tree.Paren o e c)) h
+left_stands B s b q n m (tree.Prefix o p e) h = stand_below B is_ident s n m _ _ (expr_named s (tree.Prefix o p e)) h
+left_stands B s b q n m (tree.Address p l) h = stand_below B is_ident s n m _ _ (expr_named s (tree.Address p l)) h
+left_stands B s b q n m (tree.Chain e ks) h = stand_below B is_ident s n m _ _ (expr_named s (tree.Chain e ks)) h
+left_stands B s b q n m (tree.Binary e os) h = stand_below B is_ident s n m _ _ (expr_named s (tree.Binary e os)) h
 
 pub assigned_stands : (B : ℕ → Type 0) (s : Source) (n m : ℕ) (e : ExprTree) → Strung B n (expr_tokens e) m →
     AllByRecursion (λ x. x.place.index < m) (assigned_sites s e)
 unfolding expr_tokens
 assigned_stands B s n m (tree.Blank p) h = ((let at : p ≡ n = h.0 in let end : suc n ≡ m = h.1.1 in omega arith), tt)
-assigned_stands B s n m (tree.Name p) h = stand_below B is_name s n m _ _ (expr_named s (tree.Name p)) h
-assigned_stands B s n m (tree.Number p) h = stand_below B is_name s n m _ _ (expr_named s (tree.Number p)) h
-assigned_stands B s n m (tree.Text p) h = stand_below B is_name s n m _ _ (expr_named s (tree.Text p)) h
-assigned_stands B s n m (tree.Composite l) h = stand_below B is_name s n m _ _ (expr_named s (tree.Composite l)) h
-assigned_stands B s n m (tree.Paren o e c) h = stand_below B is_name s n m _ _ (expr_named s (tree.Paren o e c)) h
-assigned_stands B s n m (tree.Prefix o p e) h = stand_below B is_name s n m _ _ (expr_named s (tree.Prefix o p e)) h
-assigned_stands B s n m (tree.Address p l) h = stand_below B is_name s n m _ _ (expr_named s (tree.Address p l)) h
-assigned_stands B s n m (tree.Chain e ks) h = stand_below B is_name s n m _ _ (expr_named s (tree.Chain e ks)) h
-assigned_stands B s n m (tree.Binary e os) h = stand_below B is_name s n m _ _ (expr_named s (tree.Binary e os)) h
+assigned_stands B s n m (tree.Name p) h = stand_below B is_ident s n m _ _ (expr_named s (tree.Name p)) h
+assigned_stands B s n m (tree.Number p) h = stand_below B is_ident s n m _ _ (expr_named s (tree.Number p)) h
+assigned_stands B s n m (tree.Text p) h = stand_below B is_ident s n m _ _ (expr_named s (tree.Text p)) h
+assigned_stands B s n m (tree.Composite l) h = stand_below B is_ident s n m _ _ (expr_named s (tree.Composite l)) h
+assigned_stands B s n m (tree.Paren o e c) h = stand_below B is_ident s n m _ _ (expr_named s (tree.Paren o e c)) h
+assigned_stands B s n m (tree.Prefix o p e) h = stand_below B is_ident s n m _ _ (expr_named s (tree.Prefix o p e)) h
+assigned_stands B s n m (tree.Address p l) h = stand_below B is_ident s n m _ _ (expr_named s (tree.Address p l)) h
+assigned_stands B s n m (tree.Chain e ks) h = stand_below B is_ident s n m _ _ (expr_named s (tree.Chain e ks)) h
+assigned_stands B s n m (tree.Binary e os) h = stand_below B is_ident s n m _ _ (expr_named s (tree.Binary e os)) h
 
 pub list_stands : (B : ℕ → Type 0) (f : ExprTree → List Site) → ((n m : ℕ) (e : ExprTree) → Strung B n (expr_tokens e) m →
     AllByRecursion (λ x. x.place.index < m) (f e)) →
@@ -156,7 +156,7 @@ module _ (w : World) (B : ℕ → Type 0) (ls : Locals) (s : Source) (u : IsUnbr
       AreNamed w B ls (left_sites s b q (tree.Name p)) → ⊥
   left_value p b q k a other v none h = elim h.0 [
     | inl own ↦ other (bound_to_itself own)
-    | inr t ↦ typed_variable k a t.0 (one_meaning w ls (tree.Name p) (Value k a) (Value (Typed t.0) true) v (means.name t.1)) none
+    | inr t ↦ typed_variable k a t.0 (has_one_meaning w ls (tree.Name p) (Value k a) (Value (Typed t.0) true) v (means.name t.1)) none
   ]
 
   -- an expression that means something is no left side

@@ -8,19 +8,19 @@ use Rattle.types_expr.specs.Types.{is_pointer, points}
 use Rattle.types_expr.specs.World.{World, Locals, Means, Member, AField, AMethod, underlying}
 use Rattle.law_typing.specs.Fits.{FitInTurn, no_values, then_fits}
 use Rattle.law_typing.specs.Names.{NameMeans, a_local, a_bound}
-use Rattle.law_typing.specs.Links.{Selects, field, field_through_pointer, method, method_on_pointer, method_on_variable, of_package, Indexes, element, Gives}
+use Rattle.law_typing.specs.Links.{Selects, field, field_through_pointer, method, method_on_pointer, method_on_variable, of_package, Indexes, element, ResultsMean}
 use Rattle.law_typing.specs.Links.{nothing, one, several, Calls, function, conversion, len, append, panic, print, println}
 use Rattle.build_object.specs.Lines.{FunctionName, Line, line_if_known}
 use Rattle.build_object.specs.Lines as line
 use Rattle.build_object.specs.Source.{Source}
-use Rattle.build_object.specs.Operands.{Operand, Standing, Values, Called, Converts, Predeclared, Qualifies, function_standing, name_operand, unqualified}
-use Rattle.build_object.specs.Operands.{behind, field_operand, receiver_lines, method_operand, member_operand, typed_selector, selected_by, selected, indexed}
+use Rattle.build_object.specs.Operands.{Operand, Mode, Values, Called, Converts, Predeclared, Qualifies, function_mode, name_operand, unqualified}
+use Rattle.build_object.specs.Operands.{export_operand, field_operand, receiver_lines, method_operand, member_operand, typed_selector, selected_by, selected, indexed}
 use Rattle.build_object.specs.Operands.{counted, calling, left_by_call, called, builtin_results}
-use Rattle.law_faultless.specs.Stack.{Arity, Moves}
-use Rattle.law_faultless.specs.Asked.{OfExport, OfMember}
-use Rattle.law_faultless.specs.Answered.{IsKnown, IsCalled, method_arity, MemberIsKnown, IsAnswered}
-use Rattle.law_faultless.proofs.Turning.{Turns, none_turns, turns_as, turns_joined, turns_over, line_turns, known_turns}
-use Rattle.law_faultless.proofs.Standing.{IsOneValue, IsHead, IsCallee, Stands, name_stands, with_line, two_lines}
+use Rattle.law_faultless.specs.Stack.{Arity, ChangesHeight}
+use Rattle.law_faultless.specs.Questions.{OfExport, OfMember}
+use Rattle.law_faultless.specs.QuestionAnswers.{IsKnown, IsNamedWith, method_arity, MemberIsKnown, IsAnswered}
+use Rattle.law_faultless.proofs.StackParts.{Turns, none_turns, turns_as, turns_joined, turns_over, line_turns, known_turns}
+use Rattle.law_faultless.proofs.OperandStack.{IsOneValue, IsHead, IsCallee, Stands, name_stands, with_line, two_lines}
 
 -- Selectors
 
@@ -32,12 +32,12 @@ known_behind arity xs make o k t f = turns_joined arity 0 1 1 xs (line_if_known 
 field_value : (arity : FunctionName → Arity) (o : Operand) (through : Bool) (i : Option ℕ) → IsKnown i → IsOneValue arity o →
     IsOneValue arity (field_operand o through i)
 field_value arity o true i k v = record {
-  standing = refl;
+  mode = refl;
   value = known_behind arity o.value line.FieldThrough i k v.value (λ n. line_turns arity (line.FieldThrough n) 1 1 refl refl (λ at i m. m));
   address = known_behind arity o.value line.FieldAddress i k v.value (λ n. line_turns arity (line.FieldAddress n) 1 1 refl refl (λ at i m. m));
 }
 field_value arity o false i k v = record {
-  standing = refl;
+  mode = refl;
   value = known_behind arity o.value line.Field i k v.value (λ n. line_turns arity (line.Field n) 1 1 refl refl (λ at i m. m));
   address = known_behind arity o.address line.FieldAddress i k v.address (λ n. line_turns arity (line.FieldAddress n) 1 1 refl refl (λ at i m. m));
 }
@@ -50,17 +50,17 @@ receiver_turns arity o false true v = v.address
 receiver_turns arity o false false v = v.value
 
 method_callee : (arity : FunctionName → Arity) (lines : List Line) (name : Option FunctionName) (f : Signature) → Turns arity 0 1 lines →
-    IsCalled arity name (method_arity f) → IsCallee arity (method_operand lines name (length f.results)) f
+    IsNamedWith arity name (method_arity f) → IsCallee arity (method_operand lines name (length f.results)) f
 method_callee arity lines name f t c = record {
   name = c.0;
   received = true;
-  head = record { is = ap (λ z. function_standing z true (length f.results)) c.1.0; value = t };
+  head = record { is = ap (λ z. function_mode z true (length f.results)) c.1.0; value = t };
   takes = ap (λ (z : Arity). z.parameters) c.1.1;
   gives = ap (λ (z : Arity). z.results) c.1.1;
 }
 
 -- a selector behind a value is that of the member by the type before it
-selected_member : (s : Source) (slots : List ℕ) (n : ℕ) (o : Operand) (t : PlainType) (m : Option Member) → o.standing ≡ Values 1 → s.before n ≡ Some t →
+selected_member : (s : Source) (slots : List ℕ) (n : ℕ) (o : Operand) (t : PlainType) (m : Option Member) → o.mode ≡ Values 1 → s.before n ≡ Some t →
     s.world.member n t ≡ m →
     selected s slots n o ≡ member_operand s o t m
 unfolding selected_by typed_selector
@@ -83,25 +83,25 @@ field_selected : (arity : FunctionName → Arity) (s : Source) (slots : List ℕ
     s.world.member n t ≡ Some (AField f u) → IsOneValue arity o →
     IsAnswered arity s slots (OfMember n t) → IsOneValue arity (selected s slots n o)
 field_selected arity s slots n o t u f e v k =
-    subst (λ z. IsOneValue arity z) (sym (selected_member s slots n o t (Some (AField f u)) v.standing k.0 e))
+    subst (λ z. IsOneValue arity z) (sym (selected_member s slots n o t (Some (AField f u)) v.mode k.0 e))
     (member_field arity s o t u f (subst (λ z. MemberIsKnown arity s z) e k.1) v)
 
 method_selected : (arity : FunctionName → Arity) (s : Source) (slots : List ℕ) (n : ℕ) (o : Operand) (t : PlainType) (m : Symbol) (on_pointer : Bool)
     (f : Signature) → s.world.member n t ≡ Some (AMethod m on_pointer f) →
     IsOneValue arity o → IsAnswered arity s slots (OfMember n t) → IsCallee arity (selected s slots n o) f
 method_selected arity s slots n o t m on_pointer f e v k =
-    subst (λ z. IsCallee arity z f) (sym (selected_member s slots n o t (Some (AMethod m on_pointer f)) v.standing k.0 e))
+    subst (λ z. IsCallee arity z f) (sym (selected_member s slots n o t (Some (AMethod m on_pointer f)) v.mode k.0 e))
     (member_method arity s o t m on_pointer f (subst (λ z. MemberIsKnown arity s z) e k.1) v)
 
 -- a name behind the name of a package
-behind_head : (arity : FunctionName → Arity) (xs : List Line) (o : Operand) (standing : Standing) (n : ℕ) → unqualified standing ≡ standing →
-    Turns arity 0 0 xs → IsHead arity o standing n → IsHead arity (behind xs o) standing n
-behind_head arity xs o standing n e t h = record { is = ap unqualified h.is ∙ e; value = turns_joined arity 0 0 n xs o.value t h.value }
+behind_head : (arity : FunctionName → Arity) (xs : List Line) (o : Operand) (mode : Mode) (n : ℕ) → unqualified mode ≡ mode →
+    Turns arity 0 0 xs → IsHead arity o mode n → IsHead arity (export_operand xs o) mode n
+behind_head arity xs o mode n e t h = record { is = ap unqualified h.is ∙ e; value = turns_joined arity 0 0 n xs o.value t h.value }
 
 behind_stands : (arity : FunctionName → Arity) (xs : List Line) (o : Operand) (m : Meaning) → (m ≡ Package → ⊥) → Turns arity 0 0 xs → Stands arity o m →
-    Stands arity (behind xs o) m
+    Stands arity (export_operand xs o) m
 behind_stands arity xs o (Value k a) other t v = record {
-  standing = ap unqualified v.standing;
+  mode = ap unqualified v.mode;
   value =
       turns_joined arity 0 0 1 xs o.value t v.value;
   address = turns_joined arity 0 0 1 xs o.address t v.address;
@@ -150,7 +150,7 @@ selected_stands arity s slots locals n o (of_package {m = m} h) v k p =
 
 pub indexed_value : (arity : FunctionName → Arity) (o : Operand) (i : List Line) → IsOneValue arity o → Turns arity 0 1 i → IsOneValue arity (indexed o i)
 indexed_value arity o i v t = record {
-  standing = refl;
+  mode = refl;
   value = two_lines arity o.value i line.Index v.value t (line_turns arity line.Index 2 1 refl refl (λ at i m. m));
   address = two_lines arity o.value i line.IndexAddress v.value t (line_turns arity line.IndexAddress 2 1 refl refl (λ at i m. m));
 }
@@ -166,35 +166,35 @@ as_many no_values = refl
 as_many (then_fits f more) = ap suc (as_many more)
 
 -- A call: the operand before it, n arguments, and the line of the call.
-call_lines : (arity : FunctionName → Arity) (o : Operand) (n before left : ℕ) (arguments : List Line) (standing : Standing) → IsHead arity o standing before →
+call_lines : (arity : FunctionName → Arity) (o : Operand) (n before left : ℕ) (arguments : List Line) (mode : Mode) → IsHead arity o mode before →
     Turns arity 0 n arguments →
-    Turns arity (before + n) left (calling n standing) → Turns arity 0 left (o.value ++ (arguments ++ calling n o.standing))
-call_lines arity o n before left arguments standing h t c =
+    Turns arity (before + n) left (calling n mode) → Turns arity 0 left (o.value ++ (arguments ++ calling n o.mode))
+call_lines arity o n before left arguments mode h t c =
     subst (λ z. Turns arity 0 left (o.value ++ (arguments ++ calling n z))) (sym h.is)
-    (turns_joined arity 0 before left o.value (arguments ++ calling n standing) h.value
-    (turns_joined arity before (before + n) left arguments (calling n standing) (turns_as arity arguments (omega arith) refl
+    (turns_joined arity 0 before left o.value (arguments ++ calling n mode) h.value
+    (turns_joined arity before (before + n) left arguments (calling n mode) (turns_as arity arguments (omega arith) refl
     (turns_over arity before 0 n arguments t)) c))
 
 -- what a call that leaves so many values is
-call_left : (o : Operand) (n : ℕ) (arguments : List Line) (standing : Standing) (left : ℕ) → o.standing ≡ standing → left_by_call standing ≡ left →
-    (called o n arguments).standing ≡ Values left
-call_left o n arguments standing left e f = ap (λ z. Values (left_by_call z)) e ∙ ap Values f
+call_left : (o : Operand) (n : ℕ) (arguments : List Line) (mode : Mode) (left : ℕ) → o.mode ≡ mode → left_by_call mode ≡ left →
+    (called o n arguments).mode ≡ Values left
+call_left o n arguments mode left e f = ap (λ z. Values (left_by_call z)) e ∙ ap Values f
 
-call_value : (arity : FunctionName → Arity) (o : Operand) (n before : ℕ) (arguments : List Line) (standing : Standing) → IsHead arity o standing before →
+call_value : (arity : FunctionName → Arity) (o : Operand) (n before : ℕ) (arguments : List Line) (mode : Mode) → IsHead arity o mode before →
     Turns arity 0 n arguments →
-    Turns arity (before + n) 1 (calling n standing) → left_by_call standing ≡ 1 → IsOneValue arity (called o n arguments)
-call_value arity o n before arguments standing h t c e = record {
-  standing = call_left o n arguments standing 1 h.is e;
-  value = call_lines arity o n before 1 arguments standing h t c;
-  address = call_lines arity o n before 1 arguments standing h t c;
+    Turns arity (before + n) 1 (calling n mode) → left_by_call mode ≡ 1 → IsOneValue arity (called o n arguments)
+call_value arity o n before arguments mode h t c e = record {
+  mode = call_left o n arguments mode 1 h.is e;
+  value = call_lines arity o n before 1 arguments mode h t c;
+  address = call_lines arity o n before 1 arguments mode h t c;
 }
 
-call_results : (arity : FunctionName → Arity) (o : Operand) (n before left : ℕ) (arguments : List Line) (standing : Standing) →
-    IsHead arity o standing before → Turns arity 0 n arguments →
-    Turns arity (before + n) left (calling n standing) → left_by_call standing ≡ left → IsHead arity (called o n arguments) (Values left) left
-call_results arity o n before left arguments standing h t c e = record {
-  is = call_left o n arguments standing left h.is e;
-  value = call_lines arity o n before left arguments standing h t c;
+call_results : (arity : FunctionName → Arity) (o : Operand) (n before left : ℕ) (arguments : List Line) (mode : Mode) →
+    IsHead arity o mode before → Turns arity 0 n arguments →
+    Turns arity (before + n) left (calling n mode) → left_by_call mode ≡ left → IsHead arity (called o n arguments) (Values left) left
+call_results arity o n before left arguments mode h t c e = record {
+  is = call_left o n arguments mode left h.is e;
+  value = call_lines arity o n before left arguments mode h t c;
 }
 
 -- the line of a call of a function
@@ -205,10 +205,10 @@ unfolding calling
 function_line arity name true n results takes gives =
     turns_as arity (line.Call name (suc n) ∷ []) (let e : suc n ≡ 1 + n = omega arith in e) refl
     (line_turns arity (line.Call name (suc n)) (suc n) results refl gives
-    (λ at i m. (sym takes, subst (λ z. Moves at i (suc n) z) (sym gives) m)))
+    (λ at i m. (sym takes, subst (λ z. ChangesHeight at i (suc n) z) (sym gives) m)))
 function_line arity name false n results takes gives =
     turns_as arity (line.Call name n ∷ []) (let e : n ≡ 0 + n = omega arith in e) refl (line_turns arity (line.Call name n) n results refl gives
-    (λ at i m. (sym takes, subst (λ z. Moves at i n z) (sym gives) m)))
+    (λ at i m. (sym takes, subst (λ z. ChangesHeight at i n z) (sym gives) m)))
 
 function_call : (arity : FunctionName → Arity) (o : Operand) (n : ℕ) (arguments : List Line) (f : Signature) (c : IsCallee arity o f) →
     n ≡ length f.parameters →
@@ -216,7 +216,7 @@ function_call : (arity : FunctionName → Arity) (o : Operand) (n : ℕ) (argume
 function_call arity o n arguments f c e = function_line arity c.name c.received n (length f.results) (c.takes ∙ ap (λ z. counted c.received z) (sym e)) c.gives
 
 gives_stands : (arity : FunctionName → Arity) (o : Operand) (n : ℕ) (arguments : List Line) (f : Signature) (c : IsCallee arity o f) (ts : List PlainType)
-    {r : Meaning} → f.results ≡ ts → Gives ts r → n ≡ length f.parameters → Turns arity 0 n arguments →
+    {r : Meaning} → f.results ≡ ts → ResultsMean ts r → n ≡ length f.parameters → Turns arity 0 n arguments →
     Stands arity (called o n arguments) r
 unfolding left_by_call
 gives_stands arity o n arguments f c ts e nothing k t =
@@ -232,7 +232,7 @@ gives_stands arity o n arguments f c ts e (several {t = u} {u = v} {ts = us}) k 
 builtin_line : (arity : FunctionName → Arity) (b : Builtin) (n left : ℕ) → builtin_results b ≡ left → Turns arity (0 + n) left (calling n (Predeclared b))
 unfolding calling
 builtin_line arity b n left e = turns_as arity (line.CallBuiltin b n ∷ []) (let z : n ≡ 0 + n = omega arith in z) refl
-    (line_turns arity (line.CallBuiltin b n) n left refl e (λ at i m. subst (λ z. Moves at i n z) (sym e) m))
+    (line_turns arity (line.CallBuiltin b n) n left refl e (λ at i m. subst (λ z. ChangesHeight at i n z) (sym e) m))
 
 builtin_value : (arity : FunctionName → Arity) (o : Operand) (b : Builtin) (n : ℕ) (arguments : List Line) → builtin_results b ≡ 1 →
     IsHead arity o (Predeclared b) 0 → Turns arity 0 n arguments → IsOneValue arity (called o n arguments)

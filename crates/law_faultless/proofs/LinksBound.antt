@@ -12,10 +12,10 @@ use Rattle.go_scope.specs.declared.model.Purpose.TheVariants as purpose
 use Rattle.go_scope.specs.Bindings.{Layout, IsBoundTo}
 use Rattle.go_scope.specs.FileSites.{SpelledFile, file_sites, files_sites, universe, package_sites}
 use Rattle.go_scope.specs.Named.{is_unnamed_import}
-use Rattle.go_scope.specs.Parsed.{spelled_file}
-use Rattle.go_scope.specs.Scoped.{scoped, layout_in}
-use Rattle.go_scope.specs.Site.{Site, Source, found_site}
-use Rattle.go_scope.specs.Table.{StandsAt, IsFoundAt}
+use Rattle.go_scope.specs.SpelledFiles.{spelled_file}
+use Rattle.go_scope.specs.Packages.{scoped, layout_in}
+use Rattle.go_scope.specs.Site.{Site, Source, or_blank}
+use Rattle.go_scope.specs.Table.{LiesAt, IsFoundAt}
 use Rattle.law_tokens.proofs.HeldBytes.{source_file_at}
 use Rattle.law_tokens.proofs.Lexical.{never_bound}
 use Rattle.law_tokens.proofs.OwnPaths.{package_sources, part_at}
@@ -31,11 +31,11 @@ use Rattle.types_info.specs.MemberUses.{AreUsesIn}
 use Rattle.types_info.specs.Worlds.{IsName, is_bound, is_unbound, by_scope, by_package, is_init}
 use Rattle.workspace_check.specs.Verdicts.{Verdicts, IsPackageIn}
 use Rattle.refs_binding.specs.declared.declaration.Declaration.{Declaration}
-use Rattle.types_info.specs.Qualified.{IsBehindPackage}
+use Rattle.types_info.specs.QualifiedIdentifiers.{IsQualifiedByPath}
 use Rattle.refs_binding.specs.Binding.{BindsByMember, declaration_of}
-use Rattle.refs_binding.specs.Identifiers.{Stands}
+use Rattle.refs_binding.specs.Identifiers.{IsInFiles}
 use Rattle.refs_lookup.proofs.OnePlace.{names_of, laid_of, same_layout, same_files}
-use Rattle.law_faultless.specs.Linked.{IsUsedMember, IsLinked}
+use Rattle.law_faultless.specs.MemberLinks.{IsUsedMember, IsLinked}
 use Rattle.law_faultless.proofs.FilesUsed.{all_linked}
 use Rattle.refs_lookup.proofs.BoundUsedMembers.{file_at, told_at}
 use Rattle.law_faultless.specs.MemberNames.{IsMemberName, a_selected, a_key}
@@ -44,7 +44,7 @@ use Rattle.law_faultless.proofs.Sites.{files_among, each_numbered}
 module _ (w : Workspace) (known : Verdicts) (path : List ℕ) (p : Package) (h : IsPackageIn w known path p) where
   -- A property of each identifier of a file, by its token and role, is one of u.
   pub at_number : (P : ℕ → Role → Type 0) (q : Purpose) → is_unnamed_import (NotLexical q) ≡ false → (NotLexical purpose.Blank ≡ NotLexical q → ⊥) →
-      (u : ℕ) → Stands p u → p.layout.role u ≡ NotLexical q → (s : SourceFile) → slice_get p.files (p.layout.place u).file ≡ Some s →
+      (u : ℕ) → IsInFiles p u → p.layout.role u ≡ NotLexical q → (s : SourceFile) → slice_get p.files (p.layout.place u).file ≡ Some s →
       ((source : Source) → AllByRecursion (λ x. P x.place.index x.role) (file_sites source s.tree)) → P (p.layout.place u).index (NotLexical q)
   unfolding package_sites
   at_number P q named other u stands role s is all =
@@ -53,10 +53,10 @@ module _ (w : Workspace) (known : Verdicts) (path : List ℕ) (p : Package) (h :
       let at = p.layout.place u in
       let fs = map spelled_file h.files in
       let sites = (scoped h.files).sites in
-      let there : StandsAt (layout_in (laid_of w known path p h)) at u = subst (λ (l : Layout). StandsAt l at u) layout (stands.1, refl, refl) in
-      let plain : StandsAt (layout_in (scoped h.files)) at u = plainly_stands names (scoped h.files) at u there in
+      let there : LiesAt (layout_in (laid_of w known path p h)) at u = subst (λ (l : Layout). LiesAt l at u) layout (stands.1, refl, refl) in
+      let plain : LiesAt (layout_in (scoped h.files)) at u = plainly_stands names (scoped h.files) at u there in
       let laid : (layout_in (laid_of w known path p h)).role u ≡ NotLexical q = subst (λ (l : Layout). l.role u ≡ NotLexical q) layout role in
-      let own : (found_site (slice_get sites u)).role ≡ NotLexical q = (role_keeps q named names sites u).0 laid in
+      let own : (or_blank (slice_get sites u)).role ≡ NotLexical q = (role_keeps q named names sites u).0 laid in
       let t = part_at h.files at.file s (subst (λ xs. slice_get xs at.file ≡ Some s) (same_files w known path p h) is) in
       let tree : s.tree ≡ (spelled_file t.0).tree = ap (λ (z : SourceFile). z.tree) (sym t.1.1) in
       let got : slice_get fs at.file ≡ Some (spelled_file t.0) =
@@ -68,14 +68,14 @@ module _ (w : Workspace) (known : Verdicts) (path : List ℕ) (p : Package) (h :
       subst (λ z. AllByRecursion (λ x. P x.place.index x.role) (file_sites (record { rank = at.file; spell = f.spell }) z))
       (tree ∙ ap (λ (z : SpelledFile). z.tree) own_file) (all (record { rank = at.file; spell = f.spell }))) in
       let found = each_numbered (λ (x : Site). x.place.file ≡ at.file → P x.place.index x.role) q other universe (files_sites 0 fs) each u own in
-      subst (λ r. P at.index r) own (subst (λ i. P i (found_site (slice_get sites u)).role) plain.2 (found plain.1))
+      subst (λ r. P at.index r) own (subst (λ i. P i (or_blank (slice_get sites u)).role) plain.2 (found plain.1))
 
   pub source_is : (file : ℕ) (s : SourceFile) → slice_get p.files file ≡ Some s → IsSourceFile s
   source_is file s is =
       let t = part_at h.files file s (subst (λ xs. slice_get xs file ≡ Some s) (same_files w known path p h) is) in
       subst IsSourceFile t.1.1 (source_file_at h.files (package_sources w path h.files h.parsed) file t.0 t.1.0)
 
-  module _ (u : ℕ) (stands : Stands p u) (uses : List MemberUse) (a : AreUsesIn p (p.layout.place u).file uses)
+  module _ (u : ℕ) (stands : IsInFiles p u) (uses : List MemberUse) (a : AreUsesIn p (p.layout.place u).file uses)
       (typed : FileIsTyped a.world (is_init a.source) a.source.tree) where
     Used : ℕ → Type 0
     Used = IsUsedMember a.world (check_file a.world (is_init a.source) a.source.tree).uses
@@ -111,7 +111,7 @@ module _ (w : Workspace) (known : Verdicts) (path : List ℕ) (p : Package) (h :
         let same = (told_at w known path p h (p.layout.place u) identifier found.within found.holds t.0 t.1).selected.1 dotted in
         never_bound p.layout p.names identifier d purpose.Selected same bound
 
-    unnamed : (b : Bound) → p.layout.role u ≡ NotLexical purpose.Selected → ((q : List ℕ) → IsBehindPackage p u q → ⊥) →
+    unnamed : (b : Bound) → p.layout.role u ≡ NotLexical purpose.Selected → ((q : List ℕ) → IsQualifiedByPath p u q → ⊥) →
         IsName p (p.layout.place u).file (p.layout.place u).index b → (b ≡ Means Broken → ⊥) → ⊥
     unnamed b role outside (is_bound (by_scope binds m)) known_name = no_scope binds.identifier _ role binds.found binds.bound
     unnamed _ role outside (is_bound (by_package x)) known_name =

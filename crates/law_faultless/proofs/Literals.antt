@@ -29,12 +29,12 @@ use Rattle.go_ast.specs.SourceFile.{SourceFile, IsSourceFile, spelling_at, spell
 use Rattle.types_declared.specs.Files.{HasLiteral}
 use Rattle.types_expr.specs.World.{World, Locals}
 use Rattle.go_ast.specs.Tree.{FuncTree}
-use Rattle.build_object.specs.Literals.{number_of}
+use Rattle.build_object.specs.Literals.{literal_number}
 use Rattle.build_object.specs.Sources.{IsTextAt}
-use Rattle.law_faultless.specs.Asked.{OfInteger, OfText}
-use Rattle.law_faultless.specs.Answered.{IsKnown}
-use Rattle.law_faultless.specs.StatementsAsked.{FunctionAsks}
-use Rattle.law_faultless.specs.Files.{IsFunctionIn}
+use Rattle.law_faultless.specs.Questions.{OfInteger, OfText}
+use Rattle.law_faultless.specs.QuestionAnswers.{IsKnown}
+use Rattle.law_faultless.specs.StatementAsking.{FunctionAsks}
+use Rattle.law_faultless.specs.TypedFunctions.{IsFunctionIn}
 use Rattle.law_faultless.proofs.Written.{Holds, file_written}
 
 -- the piece that a token is
@@ -172,7 +172,7 @@ bad_integer text n s le = record {
   bad = inr le;
 }
 
-integer_known : (text : List ℕ) (n : ℕ) → Stands text class.Integer n → IsKnown (number_of (take n text))
+integer_known : (text : List ℕ) (n : ℕ) → Stands text class.Integer n → IsKnown (literal_number (take n text))
 integer_known text n s =
     chosen (nat_lt (integer_value (take n text)) (2 ^ 63)) (integer_value (take n text))
     (λ e. s.sound fault.Number 0 (refl, inl (bad_integer text n s (ltb-false (integer_value (take n text)) (2 ^ 63) e))))
@@ -220,12 +220,12 @@ string_sign c h e = elim h [ inl s ↦ cc | inr s ↦ cc ]
 string_mark : (c : Class) → IsStringClass c → c ≡ class.ByteOrderMark → ⊥
 string_mark c h e = elim h [ inl s ↦ cc | inr s ↦ cc ]
 
-number_spelled : (f : SourceFile) (p : ℕ) → IsSourceFile f → Holds kind.Number p (kinds_of f.cut) → IsKnown (number_of (spelling_of f p))
+number_spelled : (f : SourceFile) (p : ℕ) → IsSourceFile f → Holds kind.Number p (kinds_of f.cut) → IsKnown (literal_number (spelling_of f p))
 number_spelled f p is h =
     let x = piece_of f p kind.Number h in
     let integer : x.piece.class ≡ class.Integer = number_class x.piece.class (bytes_of f.cut.text x.piece) x.kind_is in
     let stands = stands_in f p kind.Number is x (λ e. differ (sym integer ∙ e)) (λ e. differ_mark (sym integer ∙ e)) in
-    subst (λ z. IsKnown (number_of (spelling_at f.cut.text z))) (sym x.at)
+    subst (λ z. IsKnown (literal_number (spelling_at f.cut.text z))) (sym x.at)
     (integer_known (drop x.piece.span.start f.cut.text) (x.piece.span.end - x.piece.span.start)
     (subst (λ z. Stands (drop x.piece.span.start f.cut.text) z (x.piece.span.end - x.piece.span.start)) integer stands))
 
@@ -254,7 +254,7 @@ asked k p f is h = subst (λ z. Holds k p z) is.is_tree.written h
 
 pub integer_asked : (w : World) (is_init : ℕ → Bool) (f : SourceFile) (g : FuncTree) (before at : Locals) (n : ℕ) → IsSourceFile f →
     IsFunctionIn w is_init before f.tree.decls g at → FunctionAsks w at g (OfInteger n) →
-    IsKnown (number_of (spelling_of f n))
+    IsKnown (literal_number (spelling_of f n))
 integer_asked w is_init f g before at n is there a =
     number_spelled f n is (asked kind.Number n f is (file_written w is_init f.tree g before at (OfInteger n) there a))
 

@@ -2,18 +2,18 @@
 use Rattle.std.proofs.Common.{ℕ, zero, suc, ◌≡◌, ◌+◌, ◌≤◌, List, [], ◌∷◌, sym, ◌∙◌, subst, arith, Some}
 use Rattle.std.specs.Prelude.{slice_get}
 use Rattle.build_object.specs.Lines.{FunctionName, Line}
-use Rattle.law_faultless.specs.Stack.{Arity, Effect, Works, Calls, Tests, Leads, LeadsBack, Returns, Ends, effect, Obeys, RunsAt, Runs, IsBalanced}
+use Rattle.law_faultless.specs.Stack.{Arity, Effect, Works, Calls, Tests, Leads, LeadsBack, Returns, Ends, effect, Obeys, LineObeys, LinesObey, IsBalanced}
 use Rattle.law_faultless.specs.Machine.{Steps, works, calls, goes_on, leads_away, leads, leads_back, Reaches, begins, further, IsReady}
 
 -- the line of a number does what it says
-runs_there : (arity : FunctionName → Arity) (at : ℕ → ℕ) (i : ℕ) (ls : List Line) (n : ℕ) (l : Line) → Runs arity at i ls → slice_get ls n ≡ Some l →
-    RunsAt arity at (n + i) l
+runs_there : (arity : FunctionName → Arity) (at : ℕ → ℕ) (i : ℕ) (ls : List Line) (n : ℕ) (l : Line) → LinesObey arity at i ls → slice_get ls n ≡ Some l →
+    LineObeys arity at (n + i) l
 runs_there arity at i [] n l r e = cc
 runs_there arity at i (x ∷ xs) zero l r e =
     let same : x ≡ l = cc in
-    subst (λ z. RunsAt arity at z l) (let z : i ≡ 0 + i = omega arith in z) (subst (λ z. RunsAt arity at i z) same r.0)
+    subst (λ z. LineObeys arity at z l) (let z : i ≡ 0 + i = omega arith in z) (subst (λ z. LineObeys arity at i z) same r.0)
 runs_there arity at i (x ∷ xs) (suc n) l r e =
-    subst (λ z. RunsAt arity at z l) (let z : n + suc i ≡ suc n + i = omega arith in z) (runs_there arity at (suc i) xs n l r.1 e)
+    subst (λ z. LineObeys arity at z l) (let z : n + suc i ≡ suc n + i = omega arith in z) (runs_there arity at (suc i) xs n l r.1 e)
 
 -- a step from the height of a line leads to the height of the next
 step_level : (at : ℕ → ℕ) {x : Effect} {i h j k : ℕ} → Steps x i h j k → Obeys at i x → h ≡ at i → k ≡ at j
@@ -30,7 +30,7 @@ pub one_height : (arity : FunctionName → Arity) (lines : List Line) (before af
     Reaches arity lines before i h → h ≡ b.at i
 one_height arity lines before after b begins = sym b.begins
 one_height arity lines before after b (further {i} {h} {l = l} r e s) =
-    step_level b.at s (subst (λ z. RunsAt arity b.at z l) (let z : i + 0 ≡ i = omega arith in z) (runs_there arity b.at 0 lines i l b.runs e))
+    step_level b.at s (subst (λ z. LineObeys arity b.at z l) (let z : i + 0 ≡ i = omega arith in z) (runs_there arity b.at 0 lines i l b.runs e))
     (one_height arity lines before after b r)
 
 ready : (at : ℕ → ℕ) (x : Effect) (i h : ℕ) → Obeys at i x → h ≡ at i → IsReady x h
@@ -45,5 +45,5 @@ ready at Ends i h m e = e ∙ m
 pub always_ready : (arity : FunctionName → Arity) (lines : List Line) (before after : ℕ) → IsBalanced arity before lines after → (i h : ℕ) (l : Line) →
     Reaches arity lines before i h → slice_get lines i ≡ Some l → IsReady (effect arity l) h
 always_ready arity lines before after b i h l r e =
-    ready b.at (effect arity l) i h (subst (λ z. RunsAt arity b.at z l) (let z : i + 0 ≡ i = omega arith in z) (runs_there arity b.at 0 lines i l b.runs e))
+    ready b.at (effect arity l) i h (subst (λ z. LineObeys arity b.at z l) (let z : i + 0 ≡ i = omega arith in z) (runs_there arity b.at 0 lines i l b.runs e))
     (one_height arity lines before after b r)

@@ -10,16 +10,16 @@ use Rattle.go_scope.specs.declared.model.Role.{Role}
 use Rattle.go_scope.specs.declared.model.Role.TheVariants.{Use, Declaring, LeftName, Implied, NotLexical}
 use Rattle.go_scope.specs.Bindings.{block_of, is_implied}
 use Rattle.go_scope.specs.FileSites.{universe}
-use Rattle.go_scope.specs.Table.{StandsAt, IsFoundAt}
+use Rattle.go_scope.specs.Table.{LiesAt, IsFoundAt}
 use Rattle.go_scope.specs.WellFormed.{WellFormed}
 use Rattle.types_expr.specs.declared.types.Basic.TheVariants as basic
 use Rattle.types_expr.specs.declared.types.Builtin.TheVariants as builtin
 use Rattle.types_expr.specs.Types.{Signature, Meaning, Broken}
 use Rattle.types_expr.specs.World.{Bound}
 use Rattle.types_expr.specs.World.{Means as Stands}
-use Rattle.types_declared.specs.Bound.{PredeclaredMeans, a_type, a_truth, an_untruth, a_nil, a_function, parameter_types, result_types}
-use Rattle.types_declared.specs.Bound.{HasSignature, DeclaresVariable, DeclaresFunction, IsMeantBy}
-use Rattle.types_declared.specs.Bound as bound
+use Rattle.types_declared.specs.MeaningOf.{PredeclaredMeans, a_type, a_truth, an_untruth, a_nil, a_function, parameter_types, result_types}
+use Rattle.types_declared.specs.MeaningOf.{HasSignature, DeclaresVariable, DeclaresFunction, IsMeaningOf}
+use Rattle.types_declared.specs.MeaningOf as bound
 use Rattle.types_declared.specs.Package.{Package, Export, PlacedFunction, package_variables, package_functions, package_types, variable_place, function_place}
 use Rattle.types_declared.specs.Package.{type_place}
 use Rattle.types_declared.specs.Written.{BindsToken, DeclaresType, IsBroken, IsExportAt}
@@ -27,8 +27,8 @@ use Rattle.types_declared.proofs.Binding.{one_first}
 use Rattle.types_declared.proofs.ByteKeys.{cases_bytes}
 use Rattle.types_declared.proofs.Naming.{one_binding}
 use Rattle.types_info.proofs.DeclKinds.{Holds}
-use Rattle.types_info.specs.BoundsView.{IsUniversal}
-use Rattle.types_info.specs.Worlds.{IsSelected, IsBoundAt, by_scope, by_package, IsName, is_bound, is_unbound}
+use Rattle.types_info.specs.MeaningsView.{IsPredeclaredMeaning}
+use Rattle.types_info.specs.Worlds.{DenotesExport, IsBoundAt, by_scope, by_package, IsName, is_bound, is_unbound}
 use Rattle.types_info.proofs.Meanings.{type_named, function_named, true_named, false_named, nil_named, universal_only, no_import_meaning, no_meaning}
 use Rattle.law_faultless.specs.Strings.{AreStringsKnown}
 use Rattle.law_faultless.proofs.Deciding.{Decided, is_true}
@@ -76,7 +76,7 @@ no_word name a b c d e f g h i j k n m is (a_function builtin.Panic) = i is
 no_word name a b c d e f g h i j k n m is (a_function builtin.Print) = j is
 no_word name a b c d e f g h i j k n m is (a_function builtin.Println) = k is
 
-pub predeclared_meaning : (name : List ℕ) → ((b : Bound) × IsUniversal name b) ⊎ ((m : Meaning) → PredeclaredMeans name m → ⊥)
+pub predeclared_meaning : (name : List ℕ) → ((b : Bound) × IsPredeclaredMeaning name b) ⊎ ((m : Meaning) → PredeclaredMeans name m → ⊥)
 predeclared_meaning name = elim (cases_bytes name (codes "bool")) [
   | inl e ↦ inl (_, type_named name basic.Bool e)
   | inr a ↦ elim (cases_bytes name (codes "int")) [
@@ -124,23 +124,23 @@ module _ (p : Package) (w : WellFormed p.layout) (strings : AreStringsKnown p) (
 
   -- what a declaration means, or that it means nothing
 
-  abbrev IsMeant : ℕ → Type 0
-  IsMeant d = ((b : Bound) × IsMeantBy p d b) ⊎ ((b : Bound) → IsMeantBy p d b → ⊥)
+  abbrev AreMeaningsOf : ℕ → Type 0
+  AreMeaningsOf d = ((b : Bound) × IsMeaningOf p d b) ⊎ ((b : Bound) → IsMeaningOf p d b → ⊥)
 
-  universal : (d : ℕ) → block_of (p.layout.role d) ≡ Universe → IsMeant d
+  universal : (d : ℕ) → block_of (p.layout.role d) ≡ Universe → AreMeaningsOf d
   universal d e = elim (is_true (is_implied (p.layout.role d))) [
     | inr other ↦ inr (λ b m. other (universal_only p d b e m).0)
     | inl implied ↦ elim (predeclared_meaning (p.names d)) [
       | inl b ↦ inl (
         b.0,
-        subst (IsMeantBy p d) (sym b.1.at)
+        subst (IsMeaningOf p d) (sym b.1.at)
             (bound.predeclared {name = p.names d} {m = b.1.meaning} (record { implied = implied; universe = e; named = refl }) b.1.means),
       )
       | inr none ↦ inr (λ b m. let u = (universal_only p d b e m).1 in none u.meaning u.means)
     ]
   ]
 
-  imported : (d file : ℕ) → block_of (p.layout.role d) ≡ File file → IsMeant d
+  imported : (d file : ℕ) → block_of (p.layout.role d) ≡ File file → AreMeaningsOf d
   imported d file e = elim (path p w strings d) [
     | inl q ↦ inl (_, bound.import_name {path = q.0} q.1)
     | inr none ↦ inr (λ b m. no_import_meaning p d file e none b m)
@@ -151,7 +151,7 @@ module _ (p : Package) (w : WellFormed p.layout) (strings : AreStringsKnown p) (
   DeclaresNothing d =
       ((r : ℕ) → DeclaresVariable p d r → ⊥) × (((r : ℕ) → DeclaresFunction p d r → ⊥) × ((r : ℕ) → DeclaresType p d r → ⊥))
 
-  global_or_none : (d : ℕ) → block_of (p.layout.role d) ≡ PackageBlock → ((b : Bound) × IsMeantBy p d b) ⊎ DeclaresNothing d
+  global_or_none : (d : ℕ) → block_of (p.layout.role d) ≡ PackageBlock → ((b : Bound) × IsMeaningOf p d b) ⊎ DeclaresNothing d
   global_or_none d e = elim (rank p w variable_place (package_variables p) d) [
     | inl r ↦
         let v = r.1.item in
@@ -176,21 +176,21 @@ module _ (p : Package) (w : WellFormed p.layout) (strings : AreStringsKnown p) (
     ]
   ]
 
-  global : (d : ℕ) → block_of (p.layout.role d) ≡ PackageBlock → IsMeant d
+  global : (d : ℕ) → block_of (p.layout.role d) ≡ PackageBlock → AreMeaningsOf d
   global d e = elim (global_or_none d e) [ inl b ↦ inl b | inr none ↦ inr (no_meaning p d e none.0 none.1.0 none.1.1) ]
 
   -- what a file declares in the package's block means something
   pub global_meant : (d file i : ℕ) (s : SourceFile) → block_of (p.layout.role d) ≡ PackageBlock → slice_get p.files file ≡ Some s →
-      StandsAt p.layout (record { file = file; index = i }) d → IsGlobal s.tree.decls i → (b : Bound) × IsMeantBy p d b
+      LiesAt p.layout (record { file = file; index = i }) d → IsGlobal s.tree.decls i → (b : Bound) × IsMeaningOf p d b
   global_meant d file i s e at stands g = elim (global_or_none d e) [
     | inl b ↦ b
     | inr none ↦ elim (declared_in p file i s at g) [
-      | inl v ↦ (let r = ranked p w variable_place (package_variables p) d v.0 v.1.0 v.1.1.0 (subst (λ a. StandsAt p.layout a d) (sym v.1.1.1) stands) in
+      | inl v ↦ (let r = ranked p w variable_place (package_variables p) d v.0 v.1.0 v.1.1.0 (subst (λ a. LiesAt p.layout a d) (sym v.1.1.1) stands) in
           absurd (none.0 r.0 r.1))
       | inr other ↦ elim other [
         | inl v ↦ (let r = ranked p w function_place (package_functions p) d v.0 v.1.0 v.1.1.0
-            (subst (λ a. StandsAt p.layout a d) (sym v.1.1.1) stands) in absurd (none.1.0 r.0 r.1))
-        | inr v ↦ (let r = ranked p w type_place (package_types p) d v.0 v.1.0 v.1.1.0 (subst (λ a. StandsAt p.layout a d) (sym v.1.1.1) stands) in
+            (subst (λ a. LiesAt p.layout a d) (sym v.1.1.1) stands) in absurd (none.1.0 r.0 r.1))
+        | inr v ↦ (let r = ranked p w type_place (package_types p) d v.0 v.1.0 v.1.1.0 (subst (λ a. LiesAt p.layout a d) (sym v.1.1.1) stands) in
             absurd (none.1.1 r.0 r.1))
       ]
     ]
@@ -198,31 +198,31 @@ module _ (p : Package) (w : WellFormed p.layout) (strings : AreStringsKnown p) (
 
   -- and so does a predeclared name
   pub universal_meant : (d : ℕ) → block_of (p.layout.role d) ≡ Universe → is_implied (p.layout.role d) ≡ true → Holds universe (p.names d) →
-      (b : Bound) × IsMeantBy p d b
+      (b : Bound) × IsMeaningOf p d b
   universal_meant d e implied named =
       let m = universe_means (p.names d) named in
       (_, bound.predeclared {name = p.names d} {m = m.0} (record { implied = implied; universe = e; named = refl }) m.1)
 
-  by_block : (d : ℕ) (b : Block) → block_of (p.layout.role d) ≡ b → IsMeant d
+  by_block : (d : ℕ) (b : Block) → block_of (p.layout.role d) ≡ b → AreMeaningsOf d
   by_block d Universe e = universal d e
   by_block d (File file) e = imported d file e
   by_block d PackageBlock e = global d e
   by_block d (Inner file from to) e = inl (_, bound.local e)
 
-  pub meant : (d : ℕ) → ((b : Bound) × IsMeantBy p d b) ⊎ ((b : Bound) → IsMeantBy p d b → ⊥)
+  pub meant : (d : ℕ) → ((b : Bound) × IsMeaningOf p d b) ⊎ ((b : Bound) → IsMeaningOf p d b → ⊥)
   meant d = by_block d (block_of (p.layout.role d)) refl
 
   -- what the name at a token is bound to
 
   abbrev IsScoped : ℕ → ℕ → Type 0
-  IsScoped file token = (b : Bound) × ((d : ℕ) × (BindsToken p file token d × IsMeantBy p d b))
+  IsScoped file token = (b : Bound) × ((d : ℕ) × (BindsToken p file token d × IsMeaningOf p d b))
 
-  scoped : (file token : ℕ) → IsScoped file token ⊎ ((b : Bound) (d : ℕ) → BindsToken p file token d → IsMeantBy p d b → ⊥)
+  scoped : (file token : ℕ) → IsScoped file token ⊎ ((b : Bound) (d : ℕ) → BindsToken p file token d → IsMeaningOf p d b → ⊥)
   scoped file token = elim (token_bound p w file token) [
     | inr none ↦ inr (λ b d binds m. none d binds)
     | inl d ↦ elim (meant d.0) [
       | inl b ↦ inl (b.0, (d.0, (d.1, b.1)))
-      | inr none ↦ inr (λ b e binds m. none b (subst (λ k. IsMeantBy p k b) (one_binding p w file token e d.0 binds d.1) m))
+      | inr none ↦ inr (λ b e binds m. none b (subst (λ k. IsMeaningOf p k b) (one_binding p w file token e d.0 binds d.1) m))
     ]
   ]
 
@@ -241,7 +241,7 @@ module _ (p : Package) (w : WellFormed p.layout) (strings : AreStringsKnown p) (
   is_selected (NotLexical purpose.Blank) = inr (λ e. cc)
 
   exported : (file token u : ℕ) → IsFoundAt p.layout p.size (record { file = file; index = token }) u → p.layout.role u ≡ NotLexical purpose.Selected →
-      ((e : Export) × IsSelected p file token e) ⊎ ((e : Export) → IsSelected p file token e → ⊥)
+      ((e : Export) × DenotesExport p file token e) ⊎ ((e : Export) → DenotesExport p file token e → ⊥)
   exported file zero u f role = inr (λ e s. let at : zero ≡ suc (suc s.before) = s.behind_dot in absurd (omega arith))
   exported file (suc zero) u f role = inr (λ e s. let at : suc zero ≡ suc (suc s.before) = s.behind_dot in absurd (omega arith))
   exported file (suc (suc before)) u f role = elim (export p w strings file before (suc (suc before))) [
@@ -252,18 +252,18 @@ module _ (p : Package) (w : WellFormed p.layout) (strings : AreStringsKnown p) (
         none e (subst (λ i. IsExportAt p file i (suc (suc before)) e) same s.exported))
   ]
 
-  selected : (file token : ℕ) → ((e : Export) × IsSelected p file token e) ⊎ ((e : Export) → IsSelected p file token e → ⊥)
+  selected : (file token : ℕ) → ((e : Export) × DenotesExport p file token e) ⊎ ((e : Export) → DenotesExport p file token e → ⊥)
   selected file token = elim (found p w (record { file = file; index = token })) [
     | inr none ↦ inr (λ e s. none s.identifier s.found)
     | inl u ↦ elim (is_selected (p.layout.role u.0)) [
       | inl role ↦ exported file token u.0 u.1 role
       | inr other ↦ inr (λ e s.
           other (subst (λ k. p.layout.role k ≡ NotLexical purpose.Selected)
-          (one_first (StandsAt p.layout (record { file = file; index = token })) p.size s.identifier u.0 s.found u.1) s.selected))
+          (one_first (LiesAt p.layout (record { file = file; index = token })) p.size s.identifier u.0 s.found u.1) s.selected))
     ]
   ]
 
-  unbound : (file token : ℕ) → ((b : Bound) (d : ℕ) → BindsToken p file token d → IsMeantBy p d b → ⊥) → ((e : Export) → IsSelected p file token e → ⊥) →
+  unbound : (file token : ℕ) → ((b : Bound) (d : ℕ) → BindsToken p file token d → IsMeaningOf p d b → ⊥) → ((e : Export) → DenotesExport p file token e → ⊥) →
       (b : Bound) →
       IsBoundAt p file token b → ⊥
   unbound file token scope behind b (by_scope {declaration} binds m) = scope b declaration binds m

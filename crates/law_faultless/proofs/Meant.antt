@@ -17,10 +17,10 @@ use Rattle.go_scope.specs.declared.model.Role.TheVariants.{NotLexical}
 use Rattle.go_scope.specs.Bindings.{MayDeclare, Counts, block_of, is_implied, may_declare}
 use Rattle.go_scope.specs.FileSites.{universe, files_sites, package_sites}
 use Rattle.go_scope.specs.Named.{is_unnamed_import, named_where, named_sites}
-use Rattle.go_scope.specs.Parsed.{spelled_file}
-use Rattle.go_scope.specs.Scoped.{scoped}
-use Rattle.go_scope.specs.Site.{Site, found_site}
-use Rattle.go_scope.specs.Table.{StandsAt}
+use Rattle.go_scope.specs.SpelledFiles.{spelled_file}
+use Rattle.go_scope.specs.Packages.{scoped}
+use Rattle.go_scope.specs.Site.{Site, or_blank}
+use Rattle.go_scope.specs.Table.{LiesAt}
 use Rattle.go_scope.specs.WellFormed.{WellFormed}
 use Rattle.go_scope.proofs.NamedSites.{place_stays}
 use Rattle.types_declared.specs.Files.{HasLiteral}
@@ -28,7 +28,7 @@ use Rattle.types_declared.specs.Laid.{laid_in, is_literal, literal_of, IsPathOf}
 use Rattle.law_tokens.proofs.Ordered.{same_length}
 use Rattle.law_tokens.proofs.Roles.{role_keeps}
 use Rattle.types_expr.specs.World.{Bound}
-use Rattle.types_declared.specs.Bound.{IsMeantBy, import_name, local}
+use Rattle.types_declared.specs.MeaningOf.{IsMeaningOf, import_name, local}
 use Rattle.types_declared.specs.Package.{Package}
 use Rattle.types_declared.specs.Written.{ImportsPath, IsBroken}
 use Rattle.types_info.proofs.DeclKinds.{Holds}
@@ -61,7 +61,7 @@ literal_where None x true e = refl
 literal_where name x false e = refl
 
 literal_stays : (names : ℕ → Option (List ℕ)) (xs : List Site) (d : ℕ) →
-    is_literal (found_site (slice_get (named_sites names xs) d)).role ≡ is_literal (found_site (slice_get xs d)).role
+    is_literal (or_blank (slice_get (named_sites names xs) d)).role ≡ is_literal (or_blank (slice_get xs d)).role
 unfolding named_sites
 literal_stays names [] d = refl
 literal_stays names (x ∷ xs) zero = literal_where (names 0) x (is_unnamed_import x.role) refl
@@ -166,20 +166,20 @@ module _ (w : Workspace) (known : Verdicts) (path : List ℕ) (p : Package) (h :
   -- what counts means something
 
   told_meant : (d : ℕ) → MayDeclare p.layout d → IsTold 0 h.files (new d) → old d ≡ new d → (b : Block) → block_of (p.layout.role d) ≡ b →
-      (c : Bound) × IsMeantBy p d c
+      (c : Bound) × IsMeaningOf p d c
   told_meant d m t e Universe block =
       absurd (told_universe (OfKind t.file.cut) (IsGlobal (source_of t.file).tree.decls) (Unit {0}) (new d).place.index (new d).role t.told
       (sym (ap may_declare (role_is w known path p h d)) ∙ m) (sym (ap block_of (role_is w known path p h d)) ∙ block))
   told_meant d m t e PackageBlock block =
       let place = place_is w known path p h d in
-      let stands : StandsAt p.layout (new d).place d = (identified d t, ap (λ (a : Position). a.file) place, ap (λ (a : Position). a.index) place) in
+      let stands : LiesAt p.layout (new d).place d = (identified d t, ap (λ (a : Position). a.file) place, ap (λ (a : Position). a.index) place) in
       global_meant p formed strings broken d (new d).place.file (new d).place.index (source_of t.file) block (file_of_told w known path p h (new d) t) stands
       (told_global (OfKind t.file.cut) (IsGlobal (source_of t.file).tree.decls) (Unit {0}) (new d).place.index (new d).role t.told
       (sym (ap may_declare (role_is w known path p h d)) ∙ m) (sym (ap block_of (role_is w known path p h d)) ∙ block))
   told_meant d m t e (File f) block = let q = named_path d f t e block in (_, import_name {path = q.0} q.1)
   told_meant d m t e (Inner f from to) block = (_, local block)
 
-  kept_meant : (d : ℕ) → MayDeclare p.layout d → IsKept (IsTold 0 h.files) universe (names d) (old d) (new d) → ((c : Bound) → IsMeantBy p d c → ⊥) → ⊥
+  kept_meant : (d : ℕ) → MayDeclare p.layout d → IsKept (IsTold 0 h.files) universe (names d) (old d) (new d) → ((c : Bound) → IsMeaningOf p d c → ⊥) → ⊥
   kept_meant d m (universal r n) none =
       let role = role_is w known path p h d ∙ r in
       let c = universal_meant p formed strings broken d (ap block_of role) (ap is_implied role) (subst (Holds universe) (sym (name_is w known path p h d)) n) in
@@ -189,5 +189,5 @@ module _ (w : Workspace) (known : Verdicts) (path : List ℕ) (p : Package) (h :
       let block = ap block_of (role_is w known path p h d ∙ r) in
       laid_path d (old d).place.file (may_within w known path p h d m) block u (new d).name g (λ q i. none _ (import_name {path = q} i))
 
-  pub meant_so : (d : ℕ) → Counts p.layout p.names d → ((c : Bound) → IsMeantBy p d c → ⊥) → ⊥
+  pub meant_so : (d : ℕ) → Counts p.layout p.names d → ((c : Bound) → IsMeaningOf p d c → ⊥) → ⊥
   meant_so d c none = kept_meant d c.declares.may (kept w known path p h d (may_within w known path p h d c.declares.may)) none

@@ -6,7 +6,7 @@ use Rattle.go_ast.specs.SourceFile.{SourceFile}
 use Rattle.go_ast.specs.Tree.{Item, FieldTree, BodyTree, Other, Struct, DeclTree, VarDecl, TypeDecl, FuncDecl}
 use Rattle.go_scope.specs.declared.model.Purpose.TheVariants as purpose
 use Rattle.go_scope.specs.declared.model.Role.TheVariants.{NotLexical}
-use Rattle.types_declared.specs.Files.{Ranked, ranked, group_items}
+use Rattle.types_declared.specs.Files.{RankedSource, ranked_files, group_items}
 use Rattle.types_declared.specs.Definitions.{PlacedField, body_fields, fields_from, package_fields}
 use Rattle.types_declared.specs.Package.{Package, PlacedType, PlacedFunction, placed_type, decl_types, decl_functions, types_in, functions_in, package_types}
 use Rattle.types_declared.specs.Package.{package_functions, spelled}
@@ -14,7 +14,7 @@ use Rattle.types_info.proofs.DeclKinds.{Holds, held_left, held_right, held_flat,
 use Rattle.workspace_check.specs.FaultLists.{ListsFaults}
 use Rattle.workspace_check.specs.Verdicts.{Verdicts, AreVerdicts}
 use Rattle.refs_binding.specs.declared.declaration.Declaration.{Declaration}
-use Rattle.refs_binding.specs.Identifiers.{Stands}
+use Rattle.refs_binding.specs.Identifiers.{IsInFiles}
 use Rattle.refs_binding.specs.Uses.{IsPackage, IsBoundTo}
 use Rattle.refs_lookup.proofs.DeclaredMembers.{field_bound, method_bound}
 use Rattle.law_faultless.proofs.GlobalsDecided.{held_ranked, held_number}
@@ -62,13 +62,13 @@ fields_named rank i (e ∷ ds) d h f = elim h [
   | inr later ↦ more_named d.file i (body_fields rank e.file e.spec.body) (fields_from (suc rank) ds) (fields_named (suc rank) i ds d later f)
 ]
 
-ranked_here : (p : Package) (file : ℕ) (s : SourceFile) → slice_get p.files file ≡ Some s → Holds (ranked p.files) (file, s)
+ranked_here : (p : Package) (file : ℕ) (s : SourceFile) → slice_get p.files file ≡ Some s → Holds (ranked_files p.files) (file, s)
 ranked_here p file s at =
     let k = held_ranked 0 p.files file s at in
-    let same : k.0 ≡ file = let z : k.0 ≡ 0 + file = k.1.0 in omega arith in subst (λ n. Holds (ranked p.files) (n, s)) same k.1.1
+    let same : k.0 ≡ file = let z : k.0 ≡ 0 + file = k.1.0 in omega arith in subst (λ n. Holds (ranked_files p.files) (n, s)) same k.1.1
 
 module _ (w : Workspace) (sound : ListsFaults w []) (known : Verdicts) (right : AreVerdicts w known) (p : Package) (is : IsPackage w known p) (u : ℕ)
-    (stands : Stands p u) (unbound : (d : Declaration) → IsBoundTo w known p u d → ⊥) where
+    (stands : IsInFiles p u) (unbound : (d : Declaration) → IsBoundTo w known p u d → ⊥) where
   abbrev file : ℕ
   file = (p.layout.place u).file
 
@@ -78,19 +78,19 @@ module _ (w : Workspace) (sound : ListsFaults w []) (known : Verdicts) (right : 
   by_decl : (s : SourceFile) → slice_get p.files file ≡ Some s → (d : DeclTree) → Holds s.tree.decls d → IsMemberIn d index → ⊥
   by_decl s at (VarDecl k g c) i h = h
   by_decl s at (TypeDecl k g c) i h =
-      let r : Ranked = (file, s) in
+      let r : RankedSource = (file, s) in
       let d = placed_type file h.0 in
       let there : Holds (package_types p) d =
-      held_flat types_in (ranked p.files) r d (ranked_here p file s at)
+      held_flat types_in (ranked_files p.files) r d (ranked_here p file s at)
       (held_flat (decl_types file) s.tree.decls (TypeDecl k g c) d i (held_map (placed_type file) (group_items g) h.0 h.1.0)) in
       let f = fields_named 0 index (package_types p) d there h.1.1 in
       let n = held_number (package_fields p) f.0 f.1.0 in
       field_bound w sound known right p is n.0 f.0 n.1 u (stands.1, sym f.1.1.0, sym f.1.1.1) unbound
   by_decl s at (FuncDecl k x c) i h =
-      let r : Ranked = (file, s) in
+      let r : RankedSource = (file, s) in
       let f : PlacedFunction = record { file = file; function = x } in
       let there : Holds (package_functions p) f =
-      held_flat functions_in (ranked p.files) r f (ranked_here p file s at) (held_flat (decl_functions file) s.tree.decls (FuncDecl k x c) f i (inl refl)) in
+      held_flat functions_in (ranked_files p.files) r f (ranked_here p file s at) (held_flat (decl_functions file) s.tree.decls (FuncDecl k x c) f i (inl refl)) in
       let n = held_number (package_functions p) f there in
       let m = method_of w sound known right p is (have_worlds w sound known right p is) n.0 f n.1 h.0 h.1.0 in
       method_bound w sound known right p is m.0 n.0 (spelled p file x.name) f m.1 u (stands.1, refl, sym h.1.1) unbound

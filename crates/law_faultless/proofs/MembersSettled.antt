@@ -14,17 +14,17 @@ use Rattle.workspace_graph.specs.Packages.{IsInClosure, itself}
 use Rattle.workspace_graph.specs.Parsed.{AreParsed}
 use Rattle.types_expr.specs.declared.symbol.Symbol.{Symbol}
 use Rattle.types_expr.specs.Types.{PlainType, Signature}
-use Rattle.types_expr.specs.World.{Definition, Field, Method, is_seen, seen_field, seen_method, struct_behind}
+use Rattle.types_expr.specs.World.{Definition, Field, Method, is_seen, seen_field, seen_method, field_owner}
 use Rattle.types_expr.specs.World.{owner}
 use Rattle.types_expr.specs.World.{field_of, method_of, a_method, first_member, member_by}
 use Rattle.types_expr.specs.WorldView.{no_definition}
-use Rattle.types_declared.specs.Bound.{AreTypesOf, HasSignature, parameter_types, result_types}
-use Rattle.types_declared.specs.Definitions.{PlacedField, body_fields, fields_from, package_fields, IsField, IsMethod, IsSignature, IsDefinition, AreDefinitions}
-use Rattle.types_declared.specs.Package.{Package, Interface, PlacedType, PlacedFunction, package_types, package_functions, symbol_in}
+use Rattle.types_declared.specs.MeaningOf.{AreTypesOf, HasSignature, parameter_types, result_types}
+use Rattle.types_declared.specs.Definitions.{PlacedField, body_fields, fields_from, package_fields, IsFoundField, IsFoundMethod, IsFoundSignature, IsDefinition, AreDefinitions}
+use Rattle.types_declared.specs.Package.{Package, ExportData, PlacedType, PlacedFunction, package_types, package_functions, symbol_in}
 use Rattle.types_declared.proofs.ByteKeys.{cases_bytes}
-use Rattle.types_check.specs.Interfaces.{IsInterface}
+use Rattle.types_check.specs.Exports.{IsExportData}
 use Rattle.types_info.specs.Worlds.{IsWorldOf}
-use Rattle.types_info.proofs.BoundLists.{slice_get_some}
+use Rattle.types_info.proofs.MeaningLists.{slice_get_some}
 use Rattle.workspace_check.specs.FaultLists.{ListsFaults}
 use Rattle.workspace_check.specs.Verdicts.{Verdicts, AreVerdicts, IsSeenAs, seen, unseen, IsPackageIn}
 use Rattle.workspace_check.proofs.Closed.{to_package}
@@ -32,17 +32,17 @@ use Rattle.workspace_check.proofs.OneList.{checked_package}
 use Rattle.workspace_check.proofs.OnePackage.{one_sources, all_read}
 use Rattle.build_object.specs.Lines.{FunctionName}
 use Rattle.build_object.specs.Names.{names_of_fields, body_positions, type_positions, field_positions, initializers_with}
-use Rattle.build_object.specs.Names.{functions_behind, function_names, function_name, field_position}
+use Rattle.build_object.specs.Names.{functions_behind, function_names, function_name, position_of_field}
 use Rattle.build_object.specs.Source.{Source}
 use Rattle.build_object.specs.Sources.{IsSourceOf}
 use Rattle.build_object.proofs.NameParts.{positions_length}
-use Rattle.law_faultless.specs.Answered.{IsKnown, IsCalled, method_arity, MemberIsKnown}
+use Rattle.law_faultless.specs.QuestionAnswers.{IsKnown, IsNamedWith, method_arity, MemberIsKnown}
 use Rattle.law_faultless.specs.Stack.{Arity}
 use Rattle.refs_binding.specs.Uses.{IsPackage}
 use Rattle.refs_lookup.proofs.OnePlace.{same_files}
 use Rattle.refs_binding.proofs.Alike.{package_for}
-use Rattle.law_faultless.proofs.Fine.{seen_interface}
-use Rattle.build_unit.specs.Units.{IsReadBy, within, beyond, AreFilesBelow}
+use Rattle.law_faultless.proofs.Fine.{seen_export_data}
+use Rattle.build_unit.specs.Units.{AreFilesSeen, within, beyond, AreFilesBelow}
 use Rattle.law_faultless.proofs.PackageWorlds.{have_all_worlds}
 use Rattle.law_faultless.specs.Arities.{with_receiver, written_arity, AreArities}
 
@@ -106,7 +106,7 @@ signature_arity p f s h =
 
 -- files
 
-read_files : (w : Workspace) (known : Verdicts) (p q : List ℕ) (files : List SourceFile) → IsReadBy w p q files → IsInClosure w p q → (c : Package) →
+read_files : (w : Workspace) (known : Verdicts) (p q : List ℕ) (files : List SourceFile) → AreFilesSeen w p q files → IsInClosure w p q → (c : Package) →
     IsPackageIn w known q c → files ≡ c.files
 read_files w known p q files (within closed f) here c is =
     let whole = all_read f.parsed is.parsed in
@@ -129,11 +129,11 @@ method_seen own (Some n) m e = seen_one (is_seen own n.symbol n.exported) n m e
 
 module _ (files_of : List ℕ → List SourceFile) (arity : FunctionName → Arity) where
   abbrev HasFields : Definition → Type 0
-  HasFields d = (name : List ℕ) (f : Field) → d.field name ≡ Some f → IsKnown (field_position files_of f.symbol)
+  HasFields d = (name : List ℕ) (f : Field) → d.field name ≡ Some f → IsKnown (position_of_field files_of f.symbol)
 
   abbrev HasMethods : Definition → Type 0
   HasMethods d = (name : List ℕ) (m : Method) → d.method name ≡ Some m → (s : Signature) → m.signature ≡ Some s →
-      IsCalled arity (function_name files_of m.symbol) (method_arity s)
+      IsNamedWith arity (function_name files_of m.symbol) (method_arity s)
 
   abbrev AreCalled : Definition → Type 0
   AreCalled d = HasFields d × HasMethods d
@@ -143,43 +143,43 @@ module _ (files_of : List ℕ → List SourceFile) (arity : FunctionName → Ari
 
   module _ (w : Workspace) (known : Verdicts) (arities : AreArities w known arity) (c : Package) (is : IsPackage w known c)
       (same : files_of c.path ≡ c.files) where
-    field_called : (definition : ℕ) (name : List ℕ) (f : Field) → IsField c definition name (Some f) → IsKnown (field_position files_of f.symbol)
+    field_called : (definition : ℕ) (name : List ℕ) (f : Field) → IsFoundField c definition name (Some f) → IsKnown (position_of_field files_of f.symbol)
     field_called definition name f x =
         let rank = f.symbol.rank in
         let lt : rank < length (package_fields c) = slice_get_within (package_fields c) rank x.0 x.1.0.is_field.has_rank in
         let long : length (field_positions c.files) ≡ length (package_fields c) = fields_long 0 (package_types c) in
         let n = slice_get_some (field_positions c.files) rank (omega arith) in
-        subst (λ (s : Symbol). IsKnown (field_position files_of s)) (sym x.1.2) (
+        subst (λ (s : Symbol). IsKnown (position_of_field files_of s)) (sym x.1.2) (
           n.0,
           ap (λ (fs : List SourceFile). slice_get (field_positions fs) rank) same ∙ n.1,
         )
 
-    method_called : (definition : ℕ) (name : List ℕ) (m : Method) (s : Signature) → IsMethod c definition name (Some m) → m.signature ≡ Some s →
-        IsCalled arity (function_name files_of m.symbol) (method_arity s)
+    method_called : (definition : ℕ) (name : List ℕ) (m : Method) (s : Signature) → IsFoundMethod c definition name (Some m) → m.signature ≡ Some s →
+        IsNamedWith arity (function_name files_of m.symbol) (method_arity s)
     method_called definition name m s x e =
         let rank = m.symbol.rank in
         let own = x.1.is_method in
         let n = named_function c rank x.0 own.has_rank in
-        let signature : HasSignature c x.0 s = subst (IsSignature c x.0) e x.2 in
+        let signature : HasSignature c x.0 s = subst (IsFoundSignature c x.0) e x.2 in
         let written = arities c is rank n.0 x.0 n.1 own.has_rank in
         let received = ap (λ (o : Option ReceiverTree).
         let a : Arity = record { parameters = with_receiver o (length s.parameters); results = length s.results } in a) own.received in
-        subst (λ (y : Symbol). IsCalled arity (function_name files_of y) (method_arity s)) (sym x.4) (
+        subst (λ (y : Symbol). IsNamedWith arity (function_name files_of y) (method_arity s)) (sym x.4) (
           n.0,
           (ap (λ (fs : List SourceFile). slice_get (function_names c.path fs) rank) same ∙ n.1, written ∙ signature_arity c x.0 s signature ∙ received),
         )
 
     definition_called : (rank : ℕ) (d : Definition) → IsDefinition c rank d → AreCalled d
     definition_called rank d h = (
-      λ name f e. field_called rank name f (subst (IsField c rank name) e (h.fields name)),
-      λ name m e s signed. method_called rank name m s (subst (IsMethod c rank name) e (h.methods name)) signed,
+      λ name f e. field_called rank name f (subst (IsFoundField c rank name) e (h.fields name)),
+      λ name m e s signed. method_called rank name m s (subst (IsFoundMethod c rank name) e (h.methods name)) signed,
     )
 
-    interface_called : (i : Interface) → IsInterface c i → (rank : ℕ) (o : Option PlacedType) → slice_get (package_types c) rank ≡ o →
+    export_data_called : (i : ExportData) → IsExportData c i → (rank : ℕ) (o : Option PlacedType) → slice_get (package_types c) rank ≡ o →
         AreCalled (i.definition rank)
-    interface_called i h rank None e =
+    export_data_called i h rank None e =
         subst AreCalled (sym (h.beyond rank e)) (nothing_called (no_definition (symbol_in c rank)) (λ name. refl) (λ name. refl))
-    interface_called i h rank (Some d) e = definition_called rank (i.definition rank) (h.definitions rank d e)
+    export_data_called i h rank (Some d) e = definition_called rank (i.definition rank) (h.definitions rank d e)
 
     own_called : (defs : Symbol → Definition) → AreDefinitions c defs → (rank : ℕ) (o : Option PlacedType) → slice_get (package_types c) rank ≡ o →
         AreCalled (defs (symbol_in c rank))
@@ -189,7 +189,7 @@ module _ (files_of : List ℕ → List SourceFile) (arity : FunctionName → Ari
 
   -- a member of a value
 
-  module _ (s : Source) (position : (symbol : Symbol) → s.position symbol ≡ field_position files_of symbol)
+  module _ (s : Source) (position : (symbol : Symbol) → s.position symbol ≡ position_of_field files_of symbol)
       (function : (symbol : Symbol) → s.function symbol ≡ function_name files_of symbol) (defs : Symbol → Definition)
       (called : (symbol : Symbol) → AreCalled (defs symbol)) (own name : List ℕ) where
     found_field : (o : Option Symbol) (f : Field) → field_of defs own name o ≡ Some f → IsKnown (s.position f.symbol)
@@ -198,18 +198,18 @@ module _ (files_of : List ℕ → List SourceFile) (arity : FunctionName → Ari
         subst (λ z. IsKnown z) (sym (position f.symbol)) ((called y).0 name f (field_seen own ((defs y).field name) f e))
 
     found_method : (o : Option Symbol) (m : Method) → method_of defs own name o ≡ Some m → (g : Signature) → m.signature ≡ Some g →
-        IsCalled arity (s.function m.symbol) (method_arity g)
+        IsNamedWith arity (s.function m.symbol) (method_arity g)
     found_method None m e g signed = absurd (none-some m e)
     found_method (Some y) m e g signed =
-        subst (λ z. IsCalled arity z (method_arity g)) (sym (function m.symbol)) ((called y).1 name m (method_seen own ((defs y).method name) m e) g signed)
+        subst (λ z. IsNamedWith arity z (method_arity g)) (sym (function m.symbol)) ((called y).1 name m (method_seen own ((defs y).method name) m e) g signed)
 
-    signed_known : (m : Method) → ((g : Signature) → m.signature ≡ Some g → IsCalled arity (s.function m.symbol) (method_arity g)) → (o : Option Signature) →
+    signed_known : (m : Method) → ((g : Signature) → m.signature ≡ Some g → IsNamedWith arity (s.function m.symbol) (method_arity g)) → (o : Option Signature) →
         m.signature ≡ o → MemberIsKnown arity s (Some (a_method m.symbol m.on_pointer o))
     signed_known m h None e = tt
     signed_known m h (Some g) e = h g e
 
     first_known : (f : Option Field) (m : Option Method) → ((x : Field) → f ≡ Some x → IsKnown (s.position x.symbol)) →
-        ((x : Method) → m ≡ Some x → (g : Signature) → x.signature ≡ Some g → IsCalled arity (s.function x.symbol) (method_arity g)) →
+        ((x : Method) → m ≡ Some x → (g : Signature) → x.signature ≡ Some g → IsNamedWith arity (s.function x.symbol) (method_arity g)) →
         MemberIsKnown arity s (first_member f m)
     first_known (Some f) m h k = h f refl
     first_known None None h k = tt
@@ -218,7 +218,7 @@ module _ (files_of : List ℕ → List SourceFile) (arity : FunctionName → Ari
     by_type : (t : PlainType) → MemberIsKnown arity s (member_by defs own name t)
     unfolding member_by
     by_type t =
-        let a = struct_behind (λ y. (defs y).underlying) t in
+        let a = field_owner (λ y. (defs y).underlying) t in
         let b = owner t in
         first_known (field_of defs own name a) (method_of defs own name b) (found_field a) (found_method b)
 
@@ -236,7 +236,7 @@ module _ (w : Workspace) (sound : ListsFaults w []) (known : Verdicts) (right : 
 
   module _ (arity : FunctionName → Arity) (arities : AreArities w known arity) (p : Package) (is : IsPackage w known p)
       (files_of : List ℕ → List SourceFile) (below : AreFilesBelow w p.path files_of) where
-    seen_called : (q : List ℕ) (n : Option (List ℕ)) (i : Interface) → IsSeenAs w sound.known p.path q n i → (rank : ℕ) →
+    seen_called : (q : List ℕ) (n : Option (List ℕ)) (i : ExportData) → IsSeenAs w sound.known p.path q n i → (rank : ℕ) →
         AreCalled files_of arity (i.definition rank)
     seen_called q _ _ (seen on sees) rank =
         let has = to_package w p.path q on.imported in
@@ -244,7 +244,7 @@ module _ (w : Workspace) (sound : ListsFaults w []) (known : Verdicts) (right : 
         let c = x.checked in
         let path : c.path ≡ q = ap (λ (y : Package). y.path) x.is_package.is_package.is_package in
         let same : files_of c.path ≡ c.files = ap files_of path ∙ read_files w sound.known p.path q (files_of q) (below q) on.imported c x.is_package in
-        interface_called files_of arity w known arities c (other_package q has) same (sound.known q).interface x.is_interface rank
+        export_data_called files_of arity w known arities c (other_package q has) same (sound.known q).export_data x.is_export_data rank
         (slice_get (package_types c) rank) refl
     seen_called q _ _ (unseen away) rank =
         nothing_called files_of arity (no_definition (record { «package» = q; rank = rank })) (λ name. refl) (λ name. refl)
@@ -257,9 +257,9 @@ module _ (w : Workspace) (sound : ListsFaults w []) (known : Verdicts) (right : 
           subst (λ q. AreCalled files_of arity (defs (record { «package» = q; rank = y.rank }))) e
           (own_called files_of arity w known arities p is same defs are y.rank (slice_get (package_types p) y.rank) refl)
       | inr other ↦
-          let i = seen_interface w sound known right (have_all_worlds w sound known right) p is y.package in
+          let i = seen_export_data w sound known right (have_all_worlds w sound known right) p is y.package in
           subst (AreCalled files_of arity) (sym (are.imported y.package y.rank (λ e. other (sym e))))
-          (seen_called y.package i.0 (p.interface_of y.package) i.1 y.rank)
+          (seen_called y.package i.0 (p.export_data_of y.package) i.1 y.rank)
     ]
 
     pub members_known : (file : ℕ) (f : SourceFile) (s : Source) → IsSourceOf p files_of file f s → (n : ℕ) (t : PlainType) →

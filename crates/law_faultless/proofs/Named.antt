@@ -17,15 +17,15 @@ use Rattle.types_expr.specs.World.{World, Locals, Local, Means}
 use Rattle.law_typing.specs.Operators.{IsUntyped, Prefixes}
 use Rattle.law_typing.specs.Operators as operators
 use Rattle.law_typing.specs.Names.{NameMeans, a_local, a_bound}
-use Rattle.law_typing.specs.Links.{Selects, Indexes, Calls, Gives}
+use Rattle.law_typing.specs.Links.{Selects, Indexes, Calls, ResultsMean}
 use Rattle.law_typing.specs.Links as links
-use Rattle.law_typing.specs.Meanings.{HasMeaning, LeadsTo, CombinesTo}
+use Rattle.law_typing.specs.Meanings.{HasMeaning, LinksMean, OperandsMean}
 use Rattle.law_typing.specs.Meanings as means
-use Rattle.law_typing.specs.Uses.{IsBrokenType, UsesBroken, LinksUseBroken, OperandsUseBroken, ArgumentsUseBroken, LiteralUsesBroken}
-use Rattle.law_typing.specs.Uses.{ElementsUseBroken}
-use Rattle.law_typing.specs.Uses as uses
+use Rattle.law_typing.specs.BrokenUses.{IsBrokenType, UsesBroken, LinksUseBroken, OperandsUseBroken, ArgumentsUseBroken, LiteralUsesBroken}
+use Rattle.law_typing.specs.BrokenUses.{ElementsUseBroken}
+use Rattle.law_typing.specs.BrokenUses as uses
 use Rattle.law_faultless.specs.Unbroken.{IsUnbroken}
-use Rattle.law_faultless.proofs.Strung.{Strung, strung_split}
+use Rattle.law_faultless.proofs.NumberedTokens.{Strung, strung_split}
 
 -- a name means something: a lexical use, which is no `_`; one behind the name of a package; a left name that declares nothing
 abbrev pub IsNamed : World → (ℕ → Type 0) → Locals → ℕ → Role → Type 0
@@ -60,7 +60,7 @@ selection_ends w ls (links.method_on_variable e) q = let z : ⊥ = cc in absurd 
 selection_ends w ls (links.of_package (a_local e f)) q = no_package q
 selection_ends w ls (links.of_package {name = n} (a_bound e h)) q = (n, (refl, e ∙ ap Means q))
 
-given_ends : {ts : List PlainType} {m : Meaning} → Gives ts m → m ≡ Package → ⊥
+given_ends : {ts : List PlainType} {m : Meaning} → ResultsMean ts m → m ≡ Package → ⊥
 given_ends links.nothing q = cc
 given_ends links.one q = cc
 given_ends links.several q = cc
@@ -83,11 +83,11 @@ prefix_ends w (operators.negates h) q = cc
 prefix_ends w (operators.denies h) q = cc
 prefix_ends w (operators.follows e) q = cc
 
-operands_end : (w : World) (ls : Locals) {k : Kind} {a : Bool} {r : Meaning} {os : OperandTrees} → CombinesTo w ls (Value k a) os r → r ≡ Package → ⊥
+operands_end : (w : World) (ls : Locals) {k : Kind} {a : Bool} {r : Meaning} {os : OperandTrees} → OperandsMean w ls (Value k a) os r → r ≡ Package → ⊥
 operands_end w ls means.no_operand q = cc
 operands_end w ls (means.operand v o c) q = operands_end w ls c q
 
-links_end : (w : World) (B : ℕ → Type 0) (ls : Locals) (n k : ℕ) {m r : Meaning} {xs : LinkTrees} → LeadsTo w ls m xs r → Strung B n (link_tokens xs) k →
+links_end : (w : World) (B : ℕ → Type 0) (ls : Locals) (n k : ℕ) {m r : Meaning} {xs : LinkTrees} → LinksMean w ls m xs r → Strung B n (link_tokens xs) k →
     EndsInPackage w m n → EndsInPackage w r k
 unfolding link_tokens
 links_end w B ls n k means.no_link h p = subst (EndsInPackage w _) h p
@@ -243,7 +243,7 @@ selected_typed w ls u (links.method_on_pointer e) = no_value (λ k q. cc)
 selected_typed w ls u (links.method_on_variable e) = no_value (λ k q. cc)
 selected_typed w ls u (links.of_package h) = name_typed w ls u h
 
-given_typed : {ts : List PlainType} {m : Meaning} → Gives ts m → IsTyped m
+given_typed : {ts : List PlainType} {m : Meaning} → ResultsMean ts m → IsTyped m
 given_typed links.nothing = no_value (λ k q. cc)
 given_typed links.one = typed_kind
 given_typed links.several = no_value (λ k q. cc)
@@ -266,13 +266,13 @@ prefix_typed w (operators.negates h) = constant
 prefix_typed w (operators.denies h) = constant
 prefix_typed w (operators.follows e) = typed_kind
 
-links_typed : (w : World) (ls : Locals) (u : IsUnbroken w) {m r : Meaning} {xs : LinkTrees} → LeadsTo w ls m xs r → IsTyped m → IsTyped r
+links_typed : (w : World) (ls : Locals) (u : IsUnbroken w) {m r : Meaning} {xs : LinkTrees} → LinksMean w ls m xs r → IsTyped m → IsTyped r
 links_typed w ls u means.no_link h = h
 links_typed w ls u (means.selector sel more) h = links_typed w ls u more (selected_typed w ls u sel)
 links_typed w ls u (means.index v i more) h = links_typed w ls u more (index_typed w i)
 links_typed w ls u (means.call vs c more) h = links_typed w ls u more (call_typed w c)
 
-operands_typed : (w : World) (ls : Locals) {k : Kind} {a : Bool} {r : Meaning} {os : OperandTrees} → CombinesTo w ls (Value k a) os r → IsTyped (Value k a) →
+operands_typed : (w : World) (ls : Locals) {k : Kind} {a : Bool} {r : Meaning} {os : OperandTrees} → OperandsMean w ls (Value k a) os r → IsTyped (Value k a) →
     IsTyped r
 operands_typed w ls means.no_operand h = h
 operands_typed w ls (means.operand v o c) h = operands_typed w ls c constant

@@ -21,8 +21,8 @@ use Rattle.go_scope.specs.FileSites.{receiver_sites, param_sites, result_sites}
 use Rattle.go_scope.specs.ExpressionSites.{sites_if, list_sites}
 use Rattle.go_scope.specs.StatementSites.{ident_sites, separated_sites, group_sites, open_of, block_sites}
 use Rattle.go_scope.specs.Site.{Site, Source, site}
-use Rattle.go_scope.specs.Table.{StandsAt}
-use Rattle.types_declared.specs.Files.{ranked, group_items}
+use Rattle.go_scope.specs.Table.{LiesAt}
+use Rattle.types_declared.specs.Files.{ranked_files, group_items}
 use Rattle.law_tokens.proofs.Ordered.{one_stands}
 use Rattle.law_tokens.proofs.Elements.{all_left, all_right}
 use Rattle.types_declared.specs.Definitions.{IsMethodOf}
@@ -42,7 +42,7 @@ use Rattle.law_faultless.proofs.Scoped.{in_order}
 use Rattle.law_faultless.proofs.TypesBound.{Kept, all_kept}
 use Rattle.law_faultless.proofs.WholeBound.{method_of}
 use Rattle.law_faultless.proofs.Declared.{may_within}
-use Rattle.law_faultless.proofs.NamesMean.{declared_counts}
+use Rattle.law_faultless.proofs.MeaningfulNames.{declared_counts}
 use Rattle.law_faultless.proofs.PackageWorlds.{have_worlds}
 use Rattle.law_faultless.proofs.FunctionsSettled.{IsInFile, in_file_of, function_kept, function_name_kept, no_import_role, spelled_told}
 
@@ -123,7 +123,7 @@ type_in_decl p file s at (TypeDecl k g c) held t h =
 
 type_in_file : (p : Package) (rank : ℕ) (t : PlacedType) → slice_get (package_types p) rank ≡ Some t → IsTypeInFile p t
 type_in_file p rank t e =
-    let r = holds_flat types_in (ranked p.files) t (holds_got (package_types p) rank t e) in
+    let r = holds_flat types_in (ranked_files p.files) t (holds_got (package_types p) rank t e) in
     let d = holds_flat (decl_types r.0.0) r.0.1.tree.decls t r.1.1 in
     let i = holds_ranked 0 p.files r.0 r.1.0 in
     let at : i.0 ≡ r.0.0 = (let first : r.0.0 ≡ 0 + i.0 = i.1.0 in omega arith) in
@@ -170,7 +170,7 @@ module _ (w : Workspace) (sound : ListsFaults w []) (known : Verdicts) (right : 
     record HasDeclared : Type 0 where
       number : ℕ
       within : number < p.size
-      stands : StandsAt p.layout (function_place f) number
+      stands : LiesAt p.layout (function_place f) number
       level : IsPackageLevel p.layout number
       declares : Declares p.layout p.names number
       named : p.names number ≡ spelling_of there.source f.function.name
@@ -207,7 +207,7 @@ module _ (w : Workspace) (sound : ListsFaults w []) (known : Verdicts) (right : 
         counts : Counts p.layout p.names d
         named : p.names d ≡ spelling_of there.source r.type_name
 
-      by_use : (d u : ℕ) → u < p.size → StandsAt p.layout (record { file = f.file; index = r.type_name }) u → p.layout.role u ≡ Use →
+      by_use : (d u : ℕ) → u < p.size → LiesAt p.layout (record { file = f.file; index = r.type_name }) u → p.layout.role u ≡ Use →
           IsBoundTo p.layout p.names u d → IsOfType d
       by_use d u lt stands role (use_bound i b) =
           let outer : (g : ℕ) → block_of (p.layout.role u) ≡ File g → ⊥ = λ g k. (let z : Universe ≡ File g = sym (ap block_of role) ∙ k in cc) in
@@ -252,7 +252,7 @@ module _ (w : Workspace) (sound : ListsFaults w []) (known : Verdicts) (right : 
         declared_counts w sound known right p is x.number x.within x.declares (λ c.
         declared_counts w sound known right p is y.number y.within y.declares (λ k.
         let one : x.number ≡ y.number = once x.number y.number c k x.level y.level (x.named ∙ same ∙ sym y.named) in
-        let there : StandsAt p.layout (function_place f) y.number = subst (StandsAt p.layout (function_place f)) one x.stands in
+        let there : LiesAt p.layout (function_place f) y.number = subst (LiesAt p.layout (function_place f)) one x.stands in
         let place : function_place f ≡ function_place g =
         ap (λ (n : ℕ). let at : Position = record { file = n; index = f.function.name } in at) (sym there.1 ∙ y.stands.1) ∙
         ap (λ (n : ℕ). let at : Position = record { file = g.file; index = n } in at) (sym there.2 ∙ y.stands.2) in

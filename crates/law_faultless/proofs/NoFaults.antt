@@ -12,7 +12,7 @@ use Rattle.law_typing.proofs.Declarations.{file_settled}
 use Rattle.types_declared.specs.Package.{Package}
 use Rattle.types_info.specs.MemberUses.{AreUsesIn}
 use Rattle.types_info.specs.Worlds.{is_init}
-use Rattle.types_check.specs.Faults.{IsTypeFault}
+use Rattle.types_check.specs.TypeFaults.{IsTypeFault}
 use Rattle.workspace_check.specs.FaultLists.{ListsFaults}
 use Rattle.workspace_check.specs.Verdicts.{Verdicts, AreVerdicts}
 use Rattle.refs_binding.specs.Uses.{IsPackage}

@@ -17,8 +17,8 @@ use Rattle.go_scope.specs.declared.model.Position.{Position}
 use Rattle.go_scope.specs.declared.model.Role.TheVariants.{Declaring, Implied}
 use Rattle.go_scope.specs.FileSites.{file_sites, files_sites, universe_site}
 use Rattle.go_scope.specs.Named.{is_unnamed_import, named_where, named_sites}
-use Rattle.go_scope.specs.Parsed.{spelled_file}
-use Rattle.go_scope.specs.Site.{Site, Source, found_site}
+use Rattle.go_scope.specs.SpelledFiles.{spelled_file}
+use Rattle.go_scope.specs.Site.{Site, Source, or_blank}
 use Rattle.types_info.proofs.DeclKinds.{Holds}
 use Rattle.law_tokens.specs.Covered.{AreSourceFiles}
 use Rattle.law_tokens.specs.Roles.{IsOfKind}
@@ -27,7 +27,7 @@ use Rattle.law_tokens.proofs.Covering.{Pairs, file_pairs}
 use Rattle.law_tokens.proofs.Elements.{all_append}
 use Rattle.law_tokens.proofs.Links.{HasKind}
 use Rattle.law_tokens.proofs.Roles.{of_kind}
-use Rattle.law_faultless.proofs.Told.{Told, AllOf}
+use Rattle.law_faultless.proofs.DeclaringNames.{Told, AllOf}
 use Rattle.law_faultless.proofs.FilesDecided.{IsGlobal, NextIs, ArePaired, paired_append, file_told, file_paired, clause_told}
 
 -- the kinds of the tokens of a file
@@ -152,7 +152,7 @@ where_kept Q ns None x q true e = plain refl q
 where_kept Q ns given x q false e = plain refl q
 
 sites_kept : (Q : Site → Type 0) (ns : List (List ℕ)) (names : ℕ → Option (List ℕ)) (xs : List Site) → AllByRecursion Q xs → (d : ℕ) →
-    d < length xs → IsKept Q ns (names d) (found_site (slice_get xs d)) (found_site (slice_get (named_sites names xs) d))
+    d < length xs → IsKept Q ns (names d) (or_blank (slice_get xs d)) (or_blank (slice_get (named_sites names xs) d))
 unfolding named_sites
 sites_kept Q ns names [] a d m = absurd (omega arith)
 sites_kept Q ns names (x ∷ xs) a zero m = where_kept Q ns (names 0) x a.0 (is_unnamed_import x.role) refl
@@ -166,7 +166,7 @@ more_names Q n ns given old new (laid u g r) = laid u g r
 
 pub kept_at : (Q : Site → Type 0) (ns : List (List ℕ)) (names : ℕ → Option (List ℕ)) (xs : List Site) → AllByRecursion Q xs → (d : ℕ) →
     d < length (map universe_site ns ++ xs) →
-    IsKept Q ns (names d) (found_site (slice_get (map universe_site ns ++ xs) d)) (found_site (slice_get (named_sites names (map universe_site ns ++ xs)) d))
+    IsKept Q ns (names d) (or_blank (slice_get (map universe_site ns ++ xs) d)) (or_blank (slice_get (named_sites names (map universe_site ns ++ xs)) d))
 unfolding named_sites
 kept_at Q [] names xs a d m = sites_kept Q [] names xs a d m
 kept_at Q (n ∷ ns) names xs a zero m = universal refl (inl refl)

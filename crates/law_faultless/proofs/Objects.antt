@@ -11,8 +11,8 @@ use Rattle.types_info.proofs.DeclKinds.{Holds}
 use Rattle.law_tokens.proofs.Elements.{all_append, all_made}
 use Rattle.build_object.specs.Lines.{GlobalName, FunctionName, Line}
 use Rattle.build_object.specs.Names.{function_names}
-use Rattle.build_object.specs.Objects.{Definition, Initial, Declaration, TypeOf, Variable, FunctionOf, Object, defined, declared_type, variable, first_initial}
-use Rattle.build_object.specs.Objects.{other_initials, variables_of, declared_variables, function_of, declared_function, names_behind, declared_by, declared_in}
+use Rattle.build_object.specs.Objects.{Definition, Initial, Declaration, TypeOf, Variable, FunctionOf, Object, defined, declared_type, known_variable, first_initial}
+use Rattle.build_object.specs.Objects.{other_initials, variables_of, global_variables, function_of, declared_function, names_behind, declared_by, declared_in}
 use Rattle.build_object.specs.Objects.{names_behind_all, declared_from, definition_of}
 use Rattle.build_object.specs.Source.{Source}
 use Rattle.build_object.specs.Sources.{IsSourceOf, IsObjectOf}
@@ -27,7 +27,7 @@ module _ (P : List Line → Type 0) where
   abbrev All : List Declaration → Type 0
   All ds = AllByRecursion Good ds
 
-  variable_good : (own : Option PlainType) (name : Option GlobalName) (value : Option Initial) → All (variable own name value)
+  variable_good : (own : Option PlainType) (name : Option GlobalName) (value : Option Initial) → All (known_variable own name value)
   variable_good None name value = tt
   variable_good (Some own) None value = tt
   variable_good (Some own) (Some name) value = (tt, tt)
@@ -36,7 +36,7 @@ module _ (P : List Line → Type 0) where
   unfolding variables_of
   variables_good s own [] values = tt
   variables_good s own (n ∷ ns) values =
-      all_append Good (variable own (s.global n.value) (first_initial values)) (variables_of s own ns (other_initials values))
+      all_append Good (known_variable own (s.global n.value) (first_initial values)) (variables_of s own ns (other_initials values))
       (variable_good own (s.global n.value) (first_initial values)) (variables_good s own ns (other_initials values))
 
   defined_good : (name : Option GlobalName) (definition : Option Definition) → All (defined name definition)
@@ -55,7 +55,7 @@ module _ (P : List Line → Type 0) where
 
   decl_good : (s : Source) (names : List FunctionName) (d : DeclTree) → HasGood s (d ∷ []) → All (declared_by s names d)
   unfolding declared_by HasGood
-  decl_good s names (VarDecl p g c) h = all_made Good (declared_variables s) (λ x. variables_good s _ x.names _) (group_items g)
+  decl_good s names (VarDecl p g c) h = all_made Good (global_variables s) (λ x. variables_good s _ x.names _) (group_items g)
   decl_good s names (TypeDecl p g c) h =
       all_made Good (declared_type s) (λ (x : TypeSpecTree). defined_good (s.global x.name) (definition_of s.world x.body)) (group_items g)
   decl_good s names (FuncDecl p f c) h = function_good s names f (h p f c (inl refl))

@@ -9,9 +9,9 @@ use Rattle.types_expr.specs.declared.symbol.Symbol.{Symbol}
 use Rattle.types_expr.specs.Types.{same_path}
 use Rattle.types_expr.specs.World.{Definition, member_by}
 use Rattle.types_declared.specs.Definitions.{IsDefinition, AreDefinitions}
-use Rattle.types_declared.specs.Package.{Package, Interface, package_types, symbol_in}
+use Rattle.types_declared.specs.Package.{Package, ExportData, package_types, symbol_in}
 use Rattle.types_declared.specs.Written.{IsBroken, by_itself, through}
-use Rattle.types_check.specs.Interfaces.{IsInterface}
+use Rattle.types_check.specs.Exports.{IsExportData}
 use Rattle.workspace_check.specs.FaultLists.{ListsFaults}
 use Rattle.workspace_check.specs.Verdicts.{Verdicts, AreVerdicts}
 use Rattle.workspace_check.proofs.OneList.{checked_package}
@@ -28,26 +28,26 @@ use Rattle.law_faultless.proofs.WholeBound.{none_broken}
 
 -- definitions of two kinds of packages as one function
 
-abbrev chosen : Interface → (List ℕ → Interface) → Symbol → Bool → Definition
+abbrev chosen : ExportData → (List ℕ → ExportData) → Symbol → Bool → Definition
 chosen own others s true = own.definition s.rank
 chosen own others s false = (others s.package).definition s.rank
 
-pub all_definitions : Package → Interface → Symbol → Definition
-all_definitions p i s = chosen i p.interface_of s (same_path p.path s.package)
+pub all_definitions : Package → ExportData → Symbol → Definition
+all_definitions p i s = chosen i p.export_data_of s (same_path p.path s.package)
 
-at_own : (p : Package) (i : Interface) (rank : ℕ) → all_definitions p i (symbol_in p rank) ≡ i.definition rank
+at_own : (p : Package) (i : ExportData) (rank : ℕ) → all_definitions p i (symbol_in p rank) ≡ i.definition rank
 unfolding all_definitions
-at_own p i rank = ap (chosen i p.interface_of (symbol_in p rank)) ((bytes_decides p.path p.path).1 refl)
+at_own p i rank = ap (chosen i p.export_data_of (symbol_in p rank)) ((bytes_decides p.path p.path).1 refl)
 
-at_other : (p : Package) (i : Interface) (path : List ℕ) (rank : ℕ) → (path ≡ p.path → ⊥) →
-    all_definitions p i (record { «package» = path; rank = rank }) ≡ (p.interface_of path).definition rank
+at_other : (p : Package) (i : ExportData) (path : List ℕ) (rank : ℕ) → (path ≡ p.path → ⊥) →
+    all_definitions p i (record { «package» = path; rank = rank }) ≡ (p.export_data_of path).definition rank
 unfolding all_definitions
 at_other p i path rank other = elim (cases_Bool (same_path p.path path)) [
   | inl e ↦ absurd (other (sym ((bytes_decides p.path path).0 e)))
-  | inr e ↦ ap (chosen i p.interface_of (record { «package» = path; rank = rank })) e
+  | inr e ↦ ap (chosen i p.export_data_of (record { «package» = path; rank = rank })) e
 ]
 
-are_definitions : (p : Package) (i : Interface) → IsInterface p i → AreDefinitions p (all_definitions p i)
+are_definitions : (p : Package) (i : ExportData) → IsExportData p i → AreDefinitions p (all_definitions p i)
 are_definitions p i h = record {
   own = λ rank d at. subst (IsDefinition p rank) (sym (at_own p i rank)) (h.definitions rank d at);
   beyond = λ rank none. at_own p i rank ∙ h.beyond rank none;
@@ -63,18 +63,18 @@ module _ (w : Workspace) (sound : ListsFaults w []) (known : Verdicts) (right : 
   pub own_package : IsPackage w sound.known p
   own_package = package_for w known sound.known right sound.right p is
 
-  own_interface : IsInterface p (sound.known p.path).interface
-  own_interface =
+  own_export_data : IsExportData p (sound.known p.path).export_data
+  own_export_data =
       let x = checked_package w sound p.path own_package.of_workspace in
       let same : x.checked ≡ p = one_checked w sound.known p.path x.checked p x.is_package own_package.is_checked in
-      subst (λ c. IsInterface c (sound.known p.path).interface) same x.is_interface
+      subst (λ c. IsExportData c (sound.known p.path).export_data) same x.is_export_data
 
   pub strings_known : AreStringsKnown p
   strings_known file s at token string = string_known s (source_is w known p.path p is.is_checked file s at) token string
 
   worlds_if : ((rank : ℕ) → Decided (IsBroken p rank)) → HaveWorlds p
   worlds_if broken file s at =
-      let definitions = all_definitions p (sound.known p.path).interface in
+      let definitions = all_definitions p (sound.known p.path).export_data in
       let names = name p (layout_formed w known p.path p is.is_checked) strings_known broken file in (
         record {
           bound = λ token. (names token).0;
@@ -84,7 +84,7 @@ module _ (w : Workspace) (sound : ListsFaults w []) (known : Verdicts) (right : 
         record {
           names = λ token. (names token).1;
           definitions = definitions;
-          are_definitions = are_definitions p (sound.known p.path).interface own_interface;
+          are_definitions = are_definitions p (sound.known p.path).export_data own_export_data;
           member = λ token t. refl;
           definition = λ symbol. refl;
         },

@@ -28,7 +28,7 @@ use Rattle.law_tokens.proofs.CoveredFiles.{decls_named}
 use Rattle.law_tokens.proofs.Elements.{all_append, all_left}
 use Rattle.types_info.proofs.DeclKinds.{Holds}
 use Rattle.refs_lookup.proofs.Apart.{all_as}
-use Rattle.law_faultless.specs.Scopes.{may_be_local}
+use Rattle.law_faultless.specs.ResolvedNames.{may_be_local}
 use Rattle.law_faultless.proofs.KnownLocals.{local_may}
 use Rattle.law_faultless.proofs.Typed.{type_abroad, result_abroad, func_abroad, group_abroad, global_abroad, spec_abroad, imports_abroad}
 

@@ -19,12 +19,12 @@ use Rattle.types_info.specs.Worlds.{is_init}
 use Rattle.workspace_check.specs.FaultLists.{ListsFaults}
 use Rattle.workspace_check.specs.Verdicts.{Verdicts, AreVerdicts}
 use Rattle.refs_binding.specs.Uses.{IsPackage}
-use Rattle.law_faultless.specs.Scopes.{AreResolved, IsBlankAt}
+use Rattle.law_faultless.specs.ResolvedNames.{AreResolved, IsBlankAt}
 use Rattle.law_faultless.specs.Worlds.{HaveAllWorlds}
 use Rattle.law_faultless.proofs.Fine.{world_unbroken}
 use Rattle.law_faultless.proofs.LinksBound.{source_is}
 use Rattle.law_faultless.proofs.NoFaults.{no_fault_in}
-use Rattle.law_faultless.proofs.Strung.{Strung}
+use Rattle.law_faultless.proofs.NumberedTokens.{Strung}
 use Rattle.law_faultless.proofs.Typed.{file_typed}
 
 strung : (B : ℕ → Type 0) (n : ℕ) (ts : List Token) → AreConsecutive n ts → ((i : ℕ) → HasKind kind.Blank i ts → B i) → (m : ℕ) × Strung B n ts m

@@ -17,11 +17,11 @@ use Rattle.go_scope.specs.declared.model.Purpose.TheVariants as purpose
 use Rattle.go_scope.specs.Bindings.{Layout, IsIdentifier, IsBoundTo, Counts, use_bound, own, block_of, start_of, may_declare, is_implied}
 use Rattle.go_scope.specs.FileSites.{SpelledFile, file_sites, files_sites, universe, universe_site, package_sites}
 use Rattle.go_scope.specs.Named.{is_unnamed_import, named_where, named_sites}
-use Rattle.go_scope.specs.Parsed.{spelled_file}
-use Rattle.go_scope.specs.Scoped.{scoped, layout_in}
-use Rattle.go_scope.specs.Scopes.{Holds as HoldsPlace, scope_in}
-use Rattle.go_scope.specs.Site.{Site, Source, found_site}
-use Rattle.go_scope.specs.Table.{StandsAt, IsFoundAt}
+use Rattle.go_scope.specs.SpelledFiles.{spelled_file}
+use Rattle.go_scope.specs.Packages.{scoped, layout_in}
+use Rattle.go_scope.specs.Scopes.{Holds as HoldsPlace, scope_for}
+use Rattle.go_scope.specs.Site.{Site, Source, or_blank}
+use Rattle.go_scope.specs.Table.{LiesAt, IsFoundAt}
 use Rattle.go_scope.specs.Trees.{AreRising}
 use Rattle.law_tokens.specs.Order.{StandInOrder}
 use Rattle.law_tokens.specs.Tokens.{identifiers_among}
@@ -33,8 +33,8 @@ use Rattle.law_tokens.proofs.Places.{plainly_stands}
 use Rattle.types_expr.specs.Types.{Meaning, Broken}
 use Rattle.types_expr.specs.World.{World, Bound, Local, Means, BrokenVariable, BrokenFunction, BrokenType}
 use Rattle.types_expr.specs.Judge.{MemberUse}
-use Rattle.types_declared.specs.Bound.{IsMeantBy}
-use Rattle.types_declared.specs.Bound as bound
+use Rattle.types_declared.specs.MeaningOf.{IsMeaningOf}
+use Rattle.types_declared.specs.MeaningOf as bound
 use Rattle.types_declared.specs.Package.{Package}
 use Rattle.types_declared.specs.Written.{BindsToken}
 use Rattle.types_info.specs.MemberUses.{AreUsesIn}
@@ -48,10 +48,10 @@ use Rattle.refs_lookup.proofs.OnePlace.{names_of, laid_of, same_layout, same_siz
 use Rattle.law_tokens.proofs.Elements.{all_append}
 use Rattle.refs_lookup.proofs.Apart.{all_as}
 use Rattle.refs_lookup.proofs.BoundUsedMembers.{file_at}
-use Rattle.law_faultless.specs.Names.{StandsForSomething, NamesMean}
-use Rattle.law_faultless.specs.Scopes.{may_be_local, IsEarlier, IsResolved, AreResolved, IsBlankAt}
+use Rattle.law_faultless.specs.NameMeanings.{MeansSomething, HaveMeanings}
+use Rattle.law_faultless.specs.ResolvedNames.{may_be_local, IsEarlierLocal, IsResolved, AreResolved, IsBlankAt}
 use Rattle.law_faultless.specs.Unbroken.{IsUnbroken}
-use Rattle.law_faultless.proofs.Begun.{file_begins}
+use Rattle.law_faultless.proofs.BegunScopes.{file_begins}
 use Rattle.law_faultless.proofs.LinksBound.{source_is}
 use Rattle.law_faultless.proofs.Rules.{source_strung}
 use Rattle.law_faultless.proofs.Sites.{files_among}
@@ -134,14 +134,14 @@ files_identified rank (f ∷ fs) =
     (identified s (file_sites s f.tree) (identifiers_among (flatten f.tree)) (file_pairs s f.tree)) (files_identified (suc rank) fs)
 
 -- A property of each identifier of a table is one of an identifier with an inner block.
-inner_found : (P : Site → Type 0) (xs : List Site) → AllByRecursion P xs → (u f a c : ℕ) → block_of (found_site (slice_get xs u)).role ≡ Inner f a c →
-    P (found_site (slice_get xs u))
+inner_found : (P : Site → Type 0) (xs : List Site) → AllByRecursion P xs → (u f a c : ℕ) → block_of (or_blank (slice_get xs u)).role ≡ Inner f a c →
+    P (or_blank (slice_get xs u))
 inner_found P [] h u f a c e = let z : ⊥ = cc in absurd z
 inner_found P (x ∷ xs) h zero f a c e = h.0
 inner_found P (x ∷ xs) h (suc u) f a c e = inner_found P xs h.1 u f a c e
 
 inner_numbered : (P : Site → Type 0) (names : List (List ℕ)) (xs : List Site) → AllByRecursion P xs → (u f a c : ℕ) →
-    block_of (found_site (slice_get (map universe_site names ++ xs) u)).role ≡ Inner f a c → P (found_site (slice_get (map universe_site names ++ xs) u))
+    block_of (or_blank (slice_get (map universe_site names ++ xs) u)).role ≡ Inner f a c → P (or_blank (slice_get (map universe_site names ++ xs) u))
 inner_numbered P [] xs h u f a c e = inner_found P xs h u f a c e
 inner_numbered P (n ∷ names) xs h zero f a c e = let z : ⊥ = cc in absurd z
 inner_numbered P (n ∷ names) xs h (suc u) f a c e = inner_numbered P names xs h u f a c e
@@ -152,14 +152,14 @@ inner_where true (Some n) x f a c e = let z : ⊥ = cc in absurd z
 inner_where true None x f a c e = refl
 inner_where false name x f a c e = refl
 
-inner_stays : (names : ℕ → Option (List ℕ)) (xs : List Site) (u f a c : ℕ) → block_of (found_site (slice_get (named_sites names xs) u)).role ≡ Inner f a c →
-    (found_site (slice_get (named_sites names xs) u)).role ≡ (found_site (slice_get xs u)).role
+inner_stays : (names : ℕ → Option (List ℕ)) (xs : List Site) (u f a c : ℕ) → block_of (or_blank (slice_get (named_sites names xs) u)).role ≡ Inner f a c →
+    (or_blank (slice_get (named_sites names xs) u)).role ≡ (or_blank (slice_get xs u)).role
 unfolding named_sites
 inner_stays names [] u f a c e = refl
 inner_stays names (x ∷ xs) zero f a c e = inner_where (is_unnamed_import x.role) (names 0) x f a c e
 inner_stays names (x ∷ xs) (suc u) f a c e = inner_stays (λ k. names (suc k)) xs u f a c e
 
-past_end : (xs : List Site) (u f a c : ℕ) → block_of (found_site (slice_get xs u)).role ≡ Inner f a c → u < length xs
+past_end : (xs : List Site) (u f a c : ℕ) → block_of (or_blank (slice_get xs u)).role ≡ Inner f a c → u < length xs
 past_end [] u f a c e = let z : ⊥ = cc in absurd z
 past_end (x ∷ xs) zero f a c e = omega arith
 past_end (x ∷ xs) (suc u) f a c e = let lt : u < length xs = past_end xs u f a c e in omega arith
@@ -174,7 +174,7 @@ module _ (w : Workspace) (known : Verdicts) (path : List ℕ) (p : Package) (h :
       subst (λ (l : Layout). StandInOrder l p.size) (sym (same_layout w known path p h))
       (subst (λ n. StandInOrder (layout_in table) n) (sym (same_size w known path p h)) laid)
 
-  pub found_first : (at : Position) (u : ℕ) → u < p.size → StandsAt p.layout at u → IsFoundAt p.layout p.size at u
+  pub found_first : (at : Position) (u : ℕ) → u < p.size → LiesAt p.layout at u → IsFoundAt p.layout p.size at u
   found_first at u lt stands = record {
     within = lt;
     holds = stands;
@@ -189,7 +189,7 @@ module _ (w : Workspace) (known : Verdicts) (path : List ℕ) (p : Package) (h :
     in_table : block_of ((layout_in (laid_of w known path p h)).role d) ≡ Inner f a c
     in_table = subst (λ (l : Layout). block_of (l.role d) ≡ Inner f a c) (same_layout w known path p h) block
 
-    plain_role : p.layout.role d ≡ (found_site (slice_get (scoped h.files).sites d)).role
+    plain_role : p.layout.role d ≡ (or_blank (slice_get (scoped h.files).sites d)).role
     plain_role =
         ap (λ (l : Layout). l.role d) (same_layout w known path p h)
         ∙ inner_stays (names_of w known path p h) (scoped h.files).sites d f a c in_table
@@ -200,7 +200,7 @@ module _ (w : Workspace) (known : Verdicts) (path : List ℕ) (p : Package) (h :
     inner_identifies : IsIdentifier p.layout d
     unfolding package_sites
     inner_identifies =
-        let plain : block_of (found_site (slice_get (scoped h.files).sites d)).role ≡ Inner f a c = subst (λ r. block_of r ≡ Inner f a c) plain_role block in
+        let plain : block_of (or_blank (slice_get (scoped h.files).sites d)).role ≡ Inner f a c = subst (λ r. block_of r ≡ Inner f a c) plain_role block in
         ap is_implied plain_role
         ∙ inner_numbered (λ (x : Site). is_implied x.role ≡ false) universe (files_sites 0 (map spelled_file h.files))
         (files_identified 0 (map spelled_file h.files)) d f a c plain
@@ -214,10 +214,10 @@ module _ (w : Workspace) (known : Verdicts) (path : List ℕ) (p : Package) (h :
         let at = p.layout.place d in
         let fs = map spelled_file h.files in
         let sites = (scoped h.files).sites in
-        let there : StandsAt (layout_in (laid_of w known path p h)) at d =
-        subst (λ (l : Layout). StandsAt l at d) (same_layout w known path p h) (inner_identifies, refl, refl) in
-        let plain : StandsAt (layout_in (scoped h.files)) at d = plainly_stands (names_of w known path p h) (scoped h.files) at d there in
-        let inner : block_of (found_site (slice_get sites d)).role ≡ Inner f a c = subst (λ r. block_of r ≡ Inner f a c) plain_role block in
+        let there : LiesAt (layout_in (laid_of w known path p h)) at d =
+        subst (λ (l : Layout). LiesAt l at d) (same_layout w known path p h) (inner_identifies, refl, refl) in
+        let plain : LiesAt (layout_in (scoped h.files)) at d = plainly_stands (names_of w known path p h) (scoped h.files) at d there in
+        let inner : block_of (or_blank (slice_get sites d)).role ≡ Inner f a c = subst (λ r. block_of r ≡ Inner f a c) plain_role block in
         let t = part_at h.files at.file s (subst (λ xs. slice_get xs at.file ≡ Some s) (same_files w known path p h) is) in
         let parts = subst (λ (z : SourceFile). AllByRecursion (λ x. P x.place.index x.role)
         (file_sites (record { rank = at.file; spell = spelling_of z }) z.tree))
@@ -231,7 +231,7 @@ module _ (w : Workspace) (known : Verdicts) (path : List ℕ) (p : Package) (h :
         subst (λ (z : SpelledFile). AllByRecursion (λ x. P x.place.index x.role) (file_sites (record { rank = at.file; spell = z.spell }) z.tree))
         own_file parts) in
         let found = inner_numbered (λ (x : Site). x.place.file ≡ at.file → P x.place.index x.role) universe (files_sites 0 fs) each d f a c inner in
-        subst (λ r. P at.index r) (sym plain_role) (subst (λ i. P i (found_site (slice_get sites d)).role) plain.2 (found plain.1))
+        subst (λ r. P at.index r) (sym plain_role) (subst (λ i. P i (or_blank (slice_get sites d)).role) plain.2 (found plain.1))
 
     source_here : (s : SourceFile) × (slice_get p.files (p.layout.place d).file ≡ Some s)
     source_here =
@@ -254,7 +254,7 @@ module _ (w : Workspace) (known : Verdicts) (path : List ℕ) (p : Package) (h :
 
   -- the names of a file
 
-  module _ (file : ℕ) (uses : List MemberUse) (j : AreUsesIn p file uses) (unbroken : IsUnbroken j.world) (mean : NamesMean p file j.world j.source) where
+  module _ (file : ℕ) (uses : List MemberUse) (j : AreUsesIn p file uses) (unbroken : IsUnbroken j.world) (mean : HaveMeanings p file j.world j.source) where
     abbrev v : World
     v = j.world
 
@@ -265,7 +265,7 @@ module _ (w : Workspace) (known : Verdicts) (path : List ℕ) (p : Package) (h :
     IsPlaced : (d k : ℕ) → Type 0
     IsPlaced d k = (f : ℕ) × ((a : ℕ) × ((c : ℕ) × ((block_of (p.layout.role d) ≡ Inner f a c) × ((p.layout.place d).index ≡ k))))
 
-    meant_local : (d k : ℕ) (b : Bound) → IsMeantBy p d b → b ≡ Local k → IsPlaced d k
+    meant_local : (d k : ℕ) (b : Bound) → IsMeaningOf p d b → b ≡ Local k → IsPlaced d k
     unfolding IsPlaced
     meant_local d k _ (bound.predeclared is means) e = let z : ⊥ = cc in absurd z
     meant_local d k _ (bound.import_name is) e = let z : ⊥ = cc in absurd z
@@ -287,7 +287,7 @@ module _ (w : Workspace) (known : Verdicts) (path : List ℕ) (p : Package) (h :
         v.bound (p.layout.place d).index ≡ Local (p.layout.place d).index
     own_bound d f a c block counts at =
         let i = (p.layout.place d).index in
-        let stands : StandsAt p.layout (record { file = file; index = i }) d = (inner_identifies d f a c block, at, refl) in
+        let stands : LiesAt p.layout (record { file = file; index = i }) d = (inner_identifies d f a c block, at, refl) in
         one_name p (layout_formed w known path p h) (files_in_order w known path p h) file i (v.bound i) (Local i) (j.judged_by.names i)
         (is_bound (by_scope (record {
           identifier = d;
@@ -302,9 +302,9 @@ module _ (w : Workspace) (known : Verdicts) (path : List ℕ) (p : Package) (h :
     -- the local that a name is bound to: its own, or an earlier one
     by_local : (xs : List Site) → ((d f a c : ℕ) → block_of (p.layout.role d) ≡ Inner f a c → (p.layout.place d).file ≡ file →
         HasSite xs (p.layout.place d).index (p.layout.role d)) →
-        (i k u : ℕ) → u < p.size → StandsAt p.layout (record { file = file; index = i }) u → v.bound i ≡ Local k → (A : List Site) →
+        (i k u : ℕ) → u < p.size → LiesAt p.layout (record { file = file; index = i }) u → v.bound i ≡ Local k → (A : List Site) →
         ((y : Site) → Holds xs y → y.place.index < i → Contains A y) →
-        ((may_declare (p.layout.role u) ≡ true) × (v.bound i ≡ Local i)) ⊎ IsEarlier v A i
+        ((may_declare (p.layout.role u) ≡ true) × (v.bound i ≡ Local i)) ⊎ IsEarlierLocal v A i
     unfolding HasSite IsPlaced
     by_local xs sites i k u lt stands e A before =
         let x = local_bound i k (v.bound i) (j.judged_by.names i) e in
@@ -313,13 +313,13 @@ module _ (w : Workspace) (known : Verdicts) (path : List ℕ) (p : Package) (h :
         decide x.0 x.1.1.0 x.1.1.1.0 x.1.1.1.1.0 x.1.1.1.1.1.0 x.1.1.1.1.1.1 (subst (λ z. IsBoundTo p.layout p.names z x.0) same x.1.0.bound)
       where
         decide : (d f a c : ℕ) → block_of (p.layout.role d) ≡ Inner f a c → (p.layout.place d).index ≡ k → IsBoundTo p.layout p.names u d →
-            ((may_declare (p.layout.role u) ≡ true) × (v.bound i ≡ Local i)) ⊎ IsEarlier v A i
+            ((may_declare (p.layout.role u) ≡ true) × (v.bound i ≡ Local i)) ⊎ IsEarlierLocal v A i
         decide d f a c block at (own same counts) =
             let here : (p.layout.place d).index ≡ i = subst (λ z. (p.layout.place z).index ≡ i) same stands.2 in
             inl (subst (λ z. may_declare (p.layout.role z) ≡ true) (sym same) counts.declares.may, e ∙ ap Local (sym at ∙ here))
         decide d f a c block at (use_bound is b) =
-            let inside : HoldsPlace (scope_in (Inner f a c) (start_of (p.layout.role d))) (p.layout.place u) =
-            subst (λ z. HoldsPlace (scope_in z (start_of (p.layout.role d))) (p.layout.place u)) block b.in_scope in
+            let inside : HoldsPlace (scope_for (Inner f a c) (start_of (p.layout.role d))) (p.layout.place u) =
+            subst (λ z. HoldsPlace (scope_for z (start_of (p.layout.role d))) (p.layout.place u)) block b.in_scope in
             let local = local_role (p.layout.role d) f a c b.counts.declares.may (inner_identifies d f a c block) block in
             let begun = begins_here d f a c block local in
             let there : (p.layout.place d).file ≡ file = sym begun.1 ∙ sym inside.0 ∙ stands.1 in
@@ -352,13 +352,13 @@ module _ (w : Workspace) (known : Verdicts) (path : List ℕ) (p : Package) (h :
     use_resolved : (xs : List Site) → ((d f a c : ℕ) → block_of (p.layout.role d) ≡ Inner f a c → (p.layout.place d).file ≡ file →
         HasSite xs (p.layout.place d).index (p.layout.role d)) →
         (i : ℕ) → Stands p file i Use → (A : List Site) → ((y : Site) → Holds xs y → y.place.index < i → Contains A y) → (b : Bound) → v.bound i ≡ b →
-        ((m : Meaning) × ((v.bound i ≡ Means m) × (m ≡ Broken → ⊥))) ⊎ IsEarlier v A i
+        ((m : Meaning) × ((v.bound i ≡ Means m) × (m ≡ Broken → ⊥))) ⊎ IsEarlierLocal v A i
     use_resolved xs sites i u A before (Local k) e = elim (by_local xs sites i k u.0 u.1.0 u.1.1.0 e A before) [
       | inl x ↦ absurd (true≢false (sym x.0 ∙ ap may_declare u.1.1.1))
       | inr x ↦ inr x
     ]
     use_resolved xs sites i u A before (Means m) e =
-        let some = (subst (StandsForSomething v j.source i) u.1.1.1 (mean u.0 i u.1.0 u.1.1.0)).0 in inl (m, (e, λ q. some (e ∙ ap Means q)))
+        let some = (subst (MeansSomething v j.source i) u.1.1.1 (mean u.0 i u.1.0 u.1.1.0)).0 in inl (m, (e, λ q. some (e ∙ ap Means q)))
     use_resolved xs sites i u A before BrokenVariable e = absurd (unbroken.variables i e)
     use_resolved xs sites i u A before BrokenFunction e = absurd (unbroken.functions i e)
     use_resolved xs sites i u A before BrokenType e = absurd (unbroken.types i e)
@@ -370,14 +370,14 @@ module _ (w : Workspace) (known : Verdicts) (path : List ℕ) (p : Package) (h :
         IsResolved v B A i r
     by_role xs sites i Use k A before =
         let u = k refl in
-        (use_resolved xs sites i u A before (v.bound i) refl, (subst (StandsForSomething v j.source i) u.1.1.1 (mean u.0 i u.1.0 u.1.1.0)).1)
+        (use_resolved xs sites i u A before (v.bound i) refl, (subst (MeansSomething v j.source i) u.1.1.1 (mean u.0 i u.1.0 u.1.1.0)).1)
     by_role xs sites i (NotLexical purpose.Selected) k A before = λ b e q.
         let u = k refl in
-        whole_bound i (v.bound i) refl (subst (StandsForSomething v j.source i) u.1.1.1 (mean u.0 i u.1.0 u.1.1.0) b e q)
+        whole_bound i (v.bound i) refl (subst (MeansSomething v j.source i) u.1.1.1 (mean u.0 i u.1.0 u.1.1.0) b e q)
         (λ n is. let x = local_bound i n (v.bound i) (j.judged_by.names i) is in none_by_scope w known path p h file i u x.0 x.1.0)
     by_role xs sites i (LeftName block start) k A before =
         let u = k refl in
-        let l = subst (StandsForSomething v j.source i) u.1.1.1 (mean u.0 i u.1.0 u.1.1.0) in
+        let l = subst (MeansSomething v j.source i) u.1.1.1 (mean u.0 i u.1.0 u.1.1.0) in
         elim (by_local xs sites i l.0 u.0 u.1.0 u.1.1.0 l.1 A before) [ inl x ↦ inl x.1 | inr x ↦ inr x ]
     by_role xs sites i r k A before = tt
 

@@ -18,7 +18,7 @@ use Rattle.types_expr.specs.World.{World, Locals, Bound, Local, Means, BrokenVar
 use Rattle.types_expr.specs.Types.{Typed, Untyped, Nil, Meaning, Value, TypeName, Function, BuiltinName, Results, Broken}
 use Rattle.types_expr.specs.Types.{Package as PackageName}
 use Rattle.law_typing.specs.Declarations.{DeclIsTyped, variables, types, one_function, DeclsAreTyped, no_decl, also_decl, FileIsTyped, a_file}
-use Rattle.types_declared.specs.Bound.{result_types}
+use Rattle.types_declared.specs.MeaningOf.{result_types}
 use Rattle.types_declared.specs.Package.{Package}
 use Rattle.types_info.specs.Worlds.{is_init}
 use Rattle.types_info.proofs.DeclKinds.{Holds}
@@ -29,30 +29,30 @@ use Rattle.build_object.specs.Operands.{plain_function}
 use Rattle.build_object.specs.Slots.{slots_of}
 use Rattle.build_object.specs.Source.{Source as CodeSource}
 use Rattle.build_object.specs.Sources.{IsSourceOf}
-use Rattle.law_faultless.specs.Answered.{IsKnown, MeaningIsKnown, NameIsKnown, IsAnswered}
-use Rattle.law_faultless.specs.Asked.{Question, OfInteger, OfText, OfName, OfExport, OfMember, OfDeclared, OfLeft}
+use Rattle.law_faultless.specs.QuestionAnswers.{IsKnown, MeaningIsKnown, NameIsKnown, IsAnswered}
+use Rattle.law_faultless.specs.Questions.{Question, OfInteger, OfText, OfName, OfExport, OfMember, OfDeclared, OfLeft}
 use Rattle.build_object.specs.Statements.{body_lines}
 use Rattle.law_faultless.specs.Stack.{Arity, IsBalanced}
-use Rattle.law_faultless.specs.StatementsAsked.{FunctionAsks}
+use Rattle.law_faultless.specs.StatementAsking.{FunctionAsks}
 use Rattle.refs_binding.specs.Uses.{IsPackage}
-use Rattle.law_faultless.specs.Files.{IsFunctionIn, this_function, later_function}
-use Rattle.law_faultless.specs.Open.{IsOwnName, IsSettled}
+use Rattle.law_faultless.specs.TypedFunctions.{IsFunctionIn, this_function, later_function}
+use Rattle.law_faultless.specs.OpenQuestions.{NameIsSettled, OpenIsKnown}
 use Rattle.law_faultless.proofs.FunctionsKnown.{member_found}
 use Rattle.law_faultless.proofs.GlobalsKnown.{global_known}
 use Rattle.law_faultless.proofs.Literals.{integer_asked, text_asked}
 use Rattle.law_faultless.proofs.SlotsKnown.{declared_known}
 use Rattle.law_faultless.proofs.WholeKnown.{whole_balanced}
-use Rattle.law_faultless.specs.Names.{StandsForSomething}
+use Rattle.law_faultless.specs.NameMeanings.{MeansSomething}
 use Rattle.law_faultless.proofs.LinksBound.{source_is}
 use Rattle.law_faultless.proofs.TypesBound.{Stands, Kept, all_kept}
 use Rattle.build_unit.specs.Units.{AreFilesBelow}
 use Rattle.law_faultless.proofs.Bound.{file_typed}
-use Rattle.law_faultless.proofs.NamesMean.{names_mean}
+use Rattle.law_faultless.proofs.MeaningfulNames.{names_mean}
 use Rattle.law_faultless.specs.Arities.{AreArities}
-use Rattle.law_faultless.proofs.Asked.{StandsIn, IsNamed, IsSelected, IsLeftName, stands_inside, stands_as, stands_held, function_sited}
+use Rattle.law_faultless.proofs.AskedNames.{StandsIn, IsNamed, IsSelected, IsLeftName, stands_inside, stands_as, stands_held, function_sited}
 use Rattle.law_faultless.proofs.FunctionsSettled.{function_kept, no_package, meaning_settled}
 use Rattle.law_faultless.proofs.MembersSettled.{members_known}
-use Rattle.law_faultless.proofs.Own.{own_local}
+use Rattle.law_faultless.proofs.OwnLocals.{own_local}
 use Rattle.law_faultless.proofs.SlotsSettled.{has_slot}
 
 -- functions among declarations
@@ -90,7 +90,7 @@ left_no_import (Implied b start) e = refl
 left_no_import Use e = refl
 left_no_import (NotLexical p) e = absurd (true≢false (sym e))
 
-left_means : (v : World) (s : SourceFile) (n : ℕ) (r : Role) → is_left_name r ≡ true → StandsForSomething v s n r → (k : ℕ) × (v.bound n ≡ Local k)
+left_means : (v : World) (s : SourceFile) (n : ℕ) (r : Role) → is_left_name r ≡ true → MeansSomething v s n r → (k : ℕ) × (v.bound n ≡ Local k)
 left_means v s n (LeftName b start) e h = h
 left_means v s n (Declaring b start) e h = absurd (true≢false (sym e))
 left_means v s n (Implied b start) e h = absurd (true≢false (sym e))
@@ -117,7 +117,7 @@ module _ (w : Workspace) (sound : ListsFaults w []) (known : Verdicts) (right : 
   local_settled n there place e =
       own_local w known p.path p is.is_checked file f at s.world source.world k g c held n (λ a b lies. stands_inside n a b sites there lies) place e
 
-  name_settled : (n : ℕ) → StandsIn (IsNamed n) sites → (b : Bound) → s.world.bound n ≡ b → IsOwnName arity s slots n b
+  name_settled : (n : ℕ) → StandsIn (IsNamed n) sites → (b : Bound) → s.world.bound n ≡ b → NameIsSettled arity s slots n b
   name_settled n there (Local place) e = has_slot place slots (local_settled n there place e)
   name_settled n there (Means m) e = meaning_settled w sound known right arity arities p is file f at n files_of s source m e
   name_settled n there BrokenVariable e = tt
@@ -140,7 +140,7 @@ module _ (w : Workspace) (sound : ListsFaults w []) (known : Verdicts) (right : 
       let l = left_means s.world f x.place.index (p.layout.role u.0) (ap is_left_name u.1.1.1 ∙ e.1) mean in
       subst (λ i. (place : ℕ) × (s.world.bound i ≡ Local place)) e.0 l) sites there kept_here
 
-  pub question_settled : (before : Locals) (q : Question) → FunctionAsks s.world before g q → IsSettled arity s slots q
+  pub question_settled : (before : Locals) (q : Question) → FunctionAsks s.world before g q → OpenIsKnown arity s slots q
   question_settled before (OfInteger n) a = tt
   question_settled before (OfText n) a = tt
   question_settled before (OfName n) a = name_settled n (function_sited s.world code a) (s.world.bound n) refl

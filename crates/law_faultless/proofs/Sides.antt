@@ -12,7 +12,7 @@ use Rattle.types_expr.specs.Judge.{judge_type}
 use Rattle.law_typing.specs.Names.{IsType}
 use Rattle.law_typing.specs.Meanings.{HasMeaning, number, text, name, composite, paren, prefix, address, chain, binary}
 use Rattle.law_typing.proofs.Naming.{type_true}
-use Rattle.law_typing.specs.Giving.{Taker, TakenInTurn, none_given, also_given, AreEach, no_expression, also_value, Give, values, results}
+use Rattle.law_typing.specs.Assignments.{Taker, TakenInTurn, none_given, also_given, AreEachValues, no_expression, also_value, GiveKinds, values, results}
 use Rattle.law_typing.specs.Simple.{AreAssigned, no_left, a_blank, an_operand, AreDefined, no_definition, an_underscore, a_new_name, an_old_name}
 use Rattle.build_object.specs.Lines.{FunctionName, Line, line_if_known, pops}
 use Rattle.build_object.specs.Lines as line
@@ -21,10 +21,10 @@ use Rattle.build_object.specs.Numbering.{slot_of}
 use Rattle.build_object.specs.Expressions.{value_lines, address_lines}
 use Rattle.build_object.specs.Statements.{values_of, from_last, set_name, set_bound, set_left, target_lines, targets_of, zeros}
 use Rattle.law_faultless.specs.Stack.{Arity}
-use Rattle.law_faultless.specs.Asked.{OfDeclared, OfLeft}
-use Rattle.law_faultless.specs.Answered.{IsKnown, IsAnswered}
-use Rattle.law_faultless.specs.StatementsAsked.{AnyAsks, this_one, a_later_one, IsLeft, this_left, a_later_left, IsDeclared, this_declared, a_later_declared}
-use Rattle.law_faultless.proofs.Turning.{Turns, none_turns, turns_as, turns_joined, turns_over, line_turns, turns_then, known_turns}
+use Rattle.law_faultless.specs.Questions.{OfDeclared, OfLeft}
+use Rattle.law_faultless.specs.QuestionAnswers.{IsKnown, IsAnswered}
+use Rattle.law_faultless.specs.StatementAsking.{AnyAsks, this_one, a_later_one, IsLeft, this_left, a_later_left, IsDeclared, this_declared, a_later_declared}
+use Rattle.law_faultless.proofs.StackParts.{Turns, none_turns, turns_as, turns_joined, turns_over, line_turns, turns_then, known_turns}
 use Rattle.law_faultless.proofs.ExpressionsBalanced.{over, Answers, expression_settles}
 
 -- each of them is a tree of the grammar
@@ -48,7 +48,7 @@ one_before arity n xs ys f g = turns_as arity (xs ++ ys) refl (let e : 1 + n ≡
 -- values
 
 each_turns : (arity : FunctionName → Arity) (w : World) (s : Source) (slots : List ℕ) (locals : Locals) {is : List (Item ExprTree)} {ks : List Kind} →
-    AreEach w locals is ks → AreExprs is →
+    AreEachValues w locals is ks → AreExprs is →
     Answers arity (over w s) slots (AnyAsks w locals is) → Turns arity 0 (length ks) (values_of (over w s) slots is)
 each_turns arity w s slots locals no_expression f k = none_turns arity 0
 each_turns arity w s slots locals (also_value {i} {is} {ks = ks} h more) f k =
@@ -57,7 +57,7 @@ each_turns arity w s slots locals (also_value {i} {is} {ks = ks} h more) f k =
     (each_turns arity w s slots locals more (other_exprs i is f) (λ q a. k q (a_later_one a)))
 
 pub give_turns : (arity : FunctionName → Arity) (w : World) (s : Source) (slots : List ℕ) (locals : Locals) {is : List (Item ExprTree)} {ks : List Kind} →
-    Give w locals is ks → AreExprs is →
+    GiveKinds w locals is ks → AreExprs is →
     Answers arity (over w s) slots (AnyAsks w locals is) → Turns arity 0 (length ks) (values_of (over w s) slots is)
 give_turns arity w s slots locals (values h) f k = each_turns arity w s slots locals h f k
 give_turns arity w s slots locals (results {i} {ts} h) f k =

@@ -6,15 +6,15 @@ use Rattle.std.proofs.lemmas.List.Elements.{All-nil, All-cons, All-head, All-tai
 use Rattle.go_ast.specs.declared.syntax.BinaryOp.{BinaryOp}
 use Rattle.go_ast.specs.Tree.{Item, Group, IdentTree, ExprTree, LinkTrees, SimpleTree, LocalTree}
 use Rattle.go_ast.specs.Tree as tree
-use Rattle.go_ast.specs.WellFormed.{IsExpr, IsExprIn, IsList, IsSimple, IsLocal, Perhaps, IsGroup}
+use Rattle.go_ast.specs.WellFormed.{IsExpr, IsExprIn, IsList, IsSimple, IsLocal, IsNoneOr, IsGroup}
 use Rattle.types_declared.specs.Files.{group_items}
 use Rattle.types_expr.specs.Types.{PlainType, Kind, Meaning, Value, TypeName, Function, BuiltinName, Package, Results, Broken}
 use Rattle.types_expr.specs.World.{World, Locals}
-use Rattle.law_typing.specs.Links.{Gives, nothing, one, several as many_given, Calls, function, conversion, len, append, panic, print, println}
-use Rattle.law_typing.specs.Meanings.{HasMeaning, chain, LeadsTo, no_link, selector, index, call}
+use Rattle.law_typing.specs.Links.{ResultsMean, nothing, one, several as many_given, Calls, function, conversion, len, append, panic, print, println}
+use Rattle.law_typing.specs.Meanings.{HasMeaning, chain, LinksMean, no_link, selector, index, call}
 use Rattle.types_stmt.specs.Simple.{binary_of}
-use Rattle.law_typing.specs.Turns.{Rule, InTurn, no_item, then_item, InGroup, alone, together, IfPresent, absent, present}
-use Rattle.law_typing.specs.Giving.{Fresh, OfType, Give}
+use Rattle.law_typing.specs.Sequences.{Rule, InTurn, no_item, then_item, InGroup, alone, together, IfPresent, absent, present}
+use Rattle.law_typing.specs.Assignments.{Fresh, OfType, GiveKinds}
 use Rattle.law_typing.specs.Simple.{ConditionIsTyped, a_condition, EndsInCall, the_call, behind_selector as ends_behind_selector}
 use Rattle.law_typing.specs.Simple.{behind_index as ends_behind_index, behind_call as ends_behind_call, SimpleIsTyped, a_call, a_step, an_update}
 use Rattle.law_typing.specs.Simple.{an_assignment, a_definition, LocalIsTyped, of_type, of_type_with_values, of_values}
@@ -26,13 +26,13 @@ use Rattle.build_object.specs.Expressions.{operand_of, value_lines, address_line
 use Rattle.build_object.specs.Statements.{values_of, from_last, set_name, set_left, targets_of, update_lines, step_op, simple_lines, optional_lines, zeros}
 use Rattle.build_object.specs.Statements.{first_values, local_lines}
 use Rattle.law_faultless.specs.Stack.{Arity}
-use Rattle.law_faultless.specs.Asked.{Question, OfDeclared, OfLeft, Asks}
-use Rattle.law_faultless.specs.Answered.{IsAnswered}
-use Rattle.law_faultless.specs.StatementsAsked.{Asking, AskInTurn, this_item, later_item, AskInGroup, asks_alone, asks_together, AskIfPresent, asks_present}
-use Rattle.law_faultless.specs.StatementsAsked.{SimpleAsks, in_call, in_step, in_updated, in_update, in_assigned, in_assignment, for_left, in_definition}
-use Rattle.law_faultless.specs.StatementsAsked.{LocalAsks, for_declared, in_values}
-use Rattle.law_faultless.proofs.Turning.{Turns, none_turns, turns_as, turns_joined, turns_over, line_turns}
-use Rattle.law_faultless.proofs.Standing.{Settles}
+use Rattle.law_faultless.specs.Questions.{Question, OfDeclared, OfLeft, Asks}
+use Rattle.law_faultless.specs.QuestionAnswers.{IsAnswered}
+use Rattle.law_faultless.specs.StatementAsking.{Asking, AskInTurn, this_item, later_item, AskInGroup, asks_alone, asks_together, AskIfPresent, asks_present}
+use Rattle.law_faultless.specs.StatementAsking.{SimpleAsks, in_call, in_step, in_updated, in_update, in_assigned, in_assignment, for_left, in_definition}
+use Rattle.law_faultless.specs.StatementAsking.{LocalAsks, for_declared, in_values}
+use Rattle.law_faultless.proofs.StackParts.{Turns, none_turns, turns_as, turns_joined, turns_over, line_turns}
+use Rattle.law_faultless.proofs.OperandStack.{Settles}
 use Rattle.law_faultless.proofs.ExpressionsBalanced.{over, Answers, expression_settles}
 use Rattle.law_faultless.proofs.Sides.{AreExprs, give_turns, targets_turn, assigned_length, lefts_turn, defined_length, names_turn, zeros_turn, taken_length}
 use Rattle.law_faultless.proofs.Sides.{pops_turn}
@@ -48,7 +48,7 @@ IsGiven (Value k a) = Unit {0}
 IsGiven (Results ts) = Unit {0}
 IsGiven m = ⊥
 
-given : {ts : List PlainType} {r : Meaning} → Gives ts r → IsGiven r
+given : {ts : List PlainType} {r : Meaning} → ResultsMean ts r → IsGiven r
 unfolding IsGiven
 given nothing = tt
 given one = tt
@@ -64,7 +64,7 @@ call_given panic = tt
 call_given (print h) = tt
 call_given (println h) = tt
 
-end_given : {w : World} {locals : Locals} {links front : LinkTrees} {m r : Meaning} → EndsInCall links front → LeadsTo w locals m links r → IsGiven r
+end_given : {w : World} {locals : Locals} {links front : LinkTrees} {m r : Meaning} → EndsInCall links front → LinksMean w locals m links r → IsGiven r
 end_given the_call (call vs c no_link) = call_given c
 end_given (ends_behind_selector e) (selector s more) = end_given e more
 end_given (ends_behind_index e) (index v i more) = end_given e more
@@ -75,14 +75,14 @@ chain_given : {w : World} {locals : Locals} {e : ExprTree} {links front : LinkTr
 chain_given ends (chain h more) = end_given ends more
 
 -- the values that a call leaves are dropped
-dropped : (arity : FunctionName → Arity) (o : Operand) (n : ℕ) → o.standing ≡ Values n → Turns arity 0 n o.value →
-    Turns arity 0 0 (o.value ++ pops (value_count o.standing))
+dropped : (arity : FunctionName → Arity) (o : Operand) (n : ℕ) → o.mode ≡ Values n → Turns arity 0 n o.value →
+    Turns arity 0 0 (o.value ++ pops (value_count o.mode))
 dropped arity o n e t = subst (λ z. Turns arity 0 0 (o.value ++ pops (value_count z))) (sym e) (turns_joined arity 0 n 0 o.value (pops n) t (pops_turn arity n))
 
 alone_turns : (arity : FunctionName → Arity) (o : Operand) (m : Meaning) → IsGiven m → Settles arity o m →
-    Turns arity 0 0 (o.value ++ pops (value_count o.standing))
+    Turns arity 0 0 (o.value ++ pops (value_count o.mode))
 unfolding IsGiven
-alone_turns arity o (Value k a) g h = dropped arity o 1 h.standing h.value
+alone_turns arity o (Value k a) g h = dropped arity o 1 h.mode h.value
 alone_turns arity o (TypeName t) g h = absurd g
 alone_turns arity o (Function f) g h = absurd g
 alone_turns arity o (BuiltinName b) g h = absurd g
@@ -150,12 +150,12 @@ condition_turns arity w s slots (a_condition {locals} v b) f k = (expression_set
 -- declarations of locals
 
 named_values : (arity : FunctionName → Arity) (w : World) (s : Source) (slots : List ℕ) (before : Locals) (l : LocalTree) (v : ℕ × List (Item ExprTree))
-    (ks : List Kind) → l.values ≡ Some v → IsLocal l → Give w before v.1 ks → length ks ≡ length l.names →
+    (ks : List Kind) → l.values ≡ Some v → IsLocal l → GiveKinds w before v.1 ks → length ks ≡ length l.names →
     Answers arity (over w s) slots (LocalAsks w before l) → Turns arity 0 0 (local_lines (over w s) slots l)
 unfolding local_lines first_values
 named_values arity w s slots before l v ks e f g t k =
     let values : All (λ (i : Item ExprTree). IsExprIn false i.value) v.1 =
-    (subst (λ z. Perhaps (λ (x : ℕ × List (Item ExprTree)). IsList (IsExprIn false) x.1) z) e f.values).each in
+    (subst (λ z. IsNoneOr (λ (x : ℕ × List (Item ExprTree)). IsList (IsExprIn false) x.1) z) e f.values).each in
     subst (λ z. Turns arity 0 0 (first_values (over w s) slots l z ++ from_last (set_name slots) l.names)) (sym e)
     (define_turns arity (length l.names) (length l.names) (length ks) (from_last (set_name slots) l.names) (values_of (over w s) slots v.1) refl t
     (give_turns arity w s slots before g (exprs_in false v.1 values) (λ q a. k q (in_values e a)))
@@ -206,7 +206,7 @@ locals_turn arity w s slots r f k =
     (λ before after l r f k. local_turns arity w s slots r f k) r f k
 
 pub optional_turns : (arity : FunctionName → Arity) (w : World) (s : Source) (slots : List ℕ) (h : Bool) {before after : Locals} {x : Option SimpleTree} →
-    IfPresent SimpleTree (SimpleIsTyped w) before x after → Perhaps (IsSimple h) x →
+    IfPresent SimpleTree (SimpleIsTyped w) before x after → IsNoneOr (IsSimple h) x →
     Answers arity (over w s) slots (AskIfPresent SimpleTree (SimpleAsks w) before x) → Turns arity 0 0 (optional_lines (over w s) slots x)
 optional_turns arity w s slots h absent f k = none_turns arity 0
 optional_turns arity w s slots h (present r) f k = simple_turns arity w s slots h r f (λ q a. k q (asks_present a))

@@ -12,28 +12,28 @@ use Rattle.types_expr.specs.World.{World, Locals}
 use Rattle.law_typing.specs.Names.{IsType}
 use Rattle.law_typing.specs.Meanings.{HasMeaning}
 use Rattle.law_typing.specs.Meanings as means
-use Rattle.law_typing.specs.Turns.{InTurn, no_item, then_item, InGroup, alone, together}
-use Rattle.law_typing.specs.Giving.{Taker, AreEach, no_expression, also_value, Give, values, results}
+use Rattle.law_typing.specs.Sequences.{InTurn, no_item, then_item, InGroup, alone, together}
+use Rattle.law_typing.specs.Assignments.{Taker, AreEachValues, no_expression, also_value, GiveKinds, values, results}
 use Rattle.law_typing.specs.Simple.{AreAssigned, no_left, a_blank, an_operand, AreDefined, no_definition, an_underscore, a_new_name, an_old_name}
 use Rattle.law_typing.specs.Simple.{SimpleIsTyped, a_call, a_step, an_update, an_assignment, a_definition, LocalIsTyped, of_type}
 use Rattle.law_typing.specs.Simple.{of_type_with_values, of_values}
-use Rattle.law_faultless.specs.Asked.{Asks}
-use Rattle.law_faultless.specs.StatementsAsked.{AskInTurn, this_item, later_item, AskInGroup, asks_alone, asks_together, AnyAsks, this_one, a_later_one}
-use Rattle.law_faultless.specs.StatementsAsked.{SimpleAsks, in_call, in_step, in_updated, in_update, in_assigned, in_assignment, in_definition, LocalAsks}
-use Rattle.law_faultless.specs.StatementsAsked.{in_values}
+use Rattle.law_faultless.specs.Questions.{Asks}
+use Rattle.law_faultless.specs.StatementAsking.{AskInTurn, this_item, later_item, AskInGroup, asks_alone, asks_together, AnyAsks, this_one, a_later_one}
+use Rattle.law_faultless.specs.StatementAsking.{SimpleAsks, in_call, in_step, in_updated, in_update, in_assigned, in_assignment, in_definition, LocalAsks}
+use Rattle.law_faultless.specs.StatementAsking.{in_values}
 use Rattle.law_faultless.proofs.ExpressionsUsed.{AreLinked, linked_append, Tells, type_links, expr_links}
 
 -- lists of expressions
 
 each_links : (w : World) (ls : Locals) (U : ℕ → Type 0) (s : Source) {is : List (Item ExprTree)} {ks : List Kind} → Tells w U (AnyAsks w ls is) →
-    AreEach w ls is ks → AreLinked w U (exprs_sites s is)
+    AreEachValues w ls is ks → AreLinked w U (exprs_sites s is)
 each_links w ls U s f no_expression = tt
 each_links w ls U s f (also_value {i} {is} h more) =
     linked_append w U (expr_sites s i.value) (exprs_sites s is) (expr_links w ls U s (λ n t m a. f n t m (this_one a)) h)
     (each_links w ls U s (λ n t m a. f n t m (a_later_one a)) more)
 
 pub give_links : (w : World) (ls : Locals) (U : ℕ → Type 0) (s : Source) {is : List (Item ExprTree)} {ks : List Kind} → Tells w U (AnyAsks w ls is) →
-    Give w ls is ks → AreLinked w U (exprs_sites s is)
+    GiveKinds w ls is ks → AreLinked w U (exprs_sites s is)
 give_links w ls U s f (values h) = each_links w ls U s f h
 give_links w ls U s f (results {i} h) = linked_append w U (expr_sites s i.value) [] (expr_links w ls U s (λ n t m a. f n t m (this_one a)) h) tt
 

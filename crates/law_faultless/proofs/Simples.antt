@@ -15,15 +15,15 @@ use Rattle.go_scope.specs.Site.{Site, Source}
 use Rattle.go_scope.specs.ExpressionSites.{sites_if, list_sites, type_sites, expr_sites, exprs_sites}
 use Rattle.go_scope.specs.StatementSites.{ident_sites, left_sites, assigned_sites, simple_sites, value_sites, local_sites}
 use Rattle.go_scope.proofs.PlainSites.{plain_append, plain_list, plain_if, plain_type, plain_expr, plain_exprs, plain_assigned}
-use Rattle.law_tokens.specs.Tokens.{is_name}
+use Rattle.law_tokens.specs.Tokens.{is_ident}
 use Rattle.law_tokens.proofs.CoveredExpressions.{type_named, expr_named, exprs_named}
 use Rattle.types_expr.specs.Types.{PlainType, Kind}
 use Rattle.types_expr.specs.World.{World, Locals}
-use Rattle.law_typing.proofs.Steps.{empty_first, empty_second}
+use Rattle.law_typing.proofs.Judgements.{empty_first, empty_second}
 use Rattle.types_stmt.specs.Checked.{Checked}
-use Rattle.types_stmt.specs.Sides.{rights, given_to, defined, named, all_named as names_of, first_of_exprs}
+use Rattle.types_stmt.specs.Sides.{rhs, given_faults, defined, named, all_named as names_of, first_of_exprs}
 use Rattle.types_stmt.specs.Simple.{check_define, check_simple, check_local}
-use Rattle.law_typing.specs.Giving.{Taker, Declare, no_name, no_local, new_local, DeclareAs, no_name_left, not_named, named as a_named}
+use Rattle.law_typing.specs.Assignments.{Taker, Declare, no_name, no_local, new_local, DeclareAs, no_name_left, not_named, named as a_named}
 use Rattle.law_typing.specs.Simple.{AreDefined, no_definition, an_underscore, a_new_name, an_old_name, SimpleIsTyped, a_call, a_step, an_update}
 use Rattle.law_typing.specs.Simple.{an_assignment, a_definition, LocalIsTyped, of_type, of_type_with_values, of_values}
 use Rattle.law_typing.specs.Excused.{AnyUsesBroken, SimpleIsExcused, in_call, in_step, in_updated, in_update, updated_without_type, in_assigned}
@@ -33,10 +33,10 @@ use Rattle.law_typing.proofs.Locals.{local_settled}
 use Rattle.types_info.proofs.DeclKinds.{Holds}
 use Rattle.law_tokens.proofs.Elements.{all_append, all_left, all_right}
 use Rattle.refs_lookup.proofs.Apart.{all_as}
-use Rattle.law_faultless.proofs.Strung.{Strung, strung_split, strung_le, stand_below}
+use Rattle.law_faultless.proofs.NumberedTokens.{Strung, strung_split, strung_le, stand_below}
 use Rattle.law_faultless.specs.Unbroken.{IsUnbroken}
 use Rattle.law_faultless.proofs.Named.{IsNamed, AreNamed, no_broken_type, no_use, assignable_typed}
-use Rattle.law_faultless.specs.Scopes.{IsOwn, AreResolved}
+use Rattle.law_faultless.specs.ResolvedNames.{IsOwnLocal, AreResolved}
 use Rattle.law_faultless.proofs.KnownLocals.{past, IsKnown, Known, BeginsLater, AllKnown, all_named, Kept, known_past, plain_known, plain_later, declared_kept}
 use Rattle.law_faultless.proofs.KnownLocals.{declared_known}
 use Rattle.law_faultless.proofs.Leaves.{below_more, left_stands, assigned_stands, list_stands, all_lefts_later, each_fine, assigned_fine, defined_fine}
@@ -48,10 +48,10 @@ before_append : (m : ℕ) (xs ys : List Site) → Before m xs → Before m ys �
 before_append m xs ys a b = all_append (λ (x : Site). x.place.index < m) xs ys a b
 
 pub expr_stands : (B : ℕ → Type 0) (s : Source) (n m : ℕ) (e : ExprTree) → Strung B n (expr_tokens e) m → Before m (expr_sites s e)
-expr_stands B s n m e h = stand_below B is_name s n m (expr_sites s e) (expr_tokens e) (expr_named s e) h
+expr_stands B s n m e h = stand_below B is_ident s n m (expr_sites s e) (expr_tokens e) (expr_named s e) h
 
 pub exprs_stand : (B : ℕ → Type 0) (s : Source) (n m : ℕ) (es : List (Item ExprTree)) → Strung B n (exprs_tokens es) m → Before m (exprs_sites s es)
-exprs_stand B s n m es h = stand_below B is_name s n m (exprs_sites s es) (exprs_tokens es) (exprs_named s es) h
+exprs_stand B s n m es h = stand_below B is_ident s n m (exprs_sites s es) (exprs_tokens es) (exprs_named s es) h
 
 -- an expression alone, and several
 
@@ -130,8 +130,8 @@ module _ (w : World) (B : ℕ → Type 0) (s : Source) (u : IsUnbroken w) where
   simple_fine b q n m st (in_defined {xs = xs} {ys} {p} e) f h t =
       let r = strung_split B n (exprs_tokens xs) (sign kind.Define p ∷ exprs_tokens ys) m t in
       let l = defined w st.locals xs in
-      let v = rights w st.locals ys in
-      let others = v.faults ++ given_to w (first_of_exprs xs) v.values l.targets in
+      let v = rhs w st.locals ys in
+      let others = v.faults ++ given_faults w (first_of_exprs xs) v.values l.targets in
       defined_fine w B st.locals s u b q n r.0 e
       (all_left (λ z. IsNamed w B st.locals z.place.index z.role) (list_sites (left_sites s b q) xs) (exprs_sites s ys) h) r.1.0
       (empty_first l.faults others (empty_second st.faults (l.faults ++ others) f))
@@ -170,7 +170,7 @@ as_known {t} (a_named {before} {after} {p = q} more) p h = elim h [
 
 -- a local that is bound to itself is one of the names
 abbrev pub Declares : World → List (Option ℕ) → Site → Type 0
-Declares w ns x = IsOwn w x → Holds ns (Some x.place.index)
+Declares w ns x = IsOwnLocal w x → Holds ns (Some x.place.index)
 
 more_names : (w : World) (o : Option ℕ) (ns : List (Option ℕ)) (xs : List Site) → AllByRecursion (Declares w ns) xs → AllByRecursion (Declares w (o ∷ ns)) xs
 more_names w o ns xs h = all_as (Declares w ns) (Declares w (o ∷ ns)) (λ x f own. inr (f own)) xs h
@@ -285,7 +285,7 @@ Values = Option (ℕ × List (Item ExprTree))
 
 types_stand : (B : ℕ → Type 0) (s : Source) (n m : ℕ) (o : Option TypeTree) → Strung B n (tokens_if type_tokens o) m → Before m (sites_if (type_sites s) o)
 types_stand B s n m None h = tt
-types_stand B s n m (Some x) h = stand_below B is_name s n m (type_sites s x) (type_tokens x) (type_named s x) h
+types_stand B s n m (Some x) h = stand_below B is_ident s n m (type_sites s x) (type_tokens x) (type_named s x) h
 
 values_stand : (B : ℕ → Type 0) (s : Source) (n m : ℕ) (v : Values) → Strung B n (tokens_if (value_tokens expr_tokens) v) m →
     Before m (sites_if (value_sites s) v)

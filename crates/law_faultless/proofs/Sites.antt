@@ -12,7 +12,7 @@ use Rattle.go_scope.specs.declared.model.Purpose.TheVariants as purpose
 use Rattle.go_scope.specs.Bindings.{is_implied}
 use Rattle.go_scope.specs.FileSites.{SpelledFile, file_sites, files_sites, universe, universe_site}
 use Rattle.go_scope.specs.Named.{is_unnamed_import, named_where, named_sites}
-use Rattle.go_scope.specs.Site.{Site, Source, found_site}
+use Rattle.go_scope.specs.Site.{Site, Source, or_blank}
 use Rattle.law_tokens.specs.Tokens.{identifiers_among}
 use Rattle.law_tokens.proofs.Covering.{Pairs, file_pairs}
 use Rattle.law_tokens.proofs.Elements.{all_append}
@@ -51,14 +51,14 @@ files_among F P rank (f ∷ fs) k =
 -- by number
 
 each_found : (P : Site → Type 0) (q : Purpose) → (NotLexical purpose.Blank ≡ NotLexical q → ⊥) → (xs : List Site) → AllByRecursion P xs → (u : ℕ) →
-    (found_site (slice_get xs u)).role ≡ NotLexical q → P (found_site (slice_get xs u))
+    (or_blank (slice_get xs u)).role ≡ NotLexical q → P (or_blank (slice_get xs u))
 each_found P q other [] a u e = absurd (other e)
 each_found P q other (x ∷ xs) a zero e = a.0
 each_found P q other (x ∷ xs) a (suc u) e = each_found P q other xs a.1 u e
 
 pub each_numbered : (P : Site → Type 0) (q : Purpose) → (NotLexical purpose.Blank ≡ NotLexical q → ⊥) → (names : List (List ℕ)) (xs : List Site) →
-    AllByRecursion P xs → (u : ℕ) → (found_site (slice_get (map universe_site names ++ xs) u)).role ≡ NotLexical q →
-    P (found_site (slice_get (map universe_site names ++ xs) u))
+    AllByRecursion P xs → (u : ℕ) → (or_blank (slice_get (map universe_site names ++ xs) u)).role ≡ NotLexical q →
+    P (or_blank (slice_get (map universe_site names ++ xs) u))
 each_numbered P q other [] xs a u e = each_found P q other xs a u e
 each_numbered P q other (n ∷ names) xs a zero e = let z : ⊥ = cc in absurd z
 each_numbered P q other (n ∷ names) xs a (suc u) e = each_numbered P q other names xs a u e
@@ -128,8 +128,8 @@ all_numbered fs i f e =
     (stand_in s xs (identifiers_among (flatten f.tree)) (file_pairs s f.tree)))
 
 -- but for the literals of imports without a name, roles stay
-pub role_stays : (names : ℕ → Option (List ℕ)) (xs : List Site) (u : ℕ) → is_unnamed_import (found_site (slice_get xs u)).role ≡ false →
-    (found_site (slice_get (named_sites names xs) u)).role ≡ (found_site (slice_get xs u)).role
+pub role_stays : (names : ℕ → Option (List ℕ)) (xs : List Site) (u : ℕ) → is_unnamed_import (or_blank (slice_get xs u)).role ≡ false →
+    (or_blank (slice_get (named_sites names xs) u)).role ≡ (or_blank (slice_get xs u)).role
 unfolding named_sites
 role_stays names [] u e = refl
 role_stays names (x ∷ xs) zero e = ap (λ b. (named_where b (names 0) x).role) e

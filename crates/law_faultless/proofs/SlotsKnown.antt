@@ -16,19 +16,19 @@ use Rattle.build_object.specs.Slots.{receiver_places, parameter_places, local_pl
 use Rattle.build_object.specs.Slots.{statements_places, if_places, else_places, slots_of}
 use Rattle.go_ast.specs.Tree.{LinkTrees, OperandTrees, ArgumentTrees, LiteralTree, ElementTrees}
 use Rattle.types_expr.specs.Types.{Meaning}
-use Rattle.law_faultless.specs.Asked.{Question, OfInteger, OfText, OfName, OfExport, OfMember, OfDeclared, OfLeft, Asks, for_integer, for_text, for_name}
-use Rattle.law_faultless.specs.Asked.{in_composite, in_paren, in_prefix, in_address, in_chain, in_links, in_binary, in_operands, LinksAsk, for_member}
-use Rattle.law_faultless.specs.Asked.{for_export, behind_selector, in_index, behind_index, in_arguments, behind_call, OperandsAsk, in_operand}
-use Rattle.law_faultless.specs.Asked.{in_later_operand, ArgumentsAsk, in_argument, in_later_argument, LiteralAsks, in_elements, ElementsAsk, for_key}
-use Rattle.law_faultless.specs.Asked.{in_element, in_later_element}
-use Rattle.law_faultless.specs.Answered.{IsKnown}
-use Rattle.law_faultless.specs.StatementsAsked.{AskIfPresent, asks_present, AnyAsks, this_one, a_later_one, SimpleAsks, in_call, in_step, in_updated}
-use Rattle.law_faultless.specs.StatementsAsked.{in_update, in_assigned, in_assignment, for_left, in_definition, InitAsks, in_init, HeaderAsks, in_while}
-use Rattle.law_faultless.specs.StatementsAsked.{in_first, in_test, in_post, AskInTurn, this_item, later_item, AskInGroup, asks_alone, asks_together}
-use Rattle.law_faultless.specs.StatementsAsked.{IsDeclared, this_declared, a_later_declared, LocalAsks, for_declared, in_values, StatementAsks, in_declaration}
-use Rattle.law_faultless.specs.StatementsAsked.{in_simple, in_inner, in_choice, in_header, in_loop, in_return, BlockAsks, in_block, StatementsAsk}
-use Rattle.law_faultless.specs.StatementsAsked.{this_statement, later_statement, IfAsks, before_condition, in_condition, in_then, in_otherwise, ElseAsks}
-use Rattle.law_faultless.specs.StatementsAsked.{in_else_if, in_else, FunctionAsks, in_body}
+use Rattle.law_faultless.specs.Questions.{Question, OfInteger, OfText, OfName, OfExport, OfMember, OfDeclared, OfLeft, Asks, for_integer, for_text, for_name}
+use Rattle.law_faultless.specs.Questions.{in_composite, in_paren, in_prefix, in_address, in_chain, in_links, in_binary, in_operands, LinksAsk, for_member}
+use Rattle.law_faultless.specs.Questions.{for_export, behind_selector, in_index, behind_index, in_arguments, behind_call, OperandsAsk, in_operand}
+use Rattle.law_faultless.specs.Questions.{in_later_operand, ArgumentsAsk, in_argument, in_later_argument, LiteralAsks, in_elements, ElementsAsk, for_key}
+use Rattle.law_faultless.specs.Questions.{in_element, in_later_element}
+use Rattle.law_faultless.specs.QuestionAnswers.{IsKnown}
+use Rattle.law_faultless.specs.StatementAsking.{AskIfPresent, asks_present, AnyAsks, this_one, a_later_one, SimpleAsks, in_call, in_step, in_updated}
+use Rattle.law_faultless.specs.StatementAsking.{in_update, in_assigned, in_assignment, for_left, in_definition, InitAsks, in_init, HeaderAsks, in_while}
+use Rattle.law_faultless.specs.StatementAsking.{in_first, in_test, in_post, AskInTurn, this_item, later_item, AskInGroup, asks_alone, asks_together}
+use Rattle.law_faultless.specs.StatementAsking.{IsDeclared, this_declared, a_later_declared, LocalAsks, for_declared, in_values, StatementAsks, in_declaration}
+use Rattle.law_faultless.specs.StatementAsking.{in_simple, in_inner, in_choice, in_header, in_loop, in_return, BlockAsks, in_block, StatementsAsk}
+use Rattle.law_faultless.specs.StatementAsking.{this_statement, later_statement, IfAsks, before_condition, in_condition, in_then, in_otherwise, ElseAsks}
+use Rattle.law_faultless.specs.StatementAsking.{in_else_if, in_else, FunctionAsks, in_body}
 
 abbrev IsAmong : ℕ → List ℕ → Type 0
 IsAmong n [] = ⊥

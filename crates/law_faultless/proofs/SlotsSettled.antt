@@ -26,9 +26,9 @@ use Rattle.types_info.proofs.DeclKinds.{Holds, held_left, held_right}
 use Rattle.build_object.specs.Numbering.{slot_from, slot_of}
 use Rattle.build_object.specs.Slots.{receiver_places, parameter_places, local_places, simple_places, optional_places, init_places, header_places}
 use Rattle.build_object.specs.Slots.{statement_places, block_places, statements_places, if_places, else_places, slots_of}
-use Rattle.law_faultless.specs.Answered.{IsKnown}
+use Rattle.law_faultless.specs.QuestionAnswers.{IsKnown}
 use Rattle.law_faultless.proofs.SlotsKnown.{some_slot}
-use Rattle.law_faultless.specs.Scopes.{may_be_local}
+use Rattle.law_faultless.specs.ResolvedNames.{may_be_local}
 use Rattle.law_faultless.proofs.KnownLocals.{local_may}
 use Rattle.law_faultless.proofs.Typed.{result_abroad, func_abroad}
 

@@ -12,10 +12,10 @@ use Rattle.types_stmt.specs.Checked.{Checked, fault_if, check_items, check_group
 use Rattle.types_stmt.specs.Headers.{judge_receiver, check_receiver, check_optional_receiver, check_param, judge_types, judge_results, is_bad_init}
 use Rattle.types_stmt.specs.Headers.{check_signature, check_function}
 use Rattle.types_stmt.specs.Declarations.{global_faults, value_faults, field_faults, body_faults, check_global, check_type, check_decl, check_decls, check_file}
-use Rattle.law_typing.proofs.Steps.{empty_first, empty_second}
+use Rattle.law_typing.proofs.Judgements.{empty_first, empty_second}
 use Rattle.law_typing.proofs.Statements.{block_first}
 use Rattle.law_typing.proofs.Declarations.{decl_settled}
-use Rattle.types_declared.specs.Bound.{result_types}
+use Rattle.types_declared.specs.MeaningOf.{result_types}
 use Rattle.types_declared.specs.Written.{written_types}
 use Rattle.types_info.proofs.DeclKinds.{Holds}
 use Rattle.law_tokens.proofs.Elements.{all_append}

@@ -5,12 +5,12 @@ use Rattle.std.proofs.lemmas.List.{length-map}
 use Rattle.std.proofs.lemmas.List.Elements.{All-nil}
 use Rattle.go_ast.specs.Tree.{Item, ExprTree, SimpleTree, InitTree, ForTree, StatementTree, BlockTree, StatementTrees, IfTree, ElseTree}
 use Rattle.go_ast.specs.Tree as tree
-use Rattle.go_ast.specs.WellFormed.{IsExpr, IsExprIn, IsList, IsSimple, IsPost, IsInit, IsFor, Perhaps, IsStatement, IsBlock, AreStatements, IsIf, IsElse}
+use Rattle.go_ast.specs.WellFormed.{IsExpr, IsExprIn, IsList, IsSimple, IsPost, IsInit, IsFor, IsNoneOr, IsStatement, IsBlock, AreStatements, IsIf, IsElse}
 use Rattle.types_declared.specs.Files.{group_items}
 use Rattle.types_expr.specs.Types.{PlainType}
 use Rattle.types_expr.specs.World.{World, Locals}
-use Rattle.law_typing.specs.Turns.{IfPresent, absent, present}
-use Rattle.law_typing.specs.Giving.{OfType}
+use Rattle.law_typing.specs.Sequences.{IfPresent, absent, present}
+use Rattle.law_typing.specs.Assignments.{OfType}
 use Rattle.law_typing.specs.Simple.{ConditionIsTyped}
 use Rattle.law_typing.specs.Statements.{InitIsTyped, an_init, HeaderIsTyped, endless, a_while, with_clauses, StatementIsTyped, nothing}
 use Rattle.law_typing.specs.Statements.{a_declaration, a_simple, an_inner_block, a_choice, a_loop, a_break, a_continue, a_return, BlockIsTyped}
@@ -23,20 +23,20 @@ use Rattle.build_object.specs.Statements.{values_of, init_lines, local_lines, si
 use Rattle.build_object.specs.Statements.{for_post, loop_condition, body_exits, loop_lines, statement_lines, block_lines, statements_lines, if_lines}
 use Rattle.build_object.specs.Statements.{else_lines}
 use Rattle.law_faultless.specs.Stack.{Arity}
-use Rattle.law_faultless.specs.Asked.{Asks}
-use Rattle.law_faultless.specs.StatementsAsked.{AskIfPresent, asks_present, InitAsks, in_init, HeaderAsks, in_while, in_first, in_test, in_post, StatementAsks}
-use Rattle.law_faultless.specs.StatementsAsked.{in_declaration, in_simple, in_inner, in_choice, in_header, in_loop, in_return, BlockAsks, in_block}
-use Rattle.law_faultless.specs.StatementsAsked.{StatementsAsk, this_statement, later_statement, IfAsks, before_condition, in_condition, in_then, in_otherwise}
-use Rattle.law_faultless.specs.StatementsAsked.{ElseAsks, in_else_if, in_else}
-use Rattle.law_faultless.proofs.Turning.{Turns, none_turns, turns_as}
+use Rattle.law_faultless.specs.Questions.{Asks}
+use Rattle.law_faultless.specs.StatementAsking.{AskIfPresent, asks_present, InitAsks, in_init, HeaderAsks, in_while, in_first, in_test, in_post, StatementAsks}
+use Rattle.law_faultless.specs.StatementAsking.{in_declaration, in_simple, in_inner, in_choice, in_header, in_loop, in_return, BlockAsks, in_block}
+use Rattle.law_faultless.specs.StatementAsking.{StatementsAsk, this_statement, later_statement, IfAsks, before_condition, in_condition, in_then, in_otherwise}
+use Rattle.law_faultless.specs.StatementAsking.{ElseAsks, in_else_if, in_else}
+use Rattle.law_faultless.proofs.StackParts.{Turns, none_turns, turns_as}
 use Rattle.law_faultless.proofs.ExpressionsBalanced.{over, Answers}
 use Rattle.law_faultless.proofs.Sides.{AreExprs, give_turns, taken_length}
 use Rattle.law_faultless.proofs.SimpleBalanced.{exprs_in, simple_turns, condition_turns, locals_turn, optional_turns}
-use Rattle.law_faultless.proofs.Keeping.{Keeps, turns_keep, keeps_joined, jump_out, jump_next, return_keeps, if_keeps, else_keeps, Tests, no_test, one_test}
-use Rattle.law_faultless.proofs.Keeping.{loop_keeps}
+use Rattle.law_faultless.proofs.EmptyStacks.{Keeps, turns_keep, keeps_joined, jump_out, jump_next, return_keeps, if_keeps, else_keeps, Tests, no_test, one_test}
+use Rattle.law_faultless.proofs.EmptyStacks.{loop_keeps}
 
 init_turns : (arity : FunctionName → Arity) (w : World) (s : Source) (slots : List ℕ) {before after : Locals} {x : Option InitTree} →
-    IfPresent InitTree (InitIsTyped w) before x after → Perhaps IsInit x →
+    IfPresent InitTree (InitIsTyped w) before x after → IsNoneOr IsInit x →
     Answers arity (over w s) slots (AskIfPresent InitTree (InitAsks w) before x) → Turns arity 0 0 (init_lines (over w s) slots x)
 init_turns arity w s slots absent f k = none_turns arity 0
 init_turns arity w s slots (present (an_init r)) f k = optional_turns arity w s slots true r f (λ q a. k q (asks_present (in_init a)))
@@ -49,7 +49,7 @@ post_simple (tree.Update x o p y) f = f
 post_simple (tree.Assign xs p ys) f = f
 post_simple (tree.Define xs p ys) f = absurd f
 
-post_perhaps : (x : Option SimpleTree) → Perhaps IsPost x → Perhaps (IsSimple true) x
+post_perhaps : (x : Option SimpleTree) → IsNoneOr IsPost x → IsNoneOr (IsSimple true) x
 post_perhaps None f = tt
 post_perhaps (Some x) f = post_simple x f
 
@@ -60,7 +60,7 @@ record Heads (arity : FunctionName → Arity) (s : Source) (slots : List ℕ) (h
   post : Turns arity 0 0 (for_post s slots h)
 
 optional_test : (arity : FunctionName → Arity) (w : World) (s : Source) (slots : List ℕ) {before after : Locals} {x : Option ExprTree} →
-    IfPresent ExprTree (ConditionIsTyped w) before x after → Perhaps (IsExprIn true) x →
+    IfPresent ExprTree (ConditionIsTyped w) before x after → IsNoneOr (IsExprIn true) x →
     Answers arity (over w s) slots (AskIfPresent ExprTree (Asks w) before x) → (n : ℕ) → Tests arity n (loop_condition (over w s) slots x n)
 optional_test arity w s slots absent f k n = no_test arity n
 optional_test arity w s slots (present {x = e} r) f k n = one_test arity n (value_lines (over w s) slots e)

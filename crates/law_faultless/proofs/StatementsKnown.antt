@@ -8,25 +8,25 @@ use Rattle.types_expr.specs.Types.{PlainType}
 use Rattle.types_expr.specs.World.{World, Locals}
 use Rattle.types_expr.specs.Judge.{judge, judge_value, as_value}
 use Rattle.types_stmt.specs.Checked.{Checked, check_items, check_group}
-use Rattle.types_stmt.specs.Sides.{Target, values_of, judge_each, rights, assignable, judge_operand, assigned_one, assigned, defined}
-use Rattle.types_stmt.specs.Simple.{check_condition, check_step, check_update, check_alone, check_assign, check_define, check_simple, check_optional}
-use Rattle.types_stmt.specs.Simple.{check_optional_condition, check_written, check_unwritten, check_local_of, check_local}
-use Rattle.types_stmt.specs.Statements.{check_return, check_init, check_header, check_statement, check_block, check_statements, check_if, check_else}
+use Rattle.types_stmt.specs.Sides.{Target, values_of, judge_each, rhs, assignable, judge_operand, assigned_one, assigned, defined}
+use Rattle.types_stmt.specs.Simple.{check_condition, check_step, check_update, check_expr_statement, check_assign, check_define, check_simple, check_optional_simple}
+use Rattle.types_stmt.specs.Simple.{check_optional_condition, check_typed_local, check_untyped_local, check_local_of, check_local}
+use Rattle.types_stmt.specs.Statements.{check_return, check_init, check_for_header, check_statement, check_block, check_statements, check_if, check_else}
 use Rattle.law_typing.specs.Simple.{ConditionIsTyped, LocalIsTyped}
 use Rattle.law_typing.specs.Statements.{a_while}
-use Rattle.law_typing.proofs.Reaching.{IsAt, held}
+use Rattle.law_typing.proofs.PartOutcomes.{IsAt, held}
 use Rattle.law_typing.proofs.Locals.{local_true}
 use Rattle.law_typing.proofs.Statements.{AreTargets, optional_true, optional_condition_true, init_true, header_true, statement_true, block_true}
-use Rattle.law_faultless.specs.Asked.{Question, Asks, for_integer, for_text, for_name, in_composite, in_paren, in_prefix, in_address, in_chain, in_links}
-use Rattle.law_faultless.specs.Asked.{in_binary, in_operands}
-use Rattle.law_faultless.specs.StatementsAsked.{AskInTurn, this_item, later_item, AskInGroup, asks_alone, asks_together, AskIfPresent, asks_present}
-use Rattle.law_faultless.specs.StatementsAsked.{AnyAsks, this_one, a_later_one, SimpleAsks, in_call, in_step, in_updated, in_update, in_assigned}
-use Rattle.law_faultless.specs.StatementsAsked.{in_assignment, for_left, in_definition, LocalAsks, for_declared, in_values, InitAsks, in_init, HeaderAsks}
-use Rattle.law_faultless.specs.StatementsAsked.{in_while, in_first, in_test, in_post, StatementAsks, in_declaration, in_simple, in_inner, in_choice, in_header}
-use Rattle.law_faultless.specs.StatementsAsked.{in_loop, in_return, BlockAsks, in_block, StatementsAsk, this_statement, later_statement, IfAsks}
-use Rattle.law_faultless.specs.StatementsAsked.{before_condition, in_condition, in_then, in_otherwise, ElseAsks, in_else_if, in_else}
+use Rattle.law_faultless.specs.Questions.{Question, Asks, for_integer, for_text, for_name, in_composite, in_paren, in_prefix, in_address, in_chain, in_links}
+use Rattle.law_faultless.specs.Questions.{in_binary, in_operands}
+use Rattle.law_faultless.specs.StatementAsking.{AskInTurn, this_item, later_item, AskInGroup, asks_alone, asks_together, AskIfPresent, asks_present}
+use Rattle.law_faultless.specs.StatementAsking.{AnyAsks, this_one, a_later_one, SimpleAsks, in_call, in_step, in_updated, in_update, in_assigned}
+use Rattle.law_faultless.specs.StatementAsking.{in_assignment, for_left, in_definition, LocalAsks, for_declared, in_values, InitAsks, in_init, HeaderAsks}
+use Rattle.law_faultless.specs.StatementAsking.{in_while, in_first, in_test, in_post, StatementAsks, in_declaration, in_simple, in_inner, in_choice, in_header}
+use Rattle.law_faultless.specs.StatementAsking.{in_loop, in_return, BlockAsks, in_block, StatementsAsk, this_statement, later_statement, IfAsks}
+use Rattle.law_faultless.specs.StatementAsking.{before_condition, in_condition, in_then, in_otherwise, ElseAsks, in_else_if, in_else}
 use Rattle.law_faultless.proofs.Used.{Met, met_left, met_right, expression_met}
-use Rattle.law_faultless.proofs.Kept.{condition_keeps, optional_keeps, optional_condition_keeps, local_keeps, items_keep, block_keeps, statements_keep, else_keeps}
+use Rattle.law_faultless.proofs.KeptUses.{condition_keeps, optional_keeps, optional_condition_keeps, local_keeps, items_keep, block_keeps, statements_keep, else_keeps}
 
 -- lists of expressions
 
@@ -41,21 +41,21 @@ unfolding judge_each
 each_met w ls (this_one {i} {is} {q} a) = met_left q (judge_value w ls i.value).uses (judge_each w ls is).uses (value_met q w ls i.value a)
 each_met w ls (a_later_one {i} {is} {q} a) = met_right q (judge_value w ls i.value).uses (judge_each w ls is).uses (each_met w ls a)
 
-one_right : (q : Question) (w : World) (ls : Locals) (i : Item ExprTree) → Asks w ls i.value q → Met q (rights w ls (i ∷ [])).uses
-unfolding rights
+one_right : (q : Question) (w : World) (ls : Locals) (i : Item ExprTree) → Asks w ls i.value q → Met q (rhs w ls (i ∷ [])).uses
+unfolding rhs
 one_right q w ls i a = met_left q (judge w ls i.value).uses (values_of (place_of i.value) (judge w ls i.value).meaning).uses (expression_met w ls a)
 
-first_right : (q : Question) (w : World) (ls : Locals) (i : Item ExprTree) (is : List (Item ExprTree)) → Asks w ls i.value q → Met q (rights w ls (i ∷ is)).uses
-unfolding rights
+first_right : (q : Question) (w : World) (ls : Locals) (i : Item ExprTree) (is : List (Item ExprTree)) → Asks w ls i.value q → Met q (rhs w ls (i ∷ is)).uses
+unfolding rhs
 first_right q w ls i [] a = one_right q w ls i a
 first_right q w ls i (j ∷ is) a = each_met w ls (this_one a)
 
-later_right : (q : Question) (w : World) (ls : Locals) (i : Item ExprTree) (is : List (Item ExprTree)) → AnyAsks w ls is q → Met q (rights w ls (i ∷ is)).uses
-unfolding rights
+later_right : (q : Question) (w : World) (ls : Locals) (i : Item ExprTree) (is : List (Item ExprTree)) → AnyAsks w ls is q → Met q (rhs w ls (i ∷ is)).uses
+unfolding rhs
 later_right q w ls i [] a = elim a [ ]
 later_right q w ls i (j ∷ is) a = each_met w ls (a_later_one a)
 
-rights_met : (q : Question) (w : World) (ls : Locals) {is : List (Item ExprTree)} → AnyAsks w ls is q → Met q (rights w ls is).uses
+rights_met : (q : Question) (w : World) (ls : Locals) {is : List (Item ExprTree)} → AnyAsks w ls is q → Met q (rhs w ls is).uses
 rights_met q w ls (this_one {i} {is} a) = first_right q w ls i is a
 rights_met q w ls (a_later_one {i} {is} a) = later_right q w ls i is a
 
@@ -79,8 +79,8 @@ unfolding assigned
 assigned_met w ls (this_one {i} {is} {q} a) = met_left q (assigned_one w ls i.value).uses (assigned w ls is).uses (one_assigned w ls a)
 assigned_met w ls (a_later_one {i} {is} {q} a) = met_right q (assigned_one w ls i.value).uses (assigned w ls is).uses (assigned_met w ls a)
 
-alone_met : (q : Question) (w : World) (s : Checked) (ls : Locals) (e : ExprTree) → s.locals ≡ ls → Asks w ls e q → Met q (check_alone w s e).uses
-unfolding check_alone
+alone_met : (q : Question) (w : World) (s : Checked) (ls : Locals) (e : ExprTree) → s.locals ≡ ls → Asks w ls e q → Met q (check_expr_statement w s e).uses
+unfolding check_expr_statement
 alone_met q w s ls e at a = met_right q s.uses (judge w s.locals e).uses (expression_met w s.locals (subst (λ z. Asks w z e q) (sym at) a))
 
 step_met : (q : Question) (w : World) (s : Checked) (ls : Locals) (e : ExprTree) → s.locals ≡ ls → Asks w ls e q → Met q (check_step w s e).uses
@@ -99,27 +99,27 @@ simple_met q w s at (in_update {x = x} {y} a) =
     met_right q s.uses ((judge_operand w s.locals x).uses ++ (judge_value w s.locals y).uses)
     (met_right q (judge_operand w s.locals x).uses (judge_value w s.locals y).uses (value_met q w s.locals y (subst (λ z. Asks w z y q) (sym at) a)))
 simple_met q w s at (in_assigned {xs = xs} {ys} a) =
-    met_right q s.uses ((assigned w s.locals xs).uses ++ (rights w s.locals ys).uses)
-    (met_left q (assigned w s.locals xs).uses (rights w s.locals ys).uses (assigned_met w s.locals (subst (λ z. AnyAsks w z xs q) (sym at) a)))
+    met_right q s.uses ((assigned w s.locals xs).uses ++ (rhs w s.locals ys).uses)
+    (met_left q (assigned w s.locals xs).uses (rhs w s.locals ys).uses (assigned_met w s.locals (subst (λ z. AnyAsks w z xs q) (sym at) a)))
 simple_met q w s at (in_assignment {xs = xs} {ys} a) =
-    met_right q s.uses ((assigned w s.locals xs).uses ++ (rights w s.locals ys).uses)
-    (met_right q (assigned w s.locals xs).uses (rights w s.locals ys).uses (rights_met q w s.locals (subst (λ z. AnyAsks w z ys q) (sym at) a)))
+    met_right q s.uses ((assigned w s.locals xs).uses ++ (rhs w s.locals ys).uses)
+    (met_right q (assigned w s.locals xs).uses (rhs w s.locals ys).uses (rights_met q w s.locals (subst (λ z. AnyAsks w z ys q) (sym at) a)))
 simple_met q w s at (for_left l) = tt
 simple_met q w s at (in_definition {xs = xs} {ys} a) =
-    met_right q s.uses ((defined w s.locals xs).uses ++ (rights w s.locals ys).uses)
-    (met_right q (defined w s.locals xs).uses (rights w s.locals ys).uses (rights_met q w s.locals (subst (λ z. AnyAsks w z ys q) (sym at) a)))
+    met_right q s.uses ((defined w s.locals xs).uses ++ (rhs w s.locals ys).uses)
+    (met_right q (defined w s.locals xs).uses (rhs w s.locals ys).uses (rights_met q w s.locals (subst (λ z. AnyAsks w z ys q) (sym at) a)))
 
 -- behind typed parts
 
 condition_at : (w : World) (s : Checked) {e : ExprTree} {before after : Locals} → IsAt s before → ConditionIsTyped w before e after →
     IsAt (check_condition w s e) after
-unfolding check_header
+unfolding check_for_header
 condition_at w s a r = header_true w s a (a_while r)
 
 -- parts that stand one behind another
 
 optional_met : (w : World) {before : Locals} {x : Option SimpleTree} {q : Question} → AskIfPresent SimpleTree (SimpleAsks w) before x q → (s : Checked) →
-    s.locals ≡ before → Met q (check_optional w s x).uses
+    s.locals ≡ before → Met q (check_optional_simple w s x).uses
 optional_met w (asks_present {q = q} a) s at = simple_met q w s at a
 
 condition_met : (q : Question) (w : World) (s : Checked) (ls : Locals) (e : ExprTree) → s.locals ≡ ls → Asks w ls e q → Met q (check_condition w s e).uses
@@ -135,24 +135,24 @@ init_met : (w : World) {before : Locals} {x : Option InitTree} {q : Question} �
 init_met w (asks_present (in_init a)) s at = optional_met w a s at
 
 header_met : (w : World) {before : Locals} {h : ForTree} {q : Question} → HeaderAsks w before h q → (s : Checked) → IsAt s before →
-    Met q (check_header w s h).uses
-unfolding check_header
+    Met q (check_for_header w s h).uses
+unfolding check_for_header
 header_met w (in_while {locals} {e} {q} a) s at = condition_met q w s locals e at.locals_are a
 header_met w (in_first {init = init} {post} {condition} {q = q} a) s at =
-    let first = check_optional w s init in
+    let first = check_optional_simple w s init in
     optional_keeps q w (check_optional_condition w first condition) post (optional_condition_keeps q w first condition (optional_met w a s at.locals_are))
 header_met w (in_test {init = init} {post} {condition} {q = q} i a) s at =
-    let first = check_optional w s init in
+    let first = check_optional_simple w s init in
     optional_keeps q w (check_optional_condition w first condition) post (optional_condition_met w a first (optional_true w s at i).locals_are)
 header_met w (in_post {init = init} {post} {condition} {q = q} i c a) s at =
-    let first = check_optional w s init in
+    let first = check_optional_simple w s init in
     optional_met w a (check_optional_condition w first condition) (optional_condition_true w first (optional_true w s at i) c).locals_are
 
 local_of_met : (q : Question) (w : World) (s : Checked) (names : List (Item IdentTree)) (t : Option TypeTree) (v : ℕ × List (Item ExprTree)) →
     AnyAsks w s.locals v.1 q → Met q (check_local_of w s names t (Some v)).uses
-unfolding check_written check_unwritten
-local_of_met q w s names (Some t) v a = met_right q s.uses (rights w s.locals v.1).uses (rights_met q w s.locals a)
-local_of_met q w s names None v a = met_right q s.uses (rights w s.locals v.1).uses (rights_met q w s.locals a)
+unfolding check_typed_local check_untyped_local
+local_of_met q w s names (Some t) v a = met_right q s.uses (rhs w s.locals v.1).uses (rights_met q w s.locals a)
+local_of_met q w s names None v a = met_right q s.uses (rhs w s.locals v.1).uses (rights_met q w s.locals a)
 
 local_met : (w : World) (s : Checked) {before : Locals} {l : LocalTree} {q : Question} → s.locals ≡ before → LocalAsks w before l q →
     Met q (check_local w s l).uses
@@ -185,9 +185,9 @@ mutual
   statement_met w results targets t (in_simple {q = q} a) s at = simple_met q w s at.locals_are a
   statement_met w results targets t (in_inner a) s at = block_met w results targets t a s at
   statement_met w results targets t (in_choice a) s at = if_met w results targets t a s at
-  statement_met w results targets t (in_header {h = h} {b} {q} a) s at = block_keeps q w targets b (check_header w s h) (header_met w a s at)
-  statement_met w results targets t (in_loop {h = h} r a) s at = block_met w results targets t a (check_header w s h) (header_true w s at r)
-  statement_met w results targets t (in_return {es = es} {q} a) s at = met_right q s.uses (rights w s.locals es).uses
+  statement_met w results targets t (in_header {h = h} {b} {q} a) s at = block_keeps q w targets b (check_for_header w s h) (header_met w a s at)
+  statement_met w results targets t (in_loop {h = h} r a) s at = block_met w results targets t a (check_for_header w s h) (header_true w s at r)
+  statement_met w results targets t (in_return {es = es} {q} a) s at = met_right q s.uses (rhs w s.locals es).uses
       (rights_met q w s.locals (subst (λ z. AnyAsks w z es q) (sym at.locals_are) a))
 
   pub block_met : (w : World) (results : List PlainType) (targets : List Target) → AreTargets targets results →

@@ -9,17 +9,17 @@ use Rattle.go_scope.specs.ExpressionSites.{sites_if, expr_sites}
 use Rattle.go_scope.specs.StatementSites.{simple_sites, init_sites, for_sites, open_of, statement_sites, block_sites, statements_sites, if_sites, else_sites}
 use Rattle.types_expr.specs.Types.{PlainType}
 use Rattle.types_expr.specs.World.{World, Locals}
-use Rattle.law_typing.specs.Turns.{IfPresent, absent, present}
+use Rattle.law_typing.specs.Sequences.{IfPresent, absent, present}
 use Rattle.law_typing.specs.Simple.{ConditionIsTyped, a_condition, SimpleIsTyped}
 use Rattle.law_typing.specs.Statements.{InitIsTyped, an_init, HeaderIsTyped, endless, a_while, with_clauses, StatementIsTyped, nothing}
 use Rattle.law_typing.specs.Statements.{a_declaration, a_simple, an_inner_block, a_choice, a_loop, a_break, a_continue, a_return, BlockIsTyped}
 use Rattle.law_typing.specs.Statements.{a_block, StatementsAreTyped, no_more, one_more, IfIsTyped, an_if, ElseIsTyped, without_else, an_else_if}
 use Rattle.law_typing.specs.Statements.{an_else}
-use Rattle.law_faultless.specs.Asked.{Asks}
-use Rattle.law_faultless.specs.StatementsAsked.{AskIfPresent, asks_present, SimpleAsks, InitAsks, in_init, HeaderAsks, in_while, in_first, in_test, in_post}
-use Rattle.law_faultless.specs.StatementsAsked.{StatementAsks, in_declaration, in_simple, in_inner, in_choice, in_header, in_loop, in_return, BlockAsks}
-use Rattle.law_faultless.specs.StatementsAsked.{in_block, StatementsAsk, this_statement, later_statement, IfAsks, before_condition, in_condition, in_then}
-use Rattle.law_faultless.specs.StatementsAsked.{in_otherwise, ElseAsks, in_else_if, in_else}
+use Rattle.law_faultless.specs.Questions.{Asks}
+use Rattle.law_faultless.specs.StatementAsking.{AskIfPresent, asks_present, SimpleAsks, InitAsks, in_init, HeaderAsks, in_while, in_first, in_test, in_post}
+use Rattle.law_faultless.specs.StatementAsking.{StatementAsks, in_declaration, in_simple, in_inner, in_choice, in_header, in_loop, in_return, BlockAsks}
+use Rattle.law_faultless.specs.StatementAsking.{in_block, StatementsAsk, this_statement, later_statement, IfAsks, before_condition, in_condition, in_then}
+use Rattle.law_faultless.specs.StatementAsking.{in_otherwise, ElseAsks, in_else_if, in_else}
 use Rattle.law_faultless.proofs.ExpressionsUsed.{AreLinked, linked_append, Tells, expr_links}
 use Rattle.law_faultless.proofs.SimpleUsed.{give_links, simple_links, group_links}
 

@@ -15,7 +15,7 @@ use Rattle.go_scanner.specs.CutText.{tokens_in}
 use Rattle.types_declared.specs.Files.{group_items}
 use Rattle.law_tokens.proofs.Links.{AreConsecutive}
 use Rattle.law_tokens.proofs.Roles.{consecutive}
-use Rattle.types_declared.specs.Bound.{result_types}
+use Rattle.types_declared.specs.MeaningOf.{result_types}
 use Rattle.types_declared.specs.Written.{written_types}
 use Rattle.types_info.proofs.DeclKinds.{Holds}
 use Rattle.law_tokens.proofs.Elements.{all_append}

@@ -27,8 +27,8 @@ use Rattle.types_stmt.specs.Sides.{Wants}
 use Rattle.types_stmt.specs.Headers.{check_optional_receiver, check_param, judge_types, judge_results, check_signature, check_function}
 use Rattle.types_stmt.specs.Declarations.{check_global, check_type, check_decl, check_decls, check_file}
 use Rattle.law_typing.proofs.Naming.{type_true}
-use Rattle.law_typing.specs.Turns.{Rule, Excuse, InTurn, no_item, then_item, IfPresent, absent, present, ExcusedInTurn, this_item, later_item}
-use Rattle.law_typing.specs.Turns.{ExcusedInGroup, excused_alone, excused_together, ExcusedIfPresent, excused_present}
+use Rattle.law_typing.specs.Sequences.{Rule, Excuse, InTurn, no_item, then_item, IfPresent, absent, present, ExcusedInTurn, this_item, later_item}
+use Rattle.law_typing.specs.Sequences.{ExcusedInGroup, excused_alone, excused_together, ExcusedIfPresent, excused_present}
 use Rattle.law_typing.specs.Statements.{BlockIsTyped}
 use Rattle.law_typing.specs.Declarations.{ReceiverIsTyped, a_receiver, ParamIsTyped, a_param, AreTypes, no_type_left, also_type, AreResults}
 use Rattle.law_typing.specs.Declarations.{none_written, one_written, several_written, FunctionIsTyped, a_function, GlobalIsTyped, TypeIsTyped}
@@ -37,17 +37,17 @@ use Rattle.law_typing.specs.Excused.{ReceiverIsExcused, of_broken, ParamIsExcuse
 use Rattle.law_typing.specs.Excused.{ResultIsExcused, one_broken, one_of_several, FunctionIsExcused, in_receiver, in_params, in_result, in_body}
 use Rattle.law_typing.specs.Excused.{GlobalIsExcused, global_of_broken, FieldIsBroken, this_field, later_field, BodyIsBroken, other_broken}
 use Rattle.law_typing.specs.Excused.{in_struct, TypeIsExcused, in_type_body, DeclIsExcused, in_variables, in_types}
-use Rattle.law_typing.proofs.Reaching.{IsAt, items_true}
+use Rattle.law_typing.proofs.PartOutcomes.{IsAt, items_true}
 use Rattle.law_typing.proofs.Statements.{AreTargets}
 use Rattle.law_typing.proofs.Headers.{receiver_true, param_true, function_settled}
 use Rattle.law_typing.proofs.Declarations.{decl_settled}
-use Rattle.law_typing.proofs.Excluding.{block_not}
+use Rattle.law_typing.proofs.TypedNotExcused.{block_not}
 use Rattle.law_tokens.proofs.Elements.{all_append}
 use Rattle.law_faultless.proofs.Sound.{decls_first}
-use Rattle.law_faultless.proofs.Strung.{Strung, strung_split}
+use Rattle.law_faultless.proofs.NumberedTokens.{Strung, strung_split}
 use Rattle.law_faultless.specs.Unbroken.{IsUnbroken}
 use Rattle.law_faultless.proofs.Named.{no_broken_type}
-use Rattle.law_faultless.specs.Scopes.{AreResolved, may_be_local}
+use Rattle.law_faultless.specs.ResolvedNames.{AreResolved, may_be_local}
 use Rattle.law_faultless.proofs.KnownLocals.{past, resolved_left, resolved_right, AllKnown, known_none, known_past, abroad_past}
 use Rattle.law_faultless.proofs.Simples.{ident_declares, idents_declare, as_all_known, as_locals_kept}
 use Rattle.law_faultless.proofs.Bodies.{Outcome, known_join, block_typed}

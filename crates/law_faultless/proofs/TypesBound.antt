@@ -14,11 +14,11 @@ use Rattle.go_scope.specs.declared.model.Role.TheVariants.{Use, NotLexical}
 use Rattle.go_scope.specs.Bindings.{Layout, is_implied}
 use Rattle.go_scope.specs.FileSites.{file_sites, package_sites}
 use Rattle.go_scope.specs.Named.{is_unnamed_import}
-use Rattle.go_scope.specs.Parsed.{spelled_file}
-use Rattle.go_scope.specs.Scoped.{scoped, layout_in}
+use Rattle.go_scope.specs.SpelledFiles.{spelled_file}
+use Rattle.go_scope.specs.Packages.{scoped, layout_in}
 use Rattle.go_scope.specs.ExpressionSites.{type_sites}
-use Rattle.go_scope.specs.Site.{Site, Source, found_site, site}
-use Rattle.go_scope.specs.Table.{StandsAt}
+use Rattle.go_scope.specs.Site.{Site, Source, or_blank, site}
+use Rattle.go_scope.specs.Table.{LiesAt}
 use Rattle.law_tokens.proofs.Lexical.{never_bound}
 use Rattle.law_tokens.proofs.Ordered.{same_length}
 use Rattle.law_tokens.proofs.Places.{named_stands}
@@ -27,14 +27,14 @@ use Rattle.types_expr.specs.Types.{PlainType, BasicType, Defined, Pointer, Slice
 use Rattle.types_expr.specs.Types.{Package as PackageName}
 use Rattle.types_expr.specs.World.{World, Bound, Local, Means, BrokenVariable, BrokenFunction, BrokenType}
 use Rattle.types_expr.specs.Judge.{named_type, imported_type, judge_type}
-use Rattle.types_stmt.specs.Headers.{may_receive, receiving, receiver_base, judge_receiver}
-use Rattle.law_typing.proofs.Steps.{empty_first, empty_second}
+use Rattle.types_stmt.specs.Headers.{may_receive, receiver_or_fault, receiver_base, judge_receiver}
+use Rattle.law_typing.proofs.Judgements.{empty_first, empty_second}
 use Rattle.law_typing.proofs.Headers.{star_faults}
 use Rattle.types_declared.specs.Package.{Package, symbol_in}
-use Rattle.types_declared.specs.Written.{BindsToken, IsPredeclared, IsExportAt, basic_name, Names, predeclared, defined, imported, pointer, slice}
-use Rattle.types_declared.specs.Bound.{PredeclaredMeans, a_type, a_truth, an_untruth, a_nil, a_function, IsMeantBy}
-use Rattle.types_declared.specs.Bound as bound
-use Rattle.types_info.specs.Worlds.{IsSelected, IsName, is_bound, is_unbound, by_scope, by_package}
+use Rattle.types_declared.specs.Written.{BindsToken, IsPredeclared, IsExportAt, basic_name, DenotesType, predeclared, defined, imported, pointer, slice}
+use Rattle.types_declared.specs.MeaningOf.{PredeclaredMeans, a_type, a_truth, an_untruth, a_nil, a_function, IsMeaningOf}
+use Rattle.types_declared.specs.MeaningOf as bound
+use Rattle.types_info.specs.Worlds.{DenotesExport, IsName, is_bound, is_unbound, by_scope, by_package}
 use Rattle.workspace_check.specs.Verdicts.{Verdicts, IsPackageIn}
 use Rattle.law_tokens.proofs.OwnPaths.{part_at}
 use Rattle.refs_lookup.proofs.OnePlace.{names_of, laid_of, same_layout, same_size, same_files}
@@ -86,10 +86,10 @@ unfolding judge_receiver receiver_base
 received_bound v r h =
     let j = named_type (v.bound r.type_name) r.type_name in
     named_bound (v.bound r.type_name) r.type_name
-    (empty_first j.faults (receiving v r.type_name j.type_of).faults (sym (star_faults r.star (receiver_base v r.type_name)) ∙ h))
+    (empty_first j.faults (receiver_or_fault v r.type_name j.type_of).faults (sym (star_faults r.star (receiver_base v r.type_name)) ∙ h))
 
-may_be_received : (v : World) (place : ℕ) (t : PlainType) → (receiving v place (Some t)).faults ≡ [] → (s : Symbol) × (t ≡ Defined s)
-unfolding receiving may_receive
+may_be_received : (v : World) (place : ℕ) (t : PlainType) → (receiver_or_fault v place (Some t)).faults ≡ [] → (s : Symbol) × (t ≡ Defined s)
+unfolding receiver_or_fault may_receive
 may_be_received v place (Defined s) h = (s, refl)
 may_be_received v place (BasicType b) h = no_fault h
 may_be_received v place (Pointer t) h = no_fault h
@@ -101,9 +101,9 @@ unfolding judge_receiver receiver_base named_type
 received_type v r t e h =
     let n = r.type_name in
     let j = named_type (v.bound n) n in
-    let all : j.faults ++ (receiving v n j.type_of).faults ≡ [] = sym (star_faults r.star (receiver_base v n)) ∙ h in
+    let all : j.faults ++ (receiver_or_fault v n j.type_of).faults ≡ [] = sym (star_faults r.star (receiver_base v n)) ∙ h in
     may_be_received v n t
-    (subst (λ b. (receiving v n (named_type b n).type_of).faults ≡ []) e (empty_second j.faults (receiving v n j.type_of).faults all))
+    (subst (λ b. (receiver_or_fault v n (named_type b n).type_of).faults ≡ []) e (empty_second j.faults (receiver_or_fault v n j.type_of).faults all))
 
 -- a predeclared name that means a type
 predeclared_type : {name : List ℕ} {m : Meaning} (t : PlainType) → PredeclaredMeans name m → m ≡ TypeName t →
@@ -120,8 +120,8 @@ IsTold b t = (b ≡ Means (TypeName t)) ⊎ ((s : Symbol) × (t ≡ Defined s))
 
 module _ (p : Package) (file n : ℕ) where
   -- the type that a declaration is
-  declared_type : (d : ℕ) → BindsToken p file n d → (b : Bound) → IsMeantBy p d b → NamesType b →
-      (t : PlainType) × (Names p file (tree.Local n) t × IsTold b t)
+  declared_type : (d : ℕ) → BindsToken p file n d → (b : Bound) → IsMeaningOf p d b → NamesType b →
+      (t : PlainType) × (DenotesType p file (tree.Local n) t × IsTold b t)
   declared_type d binds _ (bound.predeclared {name} {m} is means) (inl x) =
       let same : m ≡ TypeName x.0 = let e : Means m ≡ Means (TypeName x.0) = x.1 in cc in
       let q = predeclared_type x.0 means same in
@@ -144,7 +144,7 @@ module _ (p : Package) (file n : ℕ) where
 
 -- an identifier stands at that token of a file, and has that role
 abbrev pub Stands : Package → (file token : ℕ) → Role → Type 0
-Stands p file n r = (u : ℕ) × ((u < p.size) × (StandsAt p.layout (record { file = file; index = n }) u × (p.layout.role u ≡ r)))
+Stands p file n r = (u : ℕ) × ((u < p.size) × (LiesAt p.layout (record { file = file; index = n }) u × (p.layout.role u ≡ r)))
 
 -- each identifier of a file stands in the package
 abbrev pub Kept : Package → ℕ → Site → Type 0
@@ -157,10 +157,10 @@ module _ (w : Workspace) (known : Verdicts) (path : List ℕ) (p : Package) (h :
       let names = names_of w known path p h in
       let sites = (scoped h.files).sites in
       let at : Position = record { file = file; index = x.place.index } in
-      let found : found_site (slice_get sites n.number) ≡ x = ap found_site n.has_number in
-      let there : StandsAt (layout_in (scoped h.files)) at n.number =
+      let found : or_blank (slice_get sites n.number) ≡ x = ap or_blank n.has_number in
+      let there : LiesAt (layout_in (scoped h.files)) at n.number =
       (ap (λ (y : Site). is_implied y.role) found ∙ n.identifies, ap (λ (y : Site). y.place.file) found ∙ n.in_file, ap (λ (y : Site). y.place.index) found) in
-      let laid : StandsAt (layout_in (laid_of w known path p h)) at n.number = named_stands names (scoped h.files) at n.number there in
+      let laid : LiesAt (layout_in (laid_of w known path p h)) at n.number = named_stands names (scoped h.files) at n.number there in
       let within : n.number < length sites = slice_get_within sites n.number x n.has_number in
       let stays = role_stays names sites n.number (ap (λ (y : Site). is_unnamed_import y.role) found ∙ plain) in
       let role : (layout_in (laid_of w known path p h)).role n.number ≡ x.role = stays ∙ ap (λ (y : Site). y.role) found in (
@@ -168,7 +168,7 @@ module _ (w : Workspace) (known : Verdicts) (path : List ℕ) (p : Package) (h :
         (
           subst (λ k. n.number < k) (sym (same_length names sites) ∙ sym (same_size w known path p h)) within,
           (
-            subst (λ (l : Layout). StandsAt l at n.number) (sym (same_layout w known path p h)) laid,
+            subst (λ (l : Layout). LiesAt l at n.number) (sym (same_layout w known path p h)) laid,
             subst (λ (l : Layout). l.role n.number ≡ x.role) (sym (same_layout w known path p h)) role,
           ),
         ),
@@ -186,15 +186,15 @@ module _ (w : Workspace) (known : Verdicts) (path : List ℕ) (p : Package) (h :
 
   -- at a token that holds a lexical use no name is selected, and where one is selected none is bound by scope
 
-  tokens_tell : (file n u : ℕ) → u < p.size → StandsAt p.layout (record { file = file; index = n }) u → p.layout.role u ≡ NotLexical purpose.Selected →
-      (e : ℕ) → e < p.size → StandsAt p.layout (record { file = file; index = n }) e → p.layout.role e ≡ NotLexical purpose.Selected
+  tokens_tell : (file n u : ℕ) → u < p.size → LiesAt p.layout (record { file = file; index = n }) u → p.layout.role u ≡ NotLexical purpose.Selected →
+      (e : ℕ) → e < p.size → LiesAt p.layout (record { file = file; index = n }) e → p.layout.role e ≡ NotLexical purpose.Selected
   tokens_tell file n u lt stands role e less there =
       let at : Position = record { file = file; index = n } in
       let t = file_at w known path p h at u lt stands in
       let dotted = (told_at w known path p h at u lt stands t.0 t.1).selected.0 role in
       (told_at w known path p h at e less there t.0 t.1).selected.1 dotted
 
-  none_selected : (file n : ℕ) → Stands p file n Use → (e : _) → IsSelected p file n e → ⊥
+  none_selected : (file n : ℕ) → Stands p file n Use → (e : _) → DenotesExport p file n e → ⊥
   none_selected file n u e x =
       let role = tokens_tell file n x.identifier x.found.within x.found.holds x.selected u.0 u.1.0 u.1.1.0 in
       let same : Use ≡ NotLexical purpose.Selected = sym u.1.1.1 ∙ role in
@@ -208,14 +208,14 @@ module _ (w : Workspace) (known : Verdicts) (path : List ℕ) (p : Package) (h :
   -- Types
 
   local_named : (file n : ℕ) → Stands p file n Use → (b : Bound) → IsName p file n b → NamesType b →
-      (t : PlainType) × (Names p file (tree.Local n) t × IsTold b t)
+      (t : PlainType) × (DenotesType p file (tree.Local n) t × IsTold b t)
   local_named file n u b (is_bound (by_scope {declaration = d} binds m)) k = declared_type p file n d binds b m k
   local_named file n u _ (is_bound (by_package {e} x)) k = absurd (none_selected file n u e x)
   local_named file n u _ (is_unbound x) (inl k) = let e = k.1 in let z : ⊥ = cc in absurd z
   local_named file n u _ (is_unbound x) (inr e) = let z : ⊥ = cc in absurd z
 
   imported_named : (file q d n : ℕ) → suc (suc q) ≡ n → Stands p file n (NotLexical purpose.Selected) → (b : Bound) → IsName p file n b → NamesType b →
-      (t : PlainType) × Names p file (tree.Imported q d n) t
+      (t : PlainType) × DenotesType p file (tree.Imported q d n) t
   imported_named file q d n tight u b (is_bound (by_scope {declaration} binds m)) k = absurd (none_by_scope file n u declaration binds)
   imported_named file q d n tight u _ (is_bound (by_package {e} x)) (inl k) =
       let behind : n ≡ suc (suc x.before) = x.behind_dot in
@@ -227,7 +227,7 @@ module _ (w : Workspace) (known : Verdicts) (path : List ℕ) (p : Package) (h :
   imported_named file q d n tight u _ (is_unbound x) (inr e) = let z : ⊥ = cc in absurd z
 
   module _ (file : ℕ) (v : World) (names : (token : ℕ) → IsName p file token (v.bound token)) (source : Source) where
-    pub type_named : (x : TypeTree) → IsSound v x → IsTight x → OfType source (Kept p file) x → (t : PlainType) × Names p file x t
+    pub type_named : (x : TypeTree) → IsSound v x → IsTight x → OfType source (Kept p file) x → (t : PlainType) × DenotesType p file x t
     unfolding judge_type type_sites
     type_named (tree.Local n) f tight k = let t = local_named file n (k.0 refl) (v.bound n) (names n) (named_bound (v.bound n) n f) in (t.0, t.1.0)
     type_named (tree.Imported q d n) f tight k =
@@ -237,7 +237,7 @@ module _ (w : Workspace) (known : Verdicts) (path : List ℕ) (p : Package) (h :
 
     -- receivers
     pub receiver_named : (r : ReceiverTree) → (judge_receiver v r).faults ≡ [] → Kept p file (site source r.type_name Use) →
-        (t : PlainType) × (Names p file (tree.Local r.type_name) t × ((s : Symbol) × (t ≡ Defined s)))
+        (t : PlainType) × (DenotesType p file (tree.Local r.type_name) t × ((s : Symbol) × (t ≡ Defined s)))
     receiver_named r f k =
         let t = local_named file r.type_name (k refl) (v.bound r.type_name) (names r.type_name) (received_bound v r f) in
         (t.0, (t.1.0, elim t.1.1 [ inl e ↦ received_type v r t.0 e f | inr s ↦ s ]))

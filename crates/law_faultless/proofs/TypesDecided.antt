@@ -11,7 +11,7 @@ use Rattle.go_ast.specs.Tree.{TypeTree, Local, Imported, Pointer, Slice}
 use Rattle.go_scope.specs.declared.model.Block.TheVariants.{Universe}
 use Rattle.go_scope.specs.declared.model.Position.{Position}
 use Rattle.go_scope.specs.Bindings.{IsIdentifier, IsImport, IsBoundTo, block_of, is_implied}
-use Rattle.go_scope.specs.Table.{StandsAt, IsFoundAt}
+use Rattle.go_scope.specs.Table.{LiesAt, IsFoundAt}
 use Rattle.go_scope.specs.WellFormed.{WellFormed}
 use Rattle.go_scope.proofs.Uniqueness.{same_or_not}
 use Rattle.types_declared.specs.Laid.{literal_of}
@@ -20,9 +20,9 @@ use Rattle.types_expr.specs.declared.types.Basic.TheVariants as basic
 use Rattle.types_expr.specs.Types.{PlainType, BasicType, Defined, Meaning, Value, TypeName, Function, BuiltinName, Results, Broken}
 use Rattle.types_expr.specs.Types.{Package as PackageName}
 use Rattle.types_expr.specs.Types.{Pointer as PointerType, Slice as SliceType}
-use Rattle.types_declared.specs.Bound.{AreTypesOf}
+use Rattle.types_declared.specs.MeaningOf.{AreTypesOf}
 use Rattle.types_declared.specs.Package.{Package, Export, IsRanked, package_types, type_place, symbol_in, spelled}
-use Rattle.types_declared.specs.Written.{BindsToken, IsPredeclared, DeclaresType, ImportsPath, IsExportAt, basic_name, Names}
+use Rattle.types_declared.specs.Written.{BindsToken, IsPredeclared, DeclaresType, ImportsPath, IsExportAt, basic_name, DenotesType}
 use Rattle.types_declared.specs.Written.{Mentions, by_name, by_pointer, by_slice, IsBroken, IsTypeOf}
 use Rattle.types_declared.specs.Written as written
 use Rattle.types_declared.proofs.Binding.{one_first}
@@ -48,9 +48,9 @@ type_meaning (Results ts) = inr (λ t e. cc)
 type_meaning Broken = inr (λ t e. cc)
 
 module _ (p : Package) (w : WellFormed p.layout) where
-  stands : (at : Position) (u : ℕ) → Decided (StandsAt p.layout at u)
+  stands : (at : Position) (u : ℕ) → Decided (LiesAt p.layout at u)
   stands at u =
-      turned (IsIdentifier p.layout u × (((p.layout.place u).file ≡ at.file) × ((p.layout.place u).index ≡ at.index))) (StandsAt p.layout at u)
+      turned (IsIdentifier p.layout u × (((p.layout.place u).file ≡ at.file) × ((p.layout.place u).index ≡ at.index))) (LiesAt p.layout at u)
       (λ h. (h.0, h.1.0, h.1.1)) (λ h. (h.0, (h.1, h.2)))
       (both (IsIdentifier p.layout u) (((p.layout.place u).file ≡ at.file) × ((p.layout.place u).index ≡ at.index)) (is_false (is_implied (p.layout.role u)))
       (both ((p.layout.place u).file ≡ at.file) ((p.layout.place u).index ≡ at.index) (same_or_not (p.layout.place u).file at.file)
@@ -58,7 +58,7 @@ module _ (p : Package) (w : WellFormed p.layout) where
 
   -- the identifier at a token, or none
   pub found : (at : Position) → ((u : ℕ) × IsFoundAt p.layout p.size at u) ⊎ ((u : ℕ) → IsFoundAt p.layout p.size at u → ⊥)
-  found at = elim (first_below (StandsAt p.layout at) (stands at) p.size) [ inl f ↦ inl f | inr none ↦ inr (λ u f. none u f.within f.holds) ]
+  found at = elim (first_below (LiesAt p.layout at) (stands at) p.size) [ inl f ↦ inl f | inr none ↦ inr (λ u f. none u f.within f.holds) ]
 
   -- the declaration that the scopes bind a token to, or none
   pub token_bound : (file token : ℕ) → ((d : ℕ) × BindsToken p file token d) ⊎ ((d : ℕ) → BindsToken p file token d → ⊥)
@@ -68,21 +68,21 @@ module _ (p : Package) (w : WellFormed p.layout) where
       | inl d ↦ inl (d.0, record { identifier = u.0; found = u.1; bound = d.1 })
       | inr none ↦ inr (λ d b.
           none d (subst (λ v. IsBoundTo p.layout p.names v d)
-          (one_first (StandsAt p.layout (record { file = file; index = token })) p.size b.identifier u.0 b.found u.1) b.bound))
+          (one_first (LiesAt p.layout (record { file = file; index = token })) p.size b.identifier u.0 b.found u.1) b.bound))
     ]
   ]
 
   -- the rank of what a declaration declares, or none
   module _ {X : Type 0} (place_of : X → Position) (xs : List X) (d : ℕ) where
     Ranks : ℕ → Type 0
-    Ranks r = (x : X) × ((slice_get xs r ≡ Some x) × StandsAt p.layout (place_of x) d)
+    Ranks r = (x : X) × ((slice_get xs r ≡ Some x) × LiesAt p.layout (place_of x) d)
 
     ranks : (r : ℕ) (o : Option X) → slice_get xs r ≡ o → Decided (Ranks r)
     unfolding Ranks
     ranks r None e = inr (λ h. none-some h.0 (sym e ∙ h.1.0))
     ranks r (Some x) e = elim (stands (place_of x) d) [
       | inl s ↦ inl (x, (e, s))
-      | inr n ↦ inr (λ h. n (subst (λ y. StandsAt p.layout (place_of y) d) (same_Some h.0 x (sym h.1.0 ∙ e)) h.1.1))
+      | inr n ↦ inr (λ h. n (subst (λ y. LiesAt p.layout (place_of y) d) (same_Some h.0 x (sym h.1.0 ∙ e)) h.1.1))
     ]
 
     pub rank : ((r : ℕ) × IsRanked place_of xs p.layout d r) ⊎ ((r : ℕ) → IsRanked place_of xs p.layout d r → ⊥)
@@ -101,7 +101,7 @@ module _ (p : Package) (w : WellFormed p.layout) where
     ]
 
     -- where one is declared there, it has a rank
-    pub ranked : (r : ℕ) (x : X) → slice_get xs r ≡ Some x → StandsAt p.layout (place_of x) d → (k : ℕ) × IsRanked place_of xs p.layout d k
+    pub ranked : (r : ℕ) (x : X) → slice_get xs r ≡ Some x → LiesAt p.layout (place_of x) d → (k : ℕ) × IsRanked place_of xs p.layout d k
     unfolding Ranks
     ranked r x e s = elim (first_below Ranks (λ k. ranks k (slice_get xs k) refl) (length xs)) [
       | inl f ↦ (
@@ -145,20 +145,20 @@ module _ (p : Package) (w : WellFormed p.layout) where
 
     -- what a package exports as a name behind its own, or nothing
     export_in : (file before name d : ℕ) → BindsToken p file before d → (q : List ℕ) → ImportsPath p d q → (o : Option Export) →
-        (p.interface_of q).exported (spelled p file name) ≡ o → ((e : Export) × IsExportAt p file before name e) ⊎
+        (p.export_data_of q).exported (spelled p file name) ≡ o → ((e : Export) × IsExportAt p file before name e) ⊎
         ((e : Export) → IsExportAt p file before name e → ⊥)
     export_in file before name d b q i (Some e) is = inl (e, record { import = d; binds = b; of_import = record { path = q; imports = i; exported = is } })
     export_in file before name d b q i None is = inr (λ e h.
         let same : h.import ≡ d = one_binding p w file before h.import d h.binds b in
         let of_d : ImportsPath p d h.of_import.path = subst (λ k. ImportsPath p k h.of_import.path) same h.of_import.imports in
         let one : h.of_import.path ≡ q = one_import_path p d h.of_import.path q of_d i in
-        none-some e (sym is ∙ subst (λ r. (p.interface_of r).exported (spelled p file name) ≡ Some e) one h.of_import.exported))
+        none-some e (sym is ∙ subst (λ r. (p.export_data_of r).exported (spelled p file name) ≡ Some e) one h.of_import.exported))
 
     pub export : (file before name : ℕ) → ((e : Export) × IsExportAt p file before name e) ⊎ ((e : Export) → IsExportAt p file before name e → ⊥)
     export file before name = elim (token_bound file before) [
       | inr none ↦ inr (λ e h. none h.import h.binds)
       | inl d ↦ elim (path d.0) [
-        | inl q ↦ export_in file before name d.0 d.1 q.0 q.1 ((p.interface_of q.0).exported (spelled p file name)) refl
+        | inl q ↦ export_in file before name d.0 d.1 q.0 q.1 ((p.export_data_of q.0).exported (spelled p file name)) refl
         | inr none ↦ inr (λ e h.
             none h.of_import.path (subst (λ k. ImportsPath p k h.of_import.path) (one_binding p w file before h.import d.0 h.binds d.1) h.of_import.imports))
       ]
@@ -196,26 +196,26 @@ module _ (p : Package) (w : WellFormed p.layout) where
 
     no_local : (file n d : ℕ) → BindsToken p file n d → ((b : Basic) → IsPredeclared p d (basic_name b) → ⊥) → ((r : ℕ) → DeclaresType p d r → ⊥) →
         (t : PlainType) →
-        Names p file (Local n) t → ⊥
+        DenotesType p file (Local n) t → ⊥
     no_local file n d is x y _ (written.predeclared {d = e} b binds h) = x b
         (subst (λ k. IsPredeclared p k (basic_name b)) (one_binding p w file n e d binds is) h)
     no_local file n d is x y _ (written.defined {d = e} {rank = r} binds h) = y r (subst (λ k. DeclaresType p k r) (one_binding p w file n e d binds is) h)
 
-    unbound_local : (file n : ℕ) → ((d : ℕ) → BindsToken p file n d → ⊥) → (t : PlainType) → Names p file (Local n) t → ⊥
+    unbound_local : (file n : ℕ) → ((d : ℕ) → BindsToken p file n d → ⊥) → (t : PlainType) → DenotesType p file (Local n) t → ⊥
     unbound_local file n none _ (written.predeclared {d = e} b binds h) = none e binds
     unbound_local file n none _ (written.defined {d = e} binds h) = none e binds
 
     no_imported : (file q d n : ℕ) → ((e : Export) → IsExportAt p file q n e → (t : PlainType) → e.meaning ≡ TypeName t → ⊥) → (t : PlainType) →
-        Names p file (Imported q d n) t → ⊥
+        DenotesType p file (Imported q d n) t → ⊥
     no_imported file q d n none t (written.imported h) = none h.export h.exported t h.is_type
 
-    no_pointer : (file s : ℕ) (x : TypeTree) → ((t : PlainType) → Names p file x t → ⊥) → (t : PlainType) → Names p file (Pointer s x) t → ⊥
+    no_pointer : (file s : ℕ) (x : TypeTree) → ((t : PlainType) → DenotesType p file x t → ⊥) → (t : PlainType) → DenotesType p file (Pointer s x) t → ⊥
     no_pointer file s x none _ (written.pointer {t} h) = none t h
 
-    no_slice : (file o c : ℕ) (x : TypeTree) → ((t : PlainType) → Names p file x t → ⊥) → (t : PlainType) → Names p file (Slice o c x) t → ⊥
+    no_slice : (file o c : ℕ) (x : TypeTree) → ((t : PlainType) → DenotesType p file x t → ⊥) → (t : PlainType) → DenotesType p file (Slice o c x) t → ⊥
     no_slice file o c x none _ (written.slice {t} h) = none t h
 
-    pub named : (file : ℕ) (x : TypeTree) → ((t : PlainType) × Names p file x t) ⊎ ((t : PlainType) → Names p file x t → ⊥)
+    pub named : (file : ℕ) (x : TypeTree) → ((t : PlainType) × DenotesType p file x t) ⊎ ((t : PlainType) → DenotesType p file x t → ⊥)
     named file (Local n) = elim (token_bound file n) [
       | inr none ↦ inr (unbound_local file n none)
       | inl d ↦ elim (basic_type d.0) [

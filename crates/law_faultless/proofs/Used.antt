@@ -8,16 +8,16 @@ use Rattle.types_expr.specs.World.{World, Locals}
 use Rattle.types_expr.specs.Judge.{MemberUse, Judged, Seen, none_seen, followed, as_value, value_at, select_member, select, index_of, index_rule}
 use Rattle.types_expr.specs.Judge.{call_of, call_rule, operation, prefix_of, address_of, judge_type, literal_meaning, element_key, seen_after, judge}
 use Rattle.types_expr.specs.Judge.{judge_operands, judge_links, judge_arguments, judge_literal, judge_elements}
-use Rattle.law_typing.specs.Agrees.{Agrees}
-use Rattle.law_typing.proofs.Steps.{followed_agrees, value_at_agrees}
+use Rattle.law_typing.specs.IsJudgedAs.{IsJudgedAs}
+use Rattle.law_typing.proofs.Judgements.{followed_agrees, value_at_agrees}
 use Rattle.law_typing.proofs.Naming.{type_true}
 use Rattle.law_typing.proofs.Selecting.{selects_true}
 use Rattle.law_typing.proofs.Soundness.{index_agrees, call_agrees, sound, sound_arguments}
-use Rattle.law_faultless.specs.Asked.{Question, OfInteger, OfText, OfName, OfExport, OfMember, OfDeclared, OfLeft, Asks, for_integer, for_text, for_name}
-use Rattle.law_faultless.specs.Asked.{in_composite, in_paren, in_prefix, in_address, in_chain, in_links, in_binary, in_operands, LinksAsk, for_member}
-use Rattle.law_faultless.specs.Asked.{for_export, behind_selector, in_index, behind_index, in_arguments, behind_call, OperandsAsk, in_operand}
-use Rattle.law_faultless.specs.Asked.{in_later_operand, ArgumentsAsk, in_argument, in_later_argument, LiteralAsks, in_elements, ElementsAsk, for_key}
-use Rattle.law_faultless.specs.Asked.{in_element, in_later_element}
+use Rattle.law_faultless.specs.Questions.{Question, OfInteger, OfText, OfName, OfExport, OfMember, OfDeclared, OfLeft, Asks, for_integer, for_text, for_name}
+use Rattle.law_faultless.specs.Questions.{in_composite, in_paren, in_prefix, in_address, in_chain, in_links, in_binary, in_operands, LinksAsk, for_member}
+use Rattle.law_faultless.specs.Questions.{for_export, behind_selector, in_index, behind_index, in_arguments, behind_call, OperandsAsk, in_operand}
+use Rattle.law_faultless.specs.Questions.{in_later_operand, ArgumentsAsk, in_argument, in_later_argument, LiteralAsks, in_elements, ElementsAsk, for_key}
+use Rattle.law_faultless.specs.Questions.{in_element, in_later_element}
 
 -- a use at that token, behind a value of that type
 abbrev pub IsUsed : ℕ → PlainType → List MemberUse → Type 0
@@ -134,7 +134,7 @@ mutual
   expression_met w locals (in_operands {e} a) = operands_met w locals a (first_token e) (value_at e (judge w locals e))
 
   links_met : (w : World) (locals : Locals) {m : Meaning} {links : LinkTrees} {q : Question} → LinksAsk w locals m links q → (start place : ℕ) (j : Judged) →
-      Agrees j m →
+      IsJudgedAs j m →
       Met q (judge_links w locals start place j links).uses
   links_met w locals (for_member {n = n} {rest} {t} {a}) start place j h =
       links_keep (OfMember n t) w locals rest start n (followed j (select w locals place n))

@@ -6,18 +6,18 @@ use Rattle.base_files.specs.Workspace.{Workspace}
 use Rattle.go_ast.specs.SourceFile.{SourceFile, spelling_of}
 use Rattle.go_ast.specs.Tree.{Item, TypeTree, TypeSpecTree, GlobalTree, ReceiverTree, ParamTree, FuncTree, DeclTree}
 use Rattle.go_ast.specs.Tree as tree
-use Rattle.types_declared.specs.Files.{Ranked, ranked, group_items}
+use Rattle.types_declared.specs.Files.{RankedSource, ranked_files, group_items}
 use Rattle.go_scope.specs.Site.{Source}
 use Rattle.types_expr.specs.declared.symbol.Symbol.{Symbol}
 use Rattle.types_expr.specs.Types.{PlainType, Defined, Signature}
 use Rattle.types_expr.specs.World.{World}
 use Rattle.types_stmt.specs.Declarations.{check_file}
-use Rattle.types_declared.specs.Bound.{AreTypesOf, parameter_types, result_types, HasSignature}
+use Rattle.types_declared.specs.MeaningOf.{AreTypesOf, parameter_types, result_types, HasSignature}
 use Rattle.types_declared.specs.Definitions.{IsMethodOf}
 use Rattle.types_declared.specs.Package.{Package, PlacedType, PlacedVariable, PlacedFunction, package_types, package_variables, package_functions}
 use Rattle.types_declared.specs.Package.{variables_of, placed_type, decl_types, decl_variables, decl_functions, types_in, variables_in, functions_in}
 use Rattle.types_declared.specs.Package.{declared_types, declared_variables, declared_functions, spelled}
-use Rattle.types_declared.specs.Written.{BindsToken, DeclaresType, Names, predeclared, defined, written_types, IsWrittenIn, IsBroken, by_itself, through, IsTypeOf}
+use Rattle.types_declared.specs.Written.{BindsToken, DeclaresType, DenotesType, predeclared, defined, written_types, IsWrittenIn, IsBroken, by_itself, through, IsTypeOf}
 use Rattle.types_info.proofs.DeclKinds.{Holds, holds_got, holds_flat, held_flat, holds_map, held_map, holds_ranked}
 use Rattle.types_info.specs.Worlds.{IsWorldOf, is_init}
 use Rattle.workspace_check.specs.FaultLists.{ListsFaults}
@@ -34,7 +34,7 @@ use Rattle.law_faultless.proofs.TypesBound.{Kept, all_kept, type_named, receiver
 use Rattle.law_faultless.proofs.Uses.{OfType, types_in as types_kept, receiver_in}
 
 abbrev HasType : Package → ℕ → TypeTree → Type 0
-HasType p file x = (t : PlainType) × Names p file x t
+HasType p file x = (t : PlainType) × DenotesType p file x t
 
 -- a declaration of a file of the package
 record Declares (p : Package) (file : ℕ) (P : DeclTree → Type 0) : Type 0 where
@@ -44,7 +44,7 @@ record Declares (p : Package) (file : ℕ) (P : DeclTree → Type 0) : Type 0 wh
   in_tree : Holds source.tree.decls decl
   is : P decl
 
-declares : (p : Package) (file : ℕ) (P : DeclTree → Type 0) (r : Ranked) (d : DeclTree) → Holds (ranked p.files) r → Holds r.1.tree.decls d → file ≡ r.0 →
+declares : (p : Package) (file : ℕ) (P : DeclTree → Type 0) (r : RankedSource) (d : DeclTree) → Holds (ranked_files p.files) r → Holds r.1.tree.decls d → file ≡ r.0 →
     P d → Declares p file P
 declares p file P r d hr hd e h =
     let i = holds_ranked 0 p.files r hr in
@@ -90,7 +90,7 @@ function_in_decl file (tree.FuncDecl k x c) f h = elim h [
 type_at : (p : Package) (rank : ℕ) (t : PlacedType) → slice_get (package_types p) rank ≡ Some t →
     Declares p t.file (λ d. (x : TypeTree) → Holds (written_types t.spec.body) x → Holds (types_of d) x)
 type_at p rank t e =
-    let r = holds_flat types_in (ranked p.files) t (holds_got (declared_types p.files) rank t e) in
+    let r = holds_flat types_in (ranked_files p.files) t (holds_got (declared_types p.files) rank t e) in
     let d = holds_flat (decl_types r.0.0) r.0.1.tree.decls t r.1.1 in
     let n = type_in_decl r.0.0 d.0 t d.1.1 in
     declares p t.file (λ d. (x : TypeTree) → Holds (written_types t.spec.body) x → Holds (types_of d) x) r.0 d.0 r.1.0 d.1.0 (sym n.0) n.1
@@ -98,7 +98,7 @@ type_at p rank t e =
 variable_at : (p : Package) (rank : ℕ) (v : PlacedVariable) → slice_get (package_variables p) rank ≡ Some v →
     Declares p v.file (λ d. Holds (types_of d) v.type_use)
 variable_at p rank v e =
-    let r = holds_flat variables_in (ranked p.files) v (holds_got (declared_variables p.files) rank v e) in
+    let r = holds_flat variables_in (ranked_files p.files) v (holds_got (declared_variables p.files) rank v e) in
     let d = holds_flat (decl_variables r.0.0) r.0.1.tree.decls v r.1.1 in
     let n = variable_in_decl r.0.0 d.0 v d.1.1 in
     declares p v.file (λ d. Holds (types_of d) v.type_use) r.0 d.0 r.1.0 d.1.0 (sym n.0) n.1
@@ -106,7 +106,7 @@ variable_at p rank v e =
 function_at : (p : Package) (rank : ℕ) (f : PlacedFunction) → slice_get (package_functions p) rank ≡ Some f →
     Declares p f.file (IsFunctionDecl f.function)
 function_at p rank f e =
-    let r = holds_flat functions_in (ranked p.files) f (holds_got (declared_functions p.files) rank f e) in
+    let r = holds_flat functions_in (ranked_files p.files) f (holds_got (declared_functions p.files) rank f e) in
     let d = holds_flat (decl_functions r.0.0) r.0.1.tree.decls f r.1.1 in
     let n = function_in_decl r.0.0 d.0 f d.1.1 in
     declares p f.file (IsFunctionDecl f.function) r.0 d.0 r.1.0 d.1.0 (sym n.0) n.1
@@ -158,17 +158,17 @@ module _ (w : Workspace) (sound : ListsFaults w []) (known : Verdicts) (right : 
   none_broken rank (by_itself {file} {t} h none) = let x = written_named rank file t h in none x.0 x.1
   none_broken rank (through {other} h m b) = none_broken other b
 
-  whole_type : (file : ℕ) (x : TypeTree) → HasType p file x → (t : PlainType) × IsTypeOf p file x t
-  whole_type file x h = (h.0, record { names = h.1; whole = λ rank m b. none_broken rank b })
+  valid_type : (file : ℕ) (x : TypeTree) → HasType p file x → (t : PlainType) × IsTypeOf p file x t
+  valid_type file x h = (h.0, record { names = h.1; whole = λ rank m b. none_broken rank b })
 
   pub variable_whole : (rank : ℕ) (v : PlacedVariable) → slice_get (package_variables p) rank ≡ Some v → (t : PlainType) × IsTypeOf p v.file v.type_use t
   variable_whole rank v e =
       let d = variable_at p rank v e in
-      whole_type v.file v.type_use (all_held (HasType p v.file) (types_of d.decl) v.type_use (decl_named v.file d.source d.in_file d.decl d.in_tree) d.is)
+      valid_type v.file v.type_use (all_held (HasType p v.file) (types_of d.decl) v.type_use (decl_named v.file d.source d.in_file d.decl d.in_tree) d.is)
 
   all_whole : (file : ℕ) (xs : List TypeTree) → AllByRecursion (HasType p file) xs → AllByRecursion (λ x. (t : PlainType) × IsTypeOf p file x t) xs
   all_whole file [] h = tt
-  all_whole file (x ∷ xs) h = (whole_type file x h.0, all_whole file xs h.1)
+  all_whole file (x ∷ xs) h = (valid_type file x h.0, all_whole file xs h.1)
 
   pub function_whole : (rank : ℕ) (f : PlacedFunction) → slice_get (package_functions p) rank ≡ Some f → (s : Signature) × HasSignature p f s
   function_whole rank f e =
@@ -185,7 +185,7 @@ module _ (w : Workspace) (sound : ListsFaults w []) (known : Verdicts) (right : 
 
   -- methods
 
-  named_definition : (f : PlacedFunction) (r : ReceiverTree) {t : PlainType} → Names p f.file (tree.Local r.type_name) t → (s : Symbol) → t ≡ Defined s →
+  named_definition : (f : PlacedFunction) (r : ReceiverTree) {t : PlainType} → DenotesType p f.file (tree.Local r.type_name) t → (s : Symbol) → t ≡ Defined s →
       (d : ℕ) × ((definition : ℕ) × (BindsToken p f.file r.type_name d × DeclaresType p d definition))
   named_definition f r (predeclared b binds is) s e = let z : ⊥ = cc in absurd z
   named_definition f r (defined {d} {rank} binds type_of) s e = (d, (rank, (binds, type_of)))

@@ -9,7 +9,7 @@ use Rattle.go_ast.specs.WellFormed.{IsDecl, IsFunc}
 use Rattle.types_expr.specs.Types.{Typed, Untyped, Nil, Signature, Meaning, Value, TypeName, Function, BuiltinName, Package as PackageName, Results, Broken}
 use Rattle.types_expr.specs.World.{World, Locals, Bound, Local, Means, BrokenVariable, BrokenFunction, BrokenType, no_locals}
 use Rattle.law_typing.specs.Declarations.{FunctionIsTyped}
-use Rattle.types_declared.specs.Bound.{result_types}
+use Rattle.types_declared.specs.MeaningOf.{result_types}
 use Rattle.types_declared.specs.Package.{Package}
 use Rattle.types_info.specs.Worlds.{is_init}
 use Rattle.build_object.specs.Lines.{GlobalName, FunctionName, Plain}
@@ -19,13 +19,13 @@ use Rattle.build_object.specs.Slots.{slots_of}
 use Rattle.build_object.specs.Sources.{IsSourceOf}
 use Rattle.build_object.specs.Statements.{body_lines}
 use Rattle.law_faultless.specs.Stack.{Arity, IsBalanced}
-use Rattle.law_faultless.specs.Asked.{Question, OfInteger, OfText, OfName, OfExport, OfMember, OfDeclared, OfLeft}
-use Rattle.law_faultless.specs.Answered.{IsKnown, IsCalled, plain_arity, MeaningIsKnown, NameIsKnown, IsAnswered}
-use Rattle.law_faultless.specs.StatementsAsked.{FunctionAsks}
+use Rattle.law_faultless.specs.Questions.{Question, OfInteger, OfText, OfName, OfExport, OfMember, OfDeclared, OfLeft}
+use Rattle.law_faultless.specs.QuestionAnswers.{IsKnown, IsNamedWith, plain_arity, MeaningIsKnown, NameIsKnown, IsAnswered}
+use Rattle.law_faultless.specs.StatementAsking.{FunctionAsks}
 use Rattle.law_faultless.proofs.FunctionsBalanced.{function_balanced}
-use Rattle.law_faultless.specs.Called.{IsCalledByName}
-use Rattle.law_faultless.specs.Files.{IsFunctionIn, this_function, later_function}
-use Rattle.law_faultless.specs.Open.{HasArity, IsOwnName, IsSettled}
+use Rattle.law_faultless.specs.GlobalMeanings.{MeansGlobal}
+use Rattle.law_faultless.specs.TypedFunctions.{IsFunctionIn, this_function, later_function}
+use Rattle.law_faultless.specs.OpenQuestions.{HasArity, NameIsSettled, OpenIsKnown}
 use Rattle.law_faultless.proofs.FunctionsKnown.{member_found}
 use Rattle.law_faultless.proofs.GlobalsKnown.{global_known}
 use Rattle.law_faultless.proofs.SlotsKnown.{declared_known}
@@ -46,10 +46,10 @@ function_formed w is_init (later_function {d = d} {ds} r more) h = function_form
 -- names
 
 plain_called : (arity : FunctionName → Arity) (f : Signature) (o : Option GlobalName) → IsKnown o →
-    ((g : GlobalName) → o ≡ Some g → arity (Plain g) ≡ plain_arity f) → IsCalled arity (plain_function o) (plain_arity f)
+    ((g : GlobalName) → o ≡ Some g → arity (Plain g) ≡ plain_arity f) → IsNamedWith arity (plain_function o) (plain_arity f)
 plain_called arity f o k h = (Plain k.0, (ap plain_function k.1, h k.0 k.1))
 
-meaning_answered : (arity : FunctionName → Arity) (s : Source) (n : ℕ) (m : Meaning) → (IsCalledByName m → IsKnown (s.global n)) → HasArity arity s n m →
+meaning_answered : (arity : FunctionName → Arity) (s : Source) (n : ℕ) (m : Meaning) → (MeansGlobal m → IsKnown (s.global n)) → HasArity arity s n m →
     MeaningIsKnown arity s n m
 meaning_answered arity s n (Value (Typed t) a) k h = k tt
 meaning_answered arity s n (Value (Untyped b) a) k h = tt
@@ -62,7 +62,7 @@ meaning_answered arity s n (Results ts) k h = absurd h
 meaning_answered arity s n Broken k h = tt
 
 name_answered : (arity : FunctionName → Arity) (s : Source) (slots : List ℕ) (n : ℕ) (b : Bound) →
-    ((m : Meaning) → b ≡ Means m → IsCalledByName m → IsKnown (s.global n)) → IsOwnName arity s slots n b → NameIsKnown arity s slots n b
+    ((m : Meaning) → b ≡ Means m → MeansGlobal m → IsKnown (s.global n)) → NameIsSettled arity s slots n b → NameIsKnown arity s slots n b
 name_answered arity s slots n (Local place) k h = h
 name_answered arity s slots n (Means m) k h = meaning_answered arity s n m (k m refl) h
 name_answered arity s slots n BrokenVariable k h = tt
@@ -73,7 +73,7 @@ name_answered arity s slots n BrokenType k h = tt
 
 question_answered : (arity : FunctionName → Arity) (p : Package) (files_of : List ℕ → List SourceFile) (file : ℕ) (f : SourceFile) (s : Source) →
     IsSourceOf p files_of file f s → IsSourceFile f → (g : FuncTree) (at : Locals) →
-    IsFunctionIn s.world (is_init f) no_locals f.tree.decls g at → (q : Question) → FunctionAsks s.world at g q → IsSettled arity s (slots_of s.world g) q →
+    IsFunctionIn s.world (is_init f) no_locals f.tree.decls g at → (q : Question) → FunctionAsks s.world at g q → OpenIsKnown arity s (slots_of s.world g) q →
     IsAnswered arity s (slots_of s.world g) q
 question_answered arity p files_of file f s is source g at there (OfInteger n) a h = subst (λ z. IsKnown z) (sym (is.number n))
     (integer_asked s.world (is_init f) f g no_locals at n source there a)
@@ -90,7 +90,7 @@ question_answered arity p files_of file f s is source g at there (OfLeft n) a h 
 
 pub whole_balanced : (arity : FunctionName → Arity) (p : Package) (files_of : List ℕ → List SourceFile) (file : ℕ) (f : SourceFile) (s : Source) →
     IsSourceOf p files_of file f s → IsSourceFile f → (g : FuncTree) (at : Locals) →
-    IsFunctionIn s.world (is_init f) no_locals f.tree.decls g at → ((q : Question) → FunctionAsks s.world at g q → IsSettled arity s (slots_of s.world g) q) →
+    IsFunctionIn s.world (is_init f) no_locals f.tree.decls g at → ((q : Question) → FunctionAsks s.world at g q → OpenIsKnown arity s (slots_of s.world g) q) →
     IsBalanced arity 0 (body_lines s (slots_of s.world g) (length (result_types g.result)) g.body) 0
 whole_balanced arity p files_of file f s is source g at there settled =
     let typed = function_typed s.world (is_init f) there in

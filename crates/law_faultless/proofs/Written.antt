@@ -14,18 +14,18 @@ use Rattle.go_ast.specs.Tree as tree
 use Rattle.types_expr.specs.Types.{PlainType, Meaning}
 use Rattle.types_expr.specs.World.{World, Locals}
 use Rattle.law_typing.specs.Simple.{LocalIsTyped}
-use Rattle.law_faultless.specs.Asked.{Question, OfInteger, OfText, OfName, OfExport, OfMember, OfDeclared, OfLeft, Asks, for_integer, for_text, for_name}
-use Rattle.law_faultless.specs.Asked.{in_composite, in_paren, in_prefix, in_address, in_chain, in_links, in_binary, in_operands, LinksAsk, for_member}
-use Rattle.law_faultless.specs.Asked.{for_export, behind_selector, in_index, behind_index, in_arguments, behind_call, OperandsAsk, in_operand}
-use Rattle.law_faultless.specs.Asked.{in_later_operand, ArgumentsAsk, in_argument, in_later_argument, LiteralAsks, in_elements, ElementsAsk, for_key}
-use Rattle.law_faultless.specs.Asked.{in_element, in_later_element}
-use Rattle.law_faultless.specs.StatementsAsked.{AskInTurn, this_item, later_item, AskInGroup, asks_alone, asks_together, AskIfPresent, asks_present, AnyAsks}
-use Rattle.law_faultless.specs.StatementsAsked.{this_one, a_later_one, SimpleAsks, in_call, in_step, in_updated, in_update, in_assigned, in_assignment}
-use Rattle.law_faultless.specs.StatementsAsked.{for_left, in_definition, LocalAsks, for_declared, in_values, InitAsks, in_init, HeaderAsks, in_while, in_first}
-use Rattle.law_faultless.specs.StatementsAsked.{in_test, in_post, StatementAsks, in_declaration, in_simple, in_inner, in_choice, in_header, in_loop, in_return}
-use Rattle.law_faultless.specs.StatementsAsked.{BlockAsks, in_block, StatementsAsk, this_statement, later_statement, IfAsks, before_condition, in_condition}
-use Rattle.law_faultless.specs.StatementsAsked.{in_then, in_otherwise, ElseAsks, in_else_if, in_else, FunctionAsks, in_body}
-use Rattle.law_faultless.specs.Files.{IsFunctionIn, this_function, later_function}
+use Rattle.law_faultless.specs.Questions.{Question, OfInteger, OfText, OfName, OfExport, OfMember, OfDeclared, OfLeft, Asks, for_integer, for_text, for_name}
+use Rattle.law_faultless.specs.Questions.{in_composite, in_paren, in_prefix, in_address, in_chain, in_links, in_binary, in_operands, LinksAsk, for_member}
+use Rattle.law_faultless.specs.Questions.{for_export, behind_selector, in_index, behind_index, in_arguments, behind_call, OperandsAsk, in_operand}
+use Rattle.law_faultless.specs.Questions.{in_later_operand, ArgumentsAsk, in_argument, in_later_argument, LiteralAsks, in_elements, ElementsAsk, for_key}
+use Rattle.law_faultless.specs.Questions.{in_element, in_later_element}
+use Rattle.law_faultless.specs.StatementAsking.{AskInTurn, this_item, later_item, AskInGroup, asks_alone, asks_together, AskIfPresent, asks_present, AnyAsks}
+use Rattle.law_faultless.specs.StatementAsking.{this_one, a_later_one, SimpleAsks, in_call, in_step, in_updated, in_update, in_assigned, in_assignment}
+use Rattle.law_faultless.specs.StatementAsking.{for_left, in_definition, LocalAsks, for_declared, in_values, InitAsks, in_init, HeaderAsks, in_while, in_first}
+use Rattle.law_faultless.specs.StatementAsking.{in_test, in_post, StatementAsks, in_declaration, in_simple, in_inner, in_choice, in_header, in_loop, in_return}
+use Rattle.law_faultless.specs.StatementAsking.{BlockAsks, in_block, StatementsAsk, this_statement, later_statement, IfAsks, before_condition, in_condition}
+use Rattle.law_faultless.specs.StatementAsking.{in_then, in_otherwise, ElseAsks, in_else_if, in_else, FunctionAsks, in_body}
+use Rattle.law_faultless.specs.TypedFunctions.{IsFunctionIn, this_function, later_function}
 
 -- a token of that kind, by its number
 abbrev pub Holds : Kind → ℕ → List Token → Type 0

@@ -2,7 +2,7 @@
 use Rattle.std.specs.Prelude.{ℕ, suc, ◌≡◌, length, Option, Some, None, slice_get}
 use Rattle.base_files.specs.Workspace.{Workspace}
 use Rattle.go_ast.specs.Tree.{ReceiverTree, FuncTree}
-use Rattle.types_declared.specs.Bound.{parameter_types, result_types}
+use Rattle.types_declared.specs.MeaningOf.{parameter_types, result_types}
 use Rattle.types_declared.specs.Package.{Package, PlacedFunction, package_functions}
 use Rattle.workspace_check.specs.Verdicts.{Verdicts}
 use Rattle.build_object.specs.Lines.{FunctionName}

@@ -62,34 +62,34 @@ effect arity (Return n) = Returns n
 effect arity End = Ends
 
 -- Line i takes `taken` values and puts `put` others in their place. `at` gives the height of the stack before each line.
-pub record Moves (at : ℕ → ℕ) (i taken put : ℕ) : Type 0 where
+pub record ChangesHeight (at : ℕ → ℕ) (i taken put : ℕ) : Type 0 where
   pub enough : taken ≤ at i
   pub left : at (suc i) + taken ≡ at i + put
 
 -- Line i keeps to its effect. A jump finds at its target the height that it leaves. A call gives as many values as the function has
 -- parameters. A return leaves no value but the results, and the end of a function none.
 abbrev pub Obeys : (at : ℕ → ℕ) → (i : ℕ) → Effect → Type 0
-Obeys at i (Works taken put) = Moves at i taken put
-Obeys at i (Calls n a) = (n ≡ a.parameters) × Moves at i n a.results
-Obeys at i (Tests n) = Moves at i 1 0 × (at (suc i + n) ≡ at (suc i))
+Obeys at i (Works taken put) = ChangesHeight at i taken put
+Obeys at i (Calls n a) = (n ≡ a.parameters) × ChangesHeight at i n a.results
+Obeys at i (Tests n) = ChangesHeight at i 1 0 × (at (suc i + n) ≡ at (suc i))
 Obeys at i (Leads n) = at (suc i + n) ≡ at i
 Obeys at i (LeadsBack n) = (n ≤ suc i) × (at (suc i - n) ≡ at i)
 Obeys at i (Returns n) = at i ≡ n
 Obeys at i Ends = at i ≡ 0
 
 -- Line i is `l`, and keeps to its effect.
-abbrev pub RunsAt : (arity : FunctionName → Arity) → (at : ℕ → ℕ) → (i : ℕ) → Line → Type 0
-RunsAt arity at i l = Obeys at i (effect arity l)
+abbrev pub LineObeys : (arity : FunctionName → Arity) → (at : ℕ → ℕ) → (i : ℕ) → Line → Type 0
+LineObeys arity at i l = Obeys at i (effect arity l)
 
 -- Each of these lines keeps to its effect. The first of them is line i.
-abbrev pub Runs : (arity : FunctionName → Arity) → (at : ℕ → ℕ) → (i : ℕ) → List Line → Type 0
-Runs arity at i [] = ⊤
-Runs arity at i (l ∷ ls) = RunsAt arity at i l × Runs arity at (suc i) ls
+abbrev pub LinesObey : (arity : FunctionName → Arity) → (at : ℕ → ℕ) → (i : ℕ) → List Line → Type 0
+LinesObey arity at i [] = ⊤
+LinesObey arity at i (l ∷ ls) = LineObeys arity at i l × LinesObey arity at (suc i) ls
 
 -- The lines are balanced: each line has one height of the stack, by whatever way it is reached. It is `before` at the first line. It is
 -- `after` behind the last line, and wherever a jump leads behind it.
 pub record IsBalanced (arity : FunctionName → Arity) (before : ℕ) (lines : List Line) (after : ℕ) : Type 0 where
   pub at : ℕ → ℕ
   pub begins : at 0 ≡ before
-  pub runs : Runs arity at 0 lines
+  pub runs : LinesObey arity at 0 lines
   pub ends : (n : ℕ) → at (length lines + n) ≡ after

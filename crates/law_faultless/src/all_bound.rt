@@ -5,13 +5,13 @@ ghost use Rattle.go_ast.specs.SourceFile.{SourceFile};
 ghost use Rattle.go_ast.specs.Tree.{ReceiverTree};
 ghost use Rattle.go_scope.specs.FileSites.{file_sites};
 ghost use Rattle.go_scope.specs.Site.{Source};
-ghost use Rattle.go_scope.specs.Table.{StandsAt};
+ghost use Rattle.go_scope.specs.Table.{LiesAt};
 ghost use Rattle.types_expr.specs.Judge.{MemberUse};
 ghost use Rattle.types_expr.specs.Types.{PlainType, Signature};
 ghost use Rattle.types_expr.specs.World.{World};
 ghost use Rattle.law_typing.specs.Declarations.{FileIsTyped};
 ghost use Rattle.law_typing.specs.Excused.{FileIsExcused};
-ghost use Rattle.types_declared.specs.Bound.{HasSignature};
+ghost use Rattle.types_declared.specs.MeaningOf.{HasSignature};
 ghost use Rattle.types_declared.specs.Definitions.{IsMethodOf};
 ghost use Rattle.types_declared.specs.Package.{Package, PlacedVariable, PlacedFunction, package_variables, package_functions, function_place, spelled};
 ghost use Rattle.types_declared.specs.Written.{IsBroken, IsTypeOf};
@@ -21,25 +21,25 @@ ghost use Rattle.workspace_check.specs.FaultLists.{ListsFaults};
 ghost use Rattle.workspace_check.specs.Verdicts.{Verdicts, AreVerdicts};
 ghost use Rattle.refs_binding.specs.declared.declaration.Declaration.{Declaration};
 ghost use Rattle.refs_binding.specs.Binding.{BindsByMember};
-ghost use Rattle.refs_binding.specs.Identifiers.{Stands};
+ghost use Rattle.refs_binding.specs.Identifiers.{IsInFiles};
 ghost use Rattle.refs_binding.specs.Uses.{IsPackage, IsBoundTo};
 ghost use Rattle.law_faultless.specs.MemberNames.{IsMemberName};
-ghost use Rattle.law_faultless.specs.Names.{NamesMean};
-ghost use Rattle.law_faultless.specs.Scopes.{AreResolved, IsBlankAt};
+ghost use Rattle.law_faultless.specs.NameMeanings.{HaveMeanings};
+ghost use Rattle.law_faultless.specs.ResolvedNames.{AreResolved, IsBlankAt};
 ghost use Rattle.law_faultless.specs.Unbroken.{IsUnbroken};
 ghost use Rattle.law_faultless.specs.Worlds.{HaveWorlds, HaveAllWorlds};
 
 /// In a file that keeps the typing rules each member name is bound to a field or a method. A member name is the selector of a selection
 /// that is no qualified identifier, or a key of a composite literal.
 pub fn member_names_of_typed_files_are_bound()
-    ensures { (w : Workspace) → (known : Verdicts) → (p : Package) → IsPackage w known p → (u : ℕ) → Stands p u → IsMemberName p u →
+    ensures { (w : Workspace) → (known : Verdicts) → (p : Package) → IsPackage w known p → (u : ℕ) → IsInFiles p u → IsMemberName p u →
         (uses : List MemberUse) → (a : AreUsesIn p (p.layout.place u).file uses) → FileIsTyped a.world (is_init a.source) a.source.tree →
         (d : Declaration) × BindsByMember p u d }
 {}
 
 /// In a workspace without faults each member name of a file that uses nothing broken is bound to a field or a method.
 pub fn member_names_are_bound_unless_excused()
-    ensures { (w : Workspace) → ListsFaults w [] → (known : Verdicts) → AreVerdicts w known → (p : Package) → IsPackage w known p → (u : ℕ) → Stands p u →
+    ensures { (w : Workspace) → ListsFaults w [] → (known : Verdicts) → AreVerdicts w known → (p : Package) → IsPackage w known p → (u : ℕ) → IsInFiles p u →
         IsMemberName p u → (uses : List MemberUse) → (a : AreUsesIn p (p.layout.place u).file uses) →
         (FileIsExcused a.world (is_init a.source) a.source.tree → ⊥) → (d : Declaration) × IsBoundTo w known p u d }
 {}
@@ -63,7 +63,7 @@ pub fn functions_with_receivers_are_methods()
         (r : ReceiverTree) → f.function.receiver ≡ Some r → (definition : ℕ) × IsMethodOf p definition (spelled p f.file f.function.name) rank f }
     ensures are_bound { (w : Workspace) → ListsFaults w [] → (known : Verdicts) → AreVerdicts w known → (p : Package) → IsPackage w known p →
         HaveWorlds p → (rank : ℕ) → (f : PlacedFunction) → slice_get (package_functions p) rank ≡ Some f →
-        (r : ReceiverTree) → f.function.receiver ≡ Some r → (u : ℕ) → StandsAt p.layout (function_place f) u →
+        (r : ReceiverTree) → f.function.receiver ≡ Some r → (u : ℕ) → LiesAt p.layout (function_place f) u →
         ((d : Declaration) → IsBoundTo w known p u d → ⊥) → ⊥ }
 {}
 
@@ -85,7 +85,7 @@ pub fn files_of_known_names_keep_the_rules()
 /// In a workspace without faults each member name of a file is bound to a field or a method, if the file's names mean something.
 pub fn member_names_are_bound_where_names_mean()
     ensures { (w : Workspace) → ListsFaults w [] → (known : Verdicts) → AreVerdicts w known → HaveAllWorlds w known →
-        (p : Package) → IsPackage w known p → (u : ℕ) → Stands p u → IsMemberName p u →
-        (uses : List MemberUse) → (a : AreUsesIn p (p.layout.place u).file uses) → NamesMean p (p.layout.place u).file a.world a.source →
+        (p : Package) → IsPackage w known p → (u : ℕ) → IsInFiles p u → IsMemberName p u →
+        (uses : List MemberUse) → (a : AreUsesIn p (p.layout.place u).file uses) → HaveMeanings p (p.layout.place u).file a.world a.source →
         (d : Declaration) × IsBoundTo w known p u d }
 {}

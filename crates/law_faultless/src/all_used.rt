@@ -7,7 +7,7 @@ ghost use Rattle.go_scope.specs.FileSites.{file_sites};
 ghost use Rattle.types_expr.specs.World.{World};
 ghost use Rattle.types_stmt.specs.Declarations.{check_file};
 ghost use Rattle.law_typing.specs.Declarations.{FileIsTyped};
-ghost use Rattle.law_faultless.specs.Linked.{IsUsedMember, IsLinked};
+ghost use Rattle.law_faultless.specs.MemberLinks.{IsUsedMember, IsLinked};
 
 /// In a file that keeps the typing rules each key of a composite literal is one of its uses of members. So is each selector that is not
 /// bound as a qualified identifier. The type before it has such a member.

@@ -7,7 +7,7 @@ ghost use Rattle.types_expr.specs.World.{Locals};
 ghost use Rattle.law_typing.specs.Meanings.{HasMeaning};
 ghost use Rattle.law_typing.specs.Statements.{StatementIsTyped};
 ghost use Rattle.law_typing.specs.Declarations.{FunctionIsTyped};
-ghost use Rattle.types_declared.specs.Bound.{result_types};
+ghost use Rattle.types_declared.specs.MeaningOf.{result_types};
 ghost use Rattle.build_object.specs.Lines.{FunctionName, Line};
 ghost use Rattle.build_object.specs.Source.{Source};
 ghost use Rattle.build_object.specs.Slots.{slots_of};
@@ -15,9 +15,9 @@ ghost use Rattle.build_object.specs.Expressions.{value_lines};
 ghost use Rattle.build_object.specs.Statements.{Exits, statement_lines, body_lines};
 ghost use Rattle.law_faultless.specs.Stack.{Arity, IsBalanced, effect};
 ghost use Rattle.law_faultless.specs.Machine.{Reaches, IsReady};
-ghost use Rattle.law_faultless.specs.Asked.{Question, Asks};
-ghost use Rattle.law_faultless.specs.Answered.{IsAnswered};
-ghost use Rattle.law_faultless.specs.StatementsAsked.{StatementAsks, FunctionAsks};
+ghost use Rattle.law_faultless.specs.Questions.{Question, Asks};
+ghost use Rattle.law_faultless.specs.QuestionAnswers.{IsAnswered};
+ghost use Rattle.law_faultless.specs.StatementAsking.{StatementAsks, FunctionAsks};
 
 /// Balanced code runs. Every run reaches a line with one height of the stack, whatever way it takes. Each line finds what it takes: no
 /// value is taken from an empty stack, and a call gives as many values as the function has parameters. A return leaves just the results,

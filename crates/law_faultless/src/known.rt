@@ -4,7 +4,7 @@ ghost use Rattle.go_ast.specs.SourceFile.{SourceFile, IsSourceFile};
 ghost use Rattle.go_ast.specs.Tree.{FuncTree};
 ghost use Rattle.types_expr.specs.Types.{PlainType, Meaning};
 ghost use Rattle.types_expr.specs.World.{World, Locals, Means, no_locals};
-ghost use Rattle.types_declared.specs.Bound.{result_types};
+ghost use Rattle.types_declared.specs.MeaningOf.{result_types};
 ghost use Rattle.types_declared.specs.Package.{Package};
 ghost use Rattle.types_info.specs.Worlds.{is_init};
 ghost use Rattle.build_object.specs.Lines.{FunctionName};
@@ -14,12 +14,12 @@ ghost use Rattle.build_object.specs.Source.{Source};
 ghost use Rattle.build_object.specs.Sources.{IsSourceOf};
 ghost use Rattle.build_object.specs.Statements.{body_lines};
 ghost use Rattle.law_faultless.specs.Stack.{Arity, IsBalanced};
-ghost use Rattle.law_faultless.specs.Answered.{IsKnown};
-ghost use Rattle.law_faultless.specs.Asked.{Question, OfInteger, OfText, OfDeclared, OfMember};
-ghost use Rattle.law_faultless.specs.StatementsAsked.{FunctionAsks};
-ghost use Rattle.law_faultless.specs.Called.{IsCalledByName};
-ghost use Rattle.law_faultless.specs.Files.{IsFunctionIn};
-ghost use Rattle.law_faultless.specs.Open.{IsSettled};
+ghost use Rattle.law_faultless.specs.QuestionAnswers.{IsKnown};
+ghost use Rattle.law_faultless.specs.Questions.{Question, OfInteger, OfText, OfDeclared, OfMember};
+ghost use Rattle.law_faultless.specs.StatementAsking.{FunctionAsks};
+ghost use Rattle.law_faultless.specs.GlobalMeanings.{MeansGlobal};
+ghost use Rattle.law_faultless.specs.TypedFunctions.{IsFunctionIn};
+ghost use Rattle.law_faultless.specs.OpenQuestions.{OpenIsKnown};
 
 /// Each local that a function declares has a slot.
 pub fn declared_locals_have_slots()
@@ -30,7 +30,7 @@ pub fn declared_locals_have_slots()
 /// Each name that means a variable or a function of a package has a name in objects.
 pub fn names_of_packages_are_known()
     ensures { (p : Package) → (files_of : List ℕ → List SourceFile) → (file : ℕ) → (f : SourceFile) → (s : Source) → IsSourceOf p files_of file f s →
-        (n : ℕ) → (m : Meaning) → s.world.bound n ≡ Means m → IsCalledByName m → IsKnown (s.global n) }
+        (n : ℕ) → (m : Meaning) → s.world.bound n ≡ Means m → MeansGlobal m → IsKnown (s.global n) }
 {}
 
 /// In a function of a file the source knows the type before each selector, and the type of the composite literal around each key. These are
@@ -60,6 +60,6 @@ pub fn functions_of_files_are_balanced()
     ensures { (arity : FunctionName → Arity) → (p : Package) → (files_of : List ℕ → List SourceFile) → (file : ℕ) → (f : SourceFile) →
         (s : Source) → IsSourceOf p files_of file f s → IsSourceFile f →
         (g : FuncTree) → (at : Locals) → IsFunctionIn s.world (is_init f) no_locals f.tree.decls g at →
-        ((q : Question) → FunctionAsks s.world at g q → IsSettled arity s (slots_of s.world g) q) →
+        ((q : Question) → FunctionAsks s.world at g q → OpenIsKnown arity s (slots_of s.world g) q) →
         IsBalanced arity 0 (body_lines s (slots_of s.world g) (length (result_types g.result)) g.body) 0 }
 {}

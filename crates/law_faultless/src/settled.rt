@@ -5,8 +5,8 @@ ghost use Rattle.base_files.specs.Workspace.{Workspace};
 ghost use Rattle.go_ast.specs.SourceFile.{SourceFile};
 ghost use Rattle.go_ast.specs.Tree.{FuncTree};
 ghost use Rattle.types_expr.specs.World.{Locals, no_locals};
-ghost use Rattle.types_declared.specs.Bound.{result_types};
-ghost use Rattle.types_declared.specs.Package.{Package, Interface};
+ghost use Rattle.types_declared.specs.MeaningOf.{result_types};
+ghost use Rattle.types_declared.specs.Package.{Package, ExportData};
 ghost use Rattle.types_info.specs.Worlds.{is_init};
 ghost use Rattle.workspace_check.specs.FaultLists.{ListsFaults};
 ghost use Rattle.workspace_check.specs.Verdicts.{Verdicts, AreVerdicts};
@@ -16,16 +16,16 @@ ghost use Rattle.build_object.specs.Slots.{slots_of};
 ghost use Rattle.build_object.specs.Source.{Source};
 ghost use Rattle.build_object.specs.Sources.{IsSourceOf, IsObjectOf};
 ghost use Rattle.build_object.specs.Statements.{body_lines};
-ghost use Rattle.law_faultless.specs.Answered.{IsAnswered};
-ghost use Rattle.law_faultless.specs.Asked.{Question};
+ghost use Rattle.law_faultless.specs.QuestionAnswers.{IsAnswered};
+ghost use Rattle.law_faultless.specs.Questions.{Question};
 ghost use Rattle.law_faultless.specs.Stack.{Arity, IsBalanced};
-ghost use Rattle.law_faultless.specs.StatementsAsked.{FunctionAsks};
-ghost use Rattle.law_faultless.specs.Files.{IsFunctionIn};
-ghost use Rattle.law_faultless.specs.Open.{IsSettled};
+ghost use Rattle.law_faultless.specs.StatementAsking.{FunctionAsks};
+ghost use Rattle.law_faultless.specs.TypedFunctions.{IsFunctionIn};
+ghost use Rattle.law_faultless.specs.OpenQuestions.{OpenIsKnown};
 ghost use Rattle.refs_binding.specs.Uses.{IsPackage};
 ghost use Rattle.build_unit.specs.Units.{AreFilesBelow, IsCompiled};
 ghost use Rattle.law_faultless.specs.Arities.{AreArities};
-ghost use Rattle.law_faultless.specs.Known.{IsFunctionOf};
+ghost use Rattle.law_faultless.specs.FileFunctions.{IsFunctionOf};
 
 /// In a workspace without faults the functions of all packages have arities by their names in objects: no two functions of a package have
 /// one name.
@@ -37,17 +37,17 @@ pub fn functions_have_arities()
 /// In a workspace without faults the code of a function leaves no question open. Each local that it names is its own, and each function has
 /// the arity with which it is written. The positions of fields and the names of methods are known. No qualified identifier means a package,
 /// and no name the results of a call.
-pub fn what_is_asked_is_settled()
+pub fn questions_are_settled()
     ensures { (w : Workspace) → ListsFaults w [] → (known : Verdicts) → AreVerdicts w known →
         (arity : FunctionName → Arity) → AreArities w known arity → (p : Package) → IsPackage w known p →
         (files_of : List ℕ → List SourceFile) → AreFilesBelow w p.path files_of →
         (file : ℕ) → (f : SourceFile) → slice_get p.files file ≡ Some f → (s : Source) → IsSourceOf p files_of file f s →
         (g : FuncTree) → IsFunctionOf f g → (before : Locals) → (q : Question) → FunctionAsks s.world before g q →
-        IsSettled arity s (slots_of s.world g) q }
+        OpenIsKnown arity s (slots_of s.world g) q }
 {}
 
 /// In a workspace without faults each question of the code of a function is answered. So no line of its code is left out.
-pub fn what_is_asked_is_known()
+pub fn questions_are_answered()
     ensures { (w : Workspace) → ListsFaults w [] → (known : Verdicts) → AreVerdicts w known →
         (arity : FunctionName → Arity) → AreArities w known arity → (p : Package) → IsPackage w known p →
         (files_of : List ℕ → List SourceFile) → AreFilesBelow w p.path files_of →
@@ -79,6 +79,6 @@ pub fn objects_are_balanced()
 pub fn units_are_balanced()
     ensures { (w : Workspace) → ListsFaults w [] → (known : Verdicts) → AreVerdicts w known →
         (arity : FunctionName → Arity) → AreArities w known arity → (p : List ℕ) → Contains (package_paths w) p →
-        (i : Interface) → (text : List ℕ) → (u : IsCompiled w p i text) → (f : Function) →
+        (i : ExportData) → (text : List ℕ) → (u : IsCompiled w p i text) → (f : Function) →
         Contains u.is_object.object.declarations (FunctionOf f) → IsBalanced arity 0 f.code 0 }
 {}

@@ -9,7 +9,7 @@ use Rattle.go_scanner.specs.Cuts.{IsCut}
 use Rattle.go_scanner.specs.CutText.{CutText, tokens_in}
 use Rattle.base_edits.specs.Edits.{AreInOrder, LieWithin, edited_from, edited_text}
 use Rattle.base_edits.specs.Moved.{moved_offset}
-use Rattle.base_edits.specs.Moving.{moved_from}
+use Rattle.base_edits.specs.PassedEdits.{moved_from}
 use Rattle.base_edits.specs.declared.edit.Edit.{Edit}
 use Rattle.base_edits.proofs.EditedText.{length_range}
 use Rattle.base_edits.proofs.MovedPlaces.{moves_all, step_past, stop_before}

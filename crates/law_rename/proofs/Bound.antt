@@ -9,8 +9,8 @@ use Rattle.go_scope.specs.declared.model.Block.{Block}
 use Rattle.go_scope.specs.declared.model.Block.TheVariants.{File, Inner, Package, Universe}
 use Rattle.go_scope.specs.declared.model.Role.{Role}
 use Rattle.go_scope.specs.Bindings.{Counts, IsBoundTo, Layout, Names, block_of, is_left_name, is_use, may_declare, own, start_of, use_bound}
-use Rattle.go_scope.specs.Moves.{IsMoved, KnownIn, moved_place, moved_role}
-use Rattle.go_scope.specs.Site.{Site, found_site, sites_layout, sites_names}
+use Rattle.go_scope.specs.Moves.{IsMoved, HasKnownEnds, moved_place, moved_role}
+use Rattle.go_scope.specs.Site.{Site, or_blank, sites_layout, sites_names}
 use Rattle.go_scope.proofs.Moved.{bindings_move}
 use Rattle.law_rename.specs.Around.{from_on}
 use Rattle.law_rename.specs.MovedSites.{moved_site}
@@ -67,21 +67,21 @@ module _ (by : Site → Site) (stood one two : Site) where
   stands_two [] behind = refl
   stands_two (x ∷ before) behind = stands_two before behind
 
-role_moved : (move : ℕ → ℕ → ℕ) (o : Option Site) → (found_site (option_map (moved_site move) o)).role ≡ moved_role move (found_site o).role
+role_moved : (move : ℕ → ℕ → ℕ) (o : Option Site) → (or_blank (option_map (moved_site move) o)).role ≡ moved_role move (or_blank o).role
 role_moved move None = refl
 role_moved move (Some x) = refl
 
-name_moved : (move : ℕ → ℕ → ℕ) (o : Option Site) → (found_site (option_map (moved_site move) o)).name ≡ (found_site o).name
+name_moved : (move : ℕ → ℕ → ℕ) (o : Option Site) → (or_blank (option_map (moved_site move) o)).name ≡ (or_blank o).name
 name_moved move None = refl
 name_moved move (Some x) = refl
 
-place_moved : (move : ℕ → ℕ → ℕ) (o : Option Site) → IsLooked (moved_role move (found_site o).role) →
-    (found_site (option_map (moved_site move) o)).place ≡ moved_place move (found_site o).place
+place_moved : (move : ℕ → ℕ → ℕ) (o : Option Site) → IsLooked (moved_role move (or_blank o).role) →
+    (or_blank (option_map (moved_site move) o)).place ≡ moved_place move (or_blank o).place
 place_moved move None (inl e) = let none : false ≡ true = e in cc
 place_moved move None (inr e) = let none : false ≡ true = e in cc
 place_moved move (Some x) looked = refl
 
-all_known : (b : Block) (start : ℕ) → KnownIn (λ f n. Unit {0}) b start
+all_known : (b : Block) (start : ℕ) → HasKnownEnds (λ f n. Unit {0}) b start
 all_known (Inner f a b) start = (tt, tt, tt)
 all_known (File f) start = tt
 all_known Package start = tt
@@ -131,27 +131,27 @@ module _ (i : Gain) (called : List ℕ) (at : ℕ) (old new : List Site) (g : Ha
 
   roles : (d : ℕ) → now.role (e d) ≡ moved.role d
   roles d = elim (cases_eq d at) [
-    | inl is ↦ ap (λ (n : ℕ). now.role (e n)) is ∙ ap (λ o. (found_site o).role) name_at
-        ∙ sym (ap (λ (n : ℕ). moved.role n) is ∙ ap (λ o. moved_role move (found_site o).role) stood_at)
-    | inr other ↦ ap (λ o. (found_site o).role) (else_at d other) ∙ role_moved move (slice_get old d)
+    | inl is ↦ ap (λ (n : ℕ). now.role (e n)) is ∙ ap (λ o. (or_blank o).role) name_at
+        ∙ sym (ap (λ (n : ℕ). moved.role n) is ∙ ap (λ o. moved_role move (or_blank o).role) stood_at)
+    | inr other ↦ ap (λ o. (or_blank o).role) (else_at d other) ∙ role_moved move (slice_get old d)
   ]
 
   not_looked : (d : ℕ) → d ≡ at → IsLooked (moved.role d) → ⊥
   not_looked d is looked =
-      let here = subst IsLooked (ap (λ (n : ℕ). moved.role n) is ∙ ap (λ o. moved_role move (found_site o).role) stood_at) looked in
+      let here = subst IsLooked (ap (λ (n : ℕ). moved.role n) is ∙ ap (λ o. moved_role move (or_blank o).role) stood_at) looked in
       elim here [ inl h ↦ (let none : false ≡ true = h in cc) | inr h ↦ (let none : false ≡ true = h in cc) ]
 
   places : (d : ℕ) → IsLooked (moved.role d) → now.place (e d) ≡ moved.place d
   places d looked = elim (cases_eq d at) [
     | inl is ↦ absurd (not_looked d is looked)
-    | inr other ↦ ap (λ o. (found_site o).place) (else_at d other) ∙ place_moved move (slice_get old d) looked
+    | inr other ↦ ap (λ o. (or_blank o).place) (else_at d other) ∙ place_moved move (slice_get old d) looked
   ]
 
   no_path : (r : Role) → r ≡ (path_site i).role → may_declare r ≡ true → ⊥
   no_path r is may = let none : false ≡ true = sym (ap may_declare is) ∙ may in cc
 
   path_role : now.role (suc at) ≡ (path_site i).role
-  path_role = ap (λ o. (found_site o).role) path_at
+  path_role = ap (λ o. (or_blank o).role) path_at
 
   along : Along e moved now
   along = record {
@@ -194,7 +194,7 @@ module _ (i : Gain) (called : List ℕ) (at : ℕ) (old new : List Site) (g : Ha
   bound_to_nothing later u (own p c) = no_path (now.role (suc at)) path_role c.declares.may
 
   pub names_stay : (d : ℕ) → (d ≡ at → ⊥) → sites_names new (e d) ≡ sites_names old d
-  names_stay d other = ap (λ o. (found_site o).name) (else_at d other) ∙ name_moved move (slice_get old d)
+  names_stay d other = ap (λ o. (or_blank o).name) (else_at d other) ∙ name_moved move (slice_get old d)
 
   pub import_named : sites_names new (e at) ≡ i.name
-  import_named = ap (λ o. (found_site o).name) name_at
+  import_named = ap (λ o. (or_blank o).name) name_at

@@ -23,9 +23,9 @@ use Rattle.go_ast.specs.Flatten.{imports_tokens, link_tokens, result_tokens, sim
 use Rattle.go_ast.specs.Kinds.{kinds_from, kinds_of}
 use Rattle.go_ast.specs.Tree.{Alone, Chain, FuncDecl, Name, Simple, block, call, no_argument, no_link, no_result, no_statement, selector, statement}
 use Rattle.law_rename.specs.Renumbered.{arguments_by, block_by, expr_by, links_by, statement_by, statements_by}
-use Rattle.law_rename.specs.Around.{AroundImport, alone, around_by, bare_import, file_with, from_on, named_import}
+use Rattle.law_rename.specs.Around.{AroundImport, alone, around_by, bare_import, file_with, from_on, import_with_name}
 use Rattle.law_rename.specs.Named.{NamePut, after_put, before_put}
-use Rattle.law_rename.specs.Gained.{HasGained, file_after, file_before, gain_of, import_site, sites_in, unnamed_site}
+use Rattle.law_rename.specs.Gained.{HasGained, named_file, bare_file, gain_of, import_site, sites_in, unnamed_site}
 
 -- pieces, each by its class and its bytes, from a place on
 
@@ -99,7 +99,7 @@ unfolding flatten all_tokens imports_tokens group_tokens import_tokens decl_toke
     simple_tokens expr_tokens link_tokens argument_tokens tokens_of line_ends kinds_from
 tree_is_old = refl
 
-tree_is_new : flatten (file_with (named_import 4) (around_by (from_on 4) around)) ≡ kinds_of (after_put put)
+tree_is_new : flatten (file_with (import_with_name 4) (around_by (from_on 4) around)) ≡ kinds_of (after_put put)
 unfolding flatten all_tokens imports_tokens group_tokens import_tokens decl_tokens func_tokens result_tokens block_tokens statements_tokens statement_tokens
     simple_tokens expr_tokens link_tokens argument_tokens tokens_of line_ends kinds_from block_by statements_by statement_by expr_by links_by arguments_by
 tree_is_new = refl
@@ -118,12 +118,12 @@ new = stands 1 (codes "a") (NotLexical purpose.PackageClause) ∷ stands 4 (code
     stands 5 (codes "\"b/c\"") (NotLexical purpose.ImportPath) ∷ stands 8 (codes "f") (Declaring blocks.Package 0) ∷ stands 12 (codes "c") Use ∷
     stands 14 (codes "G") (NotLexical purpose.Selected) ∷ []
 
-sites_are_old : sites_in 0 (file_before 4 around put) ≡ old
+sites_are_old : sites_in 0 (bare_file 4 around put) ≡ old
 unfolding file_sites imports_sites import_sites group_sites decl_sites func_sites result_sites block_sites statements_sites statement_sites simple_sites
     expr_sites link_sites argument_sites tokens_of line_ends
 sites_are_old = refl
 
-sites_are_new : sites_in 0 (file_after 4 around put) ≡ new
+sites_are_new : sites_in 0 (named_file 4 around put) ≡ new
 unfolding file_sites imports_sites import_sites group_sites decl_sites func_sites result_sites block_sites statements_sites statement_sites simple_sites
     expr_sites link_sites argument_sites tokens_of line_ends block_by statements_by statement_by expr_by links_by arguments_by
 sites_are_new = refl

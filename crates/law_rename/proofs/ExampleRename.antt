@@ -6,7 +6,7 @@ use Rattle.go_scope.specs.declared.model.Role.{Role}
 use Rattle.go_scope.specs.declared.model.Role.TheVariants.{Use, Declaring}
 use Rattle.go_scope.specs.Bindings.{Layout, Names, MayDeclare, IsLeftName, Declares, Displaces, Counts, AllCount, IsBoundTo, use_bound, own}
 use Rattle.go_scope.specs.Site.{Site, sites_layout, sites_names}
-use Rattle.go_scope.specs.WellFormed.{WellFormed, IsIn}
+use Rattle.go_scope.specs.WellFormed.{WellFormed, InBlock}
 use Rattle.go_scope.proofs.Nests.{nests}
 use Rattle.law_rename.specs.Renaming.{IsRenaming, Renames, KeepsBindings, HasNoConflict, WouldCapture, new_name, own_use, assigned, to_renamed, to_other}
 use Rattle.law_rename.specs.Renaming.{WouldLose, repeats, own_repeats, WouldBind, IsBoundAnew}
@@ -43,7 +43,7 @@ only (suc zero) m = let absent = m in cc
 only (suc (suc zero)) m = let absent = m in cc
 only (suc (suc (suc d))) m = let absent = m in cc
 
-not_inner : (d f a b : ℕ) → IsIn l d (Inner f a b) → ⊥
+not_inner : (d f a b : ℕ) → InBlock l d (Inner f a b) → ⊥
 not_inner zero f a b i = let absent = i in cc
 not_inner (suc zero) f a b i = let absent = i in cc
 not_inner (suc (suc zero)) f a b i = let absent = i in cc

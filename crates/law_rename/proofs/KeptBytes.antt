@@ -7,9 +7,9 @@ use Rattle.go_scanner.specs.Cuts.{IsCut, bytes_of}
 use Rattle.go_scanner.specs.CutText.{CutText}
 use Rattle.go_scanner.proofs.SpanLemmas.{cut_covers}
 use Rattle.base_edits.specs.Edits.{AreInOrder, LieWithin, edited_text}
-use Rattle.base_edits.specs.Laws.{AreKept}
+use Rattle.base_edits.specs.Laws.{AreUntouched}
 use Rattle.base_edits.specs.Moved.{moved_offset}
-use Rattle.base_edits.specs.Moving.{moved_from}
+use Rattle.base_edits.specs.PassedEdits.{moved_from}
 use Rattle.base_edits.specs.declared.edit.Edit.{Edit}
 use Rattle.base_edits.proofs.Held.{first_in, first_or_later, later_in, nothing_in}
 use Rattle.base_edits.proofs.MovedPlaces.{keeps_bytes, moves_all, puts_bytes, step_past, stop_before}
@@ -135,7 +135,7 @@ module _ (c : CutText) (edits : List Edit) (cut : IsCut c.text c.pieces) (are : 
       let far : moved_offset edits end ≡ moved_offset edits start + (end - start) =
       sym (moves_all edits end are.in_order) ∙ moves_along edits 0 0 start end are.in_order some_bytes (omega arith) (omega (arith, place.1)) spared
       ∙ ap (λ n. n + (end - start)) (moves_all edits start are.in_order) in
-      let untouched : AreKept edits start end = All-from_recursion (λ (e : Edit). (end ≤ e.span.start) ⊎ (e.span.end ≤ start)) edits spared in
+      let untouched : AreUntouched edits start end = All-from_recursion (λ (e : Edit). (end ≤ e.span.start) ⊎ (e.span.end ≤ start)) edits spared in
       ap (λ (n : ℕ). take (n - moved_offset edits start) (drop (moved_offset edits start) new)) far
       ∙ keeps_bytes edits c.text start end are.in_order within place.1 place.2 untouched
 

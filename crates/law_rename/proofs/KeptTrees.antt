@@ -11,7 +11,7 @@ use Rattle.go_ast.specs.Tree.{StatementTree, Empty, Var, Simple, Inner, If, For,
 use Rattle.go_ast.specs.Tree.{statement, IfTree, if_tree, ElseTree, no_else, else_if, else_block, GlobalTree, BodyTree, Other}
 use Rattle.go_ast.specs.Tree.{Struct, ResultTree, no_result, one_result, results, FuncTree, DeclTree}
 use Rattle.go_ast.specs.Tree.{VarDecl, TypeDecl, FuncDecl, FileTree}
-use Rattle.go_ast.specs.WellFormed.{IsNonEmpty, IsSeparated, IsJoined, IsList, IsOpenList, IsGroup, Perhaps, Any, strength, strength_of, is_operand}
+use Rattle.go_ast.specs.WellFormed.{IsNonEmpty, IsSeparated, IsJoined, IsList, IsOpenList, IsGroup, IsNoneOr, Any, strength, strength_of, is_operand}
 use Rattle.go_ast.specs.WellFormed.{is_binary_tree, IsLiteralType, IsExpr, AreOperands, AreLinks, AreArguments, IsLiteral, AreElements, IsUnnamed}
 use Rattle.go_ast.specs.WellFormed.{HasNoNamedLiteral, HaveNoNamedLiteral, IsExprIn, IsSimple, IsPost, IsInit, IsFor, IsLocal, IsStatement, IsBlock}
 use Rattle.go_ast.specs.WellFormed.{AreStatements, IsIf, IsElse, IsGlobal, IsField, IsBody, IsTypeSpec, IsParam, IsResult, IsFunc, IsImports, IsDecl, IsFile}
@@ -67,7 +67,7 @@ module _ (g : ℕ → ℕ) where
   group_kept P by each (single x) w = each x w
   group_kept P by each (several o xs c) w = open_kept P by each xs w
 
-  perhaps_kept : {X : Type 0} (P : X → Type 0) (by : X → X) → ((x : X) → P x → P (by x)) → (o : Option X) → Perhaps P o → Perhaps P (option_map by o)
+  perhaps_kept : {X : Type 0} (P : X → Type 0) (by : X → X) → ((x : X) → P x → P (by x)) → (o : Option X) → IsNoneOr P o → IsNoneOr P (option_map by o)
   perhaps_kept P by each None w = tt
   perhaps_kept P by each (Some x) w = each x w
 

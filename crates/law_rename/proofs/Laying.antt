@@ -6,7 +6,7 @@ use Rattle.go_scope.specs.Moves.{moved_role}
 use Rattle.go_scope.specs.Named.{is_unnamed_import, named_site, named_sites, named_where}
 use Rattle.go_scope.specs.Site.{Site, sites_layout}
 use Rattle.law_rename.specs.MovedSites.{moved_site}
-use Rattle.law_rename.specs.Gained.{AreLater, Gain, HasGained, import_site, moved_by, path_site, unnamed_site}
+use Rattle.law_rename.specs.Gained.{KeepNames, Gain, HasGained, import_site, moved_by, path_site, unnamed_site}
 use Rattle.law_rename.proofs.Spelling.{from_first, from_suc, from_zero}
 
 -- what is called by its package's name does not depend on where it stands
@@ -54,7 +54,7 @@ module _ (i : Gain) where
   by = moved_site (moved_by i)
 
   laid_gained : (before behind : List Site) (names later : ℕ → Option (List ℕ)) →
-      AreLater (length before) (before ++ unnamed_site i ∷ behind) names later →
+      KeepNames (length before) (before ++ unnamed_site i ∷ behind) names later →
       HasGained i (named_site (names (length before)) (unnamed_site i)) (length before) (named_sites names (before ++ unnamed_site i ∷ behind))
       (named_sites later (map by before ++ import_site i i.name ∷ path_site i ∷ map by behind))
   unfolding named_sites
@@ -80,12 +80,12 @@ module _ (i : Gain) where
         new_is = λ j. here j ∷ rest.new_is j;
       }
 
-  pub gain_laid : (at : ℕ) (old new : List Site) (names later : ℕ → Option (List ℕ)) → HasGained i (unnamed_site i) at old new → AreLater at old names later →
+  pub gain_laid : (at : ℕ) (old new : List Site) (names later : ℕ → Option (List ℕ)) → HasGained i (unnamed_site i) at old new → KeepNames at old names later →
       HasGained i (named_site (names at) (unnamed_site i)) at (named_sites names old) (named_sites later new)
   gain_laid at old new names later g are =
-      let are_here : AreLater (length g.before) (g.before ++ unnamed_site i ∷ g.behind) names later =
-      subst (λ (n : ℕ). AreLater n (g.before ++ unnamed_site i ∷ g.behind) names later) (sym g.placed)
-      (subst (λ (l : List Site). AreLater at l names later) g.old_is are) in
+      let are_here : KeepNames (length g.before) (g.before ++ unnamed_site i ∷ g.behind) names later =
+      subst (λ (n : ℕ). KeepNames n (g.before ++ unnamed_site i ∷ g.behind) names later) (sym g.placed)
+      (subst (λ (l : List Site). KeepNames at l names later) g.old_is are) in
       let laid = laid_gained g.before g.behind names later are_here in
       subst (λ (n : ℕ). HasGained i (named_site (names n) (unnamed_site i)) n (named_sites names old) (named_sites later new)) g.placed
       (record {
@@ -97,14 +97,14 @@ module _ (i : Gain) where
       })
 
 pub known_laid : (i : Gain) (at : ℕ) (old new : List Site) (names later : ℕ → Option (List ℕ)) (called : List ℕ) → HasGained i (unnamed_site i) at old new →
-    AreLater at old names later → names at ≡ Some called →
+    KeepNames at old names later → names at ≡ Some called →
     HasGained i (import_site i called) at (named_sites names old) (named_sites later new)
 known_laid i at old new names later called g are known =
     subst (λ (o : Option (List ℕ)). HasGained i (named_where true o (unnamed_site i)) at (named_sites names old) (named_sites later new)) known
     (gain_laid i at old new names later g are)
 
 pub unknown_laid : (i : Gain) (at : ℕ) (old new : List Site) (names later : ℕ → Option (List ℕ)) → HasGained i (unnamed_site i) at old new →
-    AreLater at old names later → names at ≡ None →
+    KeepNames at old names later → names at ≡ None →
     HasGained i (unnamed_site i) at (named_sites names old) (named_sites later new)
 unknown_laid i at old new names later g are unknown =
     subst (λ (o : Option (List ℕ)). HasGained i (named_where true o (unnamed_site i)) at (named_sites names old) (named_sites later new)) unknown

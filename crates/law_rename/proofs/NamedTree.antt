@@ -14,7 +14,7 @@ use Rattle.go_ast.specs.Kinds.{kind_of_name, kinds_from, kinds_of}
 use Rattle.go_ast.specs.Tree.{ImportTree, ImportsTree, Item, several}
 use Rattle.go_ast.specs.WellFormed.{Any, IsFile, IsGroup, IsImports, IsSeparated, IsTreeOf}
 use Rattle.law_rename.specs.Around.{AroundImport, AroundItem, alone, among, around_by, bare_import, file_with, from_on, group_with, imports_with}
-use Rattle.law_rename.specs.Around.{item_around_by, named_import}
+use Rattle.law_rename.specs.Around.{item_around_by, import_with_name}
 use Rattle.law_rename.specs.Named.{MayPut, NamePut, after_put, before_put, later, literal_piece, name_token, with_one_at}
 use Rattle.law_rename.specs.Renumbered.{decl_by, import_by, imports_by, item_by, numbered}
 use Rattle.law_rename.proofs.Gaining.{gained_kinds, one_put}
@@ -205,7 +205,7 @@ pub bare_tokens : (number : ℕ) → import_tokens (bare_import number) ≡ sign
 unfolding import_tokens
 bare_tokens number = refl
 
-named_tokens : (number : ℕ) → import_tokens (named_import number) ≡ sign kind.Name number ∷ sign kind.Text (number + 1) ∷ []
+named_tokens : (number : ℕ) → import_tokens (import_with_name number) ≡ sign kind.Name number ∷ sign kind.Text (number + 1) ∷ []
 unfolding import_tokens
 named_tokens number = refl
 
@@ -213,7 +213,7 @@ named_tokens number = refl
 pub record BothKinds (p : NamePut) (number : ℕ) (a : AroundImport) : Type 0 where
   pub old : kinds_of (before_put p) ≡ left a ++ sign kind.Text number ∷ right a
   pub new : kinds_of (after_put p) ≡ left a ++ sign kind.Name number ∷ map later (sign kind.Text number ∷ right a)
-  pub written : flatten (file_with (named_import number) (around_by (from_on number) a)) ≡ left a ++ sign kind.Name number ∷ map later
+  pub written : flatten (file_with (import_with_name number) (around_by (from_on number) a)) ≡ left a ++ sign kind.Name number ∷ map later
       (sign kind.Text number ∷ right a)
 
 pub both_kinds : (p : NamePut) (number : ℕ) (a : AroundImport) → MayPut p → slice_get (tokens_in (before_put p)) number ≡ Some (literal_piece p) →
@@ -234,18 +234,18 @@ both_kinds p number a may at name tree =
     gained_kinds p number may at ∙ ap (with_one_at number (name_token p.name number) later) old
     ∙ one_put (left a) there number (name_token p.name number) later size in
     let name_is : name_token p.name number ≡ sign kind.Name number = λ i. record { kind = name i; place = number } in
-    let written : flatten (file_with (named_import number) (around_by g a)) ≡ left a ++ sign kind.Name number ∷ map later there =
-    file_split (named_import number) (around_by g a) ∙ ap (λ l. left (around_by g a) ++ (l ++ right (around_by g a))) (named_tokens number)
+    let written : flatten (file_with (import_with_name number) (around_by g a)) ≡ left a ++ sign kind.Name number ∷ map later there =
+    file_split (import_with_name number) (around_by g a) ∙ ap (λ l. left (around_by g a) ++ (l ++ right (around_by g a))) (named_tokens number)
     ∙ ap (λ l. l ++ sign kind.Name number ∷ sign kind.Text (number + 1) ∷ right (around_by g a)) (left_by g a ∙ front_same)
     ∙ ap (λ l. left a ++ sign kind.Name number ∷ sign kind.Text (number + 1) ∷ l) (right_by g a ∙ behind_same) in
     record { old = old; new = new_kinds ∙ ap (λ t. left a ++ t ∷ map later there) name_is; written = written }
 
 pub gained_tree : (p : NamePut) (number : ℕ) (a : AroundImport) → MayPut p → slice_get (tokens_in (before_put p)) number ≡ Some (literal_piece p) →
     kind_of_name p.name ≡ kind.Name → IsTreeOf (file_with (bare_import number) a) (kinds_of (before_put p)) →
-    IsTreeOf (file_with (named_import number) (around_by (from_on number) a)) (kinds_of (after_put p))
+    IsTreeOf (file_with (import_with_name number) (around_by (from_on number) a)) (kinds_of (after_put p))
 gained_tree p number a may at name tree =
     let kinds = both_kinds p number a may at name tree in
     record {
       written = kinds.written ∙ sym kinds.new;
-      well_formed = named_well (from_on number) (bare_import number) (named_import number) a tree.well_formed;
+      well_formed = named_well (from_on number) (bare_import number) (import_with_name number) a tree.well_formed;
     }

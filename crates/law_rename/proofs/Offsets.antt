@@ -4,7 +4,7 @@ use Rattle.std.specs.List.{AllByRecursion}
 use Rattle.std.proofs.lemmas.Bool.{cases_lt}
 use Rattle.base_edits.specs.Edits.{AreInOrder}
 use Rattle.base_edits.specs.Moved.{moved_offset}
-use Rattle.base_edits.specs.Moving.{moved_from}
+use Rattle.base_edits.specs.PassedEdits.{moved_from}
 use Rattle.base_edits.specs.declared.edit.Edit.{Edit}
 use Rattle.base_edits.proofs.MovedPlaces.{at_least, moves_all, step_past, stop_before}
 

@@ -22,7 +22,7 @@ use Rattle.law_rename.specs.Around.{AroundImport, bare_import, file_with, from_o
 use Rattle.law_rename.specs.Named.{MayPut, NamePut, before_put, literal_piece}
 use Rattle.law_rename.specs.MovedSites.{moved_site}
 use Rattle.law_rename.proofs.Staying.{file_stays}
-use Rattle.law_rename.specs.Gained.{Gain, HasGained, file_after, file_before, gain_of, import_site, moved_by, path_site, sites_in, unnamed_site}
+use Rattle.law_rename.specs.Gained.{Gain, HasGained, named_file, bare_file, gain_of, import_site, moved_by, path_site, sites_in, unnamed_site}
 use Rattle.law_rename.proofs.Sites.{put_sites}
 use Rattle.law_rename.proofs.Spelling.{from_zero}
 
@@ -123,7 +123,7 @@ no_first p zero a may at tree =
 pub package_gains : (p : NamePut) (number : ℕ) (a : AroundImport) (first rest : List SpelledFile) → MayPut p →
     slice_get (tokens_in (before_put p)) number ≡ Some (literal_piece p) → IsTreeOf (file_with (bare_import number) a) (kinds_of (before_put p)) →
     (let i = gain_of (length first) number p in
-    (at : ℕ) × HasGained i (unnamed_site i) at (package_sites (first ++ file_before number a p ∷ rest)) (package_sites (first ++ file_after number a p ∷ rest)))
+    (at : ℕ) × HasGained i (unnamed_site i) at (package_sites (first ++ bare_file number a p ∷ rest)) (package_sites (first ++ named_file number a p ∷ rest)))
 unfolding package_sites
 package_gains p number a first rest may at tree =
     let i : Gain = gain_of (length first) number p in
@@ -139,14 +139,14 @@ package_gains p number a first rest may at tree =
     ap (λ l. known ++ l) (files_split 0 first rest f ∙ ap (λ (r : ℕ). files_sites 0 first ++ (sites_in r f ++ files_sites (suc r) rest)) size)
     ∙ sym (append_assoc known (files_sites 0 first) (sites_in (length first) f ++ back)) in
     let here = put_sites (length first) number p a may at in
-    let whole = gained_within i (unnamed_site i) here.0 lead back (sites_in (length first) (file_before number a p))
-    (sites_in (length first) (file_after number a p)) lead_stays back_stays here.1 in (
+    let whole = gained_within i (unnamed_site i) here.0 lead back (sites_in (length first) (bare_file number a p))
+    (sites_in (length first) (named_file number a p)) lead_stays back_stays here.1 in (
       length lead + here.0,
       record {
         before = whole.before;
         behind = whole.behind;
         placed = whole.placed;
-        old_is = split (file_before number a p) ∙ whole.old_is;
-        new_is = split (file_after number a p) ∙ whole.new_is;
+        old_is = split (bare_file number a p) ∙ whole.old_is;
+        new_is = split (named_file number a p) ∙ whole.new_is;
       },
     )

@@ -14,11 +14,11 @@ use Rattle.go_ast.specs.Tree.{ImportTree, ImportsTree}
 use Rattle.law_rename.specs.Renumbered.{import_by, imports_by, decl_by}
 use Rattle.law_rename.specs.Around.{AroundImport, AroundItem, alone, among, around_by, bare_import, file_with, from_on, group_with, imports_with}
 use Rattle.law_rename.specs.Around.{item_around_by}
-use Rattle.law_rename.specs.Around.{named_import}
+use Rattle.law_rename.specs.Around.{import_with_name}
 use Rattle.law_rename.specs.Named.{MayPut, NamePut, before_put, literal_piece}
 use Rattle.law_rename.specs.MovedSites.{moved_site}
 use Rattle.law_rename.proofs.MovedFiles.{all_moved, both, decl_moved, import_moved, imports_moved, list_moved}
-use Rattle.law_rename.specs.Gained.{Gain, HasGained, file_after, file_before, gain_of, import_site, moved_by, path_site, sites_in, unnamed_site}
+use Rattle.law_rename.specs.Gained.{Gain, HasGained, named_file, bare_file, gain_of, import_site, moved_by, path_site, sites_in, unnamed_site}
 use Rattle.law_rename.proofs.Spelling.{from_itself, spelled_kept, spelled_literal, spelled_name}
 
 -- a file's identifiers before those of an import, and behind them
@@ -105,7 +105,7 @@ unfolding import_sites
 bare_sites s number = refl
 
 named_sites : (i : Gain) (spell : ℕ → List ℕ) → spell i.number ≡ i.name → spell (i.number + 1) ≡ i.literal →
-    import_sites (record { rank = i.rank; spell = spell }) (named_import i.number) ≡ import_site i i.name ∷ path_site i ∷ []
+    import_sites (record { rank = i.rank; spell = spell }) (import_with_name i.number) ≡ import_site i i.name ∷ path_site i ∷ []
 unfolding import_sites
 named_sites i spell name literal =
     let one : ◌≡◌ {A = Site} (record { place = record { file = i.rank; index = i.number }; name = spell i.number; role = (import_site i i.name).role })
@@ -122,7 +122,7 @@ pub record IsSpelled (i : Gain) (old new : ℕ → List ℕ) : Type 0 where
 
 pub gained_sites : (i : Gain) (old new : ℕ → List ℕ) (a : AroundImport) → IsSpelled i old new →
     (at : ℕ) × HasGained i (unnamed_site i) at (file_sites (record { rank = i.rank; spell = old }) (file_with (bare_import i.number) a))
-    (file_sites (record { rank = i.rank; spell = new }) (file_with (named_import i.number) (around_by (from_on i.number) a)))
+    (file_sites (record { rank = i.rank; spell = new }) (file_with (import_with_name i.number) (around_by (from_on i.number) a)))
 gained_sites i old new a spelled =
     let was : Source = record { rank = i.rank; spell = old } in
     let now : Source = record { rank = i.rank; spell = new } in
@@ -143,16 +143,16 @@ gained_sites i old new a spelled =
         placed = refl;
         old_is = file_split was (bare_import i.number) a ∙ ap (λ l. left was a ++ (l ++ right was a)) (bare_sites was i.number)
             ∙ ap (λ x. left was a ++ x ∷ right was a) stood;
-        new_is = file_split now (named_import i.number) (around_by g a)
+        new_is = file_split now (import_with_name i.number) (around_by g a)
             ∙ ap (λ l. left now (around_by g a) ++ (l ++ right now (around_by g a))) (named_sites i new spelled.name path)
             ∙ (λ j. lead j ++ import_site i i.name ∷ path_site i ∷ rest j);
       },
     )
 
 pub put_sites : (rank number : ℕ) (p : NamePut) (a : AroundImport) → MayPut p → slice_get (tokens_in (before_put p)) number ≡ Some (literal_piece p) →
-    (at : ℕ) × HasGained (gain_of rank number p) (unnamed_site (gain_of rank number p)) at (sites_in rank (file_before number a p))
-    (sites_in rank (file_after number a p))
-put_sites rank number p a may at = gained_sites (gain_of rank number p) (file_before number a p).spell (file_after number a p).spell a (record {
+    (at : ℕ) × HasGained (gain_of rank number p) (unnamed_site (gain_of rank number p)) at (sites_in rank (bare_file number a p))
+    (sites_in rank (named_file number a p))
+put_sites rank number p a may at = gained_sites (gain_of rank number p) (bare_file number a p).spell (named_file number a p).spell a (record {
   kept = spelled_kept p number may at;
   literal = spelled_literal p number at;
   name = spelled_name p number may at;

@@ -15,7 +15,7 @@ use Rattle.law_rename.specs.Named.{MayPut, NamePut, after_put, before_put, liter
 use Rattle.law_rename.proofs.Behind.{AllLie, LiesBefore, LiesBehind, all_by, behind_bytes, front_bytes}
 use Rattle.law_rename.proofs.Gaining.{both_tokens, literal_number, name_bytes, news, same_rest, texts}
 use Rattle.law_rename.proofs.TokensBehind.{behind, seam}
-use Rattle.law_rename.specs.Gained.{spelled}
+use Rattle.law_rename.specs.Gained.{token_bytes}
 
 -- the numbers of tokens
 
@@ -68,7 +68,7 @@ module _ (text other : List ℕ) (one : Piece) (move : Piece → Piece) where
       ∙ spelled_on ones rest same.1 moved n
 
 pub spelled_kept : (p : NamePut) (number : ℕ) → MayPut p → slice_get (tokens_in (before_put p)) number ≡ Some (literal_piece p) → (n : ℕ) →
-    spelled (after_put p) (from_on number n) ≡ spelled (before_put p) n
+    token_bytes (after_put p) (from_on number n) ≡ token_bytes (before_put p) n
 spelled_kept p number may at n =
     let t = both_tokens p may in
     let there : List Piece = literal_piece p ∷ t.behind in
@@ -84,7 +84,7 @@ spelled_kept p number may at n =
     ∙ ap (λ ts. spelling_at (texts p) (slice_get ts n)) (sym t.old)
 
 pub spelled_name : (p : NamePut) (number : ℕ) → MayPut p → slice_get (tokens_in (before_put p)) number ≡ Some (literal_piece p) →
-    spelled (after_put p) number ≡ p.name
+    token_bytes (after_put p) number ≡ p.name
 spelled_name p number may at =
     let t = both_tokens p may in
     ap (λ ts. spelling_at (news p) (slice_get ts number)) t.new
@@ -93,13 +93,13 @@ spelled_name p number may at =
     ∙ ap (spelling_at (news p)) (seam t.ones (map (moved_behind p) (literal_piece p ∷ t.behind)) (name_piece p)) ∙ name_bytes p
 
 pub spelled_literal : (p : NamePut) (number : ℕ) → slice_get (tokens_in (before_put p)) number ≡ Some (literal_piece p) →
-    spelled (before_put p) number ≡ p.literal
+    token_bytes (before_put p) number ≡ p.literal
 spelled_literal p number at =
     let size : length p.front + length p.literal - length p.front ≡ length p.literal = omega arith in
     ap (spelling_at (texts p)) at ∙ ap (λ (k : ℕ). take k (drop (length p.front) (texts p))) size
     ∙ ap (take (length p.literal)) (drop_at p.front (p.literal ++ p.rest) (length p.front) refl) ∙ take_at p.literal p.rest (length p.literal) refl
 
 pub spelled_path : (p : NamePut) (number : ℕ) → MayPut p → slice_get (tokens_in (before_put p)) number ≡ Some (literal_piece p) →
-    spelled (after_put p) (number + 1) ≡ p.literal
+    token_bytes (after_put p) (number + 1) ≡ p.literal
 spelled_path p number may at =
-    ap (spelled (after_put p)) (sym (from_itself number)) ∙ spelled_kept p number may at number ∙ spelled_literal p number at
+    ap (token_bytes (after_put p)) (sym (from_itself number)) ∙ spelled_kept p number may at number ∙ spelled_literal p number at

@@ -17,7 +17,7 @@ use Rattle.go_ast.specs.Kinds.{kind_of_name, kinds_of}
 use Rattle.go_ast.specs.SourceFile.{IsSourceFile}
 use Rattle.go_ast.specs.Tree.{Group, ImportTree, ImportsTree, Item, several, single}
 use Rattle.go_ast.specs.Verdict.{IsWhole}
-use Rattle.law_rename.specs.Around.{AroundImport, AroundItem, alone, among, around_by, bare_import, file_with, from_on, named_import}
+use Rattle.law_rename.specs.Around.{AroundImport, AroundItem, alone, among, around_by, bare_import, file_with, from_on, import_with_name}
 use Rattle.law_rename.specs.Named.{MayPut, NamePut, after_put, before_put, later, literal_piece}
 use Rattle.law_rename.proofs.Gaining.{put_cut}
 use Rattle.law_rename.proofs.NamedTree.{both_kinds, gained_tree, left, left_item, right}
@@ -332,7 +332,7 @@ whole_kept a n m rest old new was is whole =
 pub source_kept : (path : List ℕ) (p : NamePut) (number : ℕ) (a : AroundImport) → MayPut p →
     slice_get (tokens_in (before_put p)) number ≡ Some (literal_piece p) → kind_of_name p.name ≡ kind.Name →
     IsSourceFile (record { path = path; cut = before_put p; tree = file_with (bare_import number) a }) →
-    IsSourceFile (record { path = path; cut = after_put p; tree = file_with (named_import number) (around_by (from_on number) a) })
+    IsSourceFile (record { path = path; cut = after_put p; tree = file_with (import_with_name number) (around_by (from_on number) a) })
 source_kept path p number a may at name is =
     let kinds = both_kinds p number a may at name is.is_tree in
     record {

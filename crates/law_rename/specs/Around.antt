@@ -69,5 +69,5 @@ abbrev pub bare_import : ℕ → ImportTree
 bare_import number = record { name = None; path = number }
 
 -- An import whose name is the token of index `number`, right before its path.
-abbrev pub named_import : ℕ → ImportTree
-named_import number = record { name = Some number; path = number + 1 }
+abbrev pub import_with_name : ℕ → ImportTree
+import_with_name number = record { name = Some number; path = number + 1 }

@@ -9,17 +9,17 @@ use Rattle.go_scope.specs.Named.{is_unnamed_import}
 use Rattle.go_scope.specs.Site.{Site, sites_layout}
 use Rattle.go_ast.specs.SourceFile.{spelling_at}
 use Rattle.go_ast.specs.Tree.{FileTree}
-use Rattle.law_rename.specs.Around.{AroundImport, around_by, bare_import, file_with, from_on, named_import}
+use Rattle.law_rename.specs.Around.{AroundImport, around_by, bare_import, file_with, from_on, import_with_name}
 use Rattle.law_rename.specs.Named.{NamePut, after_put, before_put}
 use Rattle.law_rename.specs.MovedSites.{moved_site}
 
 -- The bytes of the token of index `n`; none beyond the last token.
-abbrev pub spelled : CutText → ℕ → List ℕ
-spelled c n = spelling_at c.text (slice_get (tokens_in c) n)
+abbrev pub token_bytes : CutText → ℕ → List ℕ
+token_bytes c n = spelling_at c.text (slice_get (tokens_in c) n)
 
 -- The tree, with the bytes of the tokens of its text.
 abbrev pub spelled_tree : CutText → FileTree → SpelledFile
-spelled_tree c t = record { tree = t; spell = spelled c }
+spelled_tree c t = record { tree = t; spell = token_bytes c }
 
 -- The identifiers of the file of that rank.
 abbrev pub sites_in : ℕ → SpelledFile → List Site
@@ -59,17 +59,17 @@ pub record HasGained (i : Gain) (stood : Site) (at : ℕ) (old new : List Site) 
 
 -- The other imports without a name keep the names of their packages: `names` gives them by the old numbers of identifiers, and `later` by
 -- the new ones.
-abbrev pub AreLater : ℕ → List Site → (ℕ → Option (List ℕ)) → (ℕ → Option (List ℕ)) → Type 0
-AreLater at old names later = (d : ℕ) → (d ≡ at → ⊥) → is_unnamed_import ((sites_layout old).role d) ≡ true → later (from_on at d) ≡ names d
+abbrev pub KeepNames : ℕ → List Site → (ℕ → Option (List ℕ)) → (ℕ → Option (List ℕ)) → Type 0
+KeepNames at old names later = (d : ℕ) → (d ≡ at → ⊥) → is_unnamed_import ((sites_layout old).role d) ≡ true → later (from_on at d) ≡ names d
 
 -- The gain of the import whose string literal is the token of index `number` in the file of that rank.
 abbrev pub gain_of : ℕ → ℕ → NamePut → Gain
 gain_of rank number p = record { rank = rank; number = number; literal = p.literal; name = p.name }
 
 -- The file before the gain, in which the literal is the path of an import without a name.
-abbrev pub file_before : ℕ → AroundImport → NamePut → SpelledFile
-file_before number a p = spelled_tree (before_put p) (file_with (bare_import number) a)
+abbrev pub bare_file : ℕ → AroundImport → NamePut → SpelledFile
+bare_file number a p = spelled_tree (before_put p) (file_with (bare_import number) a)
 
 -- The file after the gain, in which the import has the name.
-abbrev pub file_after : ℕ → AroundImport → NamePut → SpelledFile
-file_after number a p = spelled_tree (after_put p) (file_with (named_import number) (around_by (from_on number) a))
+abbrev pub named_file : ℕ → AroundImport → NamePut → SpelledFile
+named_file number a p = spelled_tree (after_put p) (file_with (import_with_name number) (around_by (from_on number) a))

@@ -15,7 +15,7 @@ ghost use Rattle.go_ast.specs.Tree.{FileTree, ImportTree};
 ghost use Rattle.types_declared.specs.Files.{imports_in};
 ghost use Rattle.law_rename.specs.Renamings.{AreNameEdits};
 ghost use Rattle.law_rename.specs.Trees.{renamed_file};
-ghost use Rattle.law_rename.specs.Around.{AroundImport, around_by, bare_import, file_with, from_on, named_import};
+ghost use Rattle.law_rename.specs.Around.{AroundImport, around_by, bare_import, file_with, from_on, import_with_name};
 ghost use Rattle.law_rename.specs.Named.{MayPut, NamePut, after_put, before_put, literal_piece, put_bytes};
 ghost use Rattle.law_rename.specs.Put.{NoWordEndsAt};
 ghost use Rattle.law_rename.specs.MayGain.{MayGain, inserted};
@@ -67,5 +67,5 @@ pub fn named_import_is_in_the_file()
     ensures { (path : List ℕ) (p : NamePut) (number : ℕ) (a : AroundImport) → MayPut p →
         slice_get (tokens_in (before_put p)) number ≡ Some (literal_piece p) → kind_of_name p.name ≡ kind.Name →
         IsSourceFile (record { path = path; cut = before_put p; tree = file_with (bare_import number) a }) →
-        IsSourceFile (record { path = path; cut = after_put p; tree = file_with (named_import number) (around_by (from_on number) a) }) }
+        IsSourceFile (record { path = path; cut = after_put p; tree = file_with (import_with_name number) (around_by (from_on number) a) }) }
 {}

@@ -10,26 +10,26 @@ ghost use Rattle.go_ast.specs.WellFormed.{IsTreeOf};
 ghost use Rattle.law_rename.specs.Renaming.{HasNoConflict, Renames};
 ghost use Rattle.law_rename.specs.Around.{AroundImport, bare_import, file_with, from_on};
 ghost use Rattle.law_rename.specs.Named.{MayPut, NamePut, after_put, before_put, literal_piece};
-ghost use Rattle.law_rename.specs.Gained.{AreLater, Gain, HasGained, file_after, file_before, gain_of, import_site, sites_in, spelled};
+ghost use Rattle.law_rename.specs.Gained.{KeepNames, Gain, HasGained, named_file, bare_file, gain_of, import_site, sites_in, token_bytes};
 ghost use Rattle.law_rename.specs.Gained.{unnamed_site};
 
 /// Where a name and a blank are inserted before a string literal, each old token keeps its bytes at its new index. The new token has the
 /// bytes of the name and the literal's old index; the literal comes next.
 pub fn named_text_is_spelled()
     ensures kept { (p : NamePut) (number : ℕ) → MayPut p → slice_get (tokens_in (before_put p)) number ≡ Some (literal_piece p) →
-        (n : ℕ) → spelled (after_put p) (from_on number n) ≡ spelled (before_put p) n }
+        (n : ℕ) → token_bytes (after_put p) (from_on number n) ≡ token_bytes (before_put p) n }
     ensures name { (p : NamePut) (number : ℕ) → MayPut p → slice_get (tokens_in (before_put p)) number ≡ Some (literal_piece p) →
-        spelled (after_put p) number ≡ p.name }
+        token_bytes (after_put p) number ≡ p.name }
     ensures path { (p : NamePut) (number : ℕ) → MayPut p → slice_get (tokens_in (before_put p)) number ≡ Some (literal_piece p) →
-        spelled (after_put p) (number + 1) ≡ p.literal }
+        token_bytes (after_put p) (number + 1) ≡ p.literal }
 {}
 
 /// The identifiers of the file stay, with token indices from the literal's on greater by one. In place of the literal's identifier, which
 /// declared nothing, there are two: the name, declared in the file block, and the literal.
 pub fn named_import_is_among_the_identifiers()
     ensures { (rank number : ℕ) (p : NamePut) (a : AroundImport) → MayPut p → slice_get (tokens_in (before_put p)) number ≡ Some (literal_piece p) →
-        (at : ℕ) × HasGained (gain_of rank number p) (unnamed_site (gain_of rank number p)) at (sites_in rank (file_before number a p))
-        (sites_in rank (file_after number a p)) }
+        (at : ℕ) × HasGained (gain_of rank number p) (unnamed_site (gain_of rank number p)) at (sites_in rank (bare_file number a p))
+        (sites_in rank (named_file number a p)) }
 {}
 
 /// The law `named_import_is_among_the_identifiers` for the package: the identifiers of its other files, and the predeclared ones, stay as
@@ -38,18 +38,18 @@ pub fn named_import_is_in_the_package()
     ensures { (p : NamePut) (number : ℕ) (a : AroundImport) (first rest : List SpelledFile) → MayPut p →
         slice_get (tokens_in (before_put p)) number ≡ Some (literal_piece p) → IsTreeOf (file_with (bare_import number) a) (kinds_of (before_put p)) →
         let i = gain_of (length first) number p in
-        (at : ℕ) × HasGained i (unnamed_site i) at (package_sites (first ++ file_before number a p ∷ rest))
-        (package_sites (first ++ file_after number a p ∷ rest)) }
+        (at : ℕ) × HasGained i (unnamed_site i) at (package_sites (first ++ bare_file number a p ∷ rest))
+        (package_sites (first ++ named_file number a p ∷ rest)) }
 {}
 
 /// An import without a name declares the name of its package at its string literal, if that name is known. With a name of its own it
 /// declares that one instead, at the name's token. All other identifiers stay, moved.
 pub fn declaration_moves_to_the_name()
     ensures known { (i : Gain) (at : ℕ) (old new : List Site) (names later : ℕ → Option (List ℕ)) (called : List ℕ) →
-        HasGained i (unnamed_site i) at old new → AreLater at old names later → names at ≡ Some called →
+        HasGained i (unnamed_site i) at old new → KeepNames at old names later → names at ≡ Some called →
         HasGained i (import_site i called) at (named_sites names old) (named_sites later new) }
     ensures unknown { (i : Gain) (at : ℕ) (old new : List Site) (names later : ℕ → Option (List ℕ)) →
-        HasGained i (unnamed_site i) at old new → AreLater at old names later → names at ≡ None →
+        HasGained i (unnamed_site i) at old new → KeepNames at old names later → names at ≡ None →
         HasGained i (unnamed_site i) at (named_sites names old) (named_sites later new) }
 {}
 

@@ -11,7 +11,7 @@ ghost use Rattle.law_rename.specs.Literals.{piece_at, shifted};
 ghost use Rattle.go_ast.specs.declared.syntax.Kind.TheVariants as kind;
 ghost use Rattle.go_ast.specs.Kinds.{kind_of_name, kinds_of};
 ghost use Rattle.go_ast.specs.WellFormed.{IsTreeOf};
-ghost use Rattle.law_rename.specs.Around.{AroundImport, around_by, bare_import, file_with, from_on, named_import};
+ghost use Rattle.law_rename.specs.Around.{AroundImport, around_by, bare_import, file_with, from_on, import_with_name};
 ghost use Rattle.law_rename.specs.Named.{MayPut, NamePut, after_put, before_put, later, literal_piece, moved_behind, name_piece, name_token};
 ghost use Rattle.law_rename.specs.Named.{with_one_at};
 ghost use Rattle.law_rename.specs.Put.{NoWordEndsAt, name_and_blank};
@@ -56,5 +56,5 @@ pub fn named_text_gains_a_kind()
 pub fn named_import_is_in_the_tree()
     ensures { (p : NamePut) (number : ℕ) (a : AroundImport) → MayPut p → slice_get (tokens_in (before_put p)) number ≡ Some (literal_piece p) →
         kind_of_name p.name ≡ kind.Name → IsTreeOf (file_with (bare_import number) a) (kinds_of (before_put p)) →
-        IsTreeOf (file_with (named_import number) (around_by (from_on number) a)) (kinds_of (after_put p)) }
+        IsTreeOf (file_with (import_with_name number) (around_by (from_on number) a)) (kinds_of (after_put p)) }
 {}

@@ -4,7 +4,7 @@ ghost use Rattle.go_scope.specs.Bindings.{Layout, Names, Declares, AllCount, IsU
 ghost use Rattle.types_declared.specs.Laid.{is_exported};
 ghost use Rattle.law_rename.specs.Renaming.{Renames, KeepsBindings, KeepsOtherBindings, HasSameBindings, IsLost, IsCaptured, IsBoundAnew};
 ghost use Rattle.law_rename.specs.Renaming.{WouldAssign, WouldCapture, WouldLose, WouldBind, HasNoConflict, HasNoConflictAt, AreImportsUsed, AreUsesBound};
-ghost use Rattle.law_rename.specs.Seen.{IsSeenAs};
+ghost use Rattle.law_rename.specs.Seen.{IsExportedAs};
 
 /// Each bound identifier stays bound to its declaration exactly if the old names show no conflict.
 pub fn bindings_are_kept_without_conflicts()
@@ -32,7 +32,7 @@ pub fn bindings_are_the_same_where_uses_are_bound()
 {}
 
 /// The old names alone decide which identifiers a rename captures, loses and binds anew.
-pub fn conflicts_are_told_by_old_names()
+pub fn old_names_decide_conflicts()
     ensures captured { (l : Layout) → (before : Names) → (d : ℕ) → (y : List ℕ) → (after : Names) → Renames l before d y after →
         (u c : ℕ) → IsCaptured l before after u c ↔ WouldCapture l before d y u c }
     ensures lost { (l : Layout) → (before : Names) → (d : ℕ) → (y : List ℕ) → (after : Names) → Renames l before d y after →
@@ -82,15 +82,15 @@ pub fn a_rename_can_be_renamed_back()
 /// The export of a renamed package-level declaration, where bindings are kept. Other packages see it under the new name as they saw it
 /// under the old one exactly if both names are exported or neither is. They saw nothing under the new name, and see nothing under the old
 /// one. Under all other names they see what they saw.
-pub fn what_is_seen_follows_the_name()
+pub fn exports_follow_the_name()
     ensures renamed { (l : Layout) → (before : Names) → (d : ℕ) → (y : List ℕ) → (after : Names) → Renames l before d y after →
         KeepsBindings l before after → IsPackageLevel l d →
-        ((e : ℕ) → IsSeenAs l before (before d) e ↔ IsSeenAs l after y e) ↔ (is_exported (before d) ≡ is_exported y) }
+        ((e : ℕ) → IsExportedAs l before (before d) e ↔ IsExportedAs l after y e) ↔ (is_exported (before d) ≡ is_exported y) }
     ensures new_was_free { (l : Layout) → (before : Names) → (d : ℕ) → (y : List ℕ) → (after : Names) → Renames l before d y after →
-        KeepsBindings l before after → IsPackageLevel l d → (e : ℕ) → IsSeenAs l before y e → ⊥ }
+        KeepsBindings l before after → IsPackageLevel l d → (e : ℕ) → IsExportedAs l before y e → ⊥ }
     ensures old_is_free { (l : Layout) → (before : Names) → (d : ℕ) → (y : List ℕ) → (after : Names) → Renames l before d y after →
-        KeepsBindings l before after → IsPackageLevel l d → (e : ℕ) → IsSeenAs l after (before d) e → ⊥ }
+        KeepsBindings l before after → IsPackageLevel l d → (e : ℕ) → IsExportedAs l after (before d) e → ⊥ }
     ensures others { (l : Layout) → (before : Names) → (d : ℕ) → (y : List ℕ) → (after : Names) → Renames l before d y after →
         KeepsBindings l before after → (name : List ℕ) → (name ≡ before d → ⊥) → (name ≡ y → ⊥) → (e : ℕ) →
-        IsSeenAs l before name e ↔ IsSeenAs l after name e }
+        IsExportedAs l before name e ↔ IsExportedAs l after name e }
 {}

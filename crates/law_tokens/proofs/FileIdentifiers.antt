@@ -7,7 +7,7 @@ use Rattle.go_ast.specs.Flatten.{flatten}
 use Rattle.go_scope.specs.declared.model.Role.{Role}
 use Rattle.go_scope.specs.Bindings.{is_implied}
 use Rattle.go_scope.specs.FileSites.{SpelledFile, file_sites, files_sites}
-use Rattle.go_scope.specs.Site.{Site, Source, found_site}
+use Rattle.go_scope.specs.Site.{Site, Source, or_blank}
 use Rattle.law_tokens.specs.Tokens.{identifiers_among}
 use Rattle.law_tokens.proofs.Covering.{Pairs, file_pairs}
 use Rattle.law_tokens.proofs.Elements.{all_append}
@@ -37,7 +37,7 @@ paired_files s (x ∷ xs) (t ∷ ts) p = (ap (λ (y : Site). y.place.file) p.1, 
 -- by their numbers
 
 abbrev pub role_in : List Site → ℕ → Role
-role_in xs u = (found_site (slice_get xs u)).role
+role_in xs u = (or_blank (slice_get xs u)).role
 
 pub identifier_in : (xs : List Site) → AreIdentifiers xs → (u : ℕ) → is_implied (role_in xs u) ≡ false
 identifier_in [] h u = refl

@@ -22,16 +22,16 @@ use Rattle.go_ast.specs.Kinds.{kinds_from, kinds_of}
 use Rattle.go_ast.specs.SourceFile.{SourceFile, FileParts, IsSourceFile, source_of, spelling_at, offset_at}
 use Rattle.go_scope.specs.declared.model.Position.{Position}
 use Rattle.go_scope.specs.Bindings.{Layout}
-use Rattle.go_scope.specs.Parsed.{spelled_file}
-use Rattle.go_scope.specs.Named.{named}
-use Rattle.go_scope.specs.Scoped.{ScopedPackage, scoped, layout_in, IsPlaceOf, BeginsAt}
+use Rattle.go_scope.specs.SpelledFiles.{spelled_file}
+use Rattle.go_scope.specs.Named.{with_names}
+use Rattle.go_scope.specs.Packages.{ScopedPackage, scoped, layout_in, IsPlaceOf, IsAtPlace}
 use Rattle.go_scope.specs.Trees.{AreNumbered, IsNumbered}
 use Rattle.go_scope.proofs.Declared.{file_numbered, no_numbers}
 use Rattle.go_scope.proofs.NamedSites.{place_stays}
 use Rattle.law_tokens.specs.Order.{StandInOrder}
-use Rattle.law_tokens.specs.Tokens.{is_name, is_header_name, begins_declaration, names_among, identifiers_among}
+use Rattle.law_tokens.specs.Tokens.{is_ident, is_header_name, begins_declaration, names_among, identifiers_among}
 use Rattle.law_tokens.specs.Covered.{AreSourceFiles}
-use Rattle.law_tokens.specs.Bytes.{TokenHolds, HoldsByte, AreCut, HaveOwnPaths}
+use Rattle.law_tokens.specs.Bytes.{TokenCovers, CoversByte, AreCut, HaveOwnPaths}
 use Rattle.law_tokens.proofs.Ordered.{package_ordered, one_stands, same_length}
 use Rattle.law_tokens.proofs.Places.{Marks, marked, one_has_place, plainly_stands}
 
@@ -83,14 +83,14 @@ record HeldIn (o : Option SourceFile) (token : ℕ) (path : List ℕ) (offset : 
   of_path : file.path ≡ path
   held : Held (slice_get (tokens_in file.cut) token) offset
 
-held_in : (o : Option SourceFile) (token : ℕ) (path : List ℕ) (offset : ℕ) → TokenHolds o token path offset → HeldIn o token path offset
+held_in : (o : Option SourceFile) (token : ℕ) (path : List ℕ) (offset : ℕ) → TokenCovers o token path offset → HeldIn o token path offset
 held_in None token path offset h = absurd h
 held_in (Some f) token path offset h =
     record { file = f; is = refl; of_path = h.0; held = held_by f.cut.text (slice_get (tokens_in f.cut) token) offset h.1 h.2 }
 
 pub one_holds : (files : List SourceFile) → AreCut files → HaveOwnPaths files → (l : Layout) (size : ℕ) → StandInOrder l size →
     (path : List ℕ) (offset u v : ℕ) → u < size → v < size →
-    HoldsByte files l path offset u → HoldsByte files l path offset v → u ≡ v
+    CoversByte files l path offset u → CoversByte files l path offset v → u ≡ v
 one_holds files cut own l size ordered path offset u v lu lv h k =
     let a = held_in (slice_get files (l.place u).file) (l.place u).index path offset h.1 in
     let b = held_in (slice_get files (l.place v).file) (l.place v).index path offset k.1 in
@@ -134,7 +134,7 @@ kept_mark false i t ts us f h = inr (f h)
 
 names_mark : (i : ℕ) (ts : List Token) → Marks i (names_among ts) → Marks i ts
 names_mark i [] h = h
-names_mark i (t ∷ ts) h = kept_mark (is_name t.kind) i t ts (names_among ts) (names_mark i ts) h
+names_mark i (t ∷ ts) h = kept_mark (is_ident t.kind) i t ts (names_among ts) (names_mark i ts) h
 
 identifiers_mark : (i : ℕ) (ts : List Token) → Marks i (identifiers_among ts) → Marks i ts
 unfolding identifiers_among
@@ -177,7 +177,7 @@ begun_by files at f p path offset is at_token h =
     record { file = f; is = is; of_path = place.0; piece = p; is_piece = at_token; begins = sym (ap (offset_at f.cut.text) at_token) ∙ place.1 }
 
 begun : (files : List FileParts) → AreSourceFiles files → (path : List ℕ) (offset u : ℕ) → u < length (scoped files).sites →
-    BeginsAt (scoped files) path offset u →
+    IsAtPlace (scoped files) path offset u →
     Begun files ((layout_in (scoped files)).place u) path offset
 begun files w path offset u lt h =
     let at = (layout_in (scoped files)).place u in
@@ -210,7 +210,7 @@ cut_at files w i f at = (source_file_at files w i f at).is_cut
 
 pub one_begins : (files : List FileParts) → AreSourceFiles files → HaveOwnPaths (map source_of files) → (path : List ℕ) (offset u v : ℕ) →
     u < length (scoped files).sites → v < length (scoped files).sites →
-    BeginsAt (scoped files) path offset u → BeginsAt (scoped files) path offset v → u ≡ v
+    IsAtPlace (scoped files) path offset u → IsAtPlace (scoped files) path offset v → u ≡ v
 one_begins files w own path offset u v lu lv h k =
     let l = layout_in (scoped files) in
     let a = begun files w path offset u lu h in
@@ -230,17 +230,17 @@ one_begins files w own path offset u v lu lv h k =
 
 -- where imports without a name declare, identifiers begin where they did
 
-plainly_begins : (names : ℕ → Option (List ℕ)) (p : ScopedPackage) (path : List ℕ) (offset u : ℕ) → BeginsAt (named names p) path offset u →
-    BeginsAt p path offset u
+plainly_begins : (names : ℕ → Option (List ℕ)) (p : ScopedPackage) (path : List ℕ) (offset u : ℕ) → IsAtPlace (with_names names p) path offset u →
+    IsAtPlace p path offset u
 plainly_begins names p path offset u h = (
-  (plainly_stands names p ((layout_in (named names p)).place u) u (h.0, refl, refl)).0,
+  (plainly_stands names p ((layout_in (with_names names p)).place u) u (h.0, refl, refl)).0,
   subst (λ (a : Position). IsPlaceOf (slice_get p.files a.file) a.index path offset) (place_stays names p.sites u) h.1,
 )
 
 pub one_named_begins : (names : ℕ → Option (List ℕ)) (files : List FileParts) → AreSourceFiles files → HaveOwnPaths (map source_of files) →
     (path : List ℕ) (offset u v : ℕ) →
-    u < length (named names (scoped files)).sites → v < length (named names (scoped files)).sites →
-    BeginsAt (named names (scoped files)) path offset u → BeginsAt (named names (scoped files)) path offset v → u ≡ v
+    u < length (with_names names (scoped files)).sites → v < length (with_names names (scoped files)).sites →
+    IsAtPlace (with_names names (scoped files)) path offset u → IsAtPlace (with_names names (scoped files)) path offset v → u ≡ v
 one_named_begins names files w own path offset u v lu lv h k =
     let size = same_length names (scoped files).sites in
     one_begins files w own path offset u v (subst (λ n. u < n) size lu) (subst (λ n. v < n) size lv) (plainly_begins names (scoped files) path offset u h)

@@ -16,13 +16,13 @@ use Rattle.go_scope.specs.StatementSites.{separated_sites, group_sites, open_of,
 use Rattle.go_scope.specs.FileSites.{global_name, member_name, spec_sites, field_sites, body_sites, type_spec_sites, receiver_sites, param_sites}
 use Rattle.go_scope.specs.FileSites.{result_sites, func_block, func_role, func_sites, imports_sites, decl_sites, file_sites, files_sites, universe}
 use Rattle.go_scope.specs.FileSites.{universe_site, package_sites}
-use Rattle.go_scope.specs.Named.{named}
-use Rattle.go_scope.specs.Parsed.{spelled_file}
-use Rattle.go_scope.specs.Scoped.{scoped, layout_in}
-use Rattle.go_scope.specs.Site.{Site, Source, site, found_site, sites_layout}
-use Rattle.go_scope.specs.Table.{StandsAt}
+use Rattle.go_scope.specs.Named.{with_names}
+use Rattle.go_scope.specs.SpelledFiles.{spelled_file}
+use Rattle.go_scope.specs.Packages.{scoped, layout_in}
+use Rattle.go_scope.specs.Site.{Site, Source, site, or_blank, sites_layout}
+use Rattle.go_scope.specs.Table.{LiesAt}
 use Rattle.law_tokens.specs.Covered.{AreSourceFiles}
-use Rattle.law_tokens.specs.MemberNames.{in_group, field_names, body_members, method_name, decl_members, member_names}
+use Rattle.law_tokens.specs.MemberNames.{in_group, field_name_tokens, body_members, method_name, decl_members, member_names}
 use Rattle.law_tokens.proofs.HeldBytes.{numbered_files}
 use Rattle.law_tokens.proofs.Ordered.{package_ordered, one_stands, same_length}
 use Rattle.law_tokens.proofs.Places.{plainly_stands}
@@ -72,7 +72,7 @@ names_have : (s : Source) (n : ℕ) (xs : List (Item ℕ)) → IsOne n (map (λ 
 names_have s n [] one = absurd one
 names_have s n (x ∷ xs) one = elim one [ inl e ↦ inl (ap (λ m. site s m (NotLexical purpose.Member)) e) | inr rest ↦ inr (names_have s n xs rest) ]
 
-field_has : (s : Source) (n : ℕ) (f : FieldTree) → IsOne n (field_names f) → Has s n (field_sites s f)
+field_has : (s : Source) (n : ℕ) (f : FieldTree) → IsOne n (field_name_tokens f) → Has s n (field_sites s f)
 unfolding field_sites
 field_has s n f one = has_left s n (list_sites (member_name s) f.names) (type_sites s f.type_use) (names_have s n f.names one)
 
@@ -80,7 +80,7 @@ body_has : (s : Source) (n : ℕ) (b : BodyTree) → IsOne n (body_members b) �
 unfolding body_sites
 body_has s n (Other t) one = absurd one
 body_has s n (Struct p o fs c) one =
-    has_all s n (λ (i : Item FieldTree). field_sites s i.value) (λ (i : Item FieldTree). field_names i.value) (λ i. field_has s n i.value) fs one
+    has_all s n (λ (i : Item FieldTree). field_sites s i.value) (λ (i : Item FieldTree). field_name_tokens i.value) (λ i. field_has s n i.value) fs one
 
 type_spec_has : (s : Source) (n : ℕ) (t : TypeSpecTree) → IsOne n (body_members t.body) → Has s n (type_spec_sites s t)
 unfolding type_spec_sites
@@ -138,13 +138,13 @@ files_have rank (g ∷ gs) (suc k) j n f is at h =
     (files_have (suc rank) gs k j n f is (omega arith) h)
 
 number_of : (s : Source) (n : ℕ) (xs : List Site) → Has s n xs → (u : ℕ) ×
-    ((u < length xs) × (found_site (slice_get xs u) ≡ site s n (NotLexical purpose.Member)))
+    ((u < length xs) × (or_blank (slice_get xs u) ≡ site s n (NotLexical purpose.Member)))
 number_of s n [] h = absurd h
 number_of s n (x ∷ xs) h = elim h [ inl e ↦ (zero, (omega arith, e)) | inr rest ↦ (let r = number_of s n xs rest in (suc r.0, (omega (arith, r.1.0), r.1.1))) ]
 
 pub member_stands : (files : List FileParts) → AreSourceFiles files → (at : Position) (f : FileParts) → slice_get files at.file ≡ Some f →
     Contains (member_names (file_view f.file)) at.index → (u : ℕ) →
-    u < length (scoped files).sites → StandsAt (layout_in (scoped files)) at u → (layout_in (scoped files)).role u ≡ NotLexical purpose.Member
+    u < length (scoped files).sites → LiesAt (layout_in (scoped files)) at u → (layout_in (scoped files)).role u ≡ NotLexical purpose.Member
 unfolding package_sites
 member_stands files w at f is one u lt h =
     let s = source_at at.file f in
@@ -157,16 +157,16 @@ member_stands files w at f is one u lt h =
     let v = number_of s at.index all has in
     let ordered = package_ordered (map spelled_file files) (numbered_files files w) in
     let place = ap (λ (x : Site). x.place) v.1.1 in
-    let there : StandsAt (sites_layout all) at v.0 =
+    let there : LiesAt (sites_layout all) at v.0 =
     (ap (λ (x : Site). is_implied x.role) v.1.1, ap (λ (a : Position). a.file) place, ap (λ (a : Position). a.index) place) in
     let same : u ≡ v.0 = one_stands (sites_layout all) (length all) ordered at u v.0 lt v.1.0 h there in
-    ap (λ k. (found_site (slice_get all k)).role) same ∙ ap (λ (x : Site). x.role) v.1.1
+    ap (λ k. (or_blank (slice_get all k)).role) same ∙ ap (λ (x : Site). x.role) v.1.1
 
 pub named_member_stands : (names : ℕ → Option (List ℕ)) (files : List FileParts) → AreSourceFiles files → (at : Position) (f : FileParts) →
     slice_get files at.file ≡ Some f →
-    Contains (member_names (file_view f.file)) at.index → (u : ℕ) → u < length (named names (scoped files)).sites →
-    StandsAt (layout_in (named names (scoped files))) at u →
-    (layout_in (named names (scoped files))).role u ≡ NotLexical purpose.Member
+    Contains (member_names (file_view f.file)) at.index → (u : ℕ) → u < length (with_names names (scoped files)).sites →
+    LiesAt (layout_in (with_names names (scoped files))) at u →
+    (layout_in (with_names names (scoped files))).role u ≡ NotLexical purpose.Member
 named_member_stands names files w at f is one u lt h =
     (role_keeps purpose.Member refl names (scoped files).sites u).1
     (member_stands files w at f is one u (subst (λ n. u < n) (same_length names (scoped files).sites) lt) (plainly_stands names (scoped files) at u h))

@@ -11,14 +11,14 @@ use Rattle.go_scope.specs.declared.model.Role.{Role}
 use Rattle.go_scope.specs.declared.model.Role.TheVariants.{Use, Declaring, LeftName, Implied, NotLexical}
 use Rattle.go_scope.specs.Bindings.{Layout, is_implied}
 use Rattle.go_scope.specs.FileSites.{SpelledFile, file_sites, files_sites, universe, universe_site, package_sites}
-use Rattle.go_scope.specs.Named.{is_unnamed_import, named_where, named_sites, named}
-use Rattle.go_scope.specs.Scoped.{ScopedPackage, layout_in}
-use Rattle.go_scope.specs.Site.{Site, Source, found_site, sites_layout}
-use Rattle.go_scope.specs.Table.{StandsAt}
+use Rattle.go_scope.specs.Named.{is_unnamed_import, named_where, named_sites, with_names}
+use Rattle.go_scope.specs.Packages.{ScopedPackage, layout_in}
+use Rattle.go_scope.specs.Site.{Site, Source, or_blank, sites_layout}
+use Rattle.go_scope.specs.Table.{LiesAt}
 use Rattle.go_scope.specs.Trees.{AreRising, IsNumbered, AreNumbered}
 use Rattle.go_scope.proofs.NamedSites.{place_stays}
 use Rattle.law_tokens.specs.Order.{ComesBefore, StandInOrder}
-use Rattle.law_tokens.specs.Tokens.{is_name, is_header_name, begins_declaration, names_among, identifiers_among}
+use Rattle.law_tokens.specs.Tokens.{is_ident, is_header_name, begins_declaration, names_among, identifiers_among}
 use Rattle.law_tokens.proofs.Covering.{Pairs, file_pairs}
 
 -- identifiers of one file, each behind the one before, the first at that token or behind it
@@ -42,7 +42,7 @@ rising_kept false n t ts le h = rising_from n (suc t.place) ts (omega arith) h
 
 pub rising_names : (n : ℕ) (ts : List Token) → AreRising n ts → AreRising n (names_among ts)
 rising_names n [] h = tt
-rising_names n (t ∷ ts) h = rising_kept (is_name t.kind) n t (names_among ts) h.0 (rising_names (suc t.place) ts h.1)
+rising_names n (t ∷ ts) h = rising_kept (is_ident t.kind) n t (names_among ts) h.0 (rising_names (suc t.place) ts h.1)
 
 pub rising_identifiers : (n : ℕ) (ts : List Token) → AreRising n ts → AreRising n (identifiers_among ts)
 unfolding identifiers_among
@@ -131,13 +131,13 @@ names_first (n ∷ names) ys h = ((λ i. absurd (true≢false i)), names_first n
 
 -- by numbers
 
-behind_at : (a : Position) (xs : List Site) (v : ℕ) → v < length xs → AllBehind a xs → ComesBefore a (found_site (slice_get xs v)).place
+behind_at : (a : Position) (xs : List Site) (v : ℕ) → v < length xs → AllBehind a xs → ComesBefore a (or_blank (slice_get xs v)).place
 behind_at a [] v lt h = absurd (omega arith)
 behind_at a (x ∷ xs) zero lt h = h.0
 behind_at a (x ∷ xs) (suc v) lt h = behind_at a xs v (omega arith) h.1
 
-before_at : (xs : List Site) (u v : ℕ) → u < v → v < length xs → is_implied (found_site (slice_get xs u)).role ≡ false → InOrder xs →
-    ComesBefore (found_site (slice_get xs u)).place (found_site (slice_get xs v)).place
+before_at : (xs : List Site) (u v : ℕ) → u < v → v < length xs → is_implied (or_blank (slice_get xs u)).role ≡ false → InOrder xs →
+    ComesBefore (or_blank (slice_get xs u)).place (or_blank (slice_get xs v)).place
 before_at [] u v less lt i h = absurd (omega arith)
 before_at (x ∷ xs) u zero less lt i h = absurd (omega arith)
 before_at (x ∷ xs) zero (suc v) less lt i h = behind_at x.place xs v (omega arith) (h.0 i)
@@ -164,7 +164,7 @@ site_stays false name x e = refl
 
 -- what is an identifier stays one
 pub identifier_stays : (names : ℕ → Option (List ℕ)) (xs : List Site) (u : ℕ) →
-    is_implied (found_site (slice_get (named_sites names xs) u)).role ≡ is_implied (found_site (slice_get xs u)).role
+    is_implied (or_blank (slice_get (named_sites names xs) u)).role ≡ is_implied (or_blank (slice_get xs u)).role
 unfolding named_sites
 identifier_stays names [] u = refl
 identifier_stays names (x ∷ xs) zero = site_stays (is_unnamed_import x.role) (names 0) x refl
@@ -177,12 +177,12 @@ same_length names (x ∷ xs) =
     let h : length (named_sites (λ k. names (suc k)) xs) ≡ length xs = same_length (λ k. names (suc k)) xs in omega arith
 
 pub named_ordered : (names : ℕ → Option (List ℕ)) (p : ScopedPackage) → StandInOrder (layout_in p) (length p.sites) →
-    StandInOrder (layout_in (named names p)) (length (named names p).sites)
+    StandInOrder (layout_in (with_names names p)) (length (with_names names p).sites)
 named_ordered names p h = λ u v less lt i j.
     let plain = h u v less (subst (λ n. v < n) (same_length names p.sites) lt) (sym (identifier_stays names p.sites u) ∙ i)
     (sym (identifier_stays names p.sites v) ∙ j) in
-    subst (λ a. ComesBefore a (found_site (slice_get (named_sites names p.sites) v)).place) (sym (place_stays names p.sites u))
-    (subst (λ b. ComesBefore (found_site (slice_get p.sites u)).place b) (sym (place_stays names p.sites v)) plain)
+    subst (λ a. ComesBefore a (or_blank (slice_get (named_sites names p.sites) v)).place) (sym (place_stays names p.sites u))
+    (subst (λ b. ComesBefore (or_blank (slice_get p.sites u)).place b) (sym (place_stays names p.sites v)) plain)
 
 -- one at most stands at a token
 
@@ -194,7 +194,7 @@ not_before a b at h k before =
     let ib : b.index ≡ at.index = k.1 in
     elim before [ inl lt ↦ omega arith | inr e ↦ let lt : a.index < b.index = e.1 in omega arith ]
 
-pub one_stands : (l : Layout) (size : ℕ) → StandInOrder l size → (at : Position) (u v : ℕ) → u < size → v < size → StandsAt l at u → StandsAt l at v → u ≡ v
+pub one_stands : (l : Layout) (size : ℕ) → StandInOrder l size → (at : Position) (u v : ℕ) → u < size → v < size → LiesAt l at u → LiesAt l at v → u ≡ v
 one_stands l size ordered at u v lu lv h k = elim (cases_lt u v) [
   | inl less ↦ absurd (not_before (l.place u) (l.place v) at (h.1, h.2) (k.1, k.2) (ordered u v less lv h.0 k.0))
   | inr ge ↦ elim (cases_lt v u) [

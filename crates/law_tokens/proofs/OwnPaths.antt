@@ -18,13 +18,13 @@ use Rattle.base_files.specs.Packages.{is_of_package, package_files}
 use Rattle.base_files.specs.Workspace.{Workspace, path_cmp}
 use Rattle.go_scanner.specs.Cuts.{IsCut}
 use Rattle.go_ast.specs.SourceFile.{SourceFile, FileParts, IsSourceFile, source_of}
-use Rattle.go_scope.specs.Parsed.{spelled_file}
-use Rattle.go_scope.specs.Named.{named}
-use Rattle.go_scope.specs.Scoped.{scoped, layout_in}
+use Rattle.go_scope.specs.SpelledFiles.{spelled_file}
+use Rattle.go_scope.specs.Named.{with_names}
+use Rattle.go_scope.specs.Packages.{scoped, layout_in}
 use Rattle.workspace_graph.specs.Parsed.{AreParsed, none, tree}
 use Rattle.law_tokens.specs.Order.{StandInOrder}
 use Rattle.law_tokens.specs.Covered.{AreSourceFiles}
-use Rattle.law_tokens.specs.Bytes.{HoldsByte, AreCut, HaveOwnPaths}
+use Rattle.law_tokens.specs.Bytes.{CoversByte, AreCut, HaveOwnPaths}
 use Rattle.law_tokens.proofs.HeldBytes.{less_differs, one_index, cut_at, numbered_files, one_holds}
 use Rattle.law_tokens.proofs.Ordered.{package_ordered, named_ordered}
 
@@ -95,12 +95,12 @@ files_cut ts w = λ i s at. let t = part_at ts i s at in subst (λ (x : SourceFi
 
 pub package_byte : (w : Workspace) (path : List ℕ) (ts : List FileParts) → AreParsed (package_files w path) ts [] → (names : ℕ → Option (List ℕ)) →
     (file : List ℕ) (offset u v : ℕ) →
-    u < length (named names (scoped ts)).sites → v < length (named names (scoped ts)).sites →
-    HoldsByte (map source_of ts) (layout_in (named names (scoped ts))) file offset u →
-    HoldsByte (map source_of ts) (layout_in (named names (scoped ts))) file offset v → u ≡ v
+    u < length (with_names names (scoped ts)).sites → v < length (with_names names (scoped ts)).sites →
+    CoversByte (map source_of ts) (layout_in (with_names names (scoped ts))) file offset u →
+    CoversByte (map source_of ts) (layout_in (with_names names (scoped ts))) file offset v → u ≡ v
 package_byte w path ts parsed names file offset u v lu lv h k =
     let sources = source_files parsed in
     let plain : StandInOrder (layout_in (scoped ts)) (length (scoped ts).sites) = package_ordered (map spelled_file ts) (numbered_files ts sources) in
-    one_holds (map source_of ts) (files_cut ts sources) (own_paths w path ts parsed) (layout_in (named names (scoped ts)))
-    (length (named names (scoped ts)).sites)
+    one_holds (map source_of ts) (files_cut ts sources) (own_paths w path ts parsed) (layout_in (with_names names (scoped ts)))
+    (length (with_names names (scoped ts)).sites)
     (named_ordered names (scoped ts) plain) file offset u v lu lv h k

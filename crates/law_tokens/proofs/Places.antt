@@ -11,14 +11,14 @@ use Rattle.go_ast.specs.SourceFile.{FileParts, IsSourceFile, source_of, spelling
 use Rattle.go_scope.specs.declared.model.Position.{Position}
 use Rattle.go_scope.specs.Bindings.{is_implied}
 use Rattle.go_scope.specs.FileSites.{file_sites, files_sites, universe, universe_site, package_sites}
-use Rattle.go_scope.specs.Named.{named}
-use Rattle.go_scope.specs.Parsed.{spelled_file}
-use Rattle.go_scope.specs.Scoped.{ScopedPackage, scoped, layout_in}
+use Rattle.go_scope.specs.Named.{with_names}
+use Rattle.go_scope.specs.SpelledFiles.{spelled_file}
+use Rattle.go_scope.specs.Packages.{ScopedPackage, scoped, layout_in}
 use Rattle.go_scope.specs.Site.{Site, Source, sites_layout}
-use Rattle.go_scope.specs.Table.{StandsAt}
+use Rattle.go_scope.specs.Table.{LiesAt}
 use Rattle.go_scope.proofs.NamedSites.{place_stays}
 use Rattle.law_tokens.specs.Tokens.{identifiers_among}
-use Rattle.law_tokens.specs.Covered.{IsPlaceOfOne, HasOneAt, AreSourceFiles}
+use Rattle.law_tokens.specs.Covered.{IsIdentifierPlace, HasIdentifierAt, AreSourceFiles}
 use Rattle.law_tokens.proofs.Covering.{Pairs, file_pairs}
 use Rattle.law_tokens.proofs.Ordered.{identifier_stays, same_length}
 
@@ -28,7 +28,7 @@ abbrev Stands : Position → List Site → Type 0
 Stands at [] = ⊥
 Stands at (x ∷ xs) = ((is_implied x.role ≡ false) × (x.place.file ≡ at.file) × (x.place.index ≡ at.index)) ⊎ Stands at xs
 
-number_of : (at : Position) (xs : List Site) → Stands at xs → HasOneAt (sites_layout xs) (length xs) at
+number_of : (at : Position) (xs : List Site) → Stands at xs → HasIdentifierAt (sites_layout xs) (length xs) at
 number_of at [] h = absurd h
 number_of at (x ∷ xs) h = elim h [
   | inl here ↦ (zero, (omega arith, here))
@@ -36,7 +36,7 @@ number_of at (x ∷ xs) h = elim h [
       (let n = number_of at xs rest in (suc n.0, (omega (arith, n.1.0), n.1.1)))
 ]
 
-numbered : (at : Position) (xs : List Site) (u : ℕ) → u < length xs → StandsAt (sites_layout xs) at u → Stands at xs
+numbered : (at : Position) (xs : List Site) (u : ℕ) → u < length xs → LiesAt (sites_layout xs) at u → Stands at xs
 numbered at [] u lt h = absurd (omega arith)
 numbered at (x ∷ xs) zero lt h = inl h
 numbered at (x ∷ xs) (suc u) lt h = inr (numbered at xs u (omega arith) h)
@@ -155,8 +155,8 @@ ranked rank (g ∷ gs) zero f at is e h =
     inl ((omega arith), subst (λ (x : FileParts). Marks at.index (identifiers_among (kinds_of x.cut))) (sym (same_Some g f is)) h)
 ranked rank (g ∷ gs) (suc k) f at is e h = inr (ranked (suc rank) gs k f at is (omega arith) h)
 
-pub place_has_one : (files : List FileParts) → AreSourceFiles files → (at : Position) → IsPlaceOfOne files at →
-    HasOneAt (layout_in (scoped files)) (length (scoped files).sites) at
+pub place_has_one : (files : List FileParts) → AreSourceFiles files → (at : Position) → IsIdentifierPlace files at →
+    HasIdentifierAt (layout_in (scoped files)) (length (scoped files).sites) at
 unfolding package_sites
 place_has_one files w at h =
     let token = h.is_identifier in
@@ -166,7 +166,7 @@ place_has_one files w at h =
     number_of at (map universe_site universe ++ files_sites 0 (map spelled_file files))
     (stands_right at (map universe_site universe) (files_sites 0 (map spelled_file files)) (files_stand 0 files w at among))
 
-place_by_marks : (files : List FileParts) (at : Position) → MarksIn 0 files at → IsPlaceOfOne files at
+place_by_marks : (files : List FileParts) (at : Position) → MarksIn 0 files at → IsIdentifierPlace files at
 place_by_marks files at among =
     let r = rank_of 0 files at among in
     let same : r.0 ≡ at.file = (let e : 0 + r.0 ≡ at.file = r.1.1.0 in omega arith) in
@@ -180,7 +180,7 @@ place_by_marks files at among =
     }
 
 pub one_has_place : (files : List FileParts) → AreSourceFiles files → (at : Position) →
-    HasOneAt (layout_in (scoped files)) (length (scoped files).sites) at → IsPlaceOfOne files at
+    HasIdentifierAt (layout_in (scoped files)) (length (scoped files).sites) at → IsIdentifierPlace files at
 unfolding package_sites
 one_has_place files w at h =
     let others = files_sites 0 (map spelled_file files) in
@@ -191,20 +191,20 @@ one_has_place files w at h =
 
 -- where imports without a name declare, identifiers stand where they did
 
-pub named_stands : (names : ℕ → Option (List ℕ)) (p : ScopedPackage) (at : Position) (u : ℕ) → StandsAt (layout_in p) at u →
-    StandsAt (layout_in (named names p)) at u
+pub named_stands : (names : ℕ → Option (List ℕ)) (p : ScopedPackage) (at : Position) (u : ℕ) → LiesAt (layout_in p) at u →
+    LiesAt (layout_in (with_names names p)) at u
 named_stands names p at u h =
     let place = place_stays names p.sites u in
     (identifier_stays names p.sites u ∙ h.0, ap (λ (a : Position). a.file) place ∙ h.1, ap (λ (a : Position). a.index) place ∙ h.2)
 
-pub plainly_stands : (names : ℕ → Option (List ℕ)) (p : ScopedPackage) (at : Position) (u : ℕ) → StandsAt (layout_in (named names p)) at u →
-    StandsAt (layout_in p) at u
+pub plainly_stands : (names : ℕ → Option (List ℕ)) (p : ScopedPackage) (at : Position) (u : ℕ) → LiesAt (layout_in (with_names names p)) at u →
+    LiesAt (layout_in p) at u
 plainly_stands names p at u h =
     let place = place_stays names p.sites u in
     (sym (identifier_stays names p.sites u) ∙ h.0, sym (ap (λ (a : Position). a.file) place) ∙ h.1, sym (ap (λ (a : Position). a.index) place) ∙ h.2)
 
 pub named_has_one : (names : ℕ → Option (List ℕ)) (p : ScopedPackage) (at : Position) →
-    HasOneAt (layout_in p) (length p.sites) at ↔ HasOneAt (layout_in (named names p)) (length (named names p).sites) at
+    HasIdentifierAt (layout_in p) (length p.sites) at ↔ HasIdentifierAt (layout_in (with_names names p)) (length (with_names names p).sites) at
 named_has_one names p at = (
   (λ h. (h.0, (subst (λ n. h.0 < n) (sym (same_length names p.sites)) h.1.0, named_stands names p at h.0 h.1.1))),
   (λ h. (h.0, (subst (λ n. h.0 < n) (same_length names p.sites) h.1.0, plainly_stands names p at h.0 h.1.1))),

@@ -22,13 +22,13 @@ use Rattle.go_scope.specs.declared.model.Role.{Role}
 use Rattle.go_scope.specs.declared.model.Role.TheVariants.{Declaring, NotLexical}
 use Rattle.go_scope.specs.Bindings.{IsIdentifier, is_implied}
 use Rattle.go_scope.specs.FileSites.{file_sites, files_sites, universe, universe_site, package_sites}
-use Rattle.go_scope.specs.Named.{is_unnamed_import, named_where, named_sites, named}
-use Rattle.go_scope.specs.Parsed.{spelled_file}
-use Rattle.go_scope.specs.Scoped.{scoped, layout_in}
-use Rattle.go_scope.specs.Site.{Site, Source, found_site}
+use Rattle.go_scope.specs.Named.{is_unnamed_import, named_where, named_sites, with_names}
+use Rattle.go_scope.specs.SpelledFiles.{spelled_file}
+use Rattle.go_scope.specs.Packages.{scoped, layout_in}
+use Rattle.go_scope.specs.Site.{Site, Source, or_blank}
 use Rattle.go_scope.proofs.NamedSites.{place_stays}
 use Rattle.law_tokens.specs.Covered.{AreSourceFiles}
-use Rattle.law_tokens.specs.Roles.{IsOfKind, IsToldByTokens}
+use Rattle.law_tokens.specs.Roles.{IsOfKind, FitsTokens}
 use Rattle.law_tokens.specs.Tokens.{identifiers_among}
 use Rattle.law_tokens.proofs.Covering.{file_pairs}
 use Rattle.law_tokens.proofs.Elements.{all_append}
@@ -69,7 +69,7 @@ of_kind c k i h =
 pub by_kind : (c : CutText) (k : Kind) (i : ℕ) → IsOfKind c i k → HasKind k i (kinds_of c)
 by_kind c k i h = has_kind 0 (kinds_of c) (consecutive 0 c.text (tokens_in c)) k i i (omega arith) h.0 h.1.0 h.1.1
 
-told_by_tokens : (c : CutText) (index : ℕ) (role : Role) → Told (kinds_of c) index role → IsToldByTokens c index role
+told_by_tokens : (c : CutText) (index : ℕ) (role : Role) → Told (kinds_of c) index role → FitsTokens c index role
 told_by_tokens c index role h = record {
   selected = (
     (λ e. let d = h.dotted e in (d.0, (d.1.0, of_kind c kind.Dot d.0 d.1.1))),
@@ -128,28 +128,28 @@ universe_told : (files : List FileParts) (names : List (List ℕ)) → AllByRecu
 universe_told files [] = tt
 universe_told files (n ∷ names) = ((λ i. absurd (true≢false i)), universe_told files names)
 
-at_number : (P : Site → Type 0) (xs : List Site) → AllByRecursion P xs → (u : ℕ) → u < length xs → P (found_site (slice_get xs u))
+at_number : (P : Site → Type 0) (xs : List Site) → AllByRecursion P xs → (u : ℕ) → u < length xs → P (or_blank (slice_get xs u))
 at_number P [] a u lt = absurd (omega arith)
 at_number P (x ∷ xs) a zero lt = a.0
 at_number P (x ∷ xs) a (suc u) lt = at_number P xs a.1 u (omega arith)
 
 by_file : (files : List FileParts) (x : Site) → ToldByFile 0 files x → (f : FileParts) → slice_get files x.place.file ≡ Some f →
-    IsToldByTokens f.cut x.place.index x.role
+    FitsTokens f.cut x.place.index x.role
 by_file files x h f is =
     let rank : h.0 ≡ x.place.file = (let e : 0 + h.0 ≡ x.place.file = h.1.1.0 in omega arith) in
     let same : h.1.0 ≡ f = same_Some h.1.0 f (sym h.1.1.1.0 ∙ ap (slice_get files) rank ∙ is) in
-    subst (λ (g : FileParts). IsToldByTokens g.cut x.place.index x.role) same (told_by_tokens h.1.0.cut x.place.index x.role h.1.1.1.1)
+    subst (λ (g : FileParts). FitsTokens g.cut x.place.index x.role) same (told_by_tokens h.1.0.cut x.place.index x.role h.1.1.1.1)
 
 pub role_told : (files : List FileParts) → AreSourceFiles files → (u : ℕ) → u < length (scoped files).sites → IsIdentifier (layout_in (scoped files)) u →
     (f : FileParts) →
     slice_get files ((layout_in (scoped files)).place u).file ≡ Some f →
-    IsToldByTokens f.cut ((layout_in (scoped files)).place u).index ((layout_in (scoped files)).role u)
+    FitsTokens f.cut ((layout_in (scoped files)).place u).index ((layout_in (scoped files)).role u)
 unfolding package_sites
 role_told files w u lt i f is =
     let own = files_sites 0 (map spelled_file files) in
     let all : AllByRecursion (ToldIfFound files) (map universe_site universe ++ own) =
     all_append (ToldIfFound files) (map universe_site universe) own (universe_told files universe) (found_told files own (files_told 0 files w)) in
-    by_file files (found_site (slice_get (map universe_site universe ++ own) u))
+    by_file files (or_blank (slice_get (map universe_site universe ++ own) u))
     (at_number (ToldIfFound files) (map universe_site universe ++ own) all u lt i) f is
 
 -- where imports without a name declare
@@ -167,7 +167,7 @@ site_keeps p other true None x e = ((λ q. q), (λ q. q))
 site_keeps p other false name x e = ((λ q. q), (λ q. q))
 
 pub role_keeps : (p : Purpose) → is_unnamed_import (NotLexical p) ≡ false → (names : ℕ → Option (List ℕ)) (xs : List Site) (u : ℕ) →
-    ((found_site (slice_get (named_sites names xs) u)).role ≡ NotLexical p) ↔ ((found_site (slice_get xs u)).role ≡ NotLexical p)
+    ((or_blank (slice_get (named_sites names xs) u)).role ≡ NotLexical p) ↔ ((or_blank (slice_get xs u)).role ≡ NotLexical p)
 unfolding named_sites
 role_keeps p other names [] u = ((λ q. q), (λ q. q))
 role_keeps p other names (x ∷ xs) zero = site_keeps p other (is_unnamed_import x.role) (names 0) x refl
@@ -175,22 +175,22 @@ role_keeps p other names (x ∷ xs) (suc u) = role_keeps p other (λ k. names (s
 
 told_keeps : (c : CutText) (index : ℕ) (old new : Role) → (new ≡ NotLexical purpose.Selected) ↔ (old ≡ NotLexical purpose.Selected) →
     (new ≡ NotLexical purpose.Key) ↔ (old ≡ NotLexical purpose.Key) →
-    IsToldByTokens c index old → IsToldByTokens c index new
+    FitsTokens c index old → FitsTokens c index new
 told_keeps c index old new selected key h = record {
   selected = ((λ q. h.selected.0 (selected.0 q)), (λ q. selected.1 (h.selected.1 q)));
   key = ((λ q. h.key.0 (key.0 q)), (λ q. key.1 (h.key.1 q)));
 }
 
-pub named_role_told : (names : ℕ → Option (List ℕ)) (files : List FileParts) → AreSourceFiles files → (u : ℕ) → u < length (named names (scoped files)).sites →
-    IsIdentifier (layout_in (named names (scoped files))) u → (f : FileParts) →
-    slice_get files ((layout_in (named names (scoped files))).place u).file ≡ Some f →
-    IsToldByTokens f.cut ((layout_in (named names (scoped files))).place u).index ((layout_in (named names (scoped files))).role u)
+pub named_role_told : (names : ℕ → Option (List ℕ)) (files : List FileParts) → AreSourceFiles files → (u : ℕ) → u < length (with_names names (scoped files)).sites →
+    IsIdentifier (layout_in (with_names names (scoped files))) u → (f : FileParts) →
+    slice_get files ((layout_in (with_names names (scoped files))).place u).file ≡ Some f →
+    FitsTokens f.cut ((layout_in (with_names names (scoped files))).place u).index ((layout_in (with_names names (scoped files))).role u)
 named_role_told names files w u lt i f is =
     let sites = (scoped files).sites in
     let place = place_stays names sites u in
     let plain = role_told files w u (subst (λ n. u < n) (same_length names sites) lt) (sym (identifier_stays names sites u) ∙ i) f
     (subst (λ (a : Position). slice_get files a.file ≡ Some f) place is) in
-    let there = subst (λ (a : Position). IsToldByTokens f.cut a.index ((layout_in (scoped files)).role u)) (sym place) plain in
-    told_keeps f.cut ((layout_in (named names (scoped files))).place u).index ((layout_in (scoped files)).role u)
-    ((layout_in (named names (scoped files))).role u)
+    let there = subst (λ (a : Position). FitsTokens f.cut a.index ((layout_in (scoped files)).role u)) (sym place) plain in
+    told_keeps f.cut ((layout_in (with_names names (scoped files))).place u).index ((layout_in (scoped files)).role u)
+    ((layout_in (with_names names (scoped files))).role u)
     (role_keeps purpose.Selected refl names sites u) (role_keeps purpose.Key refl names sites u) there

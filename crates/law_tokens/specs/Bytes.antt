@@ -5,13 +5,13 @@ use Rattle.go_ast.specs.SourceFile.{SourceFile, spelling_of, offset_of}
 use Rattle.go_scope.specs.Bindings.{Layout, IsIdentifier}
 
 -- There is a file, it has the path, and the offset is one of the bytes of its token of that index.
-abbrev pub TokenHolds : Option SourceFile → ℕ → List ℕ → ℕ → Type 0
-TokenHolds None token path offset = ⊥
-TokenHolds (Some f) token path offset = (f.path ≡ path) × (offset_of f token ≤ offset) × (offset < offset_of f token + length (spelling_of f token))
+abbrev pub TokenCovers : Option SourceFile → ℕ → List ℕ → ℕ → Type 0
+TokenCovers None token path offset = ⊥
+TokenCovers (Some f) token path offset = (f.path ≡ path) × (offset_of f token ≤ offset) × (offset < offset_of f token + length (spelling_of f token))
 
 -- The offset of the file at the path is one of the bytes of `u`, which is an identifier or an import's string literal.
-abbrev pub HoldsByte : List SourceFile → Layout → (path : List ℕ) → (offset u : ℕ) → Type 0
-HoldsByte files l path offset u = IsIdentifier l u × TokenHolds (slice_get files (l.place u).file) (l.place u).index path offset
+abbrev pub CoversByte : List SourceFile → Layout → (path : List ℕ) → (offset u : ℕ) → Type 0
+CoversByte files l path offset u = IsIdentifier l u × TokenCovers (slice_get files (l.place u).file) (l.place u).index path offset
 
 -- The pieces of each file are those into which the scanner cuts its text.
 abbrev pub AreCut : List SourceFile → Type 0

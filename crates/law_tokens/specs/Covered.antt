@@ -6,7 +6,7 @@ use Rattle.go_ast.specs.SourceFile.{FileParts, IsSourceFile, source_of}
 use Rattle.go_scope.specs.declared.model.Position.{Position}
 use Rattle.go_scope.specs.Bindings.{Layout}
 use Rattle.go_scope.specs.Site.{Site, Source}
-use Rattle.go_scope.specs.Table.{StandsAt}
+use Rattle.go_scope.specs.Table.{LiesAt}
 use Rattle.law_tokens.specs.Tokens.{identifiers_among}
 
 -- The Position of a token in the file of that rank.
@@ -19,7 +19,7 @@ pub record CoverTokens (s : Source) (xs : List Site) (ts : List Token) : Type 0 
   pub names : map (λ x. x.name) xs ≡ map (λ t. s.spell t.place) ts
 
 -- The token at the Position is one of `identifiers_among` the tokens of its file: an identifier token, or an import's string literal.
-pub record IsPlaceOfOne (files : List FileParts) (at : Position) : Type 0 where
+pub record IsIdentifierPlace (files : List FileParts) (at : Position) : Type 0 where
   pub file : FileParts
   pub of_rank : slice_get files at.file ≡ Some file
   pub token : Token
@@ -27,8 +27,8 @@ pub record IsPlaceOfOne (files : List FileParts) (at : Position) : Type 0 where
   pub stands : token.place ≡ at.index
 
 -- One of the first `size` identifiers is at the Position.
-abbrev pub HasOneAt : Layout → ℕ → Position → Type 0
-HasOneAt l size at = (u : ℕ) × ((u < size) × StandsAt l at u)
+abbrev pub HasIdentifierAt : Layout → ℕ → Position → Type 0
+HasIdentifierAt l size at = (u : ℕ) × ((u < size) × LiesAt l at u)
 
 -- Each file has the tree of its text.
 abbrev pub AreSourceFiles : List FileParts → Type 0

@@ -9,13 +9,13 @@ in_group f (single x) = f x
 in_group f (several o xs c) = flat_map (λ i. f i.value) xs
 
 -- The tokens of the names of a field declaration.
-abbrev pub field_names : FieldTree → List ℕ
-field_names f = map (λ i. i.value) f.names
+abbrev pub field_name_tokens : FieldTree → List ℕ
+field_name_tokens f = map (λ i. i.value) f.names
 
 -- The tokens that declare the fields of a type definition; none where its type is not a struct.
 abbrev pub body_members : BodyTree → List ℕ
 body_members (Other t) = []
-body_members (Struct p o fs c) = flat_map (λ i. field_names i.value) fs
+body_members (Struct p o fs c) = flat_map (λ i. field_name_tokens i.value) fs
 
 -- The token of a function's name if it has a receiver, and so is a method.
 abbrev pub method_name : Option ReceiverTree → ℕ → List ℕ

@@ -14,11 +14,11 @@ abbrev pub IsOfKind : CutText → ℕ → Kind → Type 0
 IsOfKind c i k = (t : Token) × ((slice_get (kinds_of c) i ≡ Some t) × (t.kind ≡ k))
 
 -- The token before that of the index is a dot.
-abbrev pub IsBehindDot : CutText → ℕ → Type 0
-IsBehindDot c index = (i : ℕ) × ((suc i ≡ index) × IsOfKind c i Dot)
+abbrev pub FollowsDot : CutText → ℕ → Type 0
+FollowsDot c index = (i : ℕ) × ((suc i ≡ index) × IsOfKind c i Dot)
 
 -- The role is that of a selector exactly if a dot is before the token. It is that of a composite literal key exactly if a colon is behind
 -- it.
-pub record IsToldByTokens (c : CutText) (index : ℕ) (role : Role) : Type 0 where
-  pub selected : (role ≡ NotLexical Selected) ↔ IsBehindDot c index
+pub record FitsTokens (c : CutText) (index : ℕ) (role : Role) : Type 0 where
+  pub selected : (role ≡ NotLexical Selected) ↔ FollowsDot c index
   pub key : (role ≡ NotLexical Key) ↔ IsOfKind c (suc index) Colon

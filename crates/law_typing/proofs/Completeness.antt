@@ -12,16 +12,16 @@ use Rattle.types_expr.specs.World.{World, Locals, underlying}
 use Rattle.types_expr.specs.Operations.{operate, prefixed}
 use Rattle.types_expr.specs.Judge.{Judged, means_or_wrong, value_or_wrong, followed, value_at, value_kind, select, index_rule, index_of, as_value, call_rule}
 use Rattle.types_expr.specs.Judge.{operation, operation_on, prefix_of, address_of, judge, judge_links, judge_operands, judge_arguments, judge_literal}
-use Rattle.types_expr.specs.Judge.{judge_elements, judge_type, judge_key, is_whole_key, key_at, key_in, seen_with, wanted_behind, no_key, none_seen, misfit_if}
+use Rattle.types_expr.specs.Judge.{judge_elements, judge_type, judge_key, is_whole_key, key_at, key_in, seen_with, wanted_after_key, no_key, none_seen, misfit_if}
 use Rattle.types_expr.specs.Judge.{FieldKey, Seen}
 use Rattle.law_typing.specs.Operators.{Operates, Prefixes}
 use Rattle.law_typing.specs.Names.{IsWhole}
 use Rattle.law_typing.specs.Links.{Indexes}
 use Rattle.law_typing.specs.Links.{element as slice_element}
-use Rattle.law_typing.specs.Meanings.{HasMeaning, number, text, name, composite, paren, prefix, address, chain, binary, LeadsTo, no_link, selector, index}
-use Rattle.law_typing.specs.Meanings.{call, CombinesTo, no_operand, operand, AreValues, no_argument, argument, AreFields, no_field, field, AreElements}
+use Rattle.law_typing.specs.Meanings.{HasMeaning, number, text, name, composite, paren, prefix, address, chain, binary, LinksMean, no_link, selector, index}
+use Rattle.law_typing.specs.Meanings.{call, OperandsMean, no_operand, operand, AreValues, no_argument, argument, AreFields, no_field, field, AreElements}
 use Rattle.law_typing.specs.Meanings.{no_element, element}
-use Rattle.law_typing.proofs.Steps.{value_whole, only_value, value_kept, known_kind}
+use Rattle.law_typing.proofs.Judgements.{value_whole, only_value, value_kept, known_kind}
 use Rattle.law_typing.proofs.Naming.{true_name}
 use Rattle.law_typing.proofs.Operating.{true_operates, true_prefixes}
 use Rattle.law_typing.proofs.Selecting.{true_selects, true_indexes}
@@ -133,23 +133,23 @@ indexes_whole (slice_element e i) = value_whole
 
 combined : (w : World) (locals : Locals) (o : BinaryOp) (p : ℕ) (e : ExprTree) (rest : OperandTrees) (m n s r : Meaning) (q : IsOperation w o m n s) →
     HasMeaning w locals e (Value q.right q.right_addressable) →
-    CombinesTo w locals s rest r → CombinesTo w locals m (tree.operand o p e rest) r
+    OperandsMean w locals s rest r → OperandsMean w locals m (tree.operand o p e rest) r
 combined w locals o p e rest m n s r q v c =
-    subst (λ z. CombinesTo w locals z (tree.operand o p e rest) r) (sym q.left_value)
-    (operand v q.operates (subst (λ z. CombinesTo w locals z rest r) q.found c))
+    subst (λ z. OperandsMean w locals z (tree.operand o p e rest) r) (sym q.left_value)
+    (operand v q.operates (subst (λ z. OperandsMean w locals z rest r) q.found c))
 
 -- an element of a struct literal
 field_element : (w : World) (locals : Locals) (t : PlainType) (named : List ℕ) (key : ℕ × ℕ) (e : ExprTree) (c : Option ℕ) (rest : ElementTrees)
     (m : Meaning) (k : Kind) (a : Bool) →
     IsFieldKey (underlying w t) (is_taken named) (w.member key.0 t) (key_at w (is_taken named) t key.0) → (IsWhole m → HasMeaning w locals e m) →
     m ≡ Value k a →
-    misfit_if w (place_of e) (Some k) (wanted_behind (key_at w (is_taken named) t key.0) (underlying w t)) ≡ [] →
+    misfit_if w (place_of e) (Some k) (wanted_after_key (key_at w (is_taken named) t key.0) (underlying w t)) ≡ [] →
     ((rank : ℕ) (u : PlainType) → key_at w (is_taken named) t key.0 ≡ FieldKey rank u → AreFields w locals t (rank ∷ named) rest) →
     AreFields w locals t named (tree.element (Some key) e c rest)
 field_element w locals t named key e c rest m k a f h v silent more =
     field f.is_field (free_new f.symbol.rank named f.is_free) (has_value h v)
     (silent_fit w (place_of e) (Some k) k f.type_of refl
-    (ap (λ z. misfit_if w (place_of e) (Some k) (wanted_behind z (underlying w t))) (sym f.is_key) ∙ silent))
+    (ap (λ z. misfit_if w (place_of e) (Some k) (wanted_after_key z (underlying w t))) (sym f.is_key) ∙ silent))
     (more f.symbol.rank f.type_of f.is_key)
 
 no_slice_key : {A : Type 0} (w : World) (t u : PlainType) → underlying w t ≡ SliceOf u → (seen : Seen) (n : ℕ) → is_whole_key (key_at w seen t n) ≡ true → A
@@ -179,12 +179,12 @@ mutual
   complete w locals (tree.Binary e rest) n = let f = complete_operands w locals rest (first_token e) (value_at e (judge w locals e)) n in
       let v = only_value (place_of e) (judge w locals e).meaning f.0 in
       binary (has_value (λ q. complete w locals e q) v.2)
-      (subst (λ z. CombinesTo w locals z rest (judge_operands w locals (first_token e) (value_at e (judge w locals e)) rest).meaning)
+      (subst (λ z. OperandsMean w locals z rest (judge_operands w locals (first_token e) (value_at e (judge w locals e)) rest).meaning)
       (value_kept (place_of e) v.2) f.1)
 
   complete_links : (w : World) (locals : Locals) (links : LinkTrees) (start place : ℕ) (j : Judged) →
       IsWhole (judge_links w locals start place j links).meaning →
-      IsWhole j.meaning × LeadsTo w locals j.meaning links (judge_links w locals start place j links).meaning
+      IsWhole j.meaning × LinksMean w locals j.meaning links (judge_links w locals start place j links).meaning
   complete_links w locals tree.no_link start place j n = (n, no_link)
   complete_links w locals (tree.selector d x rest) start place j n = let more = complete_links w locals rest start x (followed j (select w locals place x)) n in
       let s = true_selects w locals place x j.meaning more.0 in
@@ -201,7 +201,7 @@ mutual
       (s.0, call (complete_arguments w locals xs s.1.0 s.1.1) s.1.2 more.1)
 
   complete_operands : (w : World) (locals : Locals) (rest : OperandTrees) (start : ℕ) (j : Judged) → IsWhole (judge_operands w locals start j rest).meaning →
-      IsWhole j.meaning × CombinesTo w locals j.meaning rest (judge_operands w locals start j rest).meaning
+      IsWhole j.meaning × OperandsMean w locals j.meaning rest (judge_operands w locals start j rest).meaning
   complete_operands w locals tree.no_operand start j n = (n, no_operand)
   complete_operands w locals (tree.operand o p e rest) start j n =
       let more = complete_operands w locals rest start (followed j (λ a. followed (value_at e (judge w locals e)) (operation w o start a))) n in

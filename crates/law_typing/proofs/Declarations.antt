@@ -5,17 +5,17 @@ use Rattle.go_ast.specs.Tree as tree
 use Rattle.types_expr.specs.declared.types.Basic.TheVariants as basic
 use Rattle.types_expr.specs.Types.{PlainType, Kind, Untyped}
 use Rattle.types_expr.specs.World.{World, Locals, no_locals}
-use Rattle.types_expr.specs.Judge.{Argued, judge_type}
+use Rattle.types_expr.specs.Judge.{ListValue, judge_type}
 use Rattle.types_stmt.specs.Checked.{Checked}
 use Rattle.types_stmt.specs.Sides.{Target, Wants, all_refused}
 use Rattle.types_stmt.specs.Declarations.{literal_value, first_name, literal_faults, value_faults, global_faults, field_faults, body_faults, check_global}
 use Rattle.types_stmt.specs.Declarations.{check_type, check_decl, check_decls, check_file}
 use Rattle.law_typing.specs.Names.{IsType}
-use Rattle.law_typing.proofs.Steps.{empty_first, empty_second, empty_both}
+use Rattle.law_typing.proofs.Judgements.{empty_first, empty_second, empty_both}
 use Rattle.law_typing.proofs.Naming.{type_true, true_type}
-use Rattle.law_typing.proofs.Refusing.{no_fault, type_or_broken}
+use Rattle.law_typing.proofs.BrokenRules.{no_fault, type_or_broken}
 use Rattle.law_typing.proofs.Arguments.{AreOf}
-use Rattle.law_typing.specs.Giving.{OfType, TakenInTurn}
+use Rattle.law_typing.specs.Assignments.{OfType, TakenInTurn}
 use Rattle.law_typing.specs.Declarations.{FunctionIsTyped, AreLiterals, no_literal, an_integer, a_string, GlobalIsTyped, without_values}
 use Rattle.law_typing.specs.Declarations.{with_literals, FieldsAreTyped, no_field_left, also_field, BodyIsTyped, another_type, a_struct}
 use Rattle.law_typing.specs.Declarations.{TypeIsTyped, a_definition_of, DeclIsTyped, variables, types, one_function, DeclsAreTyped, no_decl}
@@ -23,14 +23,14 @@ use Rattle.law_typing.specs.Declarations.{also_decl, FileIsTyped, a_file}
 use Rattle.law_typing.specs.Excused.{GlobalIsExcused, global_of_broken, FieldIsBroken, this_field, later_field, BodyIsBroken, other_broken}
 use Rattle.law_typing.specs.Excused.{in_struct, TypeIsExcused, in_type_body, DeclIsExcused, in_variables, in_types, in_function, DeclsAreExcused}
 use Rattle.law_typing.specs.Excused.{this_decl, later_decl, FileIsExcused, in_file}
-use Rattle.law_typing.proofs.Giving.{aim, as_many, none_refused, all_taken, counted, right_count}
-use Rattle.law_typing.proofs.Reaching.{IsAt, reached, held, IsSettled, group_true, group_settled}
+use Rattle.law_typing.proofs.Assignments.{aim, as_many, none_refused, all_taken, counted, right_count}
+use Rattle.law_typing.proofs.PartOutcomes.{IsAt, reached, held, IsSettled, group_true, group_settled}
 use Rattle.law_typing.proofs.Locals.{same_aims}
 use Rattle.law_typing.proofs.Headers.{function_true, function_settled}
 
 -- variables
 
-abbrev pub literals : List (Item BasicTree) → List Argued
+abbrev pub literals : List (Item BasicTree) → List ListValue
 literals is = map (λ i. literal_value i.value) is
 
 literal_kinds : {is : List (Item BasicTree)} {ks : List Kind} → AreLiterals is ks → AreOf (literals is) ks

@@ -8,13 +8,13 @@ use Rattle.types_expr.specs.declared.symbol.Symbol.{Symbol}
 use Rattle.types_expr.specs.Types.{PlainType, Underlying, Plain, PointerTo, SliceOf, Struct, Kind, Typed, Meaning, Value, Broken}
 use Rattle.types_expr.specs.World.{World, Locals, Member, AField, AMethod, ABrokenMethod, underlying}
 use Rattle.types_expr.specs.Judge.{Judged, JudgedKey, JudgedElements, TypeJudged, Seen, Key, FieldKey, WrongKey, is_whole, is_empty, is_whole_key, key_in}
-use Rattle.types_expr.specs.Judge.{key_of_member, value_kind, misfit_if, element_then, means, judge_type, judge_elements, good_type, none_seen, literal_of}
-use Rattle.types_expr.specs.Judge.{literal_meaning, literal_ends}
+use Rattle.types_expr.specs.Judge.{key_of_member, value_kind, misfit_if, with_element, means, judge_type, judge_elements, good_type, none_seen, literal_of}
+use Rattle.types_expr.specs.Judge.{literal_meaning, literal_result}
 use Rattle.law_typing.specs.Names.{IsWhole, IsType}
 use Rattle.law_typing.specs.Meanings.{IsNew, first, after, IsLiteralOf, struct_literal, slice_literal, AreFields, AreElements}
-use Rattle.law_typing.specs.Agrees.{Agrees}
+use Rattle.law_typing.specs.IsJudgedAs.{IsJudgedAs}
 use Rattle.law_typing.proofs.Tests.{and_first, and_second, and_both, or_none}
-use Rattle.law_typing.proofs.Steps.{value_whole, agrees_as, kind_known, known_kind, empty_both}
+use Rattle.law_typing.proofs.Judgements.{value_whole, agrees_as, kind_known, known_kind, empty_both}
 use Rattle.law_typing.proofs.Naming.{true_type}
 use Rattle.law_typing.proofs.Arguments.{whole_kind}
 
@@ -76,8 +76,8 @@ pub record IsWholeElement (j : JudgedElements) : Type 0 where
   pub faultless : j.faults ≡ []
 
 pub element_whole : (w : World) (k : JudgedKey) (place : ℕ) {j : Judged} {rest : JudgedElements} {l : Kind} {a : Bool} → k.whole ≡ true → k.faults ≡ [] →
-    Agrees j (Value l a) →
-    misfit_if w place (Some l) k.wanted ≡ [] → IsWholeElement rest → IsWholeElement (element_then w k place j rest)
+    IsJudgedAs j (Value l a) →
+    misfit_if w place (Some l) k.wanted ≡ [] → IsWholeElement rest → IsWholeElement (with_element w k place j rest)
 element_whole w k place {j} {rest} {l} {a} kw kf v m r =
     let known : value_kind j.meaning ≡ Some l = kind_known v.meaning in
     let silent : misfit_if w place (value_kind j.meaning) k.wanted ≡ [] = ap (λ o. misfit_if w place o k.wanted) known ∙ m in
@@ -103,7 +103,7 @@ pub record IsElement (w : World) (k : JudgedKey) (place : ℕ) (j : Judged) (res
   pub silent : misfit_if w place (Some kind) k.wanted ≡ []
   pub others : rest.whole ≡ true
 
-pub whole_element : (w : World) (k : JudgedKey) (place : ℕ) (j : Judged) (rest : JudgedElements) → (element_then w k place j rest).whole ≡ true →
+pub whole_element : (w : World) (k : JudgedKey) (place : ℕ) (j : Judged) (rest : JudgedElements) → (with_element w k place j rest).whole ≡ true →
     IsElement w k place j rest
 whole_element w k place j rest h =
     let h1 = and_second k.whole (is_whole (value_kind j.meaning) && (is_empty (misfit_if w place (value_kind j.meaning) k.wanted) && rest.whole)) h in
@@ -126,7 +126,7 @@ whole_element w k place j rest h =
 pub literal_agrees : (w : World) (start : ℕ) (rest : TypeJudged → JudgedElements) {j : TypeJudged} {t : PlainType} → j ≡ good_type t →
     (rest (good_type t)).faults ≡ [] →
     literal_meaning w start (Some t) (rest (good_type t)).whole (rest (good_type t)).unkeyed ≡ means (Value (Typed t) false) →
-    Agrees (literal_of w start j (rest j)) (Value (Typed t) false)
+    IsJudgedAs (literal_of w start j (rest j)) (Value (Typed t) false)
 literal_agrees w start rest {j} {t} e f m = agrees_as (ap (λ z. literal_of w start z (rest z)) e) (record {
   meaning = ap (λ z. z.meaning) m;
   faultless = empty_both (rest (good_type t)).faults (literal_meaning w start (Some t) (rest (good_type t)).whole (rest (good_type t)).unkeyed).faults f
@@ -136,12 +136,12 @@ literal_agrees w start rest {j} {t} e f m = agrees_as (ap (λ z. literal_of w st
 
 pub struct_ends : (w : World) (start : ℕ) (t : PlainType) {s : Symbol} {whole unkeyed : Bool} → underlying w t ≡ Struct s → whole ≡ true → unkeyed ≡ false →
     literal_meaning w start (Some t) whole unkeyed ≡ means (Value (Typed t) false)
-struct_ends w start t {s} {whole} {unkeyed} e h n = ap (λ u. literal_ends start t u whole unkeyed) e ∙
-    (ap (λ b. literal_ends start t (Struct s) b unkeyed) h ∙ ap (λ b. literal_ends start t (Struct s) true b) n)
+struct_ends w start t {s} {whole} {unkeyed} e h n = ap (λ u. literal_result start t u whole unkeyed) e ∙
+    (ap (λ b. literal_result start t (Struct s) b unkeyed) h ∙ ap (λ b. literal_result start t (Struct s) true b) n)
 
 pub slice_ends : (w : World) (start : ℕ) (t : PlainType) {u : PlainType} {whole : Bool} (unkeyed : Bool) → underlying w t ≡ SliceOf u → whole ≡ true →
     literal_meaning w start (Some t) whole unkeyed ≡ means (Value (Typed t) false)
-slice_ends w start t {u} {whole} unkeyed e h = ap (λ z. literal_ends start t z whole unkeyed) e ∙ ap (λ b. literal_ends start t (SliceOf u) b unkeyed) h
+slice_ends w start t {u} {whole} unkeyed e h = ap (λ z. literal_result start t z whole unkeyed) e ∙ ap (λ b. literal_result start t (SliceOf u) b unkeyed) h
 
 -- from the judgement to the rules
 
@@ -162,33 +162,33 @@ ElementsOf w locals es t = (u : PlainType) → underlying w t ≡ SliceOf u → 
 
 struct_found : (w : World) (locals : Locals) (x : TypeTree) (o : ℕ) (es : ElementTrees) (c start : ℕ) (t : PlainType) (s : Symbol) (whole unkeyed : Bool) →
     IsType w x t → underlying w t ≡ Struct s →
-    IsWhole (literal_ends start t (Struct s) whole unkeyed).meaning → (whole ≡ true → unkeyed ≡ false → AreFields w locals t [] es) →
-    IsLiteralFound w locals (tree.literal x o es c) (literal_ends start t (Struct s) whole unkeyed).meaning
+    IsWhole (literal_result start t (Struct s) whole unkeyed).meaning → (whole ≡ true → unkeyed ≡ false → AreFields w locals t [] es) →
+    IsLiteralFound w locals (tree.literal x o es c) (literal_result start t (Struct s) whole unkeyed).meaning
 struct_found w locals x o es c start t s true false h e n f = record { type_of = t; is_literal = struct_literal h e (f refl refl); found = refl }
 struct_found w locals x o es c start t s true true h e n f = absurd (n refl)
 struct_found w locals x o es c start t s false unkeyed h e n f = absurd (n refl)
 
 slice_found : (w : World) (locals : Locals) (x : TypeTree) (o : ℕ) (es : ElementTrees) (c start : ℕ) (t u : PlainType) (whole unkeyed : Bool) →
     IsType w x t → underlying w t ≡ SliceOf u →
-    IsWhole (literal_ends start t (SliceOf u) whole unkeyed).meaning → (whole ≡ true → AreElements w locals u es) →
-    IsLiteralFound w locals (tree.literal x o es c) (literal_ends start t (SliceOf u) whole unkeyed).meaning
+    IsWhole (literal_result start t (SliceOf u) whole unkeyed).meaning → (whole ≡ true → AreElements w locals u es) →
+    IsLiteralFound w locals (tree.literal x o es c) (literal_result start t (SliceOf u) whole unkeyed).meaning
 slice_found w locals x o es c start t u true unkeyed h e n f = record { type_of = t; is_literal = slice_literal h e (f refl); found = refl }
 slice_found w locals x o es c start t u false unkeyed h e n f = absurd (n refl)
 
-plain_ends : (start : ℕ) (t : PlainType) (b : Basic) (whole unkeyed : Bool) → (literal_ends start t (Plain b) whole unkeyed).meaning ≡ Broken
+plain_ends : (start : ℕ) (t : PlainType) (b : Basic) (whole unkeyed : Bool) → (literal_result start t (Plain b) whole unkeyed).meaning ≡ Broken
 plain_ends start t b true unkeyed = refl
 plain_ends start t b false unkeyed = refl
 
-pointer_ends : (start : ℕ) (t u : PlainType) (whole unkeyed : Bool) → (literal_ends start t (PointerTo u) whole unkeyed).meaning ≡ Broken
+pointer_ends : (start : ℕ) (t u : PlainType) (whole unkeyed : Bool) → (literal_result start t (PointerTo u) whole unkeyed).meaning ≡ Broken
 pointer_ends start t u true unkeyed = refl
 pointer_ends start t u false unkeyed = refl
 
 by_underlying : (w : World) (locals : Locals) (x : TypeTree) (o : ℕ) (es : ElementTrees) (c start : ℕ) (t : PlainType) (whole unkeyed : Bool)
     (v : Underlying) → IsType w x t → underlying w t ≡ v →
-    IsWhole (literal_ends start t v whole unkeyed).meaning →
+    IsWhole (literal_result start t v whole unkeyed).meaning →
     ((s : Symbol) → underlying w t ≡ Struct s → whole ≡ true → unkeyed ≡ false → AreFields w locals t [] es) →
     ((u : PlainType) → underlying w t ≡ SliceOf u → whole ≡ true → AreElements w locals u es) →
-    IsLiteralFound w locals (tree.literal x o es c) (literal_ends start t v whole unkeyed).meaning
+    IsLiteralFound w locals (tree.literal x o es c) (literal_result start t v whole unkeyed).meaning
 by_underlying w locals x o es c start t whole unkeyed (Struct s) h e n f g = struct_found w locals x o es c start t s whole unkeyed h e n (f s e)
 by_underlying w locals x o es c start t whole unkeyed (SliceOf u) h e n f g = slice_found w locals x o es c start t u whole unkeyed h e n (g u e)
 by_underlying w locals x o es c start t whole unkeyed (Plain b) h e n f g = absurd (n (plain_ends start t b whole unkeyed))

@@ -20,7 +20,7 @@ use Rattle.law_typing.specs.Names.{a_bound, named}
 use Rattle.law_typing.specs.Links.{method_on_variable, one, function}
 use Rattle.law_typing.specs.Meanings.{HasMeaning, number, name, binary, chain, composite, no_link, selector, call, no_operand, operand, no_argument, argument}
 use Rattle.law_typing.specs.Meanings.{struct_literal, no_field, field, first}
-use Rattle.law_typing.proofs.Steps.{value_whole, function_whole}
+use Rattle.law_typing.proofs.Judgements.{value_whole, function_whole}
 use Rattle.law_typing.proofs.Soundness.{sound}
 
 abbrev int : PlainType

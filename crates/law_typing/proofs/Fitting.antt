@@ -6,7 +6,7 @@ use Rattle.types_expr.specs.World.{World, underlying}
 use Rattle.types_expr.specs.Operations.{fits, converts}
 use Rattle.law_typing.specs.Fits.{IsUnnamed, a_pointer, a_slice, Fits, identical, unnamed, untyped, nil_as_pointer, nil_as_slice, Converts, fitting, alike}
 use Rattle.law_typing.proofs.Tests.{and_first, and_second, and_both, or_first, or_second, or_cases}
-use Rattle.law_typing.proofs.Same.{types_same, same_types, underlying_same, same_underlyings}
+use Rattle.law_typing.proofs.IdenticalTypes.{types_same, same_types, underlying_same, same_underlyings}
 
 unnamed_is : {t : PlainType} → IsUnnamed t → is_named t ≡ false
 unfolding is_named

@@ -10,15 +10,15 @@ use Rattle.types_expr.specs.World.{World, Locals, Bound, Local, Means, BrokenVar
 use Rattle.types_expr.specs.Judge.{TypeJudged, judge_type, good_type, no_type_at, named_type}
 use Rattle.types_stmt.specs.Checked.{Checked, fault_if, check_items}
 use Rattle.types_stmt.specs.Sides.{Target, Wants, named as named_of, with_locals}
-use Rattle.types_stmt.specs.Headers.{may_receive, receiving, received, receiver_base, starred, judge_receiver, check_receiver, check_optional_receiver}
-use Rattle.types_stmt.specs.Headers.{check_param, ResultsJudged, result_then, judge_types, judge_results, is_empty_list, is_bad_init, check_signature}
+use Rattle.types_stmt.specs.Headers.{may_receive, receiver_or_fault, received, receiver_base, starred, judge_receiver, check_receiver, check_optional_receiver}
+use Rattle.types_stmt.specs.Headers.{check_param, ResultsJudged, with_result, judge_types, judge_results, is_empty_list, is_bad_init, check_signature}
 use Rattle.types_stmt.specs.Headers.{check_function}
 use Rattle.types_stmt.specs.Statements.{check_block}
-use Rattle.law_typing.proofs.Steps.{empty_first, empty_second, empty_both}
+use Rattle.law_typing.proofs.Judgements.{empty_first, empty_second, empty_both}
 use Rattle.law_typing.proofs.Naming.{type_true, true_type}
-use Rattle.law_typing.proofs.Refusing.{no_fault, type_or_broken}
-use Rattle.law_typing.specs.Turns.{InTurn, IfPresent, absent, present, ExcusedIfPresent, excused_present}
-use Rattle.law_typing.specs.Giving.{OfType, DeclareAs}
+use Rattle.law_typing.proofs.BrokenRules.{no_fault, type_or_broken}
+use Rattle.law_typing.specs.Sequences.{InTurn, IfPresent, absent, present, ExcusedIfPresent, excused_present}
+use Rattle.law_typing.specs.Assignments.{OfType, DeclareAs}
 use Rattle.law_typing.specs.Statements.{BlockIsTyped}
 use Rattle.law_typing.specs.Declarations.{IsBehindStar, no_star, a_star, ReceiverIsTyped, a_receiver, ParamIsTyped, a_param, AreTypes, no_type_left}
 use Rattle.law_typing.specs.Declarations.{also_type, AreResults, none_written, one_written, several_written, KeepsInit, another_name, a_method}
@@ -26,8 +26,8 @@ use Rattle.law_typing.specs.Declarations.{a_plain_one, FunctionIsTyped, a_functi
 use Rattle.law_typing.specs.Excused.{BlockIsExcused, ReceiverIsExcused, of_broken, ParamIsExcused, param_of_broken, AnyIsBrokenType, this_type}
 use Rattle.law_typing.specs.Excused.{later_type, ResultIsExcused, one_broken, one_of_several, FunctionIsExcused, in_receiver, in_params, in_result}
 use Rattle.law_typing.specs.Excused.{in_body}
-use Rattle.law_typing.proofs.Giving.{aim, single_as_true, single_as_found}
-use Rattle.law_typing.proofs.Reaching.{IsAt, here, reached, held, IsSettled, items_true, items_settled}
+use Rattle.law_typing.proofs.Assignments.{aim, single_as_true, single_as_found}
+use Rattle.law_typing.proofs.PartOutcomes.{IsAt, here, reached, held, IsSettled, items_true, items_settled}
 use Rattle.law_typing.proofs.Locals.{typed_names, found_as}
 use Rattle.law_typing.proofs.Statements.{AreTargets, block_true, block_settled, block_first}
 
@@ -51,7 +51,7 @@ defined_when place s c = record {
 
 pub base_true : (w : World) (place : ℕ) (s : Symbol) → ((u : PlainType) → w.definition s ≡ PointerTo u → ⊥) →
     received w place (good_type (Defined s)) ≡ good_type (Defined s)
-unfolding receiving may_receive
+unfolding receiver_or_fault may_receive
 base_true w place s n = ap (λ c. defined_when place s (if c then false else true)) (no_points (w.definition s) n)
 
 pub star_true : {o : Option ℕ} {t u : PlainType} → IsBehindStar o t u → starred o (good_type t) ≡ good_type u
@@ -84,9 +84,9 @@ defined_base : (w : World) (place : ℕ) (s : Symbol) (c : Bool) → points (w.d
 defined_base w place s true d e h = no_fault h
 defined_base w place s false d e h = record { symbol = s; bound_is = e; no_pointer = points_no (w.definition s) d; type_is = refl }
 
-type_base : (w : World) (place : ℕ) (t : PlainType) → w.bound place ≡ Means (TypeName t) → (receiving w place (Some t)).faults ≡ [] →
-    IsBaseFound w place (receiving w place (Some t))
-unfolding receiving may_receive
+type_base : (w : World) (place : ℕ) (t : PlainType) → w.bound place ≡ Means (TypeName t) → (receiver_or_fault w place (Some t)).faults ≡ [] →
+    IsBaseFound w place (receiver_or_fault w place (Some t))
+unfolding receiver_or_fault may_receive
 type_base w place (Defined s) e h = defined_base w place s (points (w.definition s)) refl e h
 type_base w place (BasicType b) e h = no_fault h
 type_base w place (Pointer t) e h = no_fault h
@@ -102,7 +102,7 @@ same_base w place f faults = record { symbol = f.symbol; bound_is = f.bound_is; 
 base_settled : (w : World) (place : ℕ) (b : Bound) → w.bound place ≡ b → (received w place (named_type b place)).faults ≡ [] →
     IsBaseSettled w place (received w place (named_type b place))
 unfolding named_type
-base_settled w place (Means (TypeName t)) e h = inl (same_base w place (type_base w place t e h) (receiving w place (Some t)).faults)
+base_settled w place (Means (TypeName t)) e h = inl (same_base w place (type_base w place t e h) (receiver_or_fault w place (Some t)).faults)
 base_settled w place BrokenType e h = inr e
 base_settled w place (Means (Value k a)) e h = no_fault h
 base_settled w place (Means (Function s)) e h = no_fault h
@@ -180,7 +180,7 @@ record AreWanted (j : ResultsJudged) (ts : List PlainType) : Type 0 where
   faultless : j.faults ≡ []
 
 result_before : {j : TypeJudged} {rest : ResultsJudged} {t : PlainType} {ts : List PlainType} → j ≡ good_type t → AreWanted rest ts →
-    AreWanted (result_then j rest) (t ∷ ts)
+    AreWanted (with_result j rest) (t ∷ ts)
 result_before {j} {rest} {t} e more = record {
   wanted = ap (λ (z : TypeJudged). Wants z.type_of ∷ rest.wanted) e ∙ ap (λ z. Wants (Some t) ∷ z) more.wanted;
   faultless = empty_both j.faults rest.faults (ap (λ (z : TypeJudged). z.faults) e) more.faultless;

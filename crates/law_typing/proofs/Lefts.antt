@@ -7,22 +7,22 @@ use Rattle.types_expr.specs.Places.{place_of}
 use Rattle.types_expr.specs.Types.{PlainType, Kind, Typed, Untyped, Nil, Meaning, Value, Broken}
 use Rattle.types_expr.specs.World.{World, Locals, Bound, Local, Means, BrokenVariable, BrokenFunction, BrokenType}
 use Rattle.types_expr.specs.Judge.{Judged, judge, judge_value}
-use Rattle.types_stmt.specs.Sides.{Target, Wants, Lefts, left_side, lefts_then, own_type, judge_operand, assigned_one, assigned, is_own, declares, no_name}
-use Rattle.types_stmt.specs.Sides.{renewed, defined_one, defined, defined_name, defined_names}
+use Rattle.types_stmt.specs.Sides.{Target, Wants, Lefts, left_side, join_lefts, own_type, judge_operand, assigned_one, assigned, is_own, declares, no_name}
+use Rattle.types_stmt.specs.Sides.{reassigned, defined_one, defined, defined_name, defined_names}
 use Rattle.types_stmt.specs.Sides as sides
 use Rattle.law_typing.specs.Names.{IsWhole}
 use Rattle.law_typing.specs.Operators.{IsUntyped, a_constant, a_nil}
 use Rattle.law_typing.specs.Meanings.{HasMeaning}
-use Rattle.law_typing.specs.Uses.{UsesBroken}
-use Rattle.law_typing.proofs.Steps.{empty_first, empty_second, empty_both}
-use Rattle.law_typing.proofs.Refusing.{no_fault}
+use Rattle.law_typing.specs.BrokenUses.{UsesBroken}
+use Rattle.law_typing.proofs.Judgements.{empty_first, empty_second, empty_both}
+use Rattle.law_typing.proofs.BrokenRules.{no_fault}
 use Rattle.law_typing.proofs.Soundness.{sound}
-use Rattle.law_typing.specs.Giving.{Taker, Fresh, OfType}
+use Rattle.law_typing.specs.Assignments.{Taker, Fresh, OfType}
 use Rattle.law_typing.specs.Simple.{AreAssigned, no_left, a_blank, an_operand, AreDefined, no_definition, an_underscore, a_new_name, an_old_name}
 use Rattle.law_typing.specs.Excused.{without_type, constant, IsBlank, IsNewName, bound_to_itself, AssignedIsExcused, assigned_uses}
 use Rattle.law_typing.specs.Excused.{assigned_without_type, later_assigned, DefinedIsExcused, defined_uses, defined_no_variable, later_defined}
 use Rattle.law_typing.proofs.Values.{value_true, value_settled, IsOperandFound, operand_true, operand_settled}
-use Rattle.law_typing.proofs.Giving.{aim, AreNew}
+use Rattle.law_typing.proofs.Assignments.{aim, AreNew}
 
 -- the left sides l are judged to be these targets, without a fault
 pub record AreLefts (l : Lefts) (ts : List Taker) : Type 0 where
@@ -34,7 +34,7 @@ record IsLeft (l : Lefts) (t : Taker) : Type 0 where
   target : l.targets ≡ aim t ∷ []
   faultless : l.faults ≡ []
 
-left_then : {a b : Lefts} {t : Taker} {ts : List Taker} → IsLeft a t → AreLefts b ts → AreLefts (lefts_then a b) (t ∷ ts)
+left_then : {a b : Lefts} {t : Taker} {ts : List Taker} → IsLeft a t → AreLefts b ts → AreLefts (join_lefts a b) (t ∷ ts)
 left_then {a} {b} {t} {ts} h more = record {
   targets = ap (λ z. z ++ b.targets) h.target ∙ ap (λ z. aim t ∷ z) more.targets;
   faultless = empty_both a.faults b.faults h.faultless more.faultless;
@@ -183,7 +183,7 @@ new_name : (w : World) (locals : Locals) (p : ℕ) → w.bound p ≡ Local p →
     (Some p)
 unfolding defined_one defined_name
 new_name w locals p e = let d = own_test (w.bound p) p e in record {
-  left = subst (λ c. IsLeft (if c then left_side sides.Takes (record { meaning = Broken; faults = []; uses = [] }) else renewed w locals p) Fresh)
+  left = subst (λ c. IsLeft (if c then left_side sides.Takes (record { meaning = Broken; faults = []; uses = [] }) else reassigned w locals p) Fresh)
       (sym d) fresh_left;
   name_is = ap (λ c. if c then Some p else None) d;
 }
@@ -192,7 +192,7 @@ old_name : (w : World) (locals : Locals) (p : ℕ) {t : PlainType} → (w.bound 
     IsName (defined_one w locals (tree.Name p)) (defined_name w (tree.Name p)) (OfType t) None
 unfolding defined_one defined_name
 old_name w locals p {t} n h = let d = not_own w p n (declares w p) refl in let a = value_true w locals (tree.Name p) h in record {
-  left = subst (λ c. IsLeft (if c then left_side sides.Takes (record { meaning = Broken; faults = []; uses = [] }) else renewed w locals p) (OfType t))
+  left = subst (λ c. IsLeft (if c then left_side sides.Takes (record { meaning = Broken; faults = []; uses = [] }) else reassigned w locals p) (OfType t))
       (sym d) (typed_target a.meaning a.faultless);
   name_is = ap (λ c. if c then Some p else None) d;
 }
@@ -257,7 +257,7 @@ own_not w p d q = true≢false (sym (own_test (w.bound p) p q) ∙ d)
 
 old_found : (w : World) (locals : Locals) (i : Item ExprTree) (p : ℕ) → i.value ≡ tree.Name p → (w.bound p ≡ Local p → ⊥) → (k : Kind) (a : Bool) →
     (judge_value w locals (tree.Name p)).meaning ≡ Value k a →
-    HasMeaning w locals (tree.Name p) (Value k a) → IsOneSettled w locals i (renewed w locals p) None
+    HasMeaning w locals (tree.Name p) (Value k a) → IsOneSettled w locals i (reassigned w locals p) None
 unfolding own_type
 old_found w locals i p e n (Typed t) true f h = inl (record {
   taker = OfType t;
@@ -273,8 +273,8 @@ old_found w locals i p e n Nil true f h = inr (λ is. defined_no_variable (not_n
     (sym e) h) (without_type a_nil))
 
 name_settled : (w : World) (locals : Locals) (i : Item ExprTree) (p : ℕ) → i.value ≡ tree.Name p → (b : Bool) → declares w p ≡ b →
-    (if b then left_side sides.Takes (record { meaning = Broken; faults = []; uses = [] }) else renewed w locals p).faults ≡ [] →
-    IsOneSettled w locals i (if b then left_side sides.Takes (record { meaning = Broken; faults = []; uses = [] }) else renewed w locals p)
+    (if b then left_side sides.Takes (record { meaning = Broken; faults = []; uses = [] }) else reassigned w locals p).faults ≡ [] →
+    IsOneSettled w locals i (if b then left_side sides.Takes (record { meaning = Broken; faults = []; uses = [] }) else reassigned w locals p)
     (if b then Some p else None)
 name_settled w locals i p e true d h = inl (record { taker = Fresh; found = refl; before = λ more. a_new_name e (test_own (w.bound p) p d) more })
 name_settled w locals i p e false d h = elim (value_settled w locals (tree.Name p) h) [

@@ -6,7 +6,7 @@ use Rattle.types_expr.specs.Types.{PlainType, Pointer, Slice, Meaning, Value, Ty
 use Rattle.types_expr.specs.World.{World, Locals, Bound, Local, Means, BrokenVariable, BrokenFunction, BrokenType, variable, meaning_of_bound, name_meaning}
 use Rattle.types_expr.specs.Judge.{judge_type, named_type, named_meaning, imported_type, imported_meaning, good_type, under}
 use Rattle.law_typing.specs.Names.{IsWhole, NameMeans, a_local, a_bound, IsType, named, imported, pointer, slice}
-use Rattle.law_typing.proofs.Steps.{value_whole}
+use Rattle.law_typing.proofs.Judgements.{value_whole}
 
 pub name_true : (w : World) (locals : Locals) {p : ℕ} {m : Meaning} → NameMeans w locals p m → name_meaning w locals p ≡ m
 name_true w locals (a_local e f) = ap (meaning_of_bound locals) e ∙ ap variable f

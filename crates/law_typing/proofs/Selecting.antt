@@ -8,11 +8,11 @@ use Rattle.types_expr.specs.World.{World, Locals, Member, AField, AMethod, ABrok
 use Rattle.types_expr.specs.Operations.{class_of, is_int, element_of_kind}
 use Rattle.types_expr.specs.Judge.{means, means_or_wrong, member_meaning, select, select_member, as_value, value_kind, is_whole, bad_index, indexed, index_of}
 use Rattle.types_expr.specs.Judge.{element_meaning}
-use Rattle.law_typing.specs.Operators.{IsOf}
+use Rattle.law_typing.specs.Operators.{IsBasic}
 use Rattle.law_typing.specs.Names.{IsWhole}
 use Rattle.law_typing.specs.Links.{Selects, field, field_through_pointer, method, method_on_pointer, method_on_variable, of_package, Indexes, element}
-use Rattle.law_typing.specs.Agrees.{Agrees}
-use Rattle.law_typing.proofs.Steps.{value_whole, function_whole, agrees_as, means_it, used_agrees, chosen_agrees}
+use Rattle.law_typing.specs.IsJudgedAs.{IsJudgedAs}
+use Rattle.law_typing.proofs.Judgements.{value_whole, function_whole, agrees_as, means_it, used_agrees, chosen_agrees}
 use Rattle.law_typing.proofs.Naming.{name_true, name_whole, true_name}
 use Rattle.law_typing.proofs.Classes.{class_true, is_of_int}
 
@@ -32,11 +32,11 @@ found_member : (w : World) (t : PlainType) (a : Bool) (name : ℕ) {m : Member} 
 found_member w t a name e f = ap (found w t a) e ∙ f
 
 selected : (w : World) (t : PlainType) (a : Bool) (name : ℕ) {r : Meaning} → found w t a (w.member name t) ≡ Some r → IsWhole r →
-    Agrees (select_member w name t a) r
+    IsJudgedAs (select_member w name t a) r
 unfolding select_member
 selected w t a name e n = used_agrees (record { place = name; before = t; member = option_map member_symbol (w.member name t) }) (chosen_agrees name e n)
 
-pub selects_true : (w : World) (locals : Locals) (place : ℕ) {m r : Meaning} {name : ℕ} → Selects w locals m name r → Agrees (select w locals place name m) r
+pub selects_true : (w : World) (locals : Locals) (place : ℕ) {m r : Meaning} {name : ℕ} → Selects w locals m name r → IsJudgedAs (select w locals place name m) r
 unfolding select
 selects_true w locals place {name = name} (field {t} {u} {a} {s = s} e n) =
     selected w t a name (found_member w t a name e (ap (λ b. Some (Value (Typed u) (b || a))) (no_pointer (underlying w t) n))) value_whole
@@ -100,7 +100,7 @@ true_selects w locals place name Broken n = absurd (n refl)
 
 -- indexes
 
-pub indexes_true : (w : World) (start place : ℕ) {m r : Meaning} {k : Kind} (a : Bool) → Indexes w m k r → Agrees (index_of w start place m (Value k a)) r
+pub indexes_true : (w : World) (start place : ℕ) {m r : Meaning} {k : Kind} (a : Bool) → Indexes w m k r → IsJudgedAs (index_of w start place m (Value k a)) r
 unfolding index_of bad_index value_kind indexed
 indexes_true w start place a (element {t} {u} {a = b} e j) = agrees_as
     (ap (λ (x : Bool). indexed w start (if x then [] else place ∷ []) true (Value (Typed t) b)) (ap is_int (class_true w j)) ∙
@@ -113,7 +113,7 @@ broken_operand w start [] true = refl
 broken_operand w start [] false = refl
 broken_operand w start (x ∷ xs) b = refl
 
-element_found : (w : World) (start : ℕ) (t : PlainType) (a : Bool) (k : Kind) → IsOf w k basic.Int → (u : Underlying) → underlying w t ≡ u →
+element_found : (w : World) (start : ℕ) (t : PlainType) (a : Bool) (k : Kind) → IsBasic w k basic.Int → (u : Underlying) → underlying w t ≡ u →
     IsWhole (element_meaning (element_of u) start).meaning →
     Indexes w (Value (Typed t) a) k (element_meaning (element_of u) start).meaning
 element_found w start t a k j (SliceOf x) e n = element e j
@@ -121,7 +121,7 @@ element_found w start t a k j (Plain b) e n = absurd (n refl)
 element_found w start t a k j (PointerTo x) e n = absurd (n refl)
 element_found w start t a k j (Struct s) e n = absurd (n refl)
 
-value_indexed : (w : World) (start : ℕ) (s k : Kind) (a : Bool) → IsOf w k basic.Int → IsWhole (element_meaning (element_of_kind w s) start).meaning →
+value_indexed : (w : World) (start : ℕ) (s k : Kind) (a : Bool) → IsBasic w k basic.Int → IsWhole (element_meaning (element_of_kind w s) start).meaning →
     Indexes w (Value s a) k (element_meaning (element_of_kind w s) start).meaning
 value_indexed w start (Typed t) k a j n = element_found w start t a k j (underlying w t) refl n
 value_indexed w start (Untyped b) k a j n = absurd (n refl)

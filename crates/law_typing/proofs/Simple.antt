@@ -10,30 +10,30 @@ use Rattle.types_expr.specs.Places.{place_of, first_token}
 use Rattle.types_expr.specs.Types.{Kind, Typed, Untyped, Nil, Meaning, Value}
 use Rattle.types_expr.specs.World.{World, Locals}
 use Rattle.types_expr.specs.Operations.{operate, class_of, is_int, is_bool}
-use Rattle.types_expr.specs.Judge.{JudgedList, Argued, judge, judge_value, value_kind}
+use Rattle.types_expr.specs.Judge.{JudgedList, ListValue, judge, judge_value, value_kind}
 use Rattle.types_stmt.specs.Checked.{Checked}
-use Rattle.types_stmt.specs.Sides.{rights, Target, Lefts, judge_operand, assigned, defined, given_to, defined_names, first_of_exprs, with_taken}
-use Rattle.types_stmt.specs.Simple.{check_simple, check_alone, check_step, check_update, check_assign, check_define, check_condition, condition_faults}
-use Rattle.types_stmt.specs.Simple.{step_faults, update_faults, fault_if_none, stands_faults, is_statement, binary_of, giving}
-use Rattle.law_typing.specs.Operators.{IsOf, a_constant, a_nil, Operates}
+use Rattle.types_stmt.specs.Sides.{rhs, Target, Lefts, judge_operand, assigned, defined, given_faults, defined_names, first_of_exprs, with_inferred}
+use Rattle.types_stmt.specs.Simple.{check_simple, check_expr_statement, check_step, check_update, check_assign, check_define, check_condition, condition_faults}
+use Rattle.types_stmt.specs.Simple.{step_faults, update_faults, fault_if_none, statement_faults, is_statement, binary_of, with_given}
+use Rattle.law_typing.specs.Operators.{IsBasic, a_constant, a_nil, Operates}
 use Rattle.law_typing.specs.Meanings.{HasMeaning}
-use Rattle.law_typing.specs.Uses.{UsesBroken}
-use Rattle.law_typing.proofs.Steps.{empty_first, empty_second, empty_both, kind_known}
+use Rattle.law_typing.specs.BrokenUses.{UsesBroken}
+use Rattle.law_typing.proofs.Judgements.{empty_first, empty_second, empty_both, kind_known}
 use Rattle.law_typing.proofs.Classes.{class_true, is_of_int, is_of_bool}
 use Rattle.law_typing.proofs.Operating.{operates_true, true_operates}
-use Rattle.law_typing.proofs.Refusing.{no_fault}
+use Rattle.law_typing.proofs.BrokenRules.{no_fault}
 use Rattle.law_typing.proofs.Soundness.{sound}
 use Rattle.law_typing.proofs.Completeness.{complete}
-use Rattle.law_typing.proofs.Settling.{settle}
+use Rattle.law_typing.proofs.FaultlessExpressions.{settle}
 use Rattle.law_typing.proofs.Arguments.{AreOf}
-use Rattle.law_typing.specs.Giving.{Taker, TakenInTurn}
+use Rattle.law_typing.specs.Assignments.{Taker, TakenInTurn}
 use Rattle.law_typing.specs.Simple.{ConditionIsTyped, a_condition, SimpleIsTyped, a_call, a_step, an_update, an_assignment, a_definition}
 use Rattle.law_typing.specs.Excused.{SimpleIsExcused, in_call, in_step, in_updated, in_update, updated_without_type, in_assigned, in_assignment}
 use Rattle.law_typing.specs.Excused.{in_defined, in_definition}
 use Rattle.law_typing.proofs.Values.{value_true, value_settled, operand_true, operand_settled, AreGiven, rights_given, rights_settled}
-use Rattle.law_typing.proofs.Giving.{aim, given_silent, silent_given, declare_true, declare_found}
+use Rattle.law_typing.proofs.Assignments.{aim, given_silent, silent_given, declare_true, declare_found}
 use Rattle.law_typing.proofs.Lefts.{AreLefts, assigned_true, assigned_settled, defined_true, defined_new, defined_settled}
-use Rattle.law_typing.proofs.Reaching.{IsAt, reached, IsSettled}
+use Rattle.law_typing.proofs.PartOutcomes.{IsAt, reached, IsSettled}
 use Rattle.law_typing.proofs.StatementCalling.{statement_true, IsCallFound, true_statement, stands_silent, silent_stands, update_is, is_update, update_fits}
 
 test_silent : (b : Bool) (place : ℕ) → (if b then [] else (place ∷ [])) ≡ [] → b ≡ true
@@ -42,11 +42,11 @@ test_silent false place h = no_fault h
 
 -- conditions
 
-bool_silent : (w : World) (place : ℕ) {o : Option Kind} {k : Kind} → o ≡ Some k → IsOf w k basic.Bool → condition_faults w place o ≡ []
+bool_silent : (w : World) (place : ℕ) {o : Option Kind} {k : Kind} → o ≡ Some k → IsBasic w k basic.Bool → condition_faults w place o ≡ []
 unfolding condition_faults
 bool_silent w place e i = ap (condition_faults w place) e ∙ ap (λ c. if is_bool c then [] else (place ∷ [])) (class_true w i)
 
-silent_bool : (w : World) (place : ℕ) {o : Option Kind} {k : Kind} → o ≡ Some k → condition_faults w place o ≡ [] → IsOf w k basic.Bool
+silent_bool : (w : World) (place : ℕ) {o : Option Kind} {k : Kind} → o ≡ Some k → condition_faults w place o ≡ [] → IsBasic w k basic.Bool
 unfolding condition_faults
 silent_bool w place {k = k} e h = is_of_bool w k (test_silent (is_bool (class_of w k)) place (ap (condition_faults w place) (sym e) ∙ h))
 
@@ -77,44 +77,44 @@ condition_settled w s e h = let f = (judge_value w s.locals e).faults ++ conditi
 -- calls
 
 alone_true : (w : World) (s : Checked) {e : ExprTree} {m : Meaning} → s.faults ≡ [] → HasMeaning w s.locals e m → is_statement w s.locals e ≡ true →
-    IsAt (check_alone w s e) s.locals
-unfolding check_alone
+    IsAt (check_expr_statement w s e) s.locals
+unfolding check_expr_statement
 alone_true w s {e} h v t = let a = sound w s.locals v in
-    reached s ((judge w s.locals e).faults ++ stands_faults (place_of e) (is_statement w s.locals e) (judge w s.locals e).meaning) (judge w s.locals e).uses h
-    (empty_both (judge w s.locals e).faults (stands_faults (place_of e) (is_statement w s.locals e) (judge w s.locals e).meaning) a.faultless
+    reached s ((judge w s.locals e).faults ++ statement_faults (place_of e) (is_statement w s.locals e) (judge w s.locals e).meaning) (judge w s.locals e).uses h
+    (empty_both (judge w s.locals e).faults (statement_faults (place_of e) (is_statement w s.locals e) (judge w s.locals e).meaning) a.faultless
     (stands_silent (place_of e) (judge w s.locals e).meaning t)) refl
 
 pub call_found : (w : World) (ls : Locals) (e : ExprTree) (m : Meaning) → HasMeaning w ls e m → IsCallFound w ls e → SimpleIsTyped w ls (tree.Alone e) ls
 call_found w ls e m v c = subst (λ z. SimpleIsTyped w ls (tree.Alone z) ls) (sym c.is_chain) (a_call (subst
     (λ z. HasMeaning w ls z m) c.is_chain v) c.ends c.means c.stands)
 
-alone_parts : (w : World) (ls : Locals) (e : ExprTree) → ((judge w ls e).faults ++ stands_faults (place_of e) (is_statement w ls e)
+alone_parts : (w : World) (ls : Locals) (e : ExprTree) → ((judge w ls e).faults ++ statement_faults (place_of e) (is_statement w ls e)
     (judge w ls e).meaning) ≡ [] →
     SimpleIsTyped w ls (tree.Alone e) ls ⊎ SimpleIsExcused w ls (tree.Alone e)
-alone_parts w ls e h = elim (settle w ls e (empty_first (judge w ls e).faults (stands_faults (place_of e) (is_statement w ls e) (judge w ls e).meaning) h)) [
+alone_parts w ls e h = elim (settle w ls e (empty_first (judge w ls e).faults (statement_faults (place_of e) (is_statement w ls e) (judge w ls e).meaning) h)) [
   | inl n ↦ inl (call_found w ls e (judge w ls e).meaning (complete w ls e n) (true_statement w ls e (silent_stands (place_of e) (is_statement w ls e)
       (judge w ls e).meaning n
-      (empty_second (judge w ls e).faults (stands_faults (place_of e) (is_statement w ls e) (judge w ls e).meaning) h))))
+      (empty_second (judge w ls e).faults (statement_faults (place_of e) (is_statement w ls e) (judge w ls e).meaning) h))))
   | inr u ↦ inr (in_call u)
 ]
 
-alone_settled : (w : World) (s : Checked) (e : ExprTree) → (check_alone w s e).faults ≡ [] →
-    IsSettled (SimpleIsTyped w) (SimpleIsExcused w) s (tree.Alone e) (check_alone w s e)
-unfolding check_alone
-alone_settled w s e h = let f = (judge w s.locals e).faults ++ stands_faults (place_of e) (is_statement w s.locals e) (judge w s.locals e).meaning in
+alone_settled : (w : World) (s : Checked) (e : ExprTree) → (check_expr_statement w s e).faults ≡ [] →
+    IsSettled (SimpleIsTyped w) (SimpleIsExcused w) s (tree.Alone e) (check_expr_statement w s e)
+unfolding check_expr_statement
+alone_settled w s e h = let f = (judge w s.locals e).faults ++ statement_faults (place_of e) (is_statement w s.locals e) (judge w s.locals e).meaning in
     (empty_first s.faults f h, alone_parts w s.locals e (empty_second s.faults f h))
 
 -- `++` and `--`
 
-int_silent : (w : World) (place : ℕ) {o : Option Kind} {k : Kind} → o ≡ Some k → IsOf w k basic.Int → step_faults w place o ≡ []
+int_silent : (w : World) (place : ℕ) {o : Option Kind} {k : Kind} → o ≡ Some k → IsBasic w k basic.Int → step_faults w place o ≡ []
 unfolding step_faults
 int_silent w place e i = ap (step_faults w place) e ∙ ap (λ c. if is_int c then [] else (place ∷ [])) (class_true w i)
 
-silent_int : (w : World) (place : ℕ) {o : Option Kind} {k : Kind} → o ≡ Some k → step_faults w place o ≡ [] → IsOf w k basic.Int
+silent_int : (w : World) (place : ℕ) {o : Option Kind} {k : Kind} → o ≡ Some k → step_faults w place o ≡ [] → IsBasic w k basic.Int
 unfolding step_faults
 silent_int w place {k = k} e h = is_of_int w k (test_silent (is_int (class_of w k)) place (ap (step_faults w place) (sym e) ∙ h))
 
-step_true : (w : World) (s : Checked) {e : ExprTree} {k : Kind} → s.faults ≡ [] → HasMeaning w s.locals e (Value k true) → IsOf w k basic.Int →
+step_true : (w : World) (s : Checked) {e : ExprTree} {k : Kind} → s.faults ≡ [] → HasMeaning w s.locals e (Value k true) → IsBasic w k basic.Int →
     IsAt (check_step w s e) s.locals
 unfolding check_step
 step_true w s {e} h v i = let a = operand_true w s.locals e v in
@@ -207,43 +207,43 @@ update_settled w s x y o p h = let f = (judge_operand w s.locals x).faults ++ ((
 
 pub giving_at : (w : World) (s : Checked) (place : ℕ) (locals : Locals) (l : Lefts) (r : JudgedList) {after : Locals} {ks : List Kind} {ts : List Taker} →
     s.faults ≡ [] → AreLefts l ts → AreGiven r ks → TakenInTurn w ks ts →
-    locals ≡ after → IsAt (giving w s place locals l r) after
-giving_at w s place locals l r {ts = ts} h a g t e = reached s (l.faults ++ (r.faults ++ given_to w place r.values l.targets)) (l.uses ++ r.uses) h
-    (empty_both l.faults (r.faults ++ given_to w place r.values l.targets) a.faultless (empty_both r.faults (given_to w place r.values l.targets) g.faultless
-    (ap (given_to w place r.values) a.targets ∙ given_silent w place r.values g.kinds t))) e
+    locals ≡ after → IsAt (with_given w s place locals l r) after
+giving_at w s place locals l r {ts = ts} h a g t e = reached s (l.faults ++ (r.faults ++ given_faults w place r.values l.targets)) (l.uses ++ r.uses) h
+    (empty_both l.faults (r.faults ++ given_faults w place r.values l.targets) a.faultless (empty_both r.faults (given_faults w place r.values l.targets) g.faultless
+    (ap (given_faults w place r.values) a.targets ∙ given_silent w place r.values g.kinds t))) e
 
 -- values given to targets without a fault
 pub record IsGiving (w : World) (s : Checked) (place : ℕ) (l : Lefts) (r : JudgedList) : Type 0 where
   pub before : s.faults ≡ []
   pub lefts : l.faults ≡ []
-  pub rights : r.faults ≡ []
-  pub given : given_to w place r.values l.targets ≡ []
+  pub rhs : r.faults ≡ []
+  pub given : given_faults w place r.values l.targets ≡ []
 
-pub giving_parts : (w : World) (s : Checked) (place : ℕ) (locals : Locals) (l : Lefts) (r : JudgedList) → (giving w s place locals l r).faults ≡ [] →
+pub giving_parts : (w : World) (s : Checked) (place : ℕ) (locals : Locals) (l : Lefts) (r : JudgedList) → (with_given w s place locals l r).faults ≡ [] →
     IsGiving w s place l r
-giving_parts w s place locals l r h = let f = r.faults ++ given_to w place r.values l.targets in
+giving_parts w s place locals l r h = let f = r.faults ++ given_faults w place r.values l.targets in
     let q = empty_second s.faults (l.faults ++ f) h in
     let g = empty_second l.faults f q in
     record {
       before = empty_first s.faults (l.faults ++ f) h;
       lefts = empty_first l.faults f q;
-      rights = empty_first r.faults (given_to w place r.values l.targets) g;
-      given = empty_second r.faults (given_to w place r.values l.targets) g;
+      rhs = empty_first r.faults (given_faults w place r.values l.targets) g;
+      given = empty_second r.faults (given_faults w place r.values l.targets) g;
     }
 
-pub taken_found : (w : World) (place : ℕ) (vs : List Argued) (ks : List Kind) {targets : List Target} (ts : List Taker) → AreOf vs ks →
-    targets ≡ map aim ts → given_to w place vs targets ≡ [] → TakenInTurn w ks ts
-taken_found w place vs ks ts a e h = silent_given w place vs ks ts a (ap (given_to w place vs) (sym e) ∙ h)
+pub taken_found : (w : World) (place : ℕ) (vs : List ListValue) (ks : List Kind) {targets : List Target} (ts : List Taker) → AreOf vs ks →
+    targets ≡ map aim ts → given_faults w place vs targets ≡ [] → TakenInTurn w ks ts
+taken_found w place vs ks ts a e h = silent_given w place vs ks ts a (ap (given_faults w place vs) (sym e) ∙ h)
 
 assign_settled : (w : World) (s : Checked) (xs : List (Item ExprTree)) (p : ℕ) (ys : List (Item ExprTree)) → (check_assign w s xs ys).faults ≡ [] →
     IsSettled (SimpleIsTyped w) (SimpleIsExcused w) s (tree.Assign xs p ys) (check_assign w s xs ys)
 unfolding check_assign
-assign_settled w s xs p ys h = let g = giving_parts w s (first_of_exprs xs) s.locals (assigned w s.locals xs) (rights w s.locals ys) h in (
+assign_settled w s xs p ys h = let g = giving_parts w s (first_of_exprs xs) s.locals (assigned w s.locals xs) (rhs w s.locals ys) h in (
   g.before,
   elim (assigned_settled w s.locals xs g.lefts) [
-    | inl l ↦ elim (rights_settled w s.locals ys g.rights) [
+    | inl l ↦ elim (rights_settled w s.locals ys g.rhs) [
       | inl r ↦ inl (an_assignment l.assigned r.given (taken_found w (first_of_exprs xs)
-          (rights w s.locals ys).values r.kinds l.takers r.found l.found g.given))
+          (rhs w s.locals ys).values r.kinds l.takers r.found l.found g.given))
       | inr u ↦ inr (in_assignment u)
     ]
     | inr u ↦ inr (in_assigned u)
@@ -253,13 +253,13 @@ assign_settled w s xs p ys h = let g = giving_parts w s (first_of_exprs xs) s.lo
 define_settled : (w : World) (s : Checked) (xs : List (Item ExprTree)) (p : ℕ) (ys : List (Item ExprTree)) → (check_define w s xs ys).faults ≡ [] →
     IsSettled (SimpleIsTyped w) (SimpleIsExcused w) s (tree.Define xs p ys) (check_define w s xs ys)
 unfolding check_define
-define_settled w s xs p ys h = let locals = with_taken s.locals (defined_names w xs) (rights w s.locals ys).values in
-    let g = giving_parts w s (first_of_exprs xs) locals (defined w s.locals xs) (rights w s.locals ys) h in (
+define_settled w s xs p ys h = let locals = with_inferred s.locals (defined_names w xs) (rhs w s.locals ys).values in
+    let g = giving_parts w s (first_of_exprs xs) locals (defined w s.locals xs) (rhs w s.locals ys) h in (
       g.before,
       elim (defined_settled w s.locals xs g.lefts) [
-        | inl l ↦ elim (rights_settled w s.locals ys g.rights) [
-          | inl r ↦ let t = taken_found w (first_of_exprs xs) (rights w s.locals ys).values r.kinds l.takers r.found l.found g.given in
-              inl (a_definition l.defined_are r.given t (declare_found w (rights w s.locals ys).values s.locals (defined_names w xs)
+        | inl l ↦ elim (rights_settled w s.locals ys g.rhs) [
+          | inl r ↦ let t = taken_found w (first_of_exprs xs) (rhs w s.locals ys).values r.kinds l.takers r.found l.found g.given in
+              inl (a_definition l.defined_are r.given t (declare_found w (rhs w s.locals ys).values s.locals (defined_names w xs)
               (defined_new l.defined_are) r.found t))
           | inr u ↦ inr (in_definition u)
         ]
@@ -276,12 +276,12 @@ simple_true w s a after h (a_call v c u m) = alone_true w s h v (statement_true 
 simple_true w s a after h (a_step v i) = step_true w s h v i
 simple_true w s a after h (an_update {x = x} {y = y} u v q o f) = subst (λ z. IsAt (check_update w s z x y) s.locals) (sym (update_is u))
     (update_true w s h v q o)
-simple_true w s a after h (an_assignment {xs} {ys} l g t) = giving_at w s (first_of_exprs xs) s.locals (assigned w s.locals xs) (rights w s.locals ys) h
+simple_true w s a after h (an_assignment {xs} {ys} l g t) = giving_at w s (first_of_exprs xs) s.locals (assigned w s.locals xs) (rhs w s.locals ys) h
     (assigned_true w s.locals l) (rights_given w s.locals g) t refl
 simple_true w s a after h (a_definition {xs = xs} {ys = ys} l g t d) = let n = defined_true w s.locals l in let r = rights_given w s.locals g in
-    giving_at w s (first_of_exprs xs) (with_taken s.locals (defined_names w xs) (rights w s.locals ys).values) (defined w s.locals xs)
-    (rights w s.locals ys) h n.lefts r t
-    (ap (λ z. with_taken s.locals z (rights w s.locals ys).values) n.names ∙ declare_true (rights w s.locals ys).values r.kinds d)
+    giving_at w s (first_of_exprs xs) (with_inferred s.locals (defined_names w xs) (rhs w s.locals ys).values) (defined w s.locals xs)
+    (rhs w s.locals ys) h n.lefts r t
+    (ap (λ z. with_inferred s.locals z (rhs w s.locals ys).values) n.names ∙ declare_true (rhs w s.locals ys).values r.kinds d)
 
 pub simple_settled : (w : World) (s : Checked) (a : SimpleTree) → (check_simple w s a).faults ≡ [] →
     IsSettled (SimpleIsTyped w) (SimpleIsExcused w) s a (check_simple w s a)

@@ -9,15 +9,15 @@ use Rattle.types_expr.specs.Types.{PlainType, SliceOf, Struct, Kind, Typed, Mean
 use Rattle.types_expr.specs.World.{World, Locals, underlying}
 use Rattle.types_expr.specs.Judge.{Judged, JudgedList, JudgedElements, Seen, means, value_or_wrong, followed, value_at, value_kind, select, index_rule}
 use Rattle.types_expr.specs.Judge.{index_of, call_rule, call_of, operation, prefix_of, address_of, judge, judge_links, judge_operands, judge_arguments}
-use Rattle.types_expr.specs.Judge.{judge_literal, judge_elements, judge_key, seen_with, element_then, no_key, none_seen, misfit_if, Key, FieldKey}
+use Rattle.types_expr.specs.Judge.{judge_literal, judge_elements, judge_key, seen_with, with_element, no_key, none_seen, misfit_if, Key, FieldKey}
 use Rattle.law_typing.specs.Operators.{Operates, Prefixes}
 use Rattle.law_typing.specs.Links.{Indexes, Calls}
 use Rattle.law_typing.specs.Links.{element as slice_element}
-use Rattle.law_typing.specs.Meanings.{HasMeaning, number, text, name, composite, paren, prefix, address, chain, binary, LeadsTo, no_link, selector, index}
-use Rattle.law_typing.specs.Meanings.{call, CombinesTo, no_operand, operand, AreValues, no_argument, argument, IsLiteralOf, struct_literal, slice_literal}
+use Rattle.law_typing.specs.Meanings.{HasMeaning, number, text, name, composite, paren, prefix, address, chain, binary, LinksMean, no_link, selector, index}
+use Rattle.law_typing.specs.Meanings.{call, OperandsMean, no_operand, operand, AreValues, no_argument, argument, IsLiteralOf, struct_literal, slice_literal}
 use Rattle.law_typing.specs.Meanings.{AreFields, no_field, field, AreElements, no_element, element}
-use Rattle.law_typing.specs.Agrees.{Agrees}
-use Rattle.law_typing.proofs.Steps.{value_whole, agrees_as, means_it, followed_agrees, chosen_agrees, value_agrees, value_at_agrees, kind_known, empty_both}
+use Rattle.law_typing.specs.IsJudgedAs.{IsJudgedAs}
+use Rattle.law_typing.proofs.Judgements.{value_whole, agrees_as, means_it, followed_agrees, chosen_agrees, value_agrees, value_at_agrees, kind_known, empty_both}
 use Rattle.law_typing.proofs.Naming.{name_true, name_whole, type_true}
 use Rattle.law_typing.proofs.Operating.{operates_true, prefixes_true, prefix_whole}
 use Rattle.law_typing.proofs.Selecting.{selects_true, indexes_true}
@@ -25,17 +25,17 @@ use Rattle.law_typing.proofs.Arguments.{AreOf, fit_silent}
 use Rattle.law_typing.proofs.Calling.{calls_true}
 use Rattle.law_typing.proofs.Elements.{is_taken, new_free, field_key, IsWholeElement, element_whole, literal_agrees, struct_ends, slice_ends}
 
-prefix_agrees : (w : World) {o : PrefixOp} {k : Kind} {m : Meaning} (p : ℕ) (a : Bool) → Prefixes w o k m → Agrees (prefix_of w o p (Value k a)) m
+prefix_agrees : (w : World) {o : PrefixOp} {k : Kind} {m : Meaning} (p : ℕ) (a : Bool) → Prefixes w o k m → IsJudgedAs (prefix_of w o p (Value k a)) m
 unfolding prefix_of
 prefix_agrees w p a q = chosen_agrees p (prefixes_true w q) (prefix_whole q)
 
 operation_agrees : (w : World) {o : BinaryOp} {j k l : Kind} (start : ℕ) (a b : Bool) → Operates w o j k l →
-    Agrees (operation w o start (Value j a) (Value k b)) (Value l false)
+    IsJudgedAs (operation w o start (Value j a) (Value k b)) (Value l false)
 unfolding operation value_kind
 operation_agrees w start a b q = agrees_as (ap (λ z. value_or_wrong z start) (operates_true w q)) (means_it value_whole)
 
-pub index_agrees : (w : World) (start place : ℕ) (e : ExprTree) {m s : Meaning} {k : Kind} {a : Bool} {i : Judged} → Indexes w m k s → Agrees i (Value k a) →
-    Agrees (index_rule w start place e i m) s
+pub index_agrees : (w : World) (start place : ℕ) (e : ExprTree) {m s : Meaning} {k : Kind} {a : Bool} {i : Judged} → Indexes w m k s → IsJudgedAs i (Value k a) →
+    IsJudgedAs (index_rule w start place e i m) s
 index_agrees w start place e {a = a} {i} (slice_element {t} {a = b} h j) v =
     followed_agrees (λ s. followed i (index_of w start (place_of e) s)) (value_agrees place)
     (followed_agrees (index_of w start (place_of e) (Value (Typed t) b)) v (indexes_true w start (place_of e) a (slice_element h j)))
@@ -46,14 +46,14 @@ pub record AreFound (js : JudgedList) (ks : List Kind) : Type 0 where
   pub faultless : js.faults ≡ []
 
 pub call_agrees : (w : World) (start place : ℕ) {js : JudgedList} {ks : List Kind} {m s : Meaning} → AreFound js ks → Calls w m ks s →
-    Agrees (call_rule w start place js m) s
+    IsJudgedAs (call_rule w start place js m) s
 call_agrees w start place {js} {ks} {m} a c = let r = calls_true w start place js.values a.values c in
     record { meaning = r.meaning; faultless = empty_both js.faults (call_of w start place js.values m).faults a.faultless r.faultless; whole = r.whole }
 
 mutual
   unfolding judge address_of
 
-  pub sound : (w : World) (locals : Locals) {e : ExprTree} {m : Meaning} → HasMeaning w locals e m → Agrees (judge w locals e) m
+  pub sound : (w : World) (locals : Locals) {e : ExprTree} {m : Meaning} → HasMeaning w locals e m → IsJudgedAs (judge w locals e) m
   sound w locals number = means_it value_whole
   sound w locals text = means_it value_whole
   sound w locals (name h) = agrees_as (ap means (name_true w locals h)) (means_it (name_whole w locals h))
@@ -64,8 +64,8 @@ mutual
   sound w locals (chain {e} h more) = sound_links w locals more (first_token e) (place_of e) (judge w locals e) (sound w locals h)
   sound w locals (binary {e} h more) = sound_operands w locals more (first_token e) (value_at e (judge w locals e)) (value_at_agrees e (sound w locals h))
 
-  sound_links : (w : World) (locals : Locals) {m : Meaning} {links : LinkTrees} {r : Meaning} → LeadsTo w locals m links r →
-      (start place : ℕ) (j : Judged) → Agrees j m → Agrees (judge_links w locals start place j links) r
+  sound_links : (w : World) (locals : Locals) {m : Meaning} {links : LinkTrees} {r : Meaning} → LinksMean w locals m links r →
+      (start place : ℕ) (j : Judged) → IsJudgedAs j m → IsJudgedAs (judge_links w locals start place j links) r
   sound_links w locals no_link start place j h = h
   sound_links w locals (selector {n = n} s more) start place j h =
       sound_links w locals more start n (followed j (select w locals place n)) (followed_agrees (select w locals place n) h (selects_true w locals place s))
@@ -78,8 +78,8 @@ mutual
       (followed_agrees (call_rule w start place (judge_arguments w locals xs)) h
       (call_agrees w start place (sound_arguments w locals vs) c))
 
-  sound_operands : (w : World) (locals : Locals) {m : Meaning} {rest : OperandTrees} {r : Meaning} → CombinesTo w locals m rest r →
-      (start : ℕ) (j : Judged) → Agrees j m → Agrees (judge_operands w locals start j rest) r
+  sound_operands : (w : World) (locals : Locals) {m : Meaning} {rest : OperandTrees} {r : Meaning} → OperandsMean w locals m rest r →
+      (start : ℕ) (j : Judged) → IsJudgedAs j m → IsJudgedAs (judge_operands w locals start j rest) r
   sound_operands w locals no_operand start j h = h
   sound_operands w locals (operand {o} {e = e} {j = x} {a = a} {b = b} v q more) start j h =
       sound_operands w locals more start (followed j (λ z. followed (value_at e (judge w locals e)) (operation w o start z)))
@@ -98,7 +98,7 @@ mutual
       }
 
   sound_literal : (w : World) (locals : Locals) {l : LiteralTree} {t : PlainType} → IsLiteralOf w locals l t →
-      Agrees (judge_literal w locals l) (Value (Typed t) false)
+      IsJudgedAs (judge_literal w locals l) (Value (Typed t) false)
   sound_literal w locals (struct_literal {x} {es = es} {t} {s} h e fs) = let f = sound_fields w locals fs s e in
       literal_agrees w (first_of_type x) (λ j. judge_elements w locals j.type_of none_seen es) (type_true w h) f.0.faultless
       (struct_ends w (first_of_type x) t e f.0.whole f.1)
@@ -112,7 +112,7 @@ mutual
   sound_fields w locals no_field x i = (record { whole = refl; faultless = refl }, refl)
   sound_fields w locals (field {t} {u} {named} {key} {e} {rest = rest} {s} {k} m n v f more) x i =
       let others = sound_fields w locals more x i in
-      let F : Key → JudgedElements = λ z. element_then w (judge_key w t key.0 z) (place_of e) (value_at e (judge w locals e))
+      let F : Key → JudgedElements = λ z. with_element w (judge_key w t key.0 z) (place_of e) (value_at e (judge w locals e))
       (judge_elements w locals (Some t) (seen_with z (is_taken named)) rest) in
       subst (λ z. IsWholeElement (F z) × ((F z).unkeyed ≡ false)) (sym (field_key (is_taken named) i m (new_free s.rank n))) (
         element_whole w (judge_key w t key.0 (FieldKey s.rank u)) (place_of e) refl refl (value_at_agrees e (sound w locals v))

@@ -9,17 +9,17 @@ use Rattle.types_expr.specs.declared.types.Builtin.TheVariants as builtin
 use Rattle.types_expr.specs.Types.{PlainType, Kind, Typed, Meaning, Value, TypeName, Function, BuiltinName, Package, Results, Broken}
 use Rattle.types_expr.specs.World.{World, Locals}
 use Rattle.types_expr.specs.Judge.{judge}
-use Rattle.types_stmt.specs.Simple.{ends_in_call, unless_end, without_last, may_stand, is_statement, stands_faults, binary_of}
+use Rattle.types_stmt.specs.Simple.{ends_in_call, unless_end, without_last, may_be_statement, is_statement, statement_faults, binary_of}
 use Rattle.law_typing.specs.Names.{IsWhole}
 use Rattle.law_typing.specs.Fits.{Fits, identical}
-use Rattle.law_typing.specs.Operators.{IsUntyped, GoTogether, of_one_type, right_fits, left_fits, of_one_kind, IsOrder, IsEquality, IsLogic, Operates, adds}
+use Rattle.law_typing.specs.Operators.{IsUntyped, HaveCommonKind, of_one_type, right_fits, left_fits, of_one_kind, IsOrder, IsEquality, IsLogic, Operates, adds}
 use Rattle.law_typing.specs.Operators.{computes, orders, connects, compares, compares_with_nil}
 use Rattle.law_typing.specs.Meanings.{HasMeaning}
-use Rattle.law_typing.proofs.Refusing.{no_fault}
+use Rattle.law_typing.proofs.BrokenRules.{no_fault}
 use Rattle.law_typing.proofs.Soundness.{sound}
 use Rattle.law_typing.proofs.Completeness.{complete}
-use Rattle.law_typing.proofs.Steps.{function_whole}
-use Rattle.law_typing.specs.Simple.{EndsInCall, the_call, behind_selector, behind_index, behind_call, MayStand, a_function, a_panic, a_print}
+use Rattle.law_typing.proofs.Judgements.{function_whole}
+use Rattle.law_typing.specs.Simple.{EndsInCall, the_call, behind_selector, behind_index, behind_call, MayBeStatement, a_function, a_panic, a_print}
 use Rattle.law_typing.specs.Simple.{a_println, Updates, by_sum, by_difference, by_product, by_quotient, by_remainder}
 
 -- links that end in a call
@@ -66,15 +66,15 @@ true_end (tree.call o xs c (tree.call p ys q rest)) h = behind_call (true_end (t
 
 -- operands whose calls may be statements
 
-stand_true : {m : Meaning} → MayStand m → may_stand m ≡ true
-unfolding may_stand
+stand_true : {m : Meaning} → MayBeStatement m → may_be_statement m ≡ true
+unfolding may_be_statement
 stand_true a_function = refl
 stand_true a_panic = refl
 stand_true a_print = refl
 stand_true a_println = refl
 
-true_stand : (m : Meaning) → may_stand m ≡ true → MayStand m × IsWhole m
-unfolding may_stand
+true_stand : (m : Meaning) → may_be_statement m ≡ true → MayBeStatement m × IsWhole m
+unfolding may_be_statement
 true_stand (Function s) h = (a_function, function_whole)
 true_stand (BuiltinName builtin.Panic) h = (a_panic, λ q. cc)
 true_stand (BuiltinName builtin.Print) h = (a_print, λ q. cc)
@@ -88,13 +88,13 @@ true_stand (Results ts) h = absurd (true≢false (sym h))
 true_stand Broken h = absurd (true≢false (sym h))
 
 abbrev stands_by : World → Locals → ExprTree → Bool → LinkTrees → Bool
-stands_by w locals e ends front = if ends then may_stand (judge w locals (tree.Chain e front)).meaning else false
+stands_by w locals e ends front = if ends then may_be_statement (judge w locals (tree.Chain e front)).meaning else false
 
 pub statement_true : (w : World) (locals : Locals) {e : ExprTree} {links front : LinkTrees} {f : Meaning} → EndsInCall links front →
-    HasMeaning w locals (tree.Chain e front) f → MayStand f → is_statement w locals (tree.Chain e links) ≡ true
+    HasMeaning w locals (tree.Chain e front) f → MayBeStatement f → is_statement w locals (tree.Chain e links) ≡ true
 unfolding is_statement
 statement_true w locals {e} {links} {front} {f} c h s = ap (λ z. stands_by w locals e z (without_last links)) (end_true c)
-    ∙ (ap (λ z. stands_by w locals e true z) (front_is c) ∙ (ap may_stand (sound w locals h).meaning ∙ stand_true s))
+    ∙ (ap (λ z. stands_by w locals e true z) (front_is c) ∙ (ap may_be_statement (sound w locals h).meaning ∙ stand_true s))
 
 -- a call that is a statement
 pub record IsCallFound (w : World) (locals : Locals) (e : ExprTree) : Type 0 where
@@ -105,7 +105,7 @@ pub record IsCallFound (w : World) (locals : Locals) (e : ExprTree) : Type 0 whe
   pub is_chain : e ≡ tree.Chain operand links
   pub ends : EndsInCall links front
   pub means : HasMeaning w locals (tree.Chain operand front) callee
-  pub stands : MayStand callee
+  pub stands : MayBeStatement callee
 
 chain_found : (w : World) (locals : Locals) (e : ExprTree) (links : LinkTrees) (b : Bool) → ends_in_call links ≡ b →
     stands_by w locals e b (without_last links) ≡ true → IsCallFound w locals (tree.Chain e links)
@@ -126,12 +126,12 @@ unfolding is_statement
 true_statement w locals (tree.Chain e links) h = chain_found w locals e links (ends_in_call links) refl h
 true_statement w locals e h = absurd (true≢false (sym h))
 
-pub stands_silent : (place : ℕ) {b : Bool} (m : Meaning) → b ≡ true → stands_faults place b m ≡ []
-unfolding stands_faults
-stands_silent place m e = ap (λ z. stands_faults place z m) e
+pub stands_silent : (place : ℕ) {b : Bool} (m : Meaning) → b ≡ true → statement_faults place b m ≡ []
+unfolding statement_faults
+stands_silent place m e = ap (λ z. statement_faults place z m) e
 
-pub silent_stands : (place : ℕ) (b : Bool) (m : Meaning) → IsWhole m → stands_faults place b m ≡ [] → b ≡ true
-unfolding stands_faults
+pub silent_stands : (place : ℕ) (b : Bool) (m : Meaning) → IsWhole m → statement_faults place b m ≡ [] → b ≡ true
+unfolding statement_faults
 silent_stands place true m n h = refl
 silent_stands place false (Value k a) n h = no_fault h
 silent_stands place false (TypeName t) n h = no_fault h
@@ -160,7 +160,7 @@ is_update update.Remainder = by_remainder
 typed_untyped : {A : Type 0} {t : PlainType} → IsUntyped (Typed t) → A
 typed_untyped h = elim h [ ]
 
-together_typed : {w : World} {t : PlainType} {k l : Kind} → GoTogether w (Typed t) k l → Fits w l t
+together_typed : {w : World} {t : PlainType} {k l : Kind} → HaveCommonKind w (Typed t) k l → Fits w l t
 together_typed of_one_type = identical
 together_typed (right_fits u f) = identical
 together_typed (left_fits u f) = typed_untyped u

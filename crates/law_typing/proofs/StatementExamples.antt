@@ -10,8 +10,8 @@ use Rattle.law_typing.specs.Fits.{identical}
 use Rattle.law_typing.specs.Operators.{by_type}
 use Rattle.law_typing.specs.Names.{a_local}
 use Rattle.law_typing.specs.Meanings.{number, name}
-use Rattle.law_typing.specs.Giving.{GivesType, by_default, fresh, fitting, none_given, also_given, no_expression, also_value, values, no_name}
-use Rattle.law_typing.specs.Giving.{new_local}
+use Rattle.law_typing.specs.Assignments.{DefaultsTo, by_default, fresh, fitting, none_given, also_given, no_expression, also_value, values, no_name}
+use Rattle.law_typing.specs.Assignments.{new_local}
 use Rattle.law_typing.specs.Simple.{SimpleIsTyped, no_definition, a_new_name, a_definition, a_step}
 use Rattle.law_typing.specs.Statements.{StatementIsTyped, a_simple, a_return, BlockIsTyped, a_block, no_more, one_more}
 
@@ -47,7 +47,7 @@ block = a_block (one_more (a_simple definition) (one_more (a_return (values (als
     (fitting identical) none_given)) no_more))
 
 -- `x := nil` is not typed
-no_nil : (t : PlainType) → GivesType Nil t → ⊥
+no_nil : (t : PlainType) → DefaultsTo Nil t → ⊥
 no_nil t g = elim g [ ]
 
 -- `return` without a value is not typed in a function with a result

@@ -5,13 +5,13 @@ use Rattle.go_ast.specs.Tree as tree
 use Rattle.types_expr.specs.Types.{PlainType, Kind}
 use Rattle.types_expr.specs.World.{World, Locals}
 use Rattle.types_stmt.specs.Checked.{Checked}
-use Rattle.types_stmt.specs.Sides.{Target, rights}
-use Rattle.types_stmt.specs.Simple.{check_optional, check_condition, check_optional_condition, check_local}
-use Rattle.types_stmt.specs.Statements.{returned, check_return, check_init, check_header, check_statement, check_block, check_statements, check_if, check_else}
-use Rattle.law_typing.specs.Uses.{UsesBroken}
-use Rattle.law_typing.proofs.Steps.{empty_first, empty_second, empty_both}
-use Rattle.law_typing.specs.Turns.{IfPresent, absent, present, ExcusedIfPresent, excused_present}
-use Rattle.law_typing.specs.Giving.{OfType, TakenInTurn, Give}
+use Rattle.types_stmt.specs.Sides.{Target, rhs}
+use Rattle.types_stmt.specs.Simple.{check_optional_simple, check_condition, check_optional_condition, check_local}
+use Rattle.types_stmt.specs.Statements.{returned, check_return, check_init, check_for_header, check_statement, check_block, check_statements, check_if, check_else}
+use Rattle.law_typing.specs.BrokenUses.{UsesBroken}
+use Rattle.law_typing.proofs.Judgements.{empty_first, empty_second, empty_both}
+use Rattle.law_typing.specs.Sequences.{IfPresent, absent, present, ExcusedIfPresent, excused_present}
+use Rattle.law_typing.specs.Assignments.{OfType, TakenInTurn, GiveKinds}
 use Rattle.law_typing.specs.Simple.{ConditionIsTyped, SimpleIsTyped, LocalIsTyped}
 use Rattle.law_typing.specs.Statements.{InitIsTyped, an_init, HeaderIsTyped, endless, a_while, with_clauses, StatementIsTyped, nothing}
 use Rattle.law_typing.specs.Statements.{a_declaration, a_simple, an_inner_block, a_choice, a_loop, a_break, a_continue, a_return, BlockIsTyped}
@@ -22,8 +22,8 @@ use Rattle.law_typing.specs.Excused.{StatementIsExcused, in_declaration, in_simp
 use Rattle.law_typing.specs.Excused.{BlockIsExcused, in_block, StatementsAreExcused, this_statement, later_statement, IfIsExcused, before_condition}
 use Rattle.law_typing.specs.Excused.{in_condition, in_then, in_otherwise, ElseIsExcused, in_else_if, in_else}
 use Rattle.law_typing.proofs.Values.{rights_given, rights_settled}
-use Rattle.law_typing.proofs.Giving.{aim, return_silent, silent_return}
-use Rattle.law_typing.proofs.Reaching.{IsAt, reached, held, group_true, group_settled}
+use Rattle.law_typing.proofs.Assignments.{aim, return_silent, silent_return}
+use Rattle.law_typing.proofs.PartOutcomes.{IsAt, reached, held, group_true, group_settled}
 use Rattle.law_typing.proofs.Simple.{condition_true, condition_settled, simple_true, simple_settled}
 use Rattle.law_typing.proofs.Locals.{local_true, local_settled}
 
@@ -34,7 +34,7 @@ AreTargets targets results = targets ≡ map aim (map OfType results)
 -- parts of headers
 
 pub optional_true : (w : World) (s : Checked) {o : Option SimpleTree} {before after : Locals} → IsAt s before →
-    IfPresent SimpleTree (SimpleIsTyped w) before o after → IsAt (check_optional w s o) after
+    IfPresent SimpleTree (SimpleIsTyped w) before o after → IsAt (check_optional_simple w s o) after
 optional_true w s a absent = a
 optional_true w s a (present {after = after} {x = x} r) = simple_true w s x after a.faultless (held (SimpleIsTyped w) a r)
 
@@ -49,16 +49,16 @@ init_true w s a absent = a
 init_true w s a (present (an_init r)) = optional_true w s a r
 
 pub header_true : (w : World) (s : Checked) {h : ForTree} {before after : Locals} → IsAt s before → HeaderIsTyped w before h after →
-    IsAt (check_header w s h) after
-unfolding check_header
+    IsAt (check_for_header w s h) after
+unfolding check_for_header
 header_true w s a endless = a
 header_true w s a (a_while {after = after} {e = e} r) = condition_true w s e after a.faultless (held (ConditionIsTyped w) a r)
 header_true w s a (with_clauses {init = init} {condition = condition} i c p) =
-    optional_true w (check_optional_condition w (check_optional w s init) condition) (optional_condition_true w (check_optional w s init)
+    optional_true w (check_optional_condition w (check_optional_simple w s init) condition) (optional_condition_true w (check_optional_simple w s init)
     (optional_true w s a i) c) p
 
-optional_settled : (w : World) (s : Checked) (o : Option SimpleTree) → (check_optional w s o).faults ≡ [] →
-    (s.faults ≡ []) × (IfPresent SimpleTree (SimpleIsTyped w) s.locals o (check_optional w s o).locals ⊎ ExcusedIfPresent SimpleTree
+optional_settled : (w : World) (s : Checked) (o : Option SimpleTree) → (check_optional_simple w s o).faults ≡ [] →
+    (s.faults ≡ []) × (IfPresent SimpleTree (SimpleIsTyped w) s.locals o (check_optional_simple w s o).locals ⊎ ExcusedIfPresent SimpleTree
     (SimpleIsExcused w) s.locals o)
 optional_settled w s None h = (h, inl absent)
 optional_settled w s (Some a) h = let q = simple_settled w s a h in (q.0, elim q.1 [ inl r ↦ inl (present r) | inr e ↦ inr (excused_present e) ])
@@ -81,14 +81,14 @@ init_settled w s (Some i) h = let q = optional_settled w s i.simple h in (
   ],
 )
 
-header_settled : (w : World) (s : Checked) (h : ForTree) → (check_header w s h).faults ≡ [] →
-    (s.faults ≡ []) × (HeaderIsTyped w s.locals h (check_header w s h).locals ⊎ HeaderIsExcused w s.locals h)
-unfolding check_header
+header_settled : (w : World) (s : Checked) (h : ForTree) → (check_for_header w s h).faults ≡ [] →
+    (s.faults ≡ []) × (HeaderIsTyped w s.locals h (check_for_header w s h).locals ⊎ HeaderIsExcused w s.locals h)
+unfolding check_for_header
 header_settled w s tree.forever h = (h, inl endless)
 header_settled w s (tree.while e) h = let q = condition_settled w s e h in (q.0, elim q.1 [ inl r ↦ inl (a_while r) | inr u ↦ inr (in_while u) ])
 header_settled w s (tree.clauses init p condition q post) h = let c = optional_settled w (check_optional_condition w
-    (check_optional w s init) condition) post h in
-    let b = optional_condition_settled w (check_optional w s init) condition c.0 in
+    (check_optional_simple w s init) condition) post h in
+    let b = optional_condition_settled w (check_optional_simple w s init) condition c.0 in
     let a = optional_settled w s init b.0 in (
       a.0,
       elim a.1 [
@@ -100,20 +100,20 @@ header_settled w s (tree.clauses init p condition q post) h = let c = optional_s
 -- returns
 
 return_true : (w : World) (s : Checked) (p : ℕ) (targets : List Target) (results : List PlainType) (es : List (Item ExprTree)) {ks : List Kind} →
-    AreTargets targets results → s.faults ≡ [] → Give w s.locals es ks →
+    AreTargets targets results → s.faults ≡ [] → GiveKinds w s.locals es ks →
     TakenInTurn w ks (map OfType results) → IsAt (check_return w s p targets es) s.locals
 unfolding check_return
 return_true w s p targets results es e h g t = let r = rights_given w s.locals g in
-    reached s ((rights w s.locals es).faults ++ returned w p (rights w s.locals es).values targets) (rights w s.locals es).uses h
-    (empty_both (rights w s.locals es).faults (returned w p (rights w s.locals es).values targets) r.faultless
-    (ap (λ z. returned w p (rights w s.locals es).values z) e ∙ return_silent w p (rights w s.locals es).values r.kinds t)) refl
+    reached s ((rhs w s.locals es).faults ++ returned w p (rhs w s.locals es).values targets) (rhs w s.locals es).uses h
+    (empty_both (rhs w s.locals es).faults (returned w p (rhs w s.locals es).values targets) r.faultless
+    (ap (λ z. returned w p (rhs w s.locals es).values z) e ∙ return_silent w p (rhs w s.locals es).values r.kinds t)) refl
 
 return_settled : (w : World) (s : Checked) (p : ℕ) (targets : List Target) (results : List PlainType) (es : List (Item ExprTree)) →
     AreTargets targets results → (check_return w s p targets es).faults ≡ [] →
     (s.faults ≡ []) × (StatementIsTyped w results s.locals (tree.Return p es)
     (check_return w s p targets es).locals ⊎ StatementIsExcused w results s.locals (tree.Return p es))
 unfolding check_return
-return_settled w s p targets results es e h = let r = rights w s.locals es in
+return_settled w s p targets results es e h = let r = rhs w s.locals es in
     let f = r.faults ++ returned w p r.values targets in
     let q = empty_second s.faults f h in (
       empty_first s.faults f h,
@@ -137,11 +137,11 @@ mutual
   statement_true w results targets e (a_simple {after = after} {s = x} r) s a = simple_true w s x after a.faultless (held (SimpleIsTyped w) a r)
   statement_true w results targets e (an_inner_block b) s a = block_true w results targets e b s a
   statement_true w results targets e (a_choice i) s a = if_true w results targets e i s a
-  statement_true w results targets e (a_loop {h = h} r b) s a = block_true w results targets e b (check_header w s h) (header_true w s a r)
+  statement_true w results targets e (a_loop {h = h} r b) s a = block_true w results targets e b (check_for_header w s h) (header_true w s a r)
   statement_true w results targets e a_break s a = a
   statement_true w results targets e a_continue s a = a
   statement_true w results targets e (a_return {locals} {p} {es} {ks} g t) s a =
-      subst (λ z. IsAt (check_return w s p targets es) z) a.locals_are (return_true w s p targets results es e a.faultless (subst (λ z. Give w z es ks)
+      subst (λ z. IsAt (check_return w s p targets es) z) a.locals_are (return_true w s p targets results es e a.faultless (subst (λ z. GiveKinds w z es ks)
       (sym a.locals_are) g) t)
 
   pub block_true : (w : World) (results : List PlainType) (targets : List Target) → AreTargets targets results → {before after : Locals} {x : BlockTree} →
@@ -193,7 +193,7 @@ mutual
       (q.0, elim q.1 [ inl r ↦ inl (an_inner_block r) | inr u ↦ inr (in_inner u) ])
   statement_settled w results targets e (tree.If i) s h = let q = if_settled w results targets e i s h in
       (q.0, elim q.1 [ inl r ↦ inl (a_choice r) | inr u ↦ inr (in_choice u) ])
-  statement_settled w results targets e (tree.For p f b) s h = let q = block_settled w results targets e b (check_header w s f) h in
+  statement_settled w results targets e (tree.For p f b) s h = let q = block_settled w results targets e b (check_for_header w s f) h in
       let r = header_settled w s f q.0 in
       (r.0, elim r.1 [ inl x ↦ elim q.1 [ inl y ↦ inl (a_loop x y) | inr u ↦ inr (in_loop x u) ] | inr u ↦ inr (in_header u) ])
   statement_settled w results targets e (tree.Break p) s h = (h, inl a_break)
@@ -247,7 +247,7 @@ mutual
 return_first : (w : World) (s : Checked) (p : ℕ) (targets : List Target) (es : List (Item ExprTree)) → (check_return w s p targets es).faults ≡ [] →
     s.faults ≡ []
 unfolding check_return
-return_first w s p targets es h = empty_first s.faults ((rights w s.locals es).faults ++ returned w p (rights w s.locals es).values targets) h
+return_first w s p targets es h = empty_first s.faults ((rhs w s.locals es).faults ++ returned w p (rhs w s.locals es).values targets) h
 
 mutual
   unfolding check_statement
@@ -258,7 +258,7 @@ mutual
   statement_first w targets (tree.Simple x) s h = let q = simple_settled w s x h in q.0
   statement_first w targets (tree.Inner b) s h = block_first w targets b s h
   statement_first w targets (tree.If i) s h = if_first w targets i s h
-  statement_first w targets (tree.For p f b) s h = let q = header_settled w s f (block_first w targets b (check_header w s f) h) in q.0
+  statement_first w targets (tree.For p f b) s h = let q = header_settled w s f (block_first w targets b (check_for_header w s f) h) in q.0
   statement_first w targets (tree.Break p) s h = h
   statement_first w targets (tree.Continue p) s h = h
   statement_first w targets (tree.Return p es) s h = return_first w s p targets es h

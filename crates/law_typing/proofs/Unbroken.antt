@@ -3,21 +3,21 @@ use Rattle.std.proofs.Common.{ℕ, ◌≡◌, Bool, true, List, [], ◌∷◌, S
 use Rattle.go_ast.specs.Tree.{TypeTree, ExprTree, LinkTrees, OperandTrees, ArgumentTrees, LiteralTree, ElementTrees}
 use Rattle.types_expr.specs.Types.{PlainType, Kind, Typed, Meaning, Value}
 use Rattle.types_expr.specs.World.{World, Locals}
-use Rattle.types_expr.specs.Judge.{Argued, TypeJudged, good_type}
+use Rattle.types_expr.specs.Judge.{ListValue, TypeJudged, good_type}
 use Rattle.law_typing.specs.Names.{IsType}
 use Rattle.law_typing.specs.Names as names
 use Rattle.law_typing.specs.Links.{Selects, Indexes, Calls}
 use Rattle.law_typing.specs.Links as links
-use Rattle.law_typing.specs.Meanings.{HasMeaning, LeadsTo, CombinesTo, AreValues, IsLiteralOf, AreFields, AreElements}
+use Rattle.law_typing.specs.Meanings.{HasMeaning, LinksMean, OperandsMean, AreValues, IsLiteralOf, AreFields, AreElements}
 use Rattle.law_typing.specs.Meanings as means
-use Rattle.law_typing.specs.Uses.{IsBrokenType, SelectsBroken, UsesBroken, LinksUseBroken, OperandsUseBroken, ArgumentsUseBroken, LiteralUsesBroken}
-use Rattle.law_typing.specs.Uses.{ElementsUseBroken}
-use Rattle.law_typing.specs.Uses as uses
+use Rattle.law_typing.specs.BrokenUses.{IsBrokenType, SelectsBroken, UsesBroken, LinksUseBroken, OperandsUseBroken, ArgumentsUseBroken, LiteralUsesBroken}
+use Rattle.law_typing.specs.BrokenUses.{ElementsUseBroken}
+use Rattle.law_typing.specs.BrokenUses as uses
 use Rattle.law_typing.proofs.Naming.{type_true}
 use Rattle.law_typing.proofs.Selecting.{selects_true}
 use Rattle.law_typing.proofs.Arguments.{AreOf}
 use Rattle.law_typing.proofs.Calling.{calls_true}
-use Rattle.law_typing.proofs.Conclusions.{one_meaning}
+use Rattle.law_typing.proofs.ExpressionLaws.{has_one_meaning}
 
 -- the rules determine the meaning
 
@@ -27,7 +27,7 @@ one_selection w locals a b = let x = selects_true w locals 0 a in let y = select
 one_element : (w : World) {m s r : Meaning} {j k : Kind} → Indexes w m j s → Indexes w m k r → s ≡ r
 one_element w (links.element {u = u} e i) (links.element {u = v} f j) = let q : u ≡ v = cc in ap (λ z. Value (Typed z) true) q
 
-values_at : List Kind → List Argued
+values_at : List Kind → List ListValue
 values_at [] = []
 values_at (k ∷ ks) = record { place = 0; kind = Some k } ∷ values_at ks
 
@@ -46,7 +46,7 @@ one_kind e = cc
 one_list : (w : World) (locals : Locals) {xs : ArgumentTrees} {js ks : List Kind} → AreValues w locals xs js → AreValues w locals xs ks → js ≡ ks
 one_list w locals means.no_argument means.no_argument = refl
 one_list w locals (means.argument {e} {k = j} {a = a} {ks = js} v more) (means.argument {k = k} {a = b} u others) =
-    ap (λ z. z ∷ js) (one_kind (one_meaning w locals e (Value j a) (Value k b) v u)) ∙ ap (λ z. k ∷ z) (one_list w locals more others)
+    ap (λ z. z ∷ js) (one_kind (has_one_meaning w locals e (Value j a) (Value k b) v u)) ∙ ap (λ z. k ∷ z) (one_list w locals more others)
 
 pub one_type : (w : World) {x : TypeTree} {t u : PlainType} → IsType w x t → IsType w x u → t ≡ u
 one_type w {t = t} {u} a b = let e : good_type t ≡ good_type u = sym (type_true w a) ∙ type_true w b in
@@ -78,22 +78,22 @@ mutual
   no_use w locals (uses.in_prefix u) (means.prefix h q) = no_use w locals u h
   no_use w locals (uses.in_chain u) (means.chain h more) = no_use w locals u h
   no_use w locals (uses.in_links {m = n} h u) (means.chain {e} {links = ls} {m = m} {r = r} g more) =
-      no_links_use w locals u (subst (λ z. LeadsTo w locals z ls r) (one_meaning w locals e m n g h) more)
+      no_links_use w locals u (subst (λ z. LinksMean w locals z ls r) (has_one_meaning w locals e m n g h) more)
   no_use w locals (uses.in_binary u) (means.binary h c) = no_use w locals u h
   no_use w locals (uses.in_operands u) (means.binary h c) = no_operands_use w locals u c
 
-  no_links_use : (w : World) (locals : Locals) {m r : Meaning} {ls : LinkTrees} → LinksUseBroken w locals m ls → LeadsTo w locals m ls r → ⊥
+  no_links_use : (w : World) (locals : Locals) {m r : Meaning} {ls : LinkTrees} → LinksUseBroken w locals m ls → LinksMean w locals m ls r → ⊥
   no_links_use w locals (uses.selected b) (means.selector s more) = no_selection w locals b s
   no_links_use w locals (uses.in_index u) (means.index v i more) = no_use w locals u v
   no_links_use w locals (uses.in_call u) (means.call vs c more) = no_arguments_use w locals u vs
   no_links_use w locals (uses.behind_selector g u) (means.selector {rest = rest} {r = r} s more) =
-      no_links_use w locals u (subst (λ z. LeadsTo w locals z rest r) (one_selection w locals s g) more)
+      no_links_use w locals u (subst (λ z. LinksMean w locals z rest r) (one_selection w locals s g) more)
   no_links_use w locals (uses.behind_index g j u) (means.index {rest = rest} {r = r} v i more) = no_links_use w locals u (subst
-      (λ z. LeadsTo w locals z rest r) (one_element w i j) more)
+      (λ z. LinksMean w locals z rest r) (one_element w i j) more)
   no_links_use w locals (uses.behind_call {m = m} {s = t} gs d u) (means.call {rest = rest} {r = r} vs c more) =
-      no_links_use w locals u (subst (λ z. LeadsTo w locals z rest r) (one_call w c (subst (λ z. Calls w m z t) (one_list w locals gs vs) d)) more)
+      no_links_use w locals u (subst (λ z. LinksMean w locals z rest r) (one_call w c (subst (λ z. Calls w m z t) (one_list w locals gs vs) d)) more)
 
-  no_operands_use : (w : World) (locals : Locals) {m r : Meaning} {rest : OperandTrees} → OperandsUseBroken w locals rest → CombinesTo w locals m rest r → ⊥
+  no_operands_use : (w : World) (locals : Locals) {m r : Meaning} {rest : OperandTrees} → OperandsUseBroken w locals rest → OperandsMean w locals m rest r → ⊥
   no_operands_use w locals (uses.this_operand u) (means.operand v q c) = no_use w locals u v
   no_operands_use w locals (uses.other_operand u) (means.operand v q c) = no_operands_use w locals u c
 

@@ -4,19 +4,19 @@ use Rattle.go_ast.specs.Tree.{Item, ExprTree}
 use Rattle.types_expr.specs.Places.{place_of}
 use Rattle.types_expr.specs.Types.{PlainType, Kind, Typed, Meaning, Value, TypeName, Function, BuiltinName, Package, Results, Broken}
 use Rattle.types_expr.specs.World.{World, Locals}
-use Rattle.types_expr.specs.Judge.{Judged, Argued, JudgedList, judge, judge_value, value_kind, as_value}
-use Rattle.types_stmt.specs.Sides.{rights, judge_each, values_of, list_followed, results_at, assignable, judge_operand}
+use Rattle.types_expr.specs.Judge.{Judged, ListValue, JudgedList, judge, judge_value, value_kind, as_value}
+use Rattle.types_stmt.specs.Sides.{rhs, judge_each, values_of, list_followed, results_at, assignable, judge_operand}
 use Rattle.law_typing.specs.Names.{IsWhole}
 use Rattle.law_typing.specs.Meanings.{HasMeaning}
-use Rattle.law_typing.specs.Agrees.{Agrees}
-use Rattle.law_typing.specs.Uses.{UsesBroken}
-use Rattle.law_typing.proofs.Steps.{value_whole, means_it, followed_agrees, value_at_agrees, value_kept, kind_known, empty_first, empty_second, empty_both}
+use Rattle.law_typing.specs.IsJudgedAs.{IsJudgedAs}
+use Rattle.law_typing.specs.BrokenUses.{UsesBroken}
+use Rattle.law_typing.proofs.Judgements.{value_whole, means_it, followed_agrees, value_at_agrees, value_kept, kind_known, empty_first, empty_second, empty_both}
 use Rattle.law_typing.proofs.Soundness.{sound}
 use Rattle.law_typing.proofs.Completeness.{complete, has_value}
-use Rattle.law_typing.proofs.Refusing.{no_fault, value_or_fault}
-use Rattle.law_typing.proofs.Settling.{settle}
+use Rattle.law_typing.proofs.BrokenRules.{no_fault, value_or_fault}
+use Rattle.law_typing.proofs.FaultlessExpressions.{settle}
 use Rattle.law_typing.proofs.Arguments.{AreOf}
-use Rattle.law_typing.specs.Giving.{AreEach, no_expression, also_value, Give, values, results}
+use Rattle.law_typing.specs.Assignments.{AreEachValues, no_expression, also_value, GiveKinds, values, results}
 use Rattle.law_typing.specs.Excused.{AnyUsesBroken, this_one, a_later_one}
 
 -- an expression that is judged to be a value, and is one by the rules
@@ -27,7 +27,7 @@ pub record IsValueFound (w : World) (locals : Locals) (e : ExprTree) (m : Meanin
   pub means : HasMeaning w locals e (Value kind addressable)
 
 pub value_true : (w : World) (locals : Locals) (e : ExprTree) {k : Kind} {a : Bool} → HasMeaning w locals e (Value k a) →
-    Agrees (judge_value w locals e) (Value k a)
+    IsJudgedAs (judge_value w locals e) (Value k a)
 value_true w locals e h = value_at_agrees e (sound w locals h)
 
 whole_value : (w : World) (locals : Locals) (e : ExprTree) → (as_value (place_of e) (judge w locals e).meaning).faults ≡ [] →
@@ -49,12 +49,12 @@ pub record IsOperandFound (w : World) (locals : Locals) (e : ExprTree) (m : Mean
   pub found : m ≡ Value kind true
   pub means : HasMeaning w locals e (Value kind true)
 
-assigns : (place : ℕ) {k : Kind} → Agrees (assignable place (Value k true)) (Value k true)
+assigns : (place : ℕ) {k : Kind} → IsJudgedAs (assignable place (Value k true)) (Value k true)
 unfolding assignable
 assigns place = means_it value_whole
 
 pub operand_true : (w : World) (locals : Locals) (e : ExprTree) {k : Kind} → HasMeaning w locals e (Value k true) →
-    Agrees (judge_operand w locals e) (Value k true)
+    IsJudgedAs (judge_operand w locals e) (Value k true)
 operand_true w locals e h = followed_agrees (assignable (place_of e)) (sound w locals h) (assigns (place_of e))
 
 assigned_or_fault : (w : World) (locals : Locals) (e : ExprTree) (place : ℕ) (m : Meaning) → IsWhole m → (assignable place m).faults ≡ [] →
@@ -83,7 +83,7 @@ pub record AreGiven (js : JudgedList) (ks : List Kind) : Type 0 where
   pub kinds : AreOf js.values ks
   pub faultless : js.faults ≡ []
 
-each_given : (w : World) (locals : Locals) {is : List (Item ExprTree)} {ks : List Kind} → AreEach w locals is ks → AreGiven (judge_each w locals is) ks
+each_given : (w : World) (locals : Locals) {is : List (Item ExprTree)} {ks : List Kind} → AreEachValues w locals is ks → AreGiven (judge_each w locals is) ks
 unfolding judge_each
 each_given w locals no_expression = record { kinds = tt; faultless = refl }
 each_given w locals (also_value {i} {is} h more) = let a = value_true w locals i.value h in
@@ -98,41 +98,41 @@ results_are : (place : ℕ) (ts : List PlainType) → AreOf (results_at place ts
 results_are place [] = tt
 results_are place (t ∷ ts) = (refl, results_are place ts)
 
-one_given : (j : Judged) (place : ℕ) {k : Kind} {a : Bool} → Agrees j (Value k a) → AreGiven (list_followed j (values_of place)) (k ∷ [])
+one_given : (j : Judged) (place : ℕ) {k : Kind} {a : Bool} → IsJudgedAs j (Value k a) → AreGiven (list_followed j (values_of place)) (k ∷ [])
 unfolding values_of as_value value_kind
 one_given j place {k} {a} h = record {
   kinds = subst (λ m. AreOf (values_of place m).values (k ∷ [])) (sym h.meaning) (refl, tt);
   faultless = empty_both j.faults (values_of place j.meaning).faults h.faultless (ap (λ m. (values_of place m).faults) h.meaning);
 }
 
-call_given : (j : Judged) (place : ℕ) {ts : List PlainType} → Agrees j (Results ts) → AreGiven (list_followed j (values_of place)) (map Typed ts)
+call_given : (j : Judged) (place : ℕ) {ts : List PlainType} → IsJudgedAs j (Results ts) → AreGiven (list_followed j (values_of place)) (map Typed ts)
 unfolding values_of
 call_given j place {ts} h = record {
   kinds = subst (λ m. AreOf (values_of place m).values (map Typed ts)) (sym h.meaning) (results_are place ts);
   faultless = empty_both j.faults (values_of place j.meaning).faults h.faultless (ap (λ m. (values_of place m).faults) h.meaning);
 }
 
-pub rights_given : (w : World) (locals : Locals) {is : List (Item ExprTree)} {ks : List Kind} → Give w locals is ks → AreGiven (rights w locals is) ks
-unfolding rights
+pub rights_given : (w : World) (locals : Locals) {is : List (Item ExprTree)} {ks : List Kind} → GiveKinds w locals is ks → AreGiven (rhs w locals is) ks
+unfolding rhs
 rights_given w locals (values no_expression) = each_given w locals no_expression
 rights_given w locals (values (also_value {i} h no_expression)) = one_given (judge w locals i.value) (place_of i.value) (sound w locals h)
 rights_given w locals (values (also_value h (also_value g more))) = each_given w locals (also_value h (also_value g more))
 rights_given w locals (results {i} h) = call_given (judge w locals i.value) (place_of i.value) (sound w locals h)
 
 -- right sides without a fault: the values that they give
-pub record AreGivenBy (R : List Kind → Type 0) (vs : List Argued) : Type 0 where
+pub record AreGivenBy (R : List Kind → Type 0) (vs : List ListValue) : Type 0 where
   pub kinds : List Kind
   pub given : R kinds
   pub found : AreOf vs kinds
 
 each_one : (w : World) (locals : Locals) (i : Item ExprTree) (is : List (Item ExprTree)) →
-    IsValueFound w locals i.value (judge_value w locals i.value).meaning → AreGivenBy (AreEach w locals is) (judge_each w locals is).values →
-    AreGivenBy (AreEach w locals (i ∷ is)) (judge_each w locals (i ∷ is)).values
+    IsValueFound w locals i.value (judge_value w locals i.value).meaning → AreGivenBy (AreEachValues w locals is) (judge_each w locals is).values →
+    AreGivenBy (AreEachValues w locals (i ∷ is)) (judge_each w locals (i ∷ is)).values
 unfolding judge_each
 each_one w locals i is v more = record { kinds = v.kind ∷ more.kinds; given = also_value v.means more.given; found = (kind_known v.found, more.found) }
 
 each_settled : (w : World) (locals : Locals) (is : List (Item ExprTree)) → (judge_each w locals is).faults ≡ [] →
-    AreGivenBy (AreEach w locals is) (judge_each w locals is).values ⊎ AnyUsesBroken w locals is
+    AreGivenBy (AreEachValues w locals is) (judge_each w locals is).values ⊎ AnyUsesBroken w locals is
 unfolding judge_each
 each_settled w locals [] h = inl (record { kinds = []; given = no_expression; found = tt })
 each_settled w locals (i ∷ is) h = elim (value_settled w locals i.value (empty_first (judge_value w locals i.value).faults (judge_each w locals is).faults h)) [
@@ -145,7 +145,7 @@ each_settled w locals (i ∷ is) h = elim (value_settled w locals i.value (empty
 ]
 
 one_settled : (w : World) (locals : Locals) (i : Item ExprTree) (place : ℕ) (m : Meaning) → IsWhole m → (values_of place m).faults ≡ [] →
-    HasMeaning w locals i.value m → AreGivenBy (Give w locals (i ∷ [])) (values_of place m).values
+    HasMeaning w locals i.value m → AreGivenBy (GiveKinds w locals (i ∷ [])) (values_of place m).values
 unfolding values_of as_value value_kind
 one_settled w locals i place (Value k a) n h v = record { kinds = k ∷ []; given = values (also_value v no_expression); found = (refl, tt) }
 one_settled w locals i place (Results ts) n h v = record { kinds = map Typed ts; given = results v; found = results_are place ts }
@@ -155,14 +155,14 @@ one_settled w locals i place (BuiltinName b) n h v = no_fault h
 one_settled w locals i place Package n h v = no_fault h
 one_settled w locals i place Broken n h v = absurd (n refl)
 
-as_values : {w : World} {locals : Locals} {is : List (Item ExprTree)} {vs : List Argued} →
-    AreGivenBy (AreEach w locals is) vs ⊎ AnyUsesBroken w locals is → AreGivenBy (Give w locals is) vs ⊎ AnyUsesBroken w locals is
+as_values : {w : World} {locals : Locals} {is : List (Item ExprTree)} {vs : List ListValue} →
+    AreGivenBy (AreEachValues w locals is) vs ⊎ AnyUsesBroken w locals is → AreGivenBy (GiveKinds w locals is) vs ⊎ AnyUsesBroken w locals is
 as_values {w} {locals} {is} {vs} (inl g) = inl (record { kinds = g.kinds; given = values g.given; found = g.found })
 as_values {w} {locals} {is} {vs} (inr u) = inr u
 
-pub rights_settled : (w : World) (locals : Locals) (is : List (Item ExprTree)) → (rights w locals is).faults ≡ [] →
-    AreGivenBy (Give w locals is) (rights w locals is).values ⊎ AnyUsesBroken w locals is
-unfolding rights
+pub rights_settled : (w : World) (locals : Locals) (is : List (Item ExprTree)) → (rhs w locals is).faults ≡ [] →
+    AreGivenBy (GiveKinds w locals is) (rhs w locals is).values ⊎ AnyUsesBroken w locals is
+unfolding rhs
 rights_settled w locals [] h = as_values (each_settled w locals [] h)
 rights_settled w locals (i ∷ []) h = elim (settle w locals i.value (empty_first (judge w locals i.value).faults (values_of (place_of i.value)
     (judge w locals i.value).meaning).faults h)) [

@@ -9,8 +9,8 @@ use Rattle.types_expr.specs.Types.{PlainType, Defined, Pointer, PointerTo, Kind,
 use Rattle.types_expr.specs.World.{World, Locals, Means, no_locals}
 use Rattle.law_typing.specs.Names.{IsType}
 use Rattle.types_stmt.specs.Sides.{named, all_named}
-use Rattle.law_typing.specs.Turns.{InTurn, InGroup, IfPresent}
-use Rattle.law_typing.specs.Giving.{OfType, TakenInTurn, DeclareAs}
+use Rattle.law_typing.specs.Sequences.{InTurn, InGroup, IfPresent}
+use Rattle.law_typing.specs.Assignments.{OfType, TakenInTurn, DeclareAs}
 use Rattle.law_typing.specs.Statements.{BlockIsTyped}
 
 -- The second type is that of a receiver which names the first: T, or `*T` where a star is written.

@@ -11,8 +11,8 @@ use Rattle.types_expr.specs.Types.{PlainType, Kind, Value}
 use Rattle.types_expr.specs.World.{World, Locals, Local, BrokenType, no_locals}
 use Rattle.law_typing.specs.Operators.{IsUntyped}
 use Rattle.law_typing.specs.Meanings.{HasMeaning}
-use Rattle.law_typing.specs.Uses.{UsesBroken, IsBrokenType}
-use Rattle.law_typing.specs.Turns.{InTurn, IfPresent, ExcusedInTurn, ExcusedInGroup, ExcusedIfPresent}
+use Rattle.law_typing.specs.BrokenUses.{UsesBroken, IsBrokenType}
+use Rattle.law_typing.specs.Sequences.{InTurn, IfPresent, ExcusedInTurn, ExcusedInGroup, ExcusedIfPresent}
 use Rattle.law_typing.specs.Simple.{ConditionIsTyped, SimpleIsTyped, LocalIsTyped}
 use Rattle.law_typing.specs.Statements.{InitIsTyped, HeaderIsTyped, StatementIsTyped, BlockIsTyped}
 use Rattle.law_typing.specs.Declarations.{ReceiverIsTyped, ParamIsTyped, AreResults, GlobalIsTyped, TypeIsTyped, DeclIsTyped}

@@ -13,11 +13,11 @@ use Rattle.types_expr.specs.Places.{first_token, first_of_type, place_of}
 use Rattle.types_expr.specs.Types.{PlainType, SliceOf, Struct, Kind, Typed, Signature, Meaning, Value, TypeName, Function, BuiltinName, Package, Results}
 use Rattle.types_expr.specs.World.{World, Locals, Local, Means, BrokenVariable, BrokenType, AField, ABrokenMethod, underlying}
 use Rattle.law_typing.specs.Fits.{Fits}
-use Rattle.law_typing.specs.Operators.{IsOf, Operates, Prefixes}
+use Rattle.law_typing.specs.Operators.{IsBasic, Operates, Prefixes}
 use Rattle.law_typing.specs.Names.{IsType}
 use Rattle.law_typing.specs.Links.{Selects, Indexes, Calls}
 use Rattle.law_typing.specs.Meanings.{IsNew, HasMeaning, AreValues}
-use Rattle.law_typing.specs.Uses.{SelectsBroken}
+use Rattle.law_typing.specs.BrokenUses.{SelectsBroken}
 
 -- m is not the meaning of a value: it is that of a type, a function, a builtin, a package, or a call without exactly one result
 abbrev pub IsNoValue : Meaning → Type 0
@@ -88,9 +88,9 @@ pub data IsNoCallee : Meaning → Type 0 where
   a_call : {ts : List PlainType} → IsNoCallee (Results ts)
 
 -- a meaning of operand e, or none, for an operand whose meaning is left open
-pub data IsOperand (w : World) (locals : Locals) (e : ExprTree) : Option Meaning → Type 0 where
-  meant : {m : Meaning} → HasMeaning w locals e m → IsOperand w locals e (Some m)
-  unmeant : IsOperand w locals e None
+pub data MeaningOrNone (w : World) (locals : Locals) (e : ExprTree) : Option Meaning → Type 0 where
+  meant : {m : Meaning} → HasMeaning w locals e m → MeaningOrNone w locals e (Some m)
+  unmeant : MeaningOrNone w locals e None
 
 -- the key at token `key` of a struct literal is a field with symbol and type, which no earlier key named
 pub data IsKey (w : World) (t : PlainType) (named : List ℕ) (key : ℕ) : Symbol → PlainType → Type 0 where
@@ -123,10 +123,10 @@ mutual
     no_prefix : {o : PrefixOp} {q : ℕ} {e : ExprTree} {k : Kind} {a : Bool} → HasMeaning w locals e (Value k a) → ((m : Meaning) → Prefixes w o k m → ⊥) →
         HasFault w locals (tree.Prefix o q e) q
     in_chain : {e : ExprTree} {links : LinkTrees} {p : ℕ} → HasFault w locals e p → HasFault w locals (tree.Chain e links) p
-    in_links : {e : ExprTree} {links : LinkTrees} {m : Option Meaning} {p : ℕ} → IsOperand w locals e m →
+    in_links : {e : ExprTree} {links : LinkTrees} {m : Option Meaning} {p : ℕ} → MeaningOrNone w locals e m →
         LinksHaveFault w locals (first_token e) (place_of e) m links p → HasFault w locals (tree.Chain e links) p
     in_binary : {e : ExprTree} {rest : OperandTrees} {p : ℕ} → ValueHasFault w locals e p → HasFault w locals (tree.Binary e rest) p
-    in_operands : {e : ExprTree} {rest : OperandTrees} {m : Option Meaning} {p : ℕ} → IsOperand w locals e m →
+    in_operands : {e : ExprTree} {rest : OperandTrees} {m : Option Meaning} {p : ℕ} → MeaningOrNone w locals e m →
         OperandsHaveFault w locals (first_token e) m rest p → HasFault w locals (tree.Binary e rest) p
 
   -- the expression, where a value is required, has a fault at this token: a part of it has one, or it is no value
@@ -151,9 +151,9 @@ mutual
     in_index : {start place o c p : ℕ} {e : ExprTree} {rest : LinkTrees} {m : Option Meaning} → ValueHasFault w locals e p →
         LinksHaveFault w locals start place m (tree.index o e c rest) p
     no_int : {start place o c : ℕ} {e : ExprTree} {rest : LinkTrees} {m : Option Meaning} {k : Kind} {a : Bool} → HasMeaning w locals e (Value k a) →
-        (IsOf w k basic.Int → ⊥) →
+        (IsBasic w k basic.Int → ⊥) →
         LinksHaveFault w locals start place m (tree.index o e c rest) (place_of e)
-    no_slice : {start place o c : ℕ} {e : ExprTree} {rest : LinkTrees} {j k : Kind} {a b : Bool} → HasMeaning w locals e (Value k a) → IsOf w k basic.Int →
+    no_slice : {start place o c : ℕ} {e : ExprTree} {rest : LinkTrees} {j k : Kind} {a b : Bool} → HasMeaning w locals e (Value k a) → IsBasic w k basic.Int →
         ((s : Meaning) → Indexes w (Value j b) k s → ⊥) →
         LinksHaveFault w locals start place (Some (Value j b)) (tree.index o e c rest) start
     behind_index : {start place o c p : ℕ} {e : ExprTree} {rest : LinkTrees} {m s : Meaning} {k : Kind} {a : Bool} → HasMeaning w locals e (Value k a) →

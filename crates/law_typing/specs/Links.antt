@@ -8,7 +8,7 @@ use Rattle.types_expr.specs.Types.{PlainType, BasicType, Pointer, PointerTo, Sli
 use Rattle.types_expr.specs.Types.{Package, Results}
 use Rattle.types_expr.specs.World.{World, Locals, AField, AMethod, underlying}
 use Rattle.law_typing.specs.Fits.{Converts, FitInTurn, EachFits}
-use Rattle.law_typing.specs.Operators.{IsOf}
+use Rattle.law_typing.specs.Operators.{IsBasic}
 use Rattle.law_typing.specs.Names.{NameMeans}
 
 -- The selector at this token, after an operand of the first meaning, has the second. A field is addressable where the operand is, and
@@ -32,28 +32,28 @@ pub data Selects (w : World) (locals : Locals) : Meaning → ℕ → Meaning →
 -- An index of this kind, after an operand of the first meaning, gives the second: an int gives the element of a slice, which is
 -- addressable.
 pub data Indexes (w : World) : Meaning → Kind → Meaning → Type 0 where
-  element : {t u : PlainType} {a : Bool} {i : Kind} → underlying w t ≡ SliceOf u → IsOf w i basic.Int → Indexes w (Value (Typed t) a) i (Value (Typed u) true)
+  element : {t u : PlainType} {a : Bool} {i : Kind} → underlying w t ≡ SliceOf u → IsBasic w i basic.Int → Indexes w (Value (Typed t) a) i (Value (Typed u) true)
 
 -- a call of a function with these results has this meaning: a value, where it has exactly one result
-pub data Gives : List PlainType → Meaning → Type 0 where
-  nothing : Gives [] (Results [])
-  one : {t : PlainType} → Gives (t ∷ []) (Value (Typed t) false)
-  several : {t u : PlainType} {ts : List PlainType} → Gives (t ∷ u ∷ ts) (Results (t ∷ u ∷ ts))
+pub data ResultsMean : List PlainType → Meaning → Type 0 where
+  nothing : ResultsMean [] (Results [])
+  one : {t : PlainType} → ResultsMean (t ∷ []) (Value (Typed t) false)
+  several : {t u : PlainType} {ts : List PlainType} → ResultsMean (t ∷ u ∷ ts) (Results (t ∷ u ∷ ts))
 
 -- `len` takes a value of kind k: a string or a slice
 pub data HasLength (w : World) : Kind → Type 0 where
-  a_string : {k : Kind} → IsOf w k basic.String → HasLength w k
+  a_string : {k : Kind} → IsBasic w k basic.String → HasLength w k
   a_slice : {t u : PlainType} → underlying w t ≡ SliceOf u → HasLength w (Typed t)
 
 -- `print` and `println` take values of these kinds: bools, ints and strings
 pub data ArePrinted (w : World) : List Kind → Type 0 where
   none : ArePrinted w []
-  also : {k : Kind} {b : Basic} {ks : List Kind} → IsOf w k b → ArePrinted w ks → ArePrinted w (k ∷ ks)
+  also : {k : Kind} {b : Basic} {ks : List Kind} → IsBasic w k b → ArePrinted w ks → ArePrinted w (k ∷ ks)
 
 -- A call of an operand of the first meaning, with values of these kinds, has the second meaning. A function or method has as many arguments
 -- as parameters, each of which fits. A conversion has one value. The predeclared functions have rules of their own.
 pub data Calls (w : World) : Meaning → List Kind → Meaning → Type 0 where
-  function : {s : Signature} {ks : List Kind} {m : Meaning} → FitInTurn w ks s.parameters → Gives s.results m → Calls w (Function s) ks m
+  function : {s : Signature} {ks : List Kind} {m : Meaning} → FitInTurn w ks s.parameters → ResultsMean s.results m → Calls w (Function s) ks m
   conversion : {k : Kind} {t : PlainType} → Converts w k t → Calls w (TypeName t) (k ∷ []) (Value (Typed t) false)
   len : {k : Kind} → HasLength w k → Calls w (BuiltinName builtin.Len) (k ∷ []) (Value (Typed (BasicType basic.Int)) false)
   append : {t u : PlainType} {ks : List Kind} → underlying w t ≡ SliceOf u → EachFits w u ks →

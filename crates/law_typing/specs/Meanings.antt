@@ -30,30 +30,30 @@ mutual
     prefix : {o : PrefixOp} {p : ℕ} {e : ExprTree} {k : Kind} {a : Bool} {m : Meaning} → HasMeaning w locals e (Value k a) → Prefixes w o k m →
         HasMeaning w locals (tree.Prefix o p e) m
     address : {p : ℕ} {l : LiteralTree} {t : PlainType} → IsLiteralOf w locals l t → HasMeaning w locals (tree.Address p l) (Value (Typed (Pointer t)) false)
-    chain : {e : ExprTree} {links : LinkTrees} {m r : Meaning} → HasMeaning w locals e m → LeadsTo w locals m links r →
+    chain : {e : ExprTree} {links : LinkTrees} {m r : Meaning} → HasMeaning w locals e m → LinksMean w locals m links r →
         HasMeaning w locals (tree.Chain e links) r
     binary : {e : ExprTree} {rest : OperandTrees} {k : Kind} {a : Bool} {r : Meaning} → HasMeaning w locals e (Value k a) →
-        CombinesTo w locals (Value k a) rest r →
+        OperandsMean w locals (Value k a) rest r →
         HasMeaning w locals (tree.Binary e rest) r
 
   -- an operand of the first meaning, followed by these links, has the second meaning
-  pub data LeadsTo (w : World) (locals : Locals) : Meaning → LinkTrees → Meaning → Type 0 where
-    no_link : {m : Meaning} → LeadsTo w locals m tree.no_link m
-    selector : {d n : ℕ} {rest : LinkTrees} {m s r : Meaning} → Selects w locals m n s → LeadsTo w locals s rest r →
-        LeadsTo w locals m (tree.selector d n rest) r
+  pub data LinksMean (w : World) (locals : Locals) : Meaning → LinkTrees → Meaning → Type 0 where
+    no_link : {m : Meaning} → LinksMean w locals m tree.no_link m
+    selector : {d n : ℕ} {rest : LinkTrees} {m s r : Meaning} → Selects w locals m n s → LinksMean w locals s rest r →
+        LinksMean w locals m (tree.selector d n rest) r
     index : {o c : ℕ} {e : ExprTree} {rest : LinkTrees} {m s r : Meaning} {k : Kind} {a : Bool} → HasMeaning w locals e (Value k a) → Indexes w m k s →
-        LeadsTo w locals s rest r →
-        LeadsTo w locals m (tree.index o e c rest) r
+        LinksMean w locals s rest r →
+        LinksMean w locals m (tree.index o e c rest) r
     call : {o c : ℕ} {arguments : ArgumentTrees} {rest : LinkTrees} {m s r : Meaning} {ks : List Kind} → AreValues w locals arguments ks → Calls w m ks s →
-        LeadsTo w locals s rest r →
-        LeadsTo w locals m (tree.call o arguments c rest) r
+        LinksMean w locals s rest r →
+        LinksMean w locals m (tree.call o arguments c rest) r
 
   -- a value of the first meaning, followed by these operators and operands, combines from left to right to the second meaning
-  pub data CombinesTo (w : World) (locals : Locals) : Meaning → OperandTrees → Meaning → Type 0 where
-    no_operand : {m : Meaning} → CombinesTo w locals m tree.no_operand m
+  pub data OperandsMean (w : World) (locals : Locals) : Meaning → OperandTrees → Meaning → Type 0 where
+    no_operand : {m : Meaning} → OperandsMean w locals m tree.no_operand m
     operand : {o : BinaryOp} {p : ℕ} {e : ExprTree} {rest : OperandTrees} {j k l : Kind} {a b : Bool} {r : Meaning} → HasMeaning w locals e (Value k b) →
         Operates w o j k l →
-        CombinesTo w locals (Value l false) rest r → CombinesTo w locals (Value j a) (tree.operand o p e rest) r
+        OperandsMean w locals (Value l false) rest r → OperandsMean w locals (Value j a) (tree.operand o p e rest) r
 
   -- each argument is a value, of the kind at its position
   pub data AreValues (w : World) (locals : Locals) : ArgumentTrees → List Kind → Type 0 where

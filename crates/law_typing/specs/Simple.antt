@@ -12,15 +12,15 @@ use Rattle.types_expr.specs.declared.types.Builtin.TheVariants as builtin
 use Rattle.types_expr.specs.Types.{PlainType, Kind, Typed, Signature, Meaning, Value, Function, BuiltinName}
 use Rattle.types_expr.specs.World.{World, Locals, Local}
 use Rattle.law_typing.specs.Fits.{Fits}
-use Rattle.law_typing.specs.Operators.{IsOf, Operates}
+use Rattle.law_typing.specs.Operators.{IsBasic, Operates}
 use Rattle.law_typing.specs.Names.{IsType}
 use Rattle.law_typing.specs.Meanings.{HasMeaning}
 use Rattle.types_stmt.specs.Sides.{all_named}
-use Rattle.law_typing.specs.Giving.{Taker, Fresh, OfType, TakenInTurn, Give, Declare, DeclareAs}
+use Rattle.law_typing.specs.Assignments.{Taker, Fresh, OfType, TakenInTurn, GiveKinds, Declare, DeclareAs}
 
 -- a condition is typed: a value whose underlying type is bool
 pub data ConditionIsTyped (w : World) : Locals → ExprTree → Locals → Type 0 where
-  a_condition : {locals : Locals} {e : ExprTree} {k : Kind} {a : Bool} → HasMeaning w locals e (Value k a) → IsOf w k basic.Bool →
+  a_condition : {locals : Locals} {e : ExprTree} {k : Kind} {a : Bool} → HasMeaning w locals e (Value k a) → IsBasic w k basic.Bool →
       ConditionIsTyped w locals e locals
 
 -- the assignment operator `op=` applies the binary operator op
@@ -39,11 +39,11 @@ pub data EndsInCall : LinkTrees → LinkTrees → Type 0 where
   behind_call : {o c : ℕ} {xs : ArgumentTrees} {rest front : LinkTrees} → EndsInCall rest front → EndsInCall (tree.call o xs c rest) (tree.call o xs c front)
 
 -- a call of an operand of this meaning may be a statement: of a function, a method, `panic`, `print` or `println`
-pub data MayStand : Meaning → Type 0 where
-  a_function : {s : Signature} → MayStand (Function s)
-  a_panic : MayStand (BuiltinName builtin.Panic)
-  a_print : MayStand (BuiltinName builtin.Print)
-  a_println : MayStand (BuiltinName builtin.Println)
+pub data MayBeStatement : Meaning → Type 0 where
+  a_function : {s : Signature} → MayBeStatement (Function s)
+  a_panic : MayBeStatement (BuiltinName builtin.Panic)
+  a_print : MayBeStatement (BuiltinName builtin.Print)
+  a_println : MayBeStatement (BuiltinName builtin.Println)
 
 -- left sides of `=` are these targets: `_`, or a variable
 pub data AreAssigned (w : World) (locals : Locals) : List (Item ExprTree) → List Taker → Type 0 where
@@ -70,17 +70,17 @@ pub data AreDefined (w : World) (locals : Locals) : List (Item ExprTree) → Lis
 -- a simple statement is typed: the locals before it, the statement, and the locals after it
 pub data SimpleIsTyped (w : World) : Locals → SimpleTree → Locals → Type 0 where
   a_call : {locals : Locals} {e : ExprTree} {links front : LinkTrees} {m f : Meaning} → HasMeaning w locals (tree.Chain e links) m → EndsInCall links front →
-      HasMeaning w locals (tree.Chain e front) f → MayStand f → SimpleIsTyped w locals (tree.Alone (tree.Chain e links)) locals
-  a_step : {locals : Locals} {e : ExprTree} {o : StepOp} {p : ℕ} {k : Kind} → HasMeaning w locals e (Value k true) → IsOf w k basic.Int →
+      HasMeaning w locals (tree.Chain e front) f → MayBeStatement f → SimpleIsTyped w locals (tree.Alone (tree.Chain e links)) locals
+  a_step : {locals : Locals} {e : ExprTree} {o : StepOp} {p : ℕ} {k : Kind} → HasMeaning w locals e (Value k true) → IsBasic w k basic.Int →
       SimpleIsTyped w locals (tree.Step e o p) locals
   an_update : {locals : Locals} {x y : ExprTree} {o : UpdateOp} {b : BinaryOp} {p : ℕ} {t : PlainType} {k l : Kind} {a : Bool} → Updates o b →
       HasMeaning w locals x (Value (Typed t) true) →
       HasMeaning w locals y (Value k a) → Operates w b (Typed t) k l → Fits w l t → SimpleIsTyped w locals (tree.Update x o p y) locals
   an_assignment : {locals : Locals} {xs ys : List (Item ExprTree)} {p : ℕ} {ts : List Taker} {ks : List Kind} → AreAssigned w locals xs ts →
-      Give w locals ys ks → TakenInTurn w ks ts →
+      GiveKinds w locals ys ks → TakenInTurn w ks ts →
       SimpleIsTyped w locals (tree.Assign xs p ys) locals
   a_definition : {before after : Locals} {xs ys : List (Item ExprTree)} {p : ℕ} {ts : List Taker} {ns : List (Option ℕ)} {ks : List Kind} →
-      AreDefined w before xs ts ns → Give w before ys ks →
+      AreDefined w before xs ts ns → GiveKinds w before ys ks →
       TakenInTurn w ks ts → Declare before ns ks after → SimpleIsTyped w before (tree.Define xs p ys) after
 
 -- a declaration of locals is typed: with a written type, with or without values; or with values alone
@@ -90,7 +90,7 @@ pub data LocalIsTyped (w : World) : Locals → LocalTree → Locals → Type 0 w
       LocalIsTyped w before l after
   of_type_with_values : {before after : Locals} {l : LocalTree} {x : TypeTree} {t : PlainType} {v : ℕ × List (Item ExprTree)} {ks : List Kind} →
       l.type_use ≡ Some x → l.values ≡ Some v → IsType w x t →
-      Give w before v.1 ks → TakenInTurn w ks (map (λ i. OfType t) l.names) → DeclareAs t before (all_named l.names) after → LocalIsTyped w before l after
+      GiveKinds w before v.1 ks → TakenInTurn w ks (map (λ i. OfType t) l.names) → DeclareAs t before (all_named l.names) after → LocalIsTyped w before l after
   of_values : {before after : Locals} {l : LocalTree} {v : ℕ × List (Item ExprTree)} {ks : List Kind} → l.type_use ≡ None → l.values ≡ Some v →
-      Give w before v.1 ks →
+      GiveKinds w before v.1 ks →
       TakenInTurn w ks (map (λ i. Fresh) l.names) → Declare before (all_named l.names) ks after → LocalIsTyped w before l after

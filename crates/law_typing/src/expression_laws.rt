@@ -6,13 +6,13 @@ ghost use Rattle.types_expr.specs.Types.{Meaning};
 ghost use Rattle.types_expr.specs.World.{World, Locals};
 ghost use Rattle.types_expr.specs.Judge.{judge};
 ghost use Rattle.law_typing.specs.Meanings.{HasMeaning};
-ghost use Rattle.law_typing.specs.Agrees.{Agrees};
-ghost use Rattle.law_typing.specs.Uses.{UsesBroken};
+ghost use Rattle.law_typing.specs.IsJudgedAs.{IsJudgedAs};
+ghost use Rattle.law_typing.specs.BrokenUses.{UsesBroken};
 ghost use Rattle.law_typing.specs.Faults.{HasFault};
 
 /// An expression has a meaning by the typing rules exactly where `judge` finds this meaning and no fault.
 pub fn expressions_are_judged_by_the_rules()
-    ensures { (w : World) → (locals : Locals) → (e : ExprTree) → (m : Meaning) → HasMeaning w locals e m ↔ Agrees (judge w locals e) m }
+    ensures { (w : World) → (locals : Locals) → (e : ExprTree) → (m : Meaning) → HasMeaning w locals e m ↔ IsJudgedAs (judge w locals e) m }
 {}
 
 /// An expression has at most one meaning.
@@ -21,7 +21,7 @@ pub fn meanings_are_unique()
 {}
 
 /// An expression in which no fault is found has a meaning, unless it uses something broken.
-pub fn what_has_no_meaning_is_refused()
+pub fn meaningless_expressions_are_refused()
     ensures { (w : World) → (locals : Locals) → (e : ExprTree) → (judge w locals e).faults ≡ [] → ((m : Meaning) × HasMeaning w locals e m) ⊎ UsesBroken w locals e }
 {}
 
@@ -31,6 +31,6 @@ pub fn faults_stand_at_broken_rules()
 {}
 
 /// Where an expression uses nothing broken, it has a meaning exactly where no fault is found in it.
-pub fn what_has_no_fault_has_a_meaning()
+pub fn faultless_expressions_have_meanings()
     ensures { (w : World) → (locals : Locals) → (e : ExprTree) → (UsesBroken w locals e → ⊥) → ((judge w locals e).faults ≡ []) ↔ ((m : Meaning) × HasMeaning w locals e m) }
 {}

@@ -12,12 +12,12 @@ ghost use Rattle.types_stmt.specs.Headers.{check_function};
 ghost use Rattle.types_stmt.specs.Declarations.{check_decl, check_file};
 ghost use Rattle.law_typing.specs.Declarations.{FileIsTyped};
 ghost use Rattle.law_typing.specs.Excused.{FileIsExcused};
-ghost use Rattle.law_typing.specs.Expressions.{BreaksAt};
-ghost use Rattle.law_typing.specs.PlacedGiving.{wants};
-ghost use Rattle.law_typing.specs.Leading.{SimpleLeads, StatementLeads, FunctionLeads};
-ghost use Rattle.law_typing.specs.PlacedSimple.{SimpleBreaksAt};
-ghost use Rattle.law_typing.specs.PlacedStatements.{StatementBreaksAt, BlockBreaksAt};
-ghost use Rattle.law_typing.specs.PlacedDeclarations.{FunctionBreaksAt, DeclBreaksAt, FileBreaksAt};
+ghost use Rattle.law_typing.specs.ExpressionFaults.{BreaksAt};
+ghost use Rattle.law_typing.specs.AssignmentFaults.{as_targets};
+ghost use Rattle.law_typing.specs.DeclaredLocals.{SimpleDeclares, StatementDeclares, FunctionDeclares};
+ghost use Rattle.law_typing.specs.SimpleFaults.{SimpleBreaksAt};
+ghost use Rattle.law_typing.specs.StatementFaults.{StatementBreaksAt, BlockBreaksAt};
+ghost use Rattle.law_typing.specs.DeclarationFaults.{FunctionBreaksAt, DeclBreaksAt, FileBreaksAt};
 
 /// A fault is found in an expression at exactly the tokens where it breaks a rule.
 pub fn faults_of_expressions_stand_at_broken_rules()
@@ -30,24 +30,24 @@ pub fn faults_of_simple_statements_stand_at_broken_rules()
 {}
 
 /// The locals that are found after a simple statement, typed or not, are exactly those that it declares.
-pub fn simple_statements_lead_to_what_is_found()
-    ensures { (w : World) → (s : Checked) → (a : SimpleTree) → (after : Locals) → SimpleLeads w s.locals a after ↔ ((check_simple w s a).locals ≡ after) }
+pub fn simple_statements_declare_what_is_found()
+    ensures { (w : World) → (s : Checked) → (a : SimpleTree) → (after : Locals) → SimpleDeclares w s.locals a after ↔ ((check_simple w s a).locals ≡ after) }
 {}
 
 /// A statement adds faults at exactly the tokens where it breaks a rule. `results` are the types of the function's results; a broken one
 /// has none.
 pub fn faults_of_statements_stand_at_broken_rules()
-    ensures { (w : World) → (results : List (Option PlainType)) → (s : Checked) → (x : StatementTree) → (p : ℕ) → Contains (check_statement w (wants results) s x).faults p ↔ (Contains s.faults p ⊎ StatementBreaksAt w results s.locals x p) }
+    ensures { (w : World) → (results : List (Option PlainType)) → (s : Checked) → (x : StatementTree) → (p : ℕ) → Contains (check_statement w (as_targets results) s x).faults p ↔ (Contains s.faults p ⊎ StatementBreaksAt w results s.locals x p) }
 {}
 
 /// The locals that are found after a statement, typed or not, are exactly those that it declares.
-pub fn statements_lead_to_what_is_found()
-    ensures { (w : World) → (results : List (Option PlainType)) → (s : Checked) → (x : StatementTree) → (after : Locals) → StatementLeads w s.locals x after ↔ ((check_statement w (wants results) s x).locals ≡ after) }
+pub fn statements_declare_what_is_found()
+    ensures { (w : World) → (results : List (Option PlainType)) → (s : Checked) → (x : StatementTree) → (after : Locals) → StatementDeclares w s.locals x after ↔ ((check_statement w (as_targets results) s x).locals ≡ after) }
 {}
 
 /// A block adds faults at exactly the tokens where it breaks a rule.
 pub fn faults_of_blocks_stand_at_broken_rules()
-    ensures { (w : World) → (results : List (Option PlainType)) → (s : Checked) → (x : BlockTree) → (p : ℕ) → Contains (check_block w (wants results) s x).faults p ↔ (Contains s.faults p ⊎ BlockBreaksAt w results s.locals x p) }
+    ensures { (w : World) → (results : List (Option PlainType)) → (s : Checked) → (x : BlockTree) → (p : ℕ) → Contains (check_block w (as_targets results) s x).faults p ↔ (Contains s.faults p ⊎ BlockBreaksAt w results s.locals x p) }
 {}
 
 /// A function adds faults at exactly the tokens where it breaks a rule.
@@ -56,8 +56,8 @@ pub fn faults_of_functions_stand_at_broken_rules()
 {}
 
 /// The locals that are found after a function, typed or not, are exactly those that it declares.
-pub fn functions_lead_to_what_is_found()
-    ensures { (w : World) → (is_init : Bool) → (s : Checked) → (f : FuncTree) → (after : Locals) → FunctionLeads w s.locals f after ↔ ((check_function w is_init s f).locals ≡ after) }
+pub fn functions_declare_what_is_found()
+    ensures { (w : World) → (is_init : Bool) → (s : Checked) → (f : FuncTree) → (after : Locals) → FunctionDeclares w s.locals f after ↔ ((check_function w is_init s f).locals ≡ after) }
 {}
 
 /// A package-level declaration adds faults at exactly the tokens where it breaks a rule.

@@ -5,7 +5,7 @@ use Rattle.std.proofs.lemmas.Bool.{cases_lt}
 use Rattle.std.proofs.lemmas.List.{length_push}
 use Rattle.std.proofs.lemmas.Option.{same_Some, slice_get_within}
 use Rattle.base_files.specs.Workspace.{Workspace}
-use Rattle.types_info.proofs.BoundLists.{pushed_at}
+use Rattle.types_info.proofs.MeaningLists.{pushed_at}
 use Rattle.types_declared.proofs.DeclaredPaths.{get_before}
 use Rattle.workspace_check.specs.Verdicts.{Verdicts}
 use Rattle.base_edits.specs.Revisions.{Revision}

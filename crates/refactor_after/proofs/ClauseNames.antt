@@ -10,12 +10,12 @@ use Rattle.workspace_graph.specs.FaultyFiles.{FaultyParts}
 use Rattle.go_ast.specs.Faults.{IsFaultOf}
 use Rattle.workspace_graph.specs.Parsed.{AreParsed, none, tree, fault}
 use Rattle.workspace_graph.proofs.OneFile.{file_or_fault}
-use Rattle.workspace_graph.proofs.Asked.{number}
+use Rattle.workspace_graph.proofs.ByPath.{number}
 use Rattle.types_declared.specs.Files.{package_name}
 use Rattle.types_declared.proofs.ByteKeys.{cases_bytes}
-use Rattle.types_declared.specs.InterfacesView.{name_in, AddsInterface}
-use Rattle.types_expr.specs.declared.interfaces.Interface.{Interface}
-use Rattle.types_declared.specs.declared.interfaces.Interfaces.{Interfaces}
+use Rattle.types_declared.specs.ExportTablesView.{name_in, AddsExportData}
+use Rattle.types_expr.specs.declared.exports.ExportData.{ExportData}
+use Rattle.types_declared.specs.declared.export_tables.ExportTable.{ExportTable}
 use Rattle.workspace_check.proofs.Members.{cases_contains}
 use Rattle.refactor_after.specs.ScopedPackages.{IsClauseName, named, unnamed, AreClauseNames, AddsClauseName, added, nothing}
 
@@ -88,9 +88,9 @@ none_faulty (fault {e = x} {es = xs} {f = f} is rest) (tree {e = y} {es = ys} {t
     absurd (file_or_fault y.0 y.1 (source_of t) f.fault so (subst (λ (z : List ℕ × List ℕ). IsFaultOf z.1 f.fault) (heads x y xs ys e) is.is_fault))
 none_faulty (fault {e = x} {es = xs} is rest) none e = absurd (not_empty x xs e)
 
-pub with_clause : (w : Workspace) (path : List ℕ) (files : List FileParts) (name : List ℕ) (old new : Interfaces) (i : Interface) →
+pub with_clause : (w : Workspace) (path : List ℕ) (files : List FileParts) (name : List ℕ) (old new : ExportTable) (i : ExportData) →
     Contains (package_paths w) path → AreParsed (package_files w path) files [] →
-    name ≡ package_name (map source_of files) → i.scope.name.items ≡ name → AddsInterface old new path i → AddsClauseName w path (name_in old) (name_in new)
+    name ≡ package_name (map source_of files) → i.scope.name.items ≡ name → AddsExportData old new path i → AddsClauseName w path (name_in old) (name_in new)
 with_clause w path files name old new i has parsed is e adds =
     let own : i.scope.name.items ≡ package_name (map source_of files) = e ∙ is in
     added (named has parsed) (adds.has_name ∙ ap Some own) (λ other ne. (adds.elsewhere other ne).name)

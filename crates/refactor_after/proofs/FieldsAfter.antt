@@ -7,24 +7,24 @@ use Rattle.std.proofs.lemmas.Bool.{cases_lt, false≢true}
 use Rattle.std.proofs.lemmas.Option.{same_Some, none-some, slice_get_within}
 use Rattle.base_files.specs.Packages.{package_paths}
 use Rattle.base_files.specs.Workspace.{Workspace}
-use Rattle.types_info.proofs.BoundLists.{slice_get_some}
+use Rattle.types_info.proofs.MeaningLists.{slice_get_some}
 use Rattle.types_declared.specs.Laid.{is_exported}
 use Rattle.types_expr.specs.declared.symbol.Symbol.{Symbol}
 use Rattle.types_expr.specs.Types.{PlainType, Defined, Underlying}
 use Rattle.types_expr.specs.Types.{Struct as StructOf}
-use Rattle.types_expr.specs.World.{is_seen, struct_behind, owner}
+use Rattle.types_expr.specs.World.{is_seen, field_owner, owner}
 use Rattle.types_declared.specs.Package.{Package, symbol_in}
 use Rattle.types_declared.specs.Definitions.{HasUnderlying}
 use Rattle.workspace_check.specs.Verdicts.{Verdicts}
 use Rattle.workspace_check.proofs.OnePackage.{layout_formed}
 use Rattle.refs_binding.specs.declared.declaration.Declaration.{Declaration}
 use Rattle.refs_binding.specs.declared.declaration.Declaration.TheVariants.{Predeclared, Declared, Field, Method}
-use Rattle.refs_binding.specs.Steps.{IsDeclarationFound}
+use Rattle.refs_binding.specs.Steps.{IsDeclarationResult}
 use Rattle.refs_binding.specs.Uses.{IsPackage}
 use Rattle.refs_binding.specs.Workspaces.{known_in}
 use Rattle.refs_binding.proofs.Units.{one_package}
 use Rattle.base_edits.specs.Revisions.{Revision}
-use Rattle.refs_binding.specs.Standing.{InPackage}
+use Rattle.refs_binding.specs.DeclaringPlaces.{InPackage}
 use Rattle.refs_binding.proofs.PackageNumbers.{in_package}
 use Rattle.refactor_after.specs.declared.members.NewMembers.{NewMembers}
 use Rattle.refactor_after.specs.declared.new_names.NewName.{NewName}
@@ -32,7 +32,7 @@ use Rattle.refactor_after.specs.declared.types_after.TypesAfter.{TypesAfter}
 use Rattle.refactor_after.specs.NamesAfter.{IsFieldAfter, IsMethodAfter}
 use Rattle.refactor_after.specs.MembersAfter.{IsFirst, IsFirstField, IsFirstMethod, IsFieldIn, IsMethodIn}
 use Rattle.refactor_after.specs.MembersAfter.{HasFieldAfter, IsMemberAfter, FieldCounts, MethodCounts}
-use Rattle.refactor_after.specs.MembersFound.{KnowsMembers, AreMembersFound, IsRankFound, IsStructFound, IsFieldBehind, IsMethodBehind}
+use Rattle.refactor_after.specs.MembersFound.{KnowsMembers, AreMembersFound, IsRankFound, IsStructFound, SelectsField, SelectsMethod}
 use Rattle.refactor_after.specs.NewMembers.{AreNewMembers}
 use Rattle.refactor_after.specs.NewNames.{IsFirstNew, IsFirstOrNone, AreNamed}
 use Rattle.refactor_after.proofs.FirstNames.{not_called, is_called}
@@ -173,30 +173,30 @@ one_method w known r path d name o h rank b is = (
 -- by the type before
 
 pub no_field_behind : (Known : Package → Type 0) (r : Revision) (own name : List ℕ) (definition : Symbol → Underlying) (t : PlainType) →
-    None ≡ struct_behind definition t → (d : Declaration) →
-    IsFieldBehind Known r own name definition t d → ⊥
+    None ≡ field_owner definition t → (d : Declaration) →
+    SelectsField Known r own name definition t d → ⊥
 no_field_behind Known r own name definition t none (Predeclared n) k = k
 no_field_behind Known r own name definition t none (Declared path d) k = k
 no_field_behind Known r own name definition t none (Field s) k = none-some k.of_struct (none ∙ k.is_struct)
 no_field_behind Known r own name definition t none (Method s) k = k
 
 pub field_behind : (Known : Package → Type 0) (r : Revision) (own name : List ℕ) (definition : Symbol → Underlying) (t : PlainType) (s : Symbol) →
-    Some s ≡ struct_behind definition t → (o : Option ℕ) →
+    Some s ≡ field_owner definition t → (o : Option ℕ) →
     IsRankFound (IsFieldIn Known r own name s) o → (found : Option Declaration) →
     found ≡ option_map (λ n. Field (record { «package» = s.package; rank = n })) o →
-    IsDeclarationFound (IsFieldBehind Known r own name definition t) found
-field_behind Known r own name definition t s e None h found is = subst (IsDeclarationFound (IsFieldBehind Known r own name definition t)) (sym is) none
+    IsDeclarationResult (SelectsField Known r own name definition t) found
+field_behind Known r own name definition t s e None h found is = subst (IsDeclarationResult (SelectsField Known r own name definition t)) (sym is) none
   where
-    none : (d : Declaration) → IsFieldBehind Known r own name definition t d → ⊥
+    none : (d : Declaration) → SelectsField Known r own name definition t d → ⊥
     none (Predeclared n) k = k
     none (Declared path d) k = k
     none (Field f) k = h f.rank (subst (λ z. IsFieldIn Known r own name z f.rank) (sym (same_Some s k.of_struct (e ∙ k.is_struct))) k.has)
     none (Method f) k = k
 field_behind Known r own name definition t s e (Some n) h found is =
-    subst (IsDeclarationFound (IsFieldBehind Known r own name definition t)) (sym is) (record { of_struct = s; is_struct = sym e; of_package = refl; has = h })
+    subst (IsDeclarationResult (SelectsField Known r own name definition t)) (sym is) (record { of_struct = s; is_struct = sym e; of_package = refl; has = h })
 
 pub no_method_behind : (Known : Package → Type 0) (r : Revision) (own name : List ℕ) (t : PlainType) → None ≡ owner t → (d : Declaration) →
-    IsMethodBehind Known r own name t d → ⊥
+    SelectsMethod Known r own name t d → ⊥
 no_method_behind Known r own name t none (Predeclared n) k = k
 no_method_behind Known r own name t none (Declared path d) k = k
 no_method_behind Known r own name t none (Field s) k = k
@@ -205,19 +205,19 @@ no_method_behind Known r own name t none (Method s) k = none-some k.of_type (non
 pub method_behind : (Known : Package → Type 0) (r : Revision) (own name : List ℕ) (t : PlainType) (s : Symbol) → Some s ≡ owner t → (o : Option ℕ) →
     IsRankFound (IsMethodIn Known r own name s) o → (found : Option Declaration) →
     found ≡ option_map (λ n. Method (record { «package» = s.package; rank = n })) o →
-    IsDeclarationFound (IsMethodBehind Known r own name t) found
-method_behind Known r own name t s e None h found is = subst (IsDeclarationFound (IsMethodBehind Known r own name t)) (sym is) none
+    IsDeclarationResult (SelectsMethod Known r own name t) found
+method_behind Known r own name t s e None h found is = subst (IsDeclarationResult (SelectsMethod Known r own name t)) (sym is) none
   where
-    none : (d : Declaration) → IsMethodBehind Known r own name t d → ⊥
+    none : (d : Declaration) → SelectsMethod Known r own name t d → ⊥
     none (Predeclared n) k = k
     none (Declared path d) k = k
     none (Field f) k = k
     none (Method f) k = h f.rank (subst (λ z. IsMethodIn Known r own name z f.rank) (sym (same_Some s k.of_type (e ∙ k.is_owner))) k.has)
 method_behind Known r own name t s e (Some n) h found is =
-    subst (IsDeclarationFound (IsMethodBehind Known r own name t)) (sym is) (record { of_type = s; is_owner = sym e; of_package = refl; has = h })
+    subst (IsDeclarationResult (SelectsMethod Known r own name t)) (sym is) (record { of_type = s; is_owner = sym e; of_package = refl; has = h })
 
 pub field_is_member : (Known : Package → Type 0) (r : Revision) (own name : List ℕ) (definition : Symbol → Underlying) (t : PlainType) (d : Declaration) →
-    IsFieldBehind Known r own name definition t d →
+    SelectsField Known r own name definition t d →
     IsMemberAfter Known r own name definition t d
 field_is_member Known r own name definition t (Predeclared n) k = k
 field_is_member Known r own name definition t (Declared path d) k = k
@@ -225,9 +225,9 @@ field_is_member Known r own name definition t (Field s) k = k
 field_is_member Known r own name definition t (Method s) k = absurd k
 
 pub method_is_member : (Known : Package → Type 0) (r : Revision) (own name : List ℕ) (definition : Symbol → Underlying) (t : PlainType) →
-    ((d : Declaration) → IsFieldBehind Known r own name definition t d → ⊥) → (o : Option Declaration) →
-    IsDeclarationFound (IsMethodBehind Known r own name t) o →
-    IsDeclarationFound (IsMemberAfter Known r own name definition t) o
+    ((d : Declaration) → SelectsField Known r own name definition t d → ⊥) → (o : Option Declaration) →
+    IsDeclarationResult (SelectsMethod Known r own name t) o →
+    IsDeclarationResult (IsMemberAfter Known r own name definition t) o
 method_is_member Known r own name definition t none None h = by
   where
     by : (d : Declaration) → IsMemberAfter Known r own name definition t d → ⊥

@@ -6,12 +6,12 @@ use Rattle.std.proofs.lemmas.List.{length_push}
 use Rattle.std.proofs.lemmas.Option.{same_Some, none-some, slice_get_within}
 use Rattle.types_declared.proofs.ByteKeys.{cases_bytes}
 use Rattle.types_declared.proofs.DeclaredPaths.{get_before}
-use Rattle.types_info.proofs.BoundLists.{pushed_at}
+use Rattle.types_info.proofs.MeaningLists.{pushed_at}
 use Rattle.refactor_after.specs.declared.new_names.NewName.{NewName}
-use Rattle.refactor_after.specs.NewNames.{NotesFirst, HasNewName, IsFirstNew, IsFirstOrNone, AreFirsts}
+use Rattle.refactor_after.specs.NewNames.{EntersFirst, HasNewName, IsFirstNew, IsFirstOrNone, AreFirstRanks}
 
 pub no_firsts : (names : List (Option NewName)) (firsts : ℕ → List ℕ → Option ℕ) → names ≡ [] → ((d : ℕ) (n : List ℕ) → firsts d n ≡ None) →
-    AreFirsts names firsts
+    AreFirstRanks names firsts
 no_firsts names firsts e none = λ d n. subst (IsFirstOrNone names d n) (sym (none d n))
     (λ rank h. let lt : rank < length names = slice_get_within names rank (Some h.new) h.has_rank in let z : length names ≡ 0 = ap length e in
     absurd (omega arith))
@@ -62,11 +62,11 @@ module _ (old new : List (Option NewName)) (x : Option NewName) (e : new ≡ old
   }
   here y (Some rank) is h = first_still y.definition y.name.items rank h
 
-  pub more_none : (firsts : ℕ → List ℕ → Option ℕ) → x ≡ None → AreFirsts old firsts → AreFirsts new firsts
+  pub more_none : (firsts : ℕ → List ℕ → Option ℕ) → x ≡ None → AreFirstRanks old firsts → AreFirstRanks new firsts
   more_none firsts is h = λ d n. still d n (firsts d n) (λ y same a b. none-some y (sym is ∙ same)) (h d n)
 
-  pub more_firsts : (before after : ℕ → List ℕ → Option ℕ) (y : NewName) → x ≡ Some y → NotesFirst before after y.definition y.name.items (length old) →
-      AreFirsts old before → AreFirsts new after
+  pub more_firsts : (before after : ℕ → List ℕ → Option ℕ) (y : NewName) → x ≡ Some y → EntersFirst before after y.definition y.name.items (length old) →
+      AreFirstRanks old before → AreFirstRanks new after
   more_firsts before after y is notes h = λ d n. elim (cases_bytes y.name.items n) [
     | inl name ↦ elim (cases_eq y.definition d) [
       | inl definition ↦

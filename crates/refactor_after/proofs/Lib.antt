@@ -2,11 +2,11 @@
 pub mod Structs
 pub mod FieldsAfter
 pub mod Firsts
-pub mod Noting
+pub mod FirstRanks
 pub mod Naming
 pub mod AllMembers
 pub mod FirstNames
-pub mod Gone
+pub mod MovedPlaces
 pub mod OneScoped
 pub mod OneUse
 pub mod ScopeBound

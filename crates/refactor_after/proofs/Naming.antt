@@ -8,16 +8,16 @@ use Rattle.go_scope.specs.declared.model.Position.{Position}
 use Rattle.go_scope.specs.WellFormed.{WellFormed}
 use Rattle.types_declared.specs.Package.{Package, PlacedFunction, package_functions, function_place, spelled, spelled_at}
 use Rattle.types_declared.specs.Definitions.{PlacedField, package_fields}
-use Rattle.types_info.proofs.BoundLists.{pushed_at}
+use Rattle.types_info.proofs.MeaningLists.{pushed_at}
 use Rattle.types_members.specs.MembersView.{IsMethodOn}
 use Rattle.types_members.specs.MethodsView.{IsOwner}
 use Rattle.types_members.proofs.MethodNames.{one_owner}
 use Rattle.types_members.proofs.Owning.{HasOwner}
 use Rattle.base_edits.specs.Revisions.{Revision}
-use Rattle.refs_binding.specs.Standing.{TokenBegins}
+use Rattle.refs_binding.specs.DeclaringPlaces.{TokenBegins}
 use Rattle.refs_binding.specs.Binding.{field_place}
 use Rattle.refactor_after.specs.declared.new_names.NewName.{NewName}
-use Rattle.refactor_after.specs.NamesAfter.{IsCalledAfter, IsFieldAfter, IsMethodAfter}
+use Rattle.refactor_after.specs.NamesAfter.{HasNameAfter, IsFieldAfter, IsMethodAfter}
 use Rattle.refactor_after.specs.NewNames.{HasNewName, IsNewNameOf, AddsName, AreNamed}
 use Rattle.refactor_after.specs.NewMembers.{IsNameAfter}
 use Rattle.refactor_after.proofs.Firsts.{keeps, had, is_last}
@@ -28,12 +28,12 @@ AreNamedBelow names count K = (definition : ℕ) (name : List ℕ) (rank : ℕ) 
 
 -- The members of a name.
 
-pub called_nowhere : (r : Revision) (p : Package) (at : Position) → slice_get p.files at.file ≡ None → (name : List ℕ) → IsCalledAfter r p at name → ⊥
+pub called_nowhere : (r : Revision) (p : Package) (at : Position) → slice_get p.files at.file ≡ None → (name : List ℕ) → HasNameAfter r p at name → ⊥
 called_nowhere r p at e name k = subst (λ o. TokenBegins o at.index k.place) e k.stands
 
 pub called_there : (r : Revision) (p : Package) (at : Position) (f : SourceFile) (name : List ℕ) → slice_get p.files at.file ≡ Some f →
     name ≡ r.called (record { path = f.path; offset = offset_of f at.index }) (spelling_of f at.index) →
-    IsCalledAfter r p at name × ((other : List ℕ) → IsCalledAfter r p at other → other ≡ name)
+    HasNameAfter r p at name × ((other : List ℕ) → HasNameAfter r p at other → other ≡ name)
 called_there r p at f name e is = (
   record {
     place = record { path = f.path; offset = offset_of f at.index };
@@ -47,15 +47,15 @@ called_there r p at f name e is = (
       ap (λ n. r.called (record { path = f.path; offset = n }) (spelling_of f at.index)) (sym begins.1) ∙ sym is),
 )
 
-name_is : (r : Revision) (p : Package) (at : Position) (o : Option (List ℕ)) → IsNameAfter r p at o → (name : List ℕ) → IsCalledAfter r p at name →
+name_is : (r : Revision) (p : Package) (at : Position) (o : Option (List ℕ)) → IsNameAfter r p at o → (name : List ℕ) → HasNameAfter r p at name →
     o ≡ Some name
 name_is r p at None h name k = absurd (h name k)
 name_is r p at (Some other) h name k = ap Some (sym (h.1 name k))
 
 called_is : (r : Revision) (p : Package) (at : Position) (o : Option (List ℕ)) → IsNameAfter r p at o → (name : List ℕ) → o ≡ Some name →
-    IsCalledAfter r p at name
+    HasNameAfter r p at name
 called_is r p at None h name e = absurd (none-some name e)
-called_is r p at (Some other) h name e = subst (IsCalledAfter r p at) (same_Some other name e) h.0
+called_is r p at (Some other) h name e = subst (HasNameAfter r p at) (same_Some other name e) h.0
 
 -- The member of the last rank.
 
@@ -113,7 +113,7 @@ field_last r p rank f o at named d n = (
   (λ k.
       let same : f ≡ k.field = same_Some f k.field (sym at ∙ k.has_rank) in (
         ap Some (ap (λ (g : PlacedField). g.definition) same ∙ k.of_struct),
-        name_is r p (field_place f) o named n (subst (λ (g : PlacedField). IsCalledAfter r p (field_place g) n) (sym same) k.called),
+        name_is r p (field_place f) o named n (subst (λ (g : PlacedField). HasNameAfter r p (field_place g) n) (sym same) k.called),
       )),
   (λ k. record { field = f; has_rank = at; of_struct = same_Some f.definition d k.0; called = called_is r p (field_place f) o named n k.1 }),
 )
@@ -161,7 +161,7 @@ method_last r p well rank f owner o at has named d n = (
       let same : f ≡ k.method = same_Some f k.method (sym at ∙ k.has_rank) in
       let own : IsOwner p f d = subst (λ g. IsOwner p g d) (sym same) k.of_type in (
         owner_is p well rank owner has d (on_definition p rank d f at own),
-        name_is r p (function_place f) o named n (subst (λ (g : PlacedFunction). IsCalledAfter r p (function_place g) n) (sym same) k.called),
+        name_is r p (function_place f) o named n (subst (λ (g : PlacedFunction). HasNameAfter r p (function_place g) n) (sym same) k.called),
       )),
   (λ k. record {
     method = f;

@@ -9,9 +9,9 @@ use Rattle.go_ast.specs.SourceFile.{SourceFile, FileParts, source_of}
 use Rattle.workspace_graph.specs.Parsed.{AreParsed, none, tree}
 use Rattle.go_scope.specs.Bindings.{Layout, IsIdentifier}
 use Rattle.go_scope.specs.FileSites.{package_sites}
-use Rattle.go_scope.specs.Named.{named, named_sites}
-use Rattle.go_scope.specs.Parsed.{spelled_file}
-use Rattle.go_scope.specs.Scoped.{ScopedPackage, scoped, layout_in}
+use Rattle.go_scope.specs.Named.{with_names, named_sites}
+use Rattle.go_scope.specs.SpelledFiles.{spelled_file}
+use Rattle.go_scope.specs.Packages.{ScopedPackage, scoped, layout_in}
 use Rattle.go_scope.specs.Site.{sites_layout}
 use Rattle.go_scope.specs.Trees.{AreNumbered}
 use Rattle.go_scope.specs.WellFormed.{WellFormed}
@@ -48,7 +48,7 @@ module _ (w : Workspace) (p : Package) (h : IsScopedIn w p) where
   names_of = h.is_package.is_laid.names
 
   abbrev table_of : ScopedPackage
-  table_of = named names_of (scoped h.files)
+  table_of = with_names names_of (scoped h.files)
 
   same_layout : p.layout ≡ layout_in table_of
   same_layout = ap (λ (x : Package). x.layout) h.is_package.is_package ∙ ap layout_in h.is_package.is_laid.is_named

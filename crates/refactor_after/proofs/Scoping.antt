@@ -11,9 +11,9 @@ use Rattle.base_files.specs.Workspace.{Workspace}
 use Rattle.go_ast.specs.SourceFile.{FileParts, source_of}
 use Rattle.workspace_graph.specs.FaultyFiles.{FaultyParts}
 use Rattle.workspace_graph.specs.Parsed.{AreParsed}
-use Rattle.go_scope.specs.Scoped.{scoped}
+use Rattle.go_scope.specs.Packages.{scoped}
 use Rattle.types_declared.specs.PackageNames.{IsLaidOver}
-use Rattle.types_info.proofs.BoundLists.{pushed_at}
+use Rattle.types_info.proofs.MeaningLists.{pushed_at}
 use Rattle.types_declared.proofs.DeclaredPaths.{get_before}
 use Rattle.refactor_after.specs.declared.scopes.PackageScopes.{PackageScopes}
 use Rattle.refactor_after.specs.ScopedPackages.{AreClauseNames}

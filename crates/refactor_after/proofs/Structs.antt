@@ -16,7 +16,7 @@ use Rattle.types_expr.specs.WorldView.{definition_or_none}
 use Rattle.types_declared.specs.Package.{Package, PlacedType, package_types, symbol_in}
 use Rattle.types_declared.specs.Definitions.{PlacedField, body_fields, fields_from, package_fields, HasUnderlying, struct, IsUnderlyingOf, has, has_none}
 use Rattle.types_declared.proofs.OneUnderlying.{one_underlying, none_beyond}
-use Rattle.refs_binding.specs.Members.{KnowsOwn}
+use Rattle.refs_binding.specs.Members.{AreOwnDefinitions}
 use Rattle.refactor_after.specs.MembersFound.{IsStructFound}
 
 -- a definition writes a struct
@@ -85,7 +85,7 @@ field_written p rank f at =
     (has_struct p w.place w.definition w.definition.spec.body w.stands refl w.writes)
 
 -- The struct of a type definition, by the package's own definitions.
-pub struct_found : (p : Package) (own : List Definition) → KnowsOwn p own → (s : Symbol) → p.path ≡ s.package → (o : Option Symbol) →
+pub struct_found : (p : Package) (own : List Definition) → AreOwnDefinitions p own → (s : Symbol) → p.path ≡ s.package → (o : Option Symbol) →
     o ≡ struct_of (definition_or_none s (slice_get own s.rank)).underlying →
     IsStructFound p s.rank o
 struct_found p own h s e o is = at (slice_get (package_types p) s.rank) refl

@@ -4,9 +4,9 @@ pub mod MembersFound
 pub mod NamesAfter
 pub mod NewNames
 pub mod NewMembers
-pub mod Read
+pub mod ReadPackages
 pub mod OldPlaces
 pub mod ScopeBindings
-pub mod Behind
+pub mod FilesAfter
 pub mod ScopedPackages
 pub mod Scopes

@@ -5,13 +5,13 @@ use Rattle.types_declared.specs.Laid.{is_exported}
 use Rattle.types_expr.specs.declared.symbol.Symbol.{Symbol}
 use Rattle.types_expr.specs.Types.{PlainType, Defined, Underlying}
 use Rattle.types_expr.specs.Types.{Struct as StructOf}
-use Rattle.types_expr.specs.World.{struct_behind, owner, is_seen}
+use Rattle.types_expr.specs.World.{field_owner, owner, is_seen}
 use Rattle.types_declared.specs.Package.{Package, symbol_in}
 use Rattle.types_declared.specs.Definitions.{HasUnderlying}
 use Rattle.refs_binding.specs.declared.declaration.Declaration.{Declaration}
 use Rattle.refs_binding.specs.declared.declaration.Declaration.TheVariants.{Predeclared, Declared, Field, Method}
 use Rattle.base_edits.specs.Revisions.{Revision}
-use Rattle.refs_binding.specs.Standing.{InPackage}
+use Rattle.refs_binding.specs.DeclaringPlaces.{InPackage}
 use Rattle.refactor_after.specs.NamesAfter.{IsFieldAfter, IsMethodAfter}
 
 -- The first rank of which `K` holds.
@@ -68,9 +68,9 @@ pub record IsMethodOfOwner (IsPackage : Package → Type 0) (r : Revision) (own 
 abbrev pub IsMemberAfter : (Package → Type 0) → Revision → (own name : List ℕ) → (definition : Symbol → Underlying) → PlainType → Declaration → Type 0
 IsMemberAfter IsPackage r own name definition t (Predeclared n) = ⊥
 IsMemberAfter IsPackage r own name definition t (Declared path d) = ⊥
-IsMemberAfter IsPackage r own name definition t (Field s) = IsFieldOfStruct IsPackage r own name (struct_behind definition t) s
+IsMemberAfter IsPackage r own name definition t (Field s) = IsFieldOfStruct IsPackage r own name (field_owner definition t) s
 IsMemberAfter IsPackage r own name definition t (Method s) =
-    ((f : Symbol) → IsFieldOfStruct IsPackage r own name (struct_behind definition t) f → ⊥) × IsMethodOfOwner IsPackage r own name (owner t) s
+    ((f : Symbol) → IsFieldOfStruct IsPackage r own name (field_owner definition t) f → ⊥) × IsMethodOfOwner IsPackage r own name (owner t) s
 
 -- The field of this rank is the first of its name in its struct.
 pub record FieldCounts (r : Revision) (p : Package) (rank : ℕ) : Type 0 where

@@ -4,7 +4,7 @@ use Rattle.std.specs.Borrow.{Bor}
 use Rattle.base_files.specs.Packages.{package_paths}
 use Rattle.types_expr.specs.declared.symbol.Symbol.{Symbol}
 use Rattle.types_expr.specs.Types.{PlainType, Underlying}
-use Rattle.types_expr.specs.World.{struct_of, struct_behind, owner}
+use Rattle.types_expr.specs.World.{struct_of, field_owner, owner}
 use Rattle.types_declared.specs.Package.{Package}
 use Rattle.types_declared.specs.Definitions.{IsUnderlyingOf}
 use Rattle.refs_binding.specs.declared.declaration.Declaration.{Declaration}
@@ -12,7 +12,7 @@ use Rattle.refs_binding.specs.declared.declaration.Declaration.TheVariants.{Pred
 use Rattle.refs_binding.specs.Uses.{IsPackage}
 use Rattle.refs_binding.specs.Workspaces.{known_in}
 use Rattle.base_edits.specs.Revisions.{Revision}
-use Rattle.refs_binding.specs.Standing.{InPackage}
+use Rattle.refs_binding.specs.DeclaringPlaces.{InPackage}
 use Rattle.refactor_after.specs.declared.members.NewMembers.{NewMembers}
 use Rattle.refactor_after.specs.declared.types_after.TypesAfter.{TypesAfter}
 use Rattle.refactor_after.specs.MembersAfter.{IsFieldOfStruct, IsMethodOfOwner}
@@ -40,15 +40,15 @@ abbrev pub IsStructFound : Package → ℕ → Option Symbol → Type 0
 IsStructFound p rank found = (u : Underlying) × (IsUnderlyingOf p rank u × (found ≡ struct_of u))
 
 -- The name, written in the package `own`, selects this field of the struct of the type `t`.
-abbrev pub IsFieldBehind : (Package → Type 0) → Revision → (own name : List ℕ) → (definition : Symbol → Underlying) → PlainType → Declaration → Type 0
-IsFieldBehind Known r own name definition t (Predeclared n) = ⊥
-IsFieldBehind Known r own name definition t (Declared path d) = ⊥
-IsFieldBehind Known r own name definition t (Field s) = IsFieldOfStruct Known r own name (struct_behind definition t) s
-IsFieldBehind Known r own name definition t (Method s) = ⊥
+abbrev pub SelectsField : (Package → Type 0) → Revision → (own name : List ℕ) → (definition : Symbol → Underlying) → PlainType → Declaration → Type 0
+SelectsField Known r own name definition t (Predeclared n) = ⊥
+SelectsField Known r own name definition t (Declared path d) = ⊥
+SelectsField Known r own name definition t (Field s) = IsFieldOfStruct Known r own name (field_owner definition t) s
+SelectsField Known r own name definition t (Method s) = ⊥
 
 -- The name, written in the package `own`, selects this method of the type definition of the type `t`.
-abbrev pub IsMethodBehind : (Package → Type 0) → Revision → (own name : List ℕ) → PlainType → Declaration → Type 0
-IsMethodBehind Known r own name t (Predeclared n) = ⊥
-IsMethodBehind Known r own name t (Declared path d) = ⊥
-IsMethodBehind Known r own name t (Field s) = ⊥
-IsMethodBehind Known r own name t (Method s) = IsMethodOfOwner Known r own name (owner t) s
+abbrev pub SelectsMethod : (Package → Type 0) → Revision → (own name : List ℕ) → PlainType → Declaration → Type 0
+SelectsMethod Known r own name t (Predeclared n) = ⊥
+SelectsMethod Known r own name t (Declared path d) = ⊥
+SelectsMethod Known r own name t (Field s) = ⊥
+SelectsMethod Known r own name t (Method s) = IsMethodOfOwner Known r own name (owner t) s

@@ -8,10 +8,10 @@ use Rattle.types_declared.specs.Definitions.{PlacedField, package_fields}
 use Rattle.types_members.specs.MethodsView.{IsOwner}
 use Rattle.refs_binding.specs.Binding.{field_place}
 use Rattle.base_edits.specs.Revisions.{Revision}
-use Rattle.refs_binding.specs.Standing.{TokenAt}
+use Rattle.refs_binding.specs.DeclaringPlaces.{TokenAt}
 
 -- The name after the change of the token at the position `at` of the package.
-pub record IsCalledAfter (r : Revision) (p : Package) (at : Position) (name : List ℕ) : Type 0 where
+pub record HasNameAfter (r : Revision) (p : Package) (at : Position) (name : List ℕ) : Type 0 where
   pub place : Place
   pub stands : TokenAt p at place
   pub called : r.called place (spelled p at.file at.index) ≡ name
@@ -21,11 +21,11 @@ pub record IsFieldAfter (r : Revision) (p : Package) (definition : ℕ) (name : 
   pub field : PlacedField
   pub has_rank : slice_get (package_fields p) rank ≡ Some field
   pub of_struct : field.definition ≡ definition
-  pub called : IsCalledAfter r p (field_place field) name
+  pub called : HasNameAfter r p (field_place field) name
 
 -- The function of this rank is a method of the type definition, and has this name after the change.
 pub record IsMethodAfter (r : Revision) (p : Package) (definition : ℕ) (name : List ℕ) (rank : ℕ) : Type 0 where
   pub method : PlacedFunction
   pub has_rank : slice_get (package_functions p) rank ≡ Some method
   pub of_type : IsOwner p method definition
-  pub called : IsCalledAfter r p (function_place method) name
+  pub called : HasNameAfter r p (function_place method) name

@@ -8,14 +8,14 @@ use Rattle.workspace_check.specs.Verdicts.{Verdicts}
 use Rattle.base_edits.specs.Revisions.{Revision}
 use Rattle.refs_binding.specs.Workspaces.{IsPackageAt}
 use Rattle.refactor_after.specs.declared.members.NewMembers.{NewMembers}
-use Rattle.refactor_after.specs.NamesAfter.{IsCalledAfter, IsFieldAfter, IsMethodAfter}
+use Rattle.refactor_after.specs.NamesAfter.{HasNameAfter, IsFieldAfter, IsMethodAfter}
 use Rattle.refactor_after.specs.declared.new_names.NewName.{NewName}
 use Rattle.refactor_after.specs.NewNames.{AddsName, AreNewNames, AreNamed}
 
 -- The only name after the change of the token at the position, or `None` where no file is there.
 abbrev pub IsNameAfter : Revision → Package → Position → Option (List ℕ) → Type 0
-IsNameAfter r p at found = MatchOption found ((name : List ℕ) → IsCalledAfter r p at name → ⊥)
-    (λ name. IsCalledAfter r p at name × ((other : List ℕ) → IsCalledAfter r p at other → other ≡ name))
+IsNameAfter r p at found = MatchOption found ((name : List ℕ) → HasNameAfter r p at name → ⊥)
+    (λ name. HasNameAfter r p at name × ((other : List ℕ) → HasNameAfter r p at other → other ≡ name))
 
 -- The list gains the member of the next rank, whose name is at the position `at`.
 pub record AddsAfter (r : Revision) (p : Package) (old new : List (Option NewName)) (definition : Option ℕ) (at : Position) : Type 0 where

@@ -21,12 +21,12 @@ abbrev pub rank_of : List (BTreeMap (Vec ℕ) ℕ) → ℕ → List ℕ → Opti
 rank_of firsts definition name = rank_in (slice_get firsts definition) name
 
 -- The rank is entered for the name, unless one is entered already. All other entries stay.
-pub record NotesRank (old new : List ℕ → Option ℕ) (name : List ℕ) (rank : ℕ) : Type 0 where
+pub record EntersRank (old new : List ℕ → Option ℕ) (name : List ℕ) (rank : ℕ) : Type 0 where
   pub here : new name ≡ Some (unwrap_or (old name) rank)
   pub elsewhere : (n : List ℕ) → (n ≡ name → ⊥) → new n ≡ old n
 
 -- The rank is entered for the name of the type definition, unless one is entered already. All other entries stay.
-pub record NotesFirst (old new : ℕ → List ℕ → Option ℕ) (definition : ℕ) (name : List ℕ) (rank : ℕ) : Type 0 where
+pub record EntersFirst (old new : ℕ → List ℕ → Option ℕ) (definition : ℕ) (name : List ℕ) (rank : ℕ) : Type 0 where
   pub here : new definition name ≡ Some (unwrap_or (old definition name) rank)
   pub elsewhere : (d : ℕ) (n : List ℕ) → (d ≡ definition → n ≡ name → ⊥) → new d n ≡ old d n
 
@@ -48,12 +48,12 @@ IsFirstOrNone names definition name found = MatchOption found ((rank : ℕ) → 
     (λ rank. IsFirstNew names definition name rank)
 
 -- The function gives the first rank for each type definition and name.
-abbrev pub AreFirsts : List (Option NewName) → (ℕ → List ℕ → Option ℕ) → Type 0
-AreFirsts names firsts = (definition : ℕ) (name : List ℕ) → IsFirstOrNone names definition name (firsts definition name)
+abbrev pub AreFirstRanks : List (Option NewName) → (ℕ → List ℕ → Option ℕ) → Type 0
+AreFirstRanks names firsts = (definition : ℕ) (name : List ℕ) → IsFirstOrNone names definition name (firsts definition name)
 
 -- The maps have, for each type definition, the first rank of each name in the list.
 abbrev pub AreNewNames : NewNames → Type 0
-AreNewNames n = AreFirsts n.names.items (rank_of n.firsts.items)
+AreNewNames n = AreFirstRanks n.names.items (rank_of n.firsts.items)
 
 -- The new name of a member of a type definition, or `None` where it has no type definition or no name.
 abbrev pub IsNewNameOf : Option ℕ → Option (List ℕ) → Option NewName → Type 0

@@ -6,10 +6,10 @@ use Rattle.base_files.specs.Packages.{package_paths}
 use Rattle.base_files.specs.Workspace.{Workspace}
 use Rattle.base_files.specs.declared.place.Place.{Place}
 use Rattle.types_declared.specs.Package.{Package}
-use Rattle.refs_binding.specs.declared.bound_spot.BoundSpot.{BoundSpot}
+use Rattle.refs_binding.specs.declared.bound_identifier.BoundIdentifier.{BoundIdentifier}
 use Rattle.refs_binding.specs.declared.declaration.Declaration.{Declaration}
 use Rattle.refs_binding.specs.Binding.{BindsByScope}
-use Rattle.refs_binding.specs.Bindings.{BoundIn, place_at}
+use Rattle.refs_binding.specs.Bindings.{BoundIn, bound_place}
 use Rattle.refs_binding.specs.Identifiers.{BeginsAt}
 use Rattle.refs_binding.specs.Places.{place_cmp}
 use Rattle.refactor_after.specs.ScopedPackages.{IsScopedIn}
@@ -23,21 +23,21 @@ pub record IsScopeUse (w : Workspace) (e : Declaration) (place : Place) : Type 0
   pub bound : BindsByScope used_in user e
 
 -- The scopes of the package bind the identifier at the place of `b` to its declaration.
-abbrev pub IsBoundIn : Package → BoundSpot → Type 0
-IsBoundIn p b = BoundIn p (BindsByScope p) b
+abbrev pub IsScopeBoundIn : Package → BoundIdentifier → Type 0
+IsScopeBoundIn p b = BoundIn p (BindsByScope p) b
 
 -- The scopes of the package of this number bind the identifier at the place of `b` to its declaration.
-pub record IsBoundInNumber (w : Workspace) (number : ℕ) (b : BoundSpot) : Type 0 where
+pub record IsBoundInNumber (w : Workspace) (number : ℕ) (b : BoundIdentifier) : Type 0 where
   pub used_in : Package
   pub is_package : IsScopedIn w used_in
   pub has_number : slice_get (package_paths w) number ≡ Some used_in.path
-  pub bound : IsBoundIn used_in b
+  pub bound : IsScopeBoundIn used_in b
 
 -- The scopes of the workspace bind the identifier at the place of `b` to its declaration.
-abbrev pub IsScopeBound : Workspace → BoundSpot → Type 0
-IsScopeBound w b = IsScopeUse w b.declaration (place_at b)
+abbrev pub IsScopeBound : Workspace → BoundIdentifier → Type 0
+IsScopeBound w b = IsScopeUse w b.declaration (bound_place b)
 
 -- All bindings by the scopes of the workspace, sorted by place.
-pub record AreScopeBindings (w : Workspace) (list : List BoundSpot) : Type 0 where
-  pub in_order : IsSortedBy (λ a b. is_lt (place_cmp (place_at a) (place_at b))) list
-  pub each : (b : BoundSpot) → Contains list b ↔ IsScopeBound w b
+pub record AreScopeBindings (w : Workspace) (list : List BoundIdentifier) : Type 0 where
+  pub in_order : IsSortedBy (λ a b. is_lt (place_cmp (bound_place a) (bound_place b))) list
+  pub each : (b : BoundIdentifier) → Contains list b ↔ IsScopeBound w b

@@ -7,7 +7,7 @@ use Rattle.go_ast.specs.SourceFile.{FileParts, source_of}
 use Rattle.workspace_graph.specs.Parsed.{AreParsed}
 use Rattle.types_declared.specs.Files.{package_name}
 use Rattle.types_declared.specs.Package.{Package}
-use Rattle.types_declared.specs.InterfacesView.{no_interface}
+use Rattle.types_declared.specs.ExportTablesView.{no_export_data}
 use Rattle.types_info.specs.PackageOf.{IsPackageOf}
 
 -- The name of the package at this path: that in the package clause of its first file. `None` where some file has no tree or there is no
@@ -24,7 +24,7 @@ pub record IsScopedIn (w : Workspace) (p : Package) : Type 0 where
   pub parsed : AreParsed (package_files w p.path) files []
   pub name_of : List ℕ → Option (List ℕ)
   pub are_names : (path : List ℕ) → IsClauseName w path (name_of path)
-  pub is_package : IsPackageOf p.path files name_of no_interface p
+  pub is_package : IsPackageOf p.path files name_of no_export_data p
 
 -- The names of packages, as they are collected
 

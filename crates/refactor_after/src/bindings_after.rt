@@ -3,45 +3,45 @@ ghost use Rattle.std.specs.Prelude.{◌≡◌, ◌<◌, length, IfOk, OnOk};
 ghost use Rattle.base_files.specs.Packages.{package_paths};
 ghost use Rattle.types_declared.specs.PackageView.{package_of};
 ghost use Rattle.refs_binding.specs.Binding.{BindsByScope};
-ghost use Rattle.refs_binding.specs.Bindings.{AddsAll, place_at};
+ghost use Rattle.refs_binding.specs.Bindings.{AddsAll, bound_place};
 ghost use Rattle.refs_binding.specs.Identifiers.{BeginsAt};
 ghost use Rattle.refactor_after.specs.Scopes.{AreAllScopes, package_scoped};
-ghost use Rattle.refactor_after.specs.ScopeBindings.{IsBoundIn, IsBoundInNumber, IsScopeBound, AreScopeBindings};
+ghost use Rattle.refactor_after.specs.ScopeBindings.{IsScopeBoundIn, IsBoundInNumber, IsScopeBound, AreScopeBindings};
 
 use crate::scopes::PackageScopes;
 use base_files::Place;
 use refs_binding::bindings::sort;
-use refs_binding::{BoundSpot, Declaration, Spot, declaration_in_scope};
+use refs_binding::{BoundIdentifier, Declaration, PlaceKey, declaration_in_scope};
 use refs_places::beginning;
 use std::alloc::{AllocError, Global};
-use types_declared::{Interfaces, Package};
+use types_declared::{ExportTable, Package};
 use types_expr::symbol::SharedPath;
 use workspace_graph::Graph;
 
 /// Appends a place with a declaration.
 fn add_place(
-    bound: &mut Vec<BoundSpot>,
+    bound: &mut Vec<BoundIdentifier>,
     place: Place,
     declaration: Declaration,
 ) -> Result<(), AllocError>
-    ensures { OnOk result (AddsAll bound.old.items bound.new.items (λ b. (place_at b ≡ place) × (b.declaration ≡ declaration))) }
+    ensures { OnOk result (AddsAll bound.old.items bound.new.items (λ b. (bound_place b ≡ place) × (b.declaration ≡ declaration))) }
 {
     let Place { path, offset } = place;
-    let spot = Spot { path, offset };
-    bound.push(BoundSpot { spot, declaration })?;
+    let spot = PlaceKey { path, offset };
+    bound.push(BoundIdentifier { spot, declaration })?;
     Ok(())
 }
 
 /// Appends the identifier `u` with the declaration to which it is bound, if it has a place.
 fn add_begun(
-    bound: &mut Vec<BoundSpot>,
+    bound: &mut Vec<BoundIdentifier>,
     unit: Package<'_>,
     u: usize,
     declaration: Declaration,
 ) -> Result<(), AllocError>
     requires { u < length unit.table.now.sites }
     ensures { let p = package_of unit.entry in
-        OnOk result (AddsAll bound.old.items bound.new.items (λ b. BeginsAt p (place_at b).path (place_at b).offset u × (b.declaration ≡ declaration))) }
+        OnOk result (AddsAll bound.old.items bound.new.items (λ b. BeginsAt p (bound_place b).path (bound_place b).offset u × (b.declaration ≡ declaration))) }
 {
     match beginning(unit, u)? {
         None => Ok(()),
@@ -50,10 +50,14 @@ fn add_begun(
 }
 
 /// Appends the identifier `u`, if the scopes of its package bind it.
-fn add_identifier(bound: &mut Vec<BoundSpot>, unit: Package<'_>, u: usize) -> Result<(), AllocError>
+fn add_identifier(
+    bound: &mut Vec<BoundIdentifier>,
+    unit: Package<'_>,
+    u: usize,
+) -> Result<(), AllocError>
     requires { u < length unit.table.now.sites }
     ensures { let p = package_of unit.entry in
-        OnOk result (AddsAll bound.old.items bound.new.items (λ b. BeginsAt p (place_at b).path (place_at b).offset u × BindsByScope p u b.declaration)) }
+        OnOk result (AddsAll bound.old.items bound.new.items (λ b. BeginsAt p (bound_place b).path (bound_place b).offset u × BindsByScope p u b.declaration)) }
 {
     go_scope::laws::bindings_are_unique();
     unit.table.is_well_formed();
@@ -64,8 +68,8 @@ fn add_identifier(bound: &mut Vec<BoundSpot>, unit: Package<'_>, u: usize) -> Re
 }
 
 /// Appends the identifiers of a package that its scopes bind.
-fn add_unit(bound: &mut Vec<BoundSpot>, unit: Package<'_>) -> Result<(), AllocError>
-    ensures { OnOk result (AddsAll bound.old.items bound.new.items (IsBoundIn (package_of unit.entry))) }
+fn add_unit(bound: &mut Vec<BoundIdentifier>, unit: Package<'_>) -> Result<(), AllocError>
+    ensures { OnOk result (AddsAll bound.old.items bound.new.items (IsScopeBoundIn (package_of unit.entry))) }
 {
     for u in 0..unit.table.len() {
         add_identifier(bound, unit, u)?;
@@ -76,19 +80,19 @@ fn add_unit(bound: &mut Vec<BoundSpot>, unit: Package<'_>) -> Result<(), AllocEr
 /// Appends the identifiers of the package at a path that its scopes bind.
 fn add_scopes(
     alloc: Global,
-    bound: &mut Vec<BoundSpot>,
+    bound: &mut Vec<BoundIdentifier>,
     path: &[u8],
     scopes: &PackageScopes<'_>,
 ) -> Result<(), AllocError>
-    ensures { OnOk result (AddsAll bound.old.items bound.new.items (IsBoundIn (package_scoped path.now scopes.now))) }
+    ensures { OnOk result (AddsAll bound.old.items bound.new.items (IsScopeBoundIn (package_scoped path.now scopes.now))) }
 {
     let path = SharedPath::new(alloc, path)?;
-    let nothing = Interfaces::new(alloc);
+    let nothing = ExportTable::new(alloc);
     let unit = Package {
         path: &path,
         files: scopes.files,
         table: &scopes.table,
-        interfaces: &nothing,
+        export_table: &nothing,
     };
     add_unit(bound, unit)
 }
@@ -96,7 +100,7 @@ fn add_scopes(
 /// Appends the identifiers of the package of a number that its scopes bind, if each of its files has a tree.
 fn add_number(
     alloc: Global,
-    bound: &mut Vec<BoundSpot>,
+    bound: &mut Vec<BoundIdentifier>,
     graph: &Graph,
     scoped: &[Option<PackageScopes<'_>>],
     number: usize,
@@ -114,7 +118,7 @@ fn add_number(
 /// Appends the identifiers of all packages that their scopes bind.
 fn add_all(
     alloc: Global,
-    bound: &mut Vec<BoundSpot>,
+    bound: &mut Vec<BoundIdentifier>,
     graph: &Graph,
     scoped: &[Option<PackageScopes<'_>>],
 ) -> Result<(), AllocError>
@@ -132,7 +136,7 @@ pub fn scope_bindings(
     alloc: Global,
     graph: &Graph,
     scoped: &[Option<PackageScopes<'_>>],
-) -> Result<Vec<BoundSpot>, AllocError>
+) -> Result<Vec<BoundIdentifier>, AllocError>
     requires { AreAllScopes graph.now scoped.now }
     ensures { IfOk result (λ bound. AreScopeBindings graph.now bound.items) }
 {

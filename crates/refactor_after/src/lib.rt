@@ -2,21 +2,21 @@
 #![tactic(auto)]
 
 mod bindings_after;
-mod files_behind;
-mod looking;
+mod files_after;
+mod member_lookup;
 mod members;
-mod names;
 mod new_names;
+mod package_names;
 mod places_before;
 mod scopes;
 mod types_after;
 
 pub use bindings_after::scope_bindings;
-pub use files_behind::lie_behind;
-pub use looking::{counts, member};
+pub use files_after::are_after_place;
+pub use member_lookup::{counts, member};
 pub use members::{NewMembers, new_members};
-pub use names::clause_names;
 pub use new_names::{NewName, NewNames, is_rank};
+pub use package_names::clause_names;
 pub use places_before::{before_of, old_places, symbol};
 pub use scopes::{PackageScopes, scoped_packages, scopes_at};
 pub use types_after::{TypesAfter, Written};

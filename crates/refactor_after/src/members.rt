@@ -7,7 +7,7 @@ ghost use Rattle.base_files.specs.Workspace.{Workspace};
 ghost use Rattle.go_ast.specs.SourceFile.{source_of, offset_of, spelling_of};
 ghost use Rattle.types_declared.specs.Package.{Package as Checked};
 ghost use Rattle.types_declared.specs.PackageView.{package_of, IsIndexOf};
-ghost use Rattle.base_edits.specs.RevisionsOfEdits.{called_by, revision_of};
+ghost use Rattle.base_edits.specs.RevisionsOfEdits.{new_name_at, revision_of};
 ghost use Rattle.refs_binding.specs.Packages.{ArePackages};
 ghost use Rattle.refs_binding.specs.Workspaces.{known_in};
 ghost use Rattle.refactor_after.specs.NamesAfter.{IsFieldAfter, IsMethodAfter};
@@ -38,7 +38,7 @@ fn called_in(
     token: usize,
 ) -> Result<Vec<u8>, AllocError>
     ensures { let s = source_of file.now in
-        IfOk result (λ name. name.items ≡ called_by moves.now (record { path = s.path; offset = offset_of s token }) (spelling_of s token)) }
+        IfOk result (λ name. name.items ≡ new_name_at moves.now (record { path = s.path; offset = offset_of s token }) (spelling_of s token)) }
 {
     let name = file.spelling(token);
     let called = (&*moves).called(file.path(), file.offset(token), name);

@@ -2,7 +2,7 @@
 ghost use Rattle.std.specs.Prelude.{ℕ, ◌≡◌, ◌↔◌, ◌<◌, ◌++◌, ◌∷◌, [], List, Some, None, IsTrue, length, slice_get, OnOk};
 ghost use Rattle.std.specs.Option.{option_copied, option_flatten};
 ghost use Rattle.refs_binding.specs.Exports.{number_named};
-ghost use Rattle.refactor_after.specs.NewNames.{bytes_in, rank_of, NotesRank, NotesFirst, IsFirstOrNone, AreNewNames, AddsName, IsFirstNew, IsNewNameOf};
+ghost use Rattle.refactor_after.specs.NewNames.{bytes_in, rank_of, EntersRank, EntersFirst, IsFirstOrNone, AreNewNames, AddsName, IsFirstNew, IsNewNameOf};
 
 use std::alloc::{AllocError, Global};
 use std::collections::BTreeMap;
@@ -43,7 +43,7 @@ fn note_name(
     name: &[u8],
     rank: usize,
 ) -> Result<(), AllocError>
-    ensures { OnOk result (NotesRank (number_named names.old) (number_named names.new) name.now rank) }
+    ensures { OnOk result (EntersRank (number_named names.old) (number_named names.new) name.now rank) }
 {
     if names.contains_key(name) {
         return Ok(());
@@ -60,7 +60,7 @@ fn note_first(
     new: &NewName,
     rank: usize,
 ) -> Result<(), AllocError>
-    ensures { OnOk result (NotesFirst (rank_of firsts.old.items) (rank_of firsts.new.items) new.now.definition new.now.name.items rank) }
+    ensures { OnOk result (EntersFirst (rank_of firsts.old.items) (rank_of firsts.new.items) new.now.definition new.now.name.items rank) }
 {
     reach(alloc, firsts, new.definition)?;
     note_name(alloc, &mut firsts[new.definition], &new.name, rank)

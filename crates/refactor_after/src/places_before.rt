@@ -3,36 +3,36 @@ ghost use Rattle.std.specs.Prelude.{◌≡◌, Contains, IfOk, OnOk, MatchOption
 ghost use Rattle.std.specs.List.Sorted.{IsSortedBy};
 ghost use Rattle.std.specs.Ordering.{is_lt};
 ghost use Rattle.base_edits.specs.Moved.{moved};
-ghost use Rattle.refs_binding.specs.declared.bound_spot.BoundSpot.{BoundSpot as Bound};
+ghost use Rattle.refs_binding.specs.declared.bound_identifier.BoundIdentifier.{BoundIdentifier as Bound};
 ghost use Rattle.refs_binding.specs.declared.declaration.Declaration.TheVariants.{Declared};
-ghost use Rattle.refs_binding.specs.Bindings.{AddsAll, place_at};
+ghost use Rattle.refs_binding.specs.Bindings.{AddsAll, bound_place};
 ghost use Rattle.refs_binding.specs.Places.{place_cmp};
 ghost use Rattle.refs_binding.specs.Uses.{IsPackage};
 ghost use Rattle.refs_binding.specs.Packages.{ArePackages};
-ghost use Rattle.refs_places.specs.DeclaredPlaces.{AreDeclared};
-ghost use Rattle.refactor_after.specs.Read.{workspace_of, verdicts_of};
-ghost use Rattle.refactor_after.specs.OldPlaces.{GoesFrom, GoFrom, GoFromPackage, HasGone, AreOldPlaces, field_at, method_at};
+ghost use Rattle.refs_places.specs.DeclaredPlaces.{AreAllPlaces};
+ghost use Rattle.refactor_after.specs.ReadPackages.{workspace_of, verdicts_of};
+ghost use Rattle.refactor_after.specs.OldPlaces.{IsMovedSpot, IsMovedSpotOf, IsMovedSpotIn, HasMovedSpot, AreOldPlaces, field_at, method_at};
 
 use base_edits::Moves;
 use base_files::Place;
 use refs_binding::bindings::{find, sort};
-use refs_binding::{BoundSpot, Declaration, Packages, Spot, path_of};
+use refs_binding::{BoundIdentifier, Declaration, Packages, PlaceKey, path_of};
 use refs_places::declared_places::DeclaredPlaces;
 use std::alloc::{AllocError, Global};
 use types_expr::symbol::{SharedPath, Symbol};
 
 /// Appends a declaration with the place to which it is moved.
 fn add_moved(
-    found: &mut Vec<BoundSpot>,
+    found: &mut Vec<BoundIdentifier>,
     moves: &Moves<'_>,
     place: &Place,
     declaration: Declaration,
 ) -> Result<(), AllocError>
-    ensures { OnOk result (AddsAll found.old.items found.new.items (λ b. (b.declaration ≡ declaration) × (place_at b ≡ moved moves.now place.now))) }
+    ensures { OnOk result (AddsAll found.old.items found.new.items (λ b. (b.declaration ≡ declaration) × (bound_place b ≡ moved moves.now place.now))) }
 {
     let Place { path, offset } = moves.place(&place.path, place.offset)?;
-    let spot = Spot { path, offset };
-    found.push(BoundSpot { spot, declaration })?;
+    let spot = PlaceKey { path, offset };
+    found.push(BoundIdentifier { spot, declaration })?;
     Ok(())
 }
 
@@ -46,13 +46,13 @@ pub fn symbol(path: &SharedPath, rank: usize) -> Result<Symbol, AllocError>
 
 /// Appends the declaration `d` of a package's scopes, if it has a place.
 fn add_name(
-    found: &mut Vec<BoundSpot>,
+    found: &mut Vec<BoundIdentifier>,
     moves: &Moves<'_>,
     path: &SharedPath,
     d: usize,
     place: &Option<Place>,
 ) -> Result<(), AllocError>
-    ensures { OnOk result (AddsAll found.old.items found.new.items (GoesFrom (moved moves.now) (Declared path.now d) place.now)) }
+    ensures { OnOk result (AddsAll found.old.items found.new.items (IsMovedSpot (moved moves.now) (Declared path.now d) place.now)) }
 {
     match place {
         None => Ok(()),
@@ -65,12 +65,12 @@ fn add_name(
 
 /// Appends the declarations of a package's scopes that have places.
 fn add_names(
-    found: &mut Vec<BoundSpot>,
+    found: &mut Vec<BoundIdentifier>,
     moves: &Moves<'_>,
     path: &SharedPath,
     names: &[Option<Place>],
 ) -> Result<(), AllocError>
-    ensures { OnOk result (AddsAll found.old.items found.new.items (GoFrom (moved moves.now) (Declared path.now) names.now)) }
+    ensures { OnOk result (AddsAll found.old.items found.new.items (IsMovedSpotOf (moved moves.now) (Declared path.now) names.now)) }
 {
     for d in 0..names.len() {
         add_name(found, moves, path, d, &names[d])?;
@@ -80,13 +80,13 @@ fn add_names(
 
 /// Appends the field of a rank, if it has a place.
 fn add_field(
-    found: &mut Vec<BoundSpot>,
+    found: &mut Vec<BoundIdentifier>,
     moves: &Moves<'_>,
     path: &SharedPath,
     rank: usize,
     place: &Option<Place>,
 ) -> Result<(), AllocError>
-    ensures { OnOk result (AddsAll found.old.items found.new.items (GoesFrom (moved moves.now) (field_at path.now rank) place.now)) }
+    ensures { OnOk result (AddsAll found.old.items found.new.items (IsMovedSpot (moved moves.now) (field_at path.now rank) place.now)) }
 {
     match place {
         None => Ok(()),
@@ -99,12 +99,12 @@ fn add_field(
 
 /// Appends the fields of a package that have places.
 fn add_fields(
-    found: &mut Vec<BoundSpot>,
+    found: &mut Vec<BoundIdentifier>,
     moves: &Moves<'_>,
     path: &SharedPath,
     fields: &[Option<Place>],
 ) -> Result<(), AllocError>
-    ensures { OnOk result (AddsAll found.old.items found.new.items (GoFrom (moved moves.now) (field_at path.now) fields.now)) }
+    ensures { OnOk result (AddsAll found.old.items found.new.items (IsMovedSpotOf (moved moves.now) (field_at path.now) fields.now)) }
 {
     for rank in 0..fields.len() {
         add_field(found, moves, path, rank, &fields[rank])?;
@@ -114,13 +114,13 @@ fn add_fields(
 
 /// Appends the method of a rank, if it has a place.
 fn add_method(
-    found: &mut Vec<BoundSpot>,
+    found: &mut Vec<BoundIdentifier>,
     moves: &Moves<'_>,
     path: &SharedPath,
     rank: usize,
     place: &Option<Place>,
 ) -> Result<(), AllocError>
-    ensures { OnOk result (AddsAll found.old.items found.new.items (GoesFrom (moved moves.now) (method_at path.now rank) place.now)) }
+    ensures { OnOk result (AddsAll found.old.items found.new.items (IsMovedSpot (moved moves.now) (method_at path.now rank) place.now)) }
 {
     match place {
         None => Ok(()),
@@ -133,12 +133,12 @@ fn add_method(
 
 /// Appends the methods of a package that have places.
 fn add_methods(
-    found: &mut Vec<BoundSpot>,
+    found: &mut Vec<BoundIdentifier>,
     moves: &Moves<'_>,
     path: &SharedPath,
     methods: &[Option<Place>],
 ) -> Result<(), AllocError>
-    ensures { OnOk result (AddsAll found.old.items found.new.items (GoFrom (moved moves.now) (method_at path.now) methods.now)) }
+    ensures { OnOk result (AddsAll found.old.items found.new.items (IsMovedSpotOf (moved moves.now) (method_at path.now) methods.now)) }
 {
     for rank in 0..methods.len() {
         add_method(found, moves, path, rank, &methods[rank])?;
@@ -148,12 +148,12 @@ fn add_methods(
 
 /// Appends the declarations of a package that have places.
 fn add_package(
-    found: &mut Vec<BoundSpot>,
+    found: &mut Vec<BoundIdentifier>,
     moves: &Moves<'_>,
     path: &SharedPath,
     places: &DeclaredPlaces,
 ) -> Result<(), AllocError>
-    ensures { OnOk result (AddsAll found.old.items found.new.items (GoFromPackage (moved moves.now) path.now places.now)) }
+    ensures { OnOk result (AddsAll found.old.items found.new.items (IsMovedSpotIn (moved moves.now) path.now places.now)) }
 {
     add_names(found, moves, path, &places.names)?;
     add_fields(found, moves, path, &places.fields)?;
@@ -162,14 +162,14 @@ fn add_package(
 
 /// Appends the declarations of all packages that have places.
 fn add_all(
-    old: &mut Vec<BoundSpot>,
+    old: &mut Vec<BoundIdentifier>,
     packages: &Packages<'_>,
     places: &[DeclaredPlaces],
     moves: &Moves<'_>,
 ) -> Result<(), AllocError>
     requires read { ArePackages packages.now }
-    requires places { AreDeclared (workspace_of packages.now) (verdicts_of packages.now) places.now }
-    ensures { OnOk result (AddsAll old.old.items old.new.items (HasGone (IsPackage (workspace_of packages.now) (verdicts_of packages.now)) (moved moves.now))) }
+    requires places { AreAllPlaces (workspace_of packages.now) (verdicts_of packages.now) places.now }
+    ensures { OnOk result (AddsAll old.old.items old.new.items (HasMovedSpot (IsPackage (workspace_of packages.now) (verdicts_of packages.now)) (moved moves.now))) }
 {
     for number in 0..packages.graph.len() {
         let path = path_of(packages.graph, packages.found, number);
@@ -184,9 +184,9 @@ pub fn old_places(
     packages: &Packages<'_>,
     places: &[DeclaredPlaces],
     moves: &Moves<'_>,
-) -> Result<Vec<BoundSpot>, AllocError>
+) -> Result<Vec<BoundIdentifier>, AllocError>
     requires read { ArePackages packages.now }
-    requires places { AreDeclared (workspace_of packages.now) (verdicts_of packages.now) places.now }
+    requires places { AreAllPlaces (workspace_of packages.now) (verdicts_of packages.now) places.now }
     ensures { IfOk result (λ old. AreOldPlaces (IsPackage (workspace_of packages.now) (verdicts_of packages.now)) (moved moves.now) old.items) }
 {
     let mut old = Vec::new(alloc);
@@ -196,9 +196,9 @@ pub fn old_places(
 }
 
 /// The declaration that is moved to a place.
-pub fn before_of<'a>(old: &'a [BoundSpot], place: &Place) -> Option<&'a Declaration>
-    requires { IsSortedBy (λ a b. is_lt (place_cmp (place_at a) (place_at b))) old.now }
-    ensures { MatchOption result ((b : Bound) → Contains old.now b → place_at b ≡ place.now → ⊥) (λ d. (b : Bound) × (Contains old.now b × ((place_at b ≡ place.now) × (b.declaration ≡ d.now)))) }
+pub fn before_of<'a>(old: &'a [BoundIdentifier], place: &Place) -> Option<&'a Declaration>
+    requires { IsSortedBy (λ a b. is_lt (place_cmp (bound_place a) (bound_place b))) old.now }
+    ensures { MatchOption result ((b : Bound) → Contains old.now b → bound_place b ≡ place.now → ⊥) (λ d. (b : Bound) × (Contains old.now b × ((bound_place b ≡ place.now) × (b.declaration ≡ d.now)))) }
 {
     match find(old, place) {
         None => None,

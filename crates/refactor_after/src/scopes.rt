@@ -3,9 +3,9 @@ ghost use Rattle.std.specs.Prelude.{◌<◌, None, length, map, IfOk, MatchOptio
 ghost use Rattle.base_files.specs.Packages.{package_paths};
 ghost use Rattle.workspace_graph.specs.Graphs.{OfPackage};
 ghost use Rattle.go_ast.specs.SourceFile.{source_of};
-ghost use Rattle.types_declared.specs.InterfacesView.{name_in, no_interface};
+ghost use Rattle.types_declared.specs.ExportTablesView.{name_in, no_export_data};
 ghost use Rattle.types_info.specs.PackageOf.{package_in};
-ghost use Rattle.refs_binding.specs.Exports.{number_named, AreNumbers};
+ghost use Rattle.refs_binding.specs.Exports.{number_named, AreExportsByName};
 ghost use Rattle.refactor_after.specs.ScopedPackages.{AreClauseNames};
 ghost use Rattle.refactor_after.specs.Scopes.{AreScopes, AreScopesOf, AreScopesNamed, MayBeScopes, AreAllScopes, IsNotScoped};
 
@@ -15,7 +15,7 @@ use refs_binding::exports::numbers_by;
 use refs_binding::laid_table;
 use std::alloc::{AllocError, Global};
 use std::collections::BTreeMap;
-use types_declared::Interfaces;
+use types_declared::ExportTable;
 use types_expr::symbol::SharedPath;
 use workspace_graph::Graph;
 
@@ -34,10 +34,10 @@ fn exports_in(
     files: &[FileTree],
     table: &ScopeTable<'_>,
 ) -> Result<BTreeMap<Vec<u8>, usize>, AllocError>
-    ensures { IfOk result (λ numbers. AreNumbers (package_in path.now (map source_of files.now) table.now no_interface) (number_named numbers)) }
+    ensures { IfOk result (λ numbers. AreExportsByName (package_in path.now (map source_of files.now) table.now no_export_data) (number_named numbers)) }
 {
     let path = SharedPath::new(alloc, path)?;
-    let nothing = Interfaces::new(alloc);
+    let nothing = ExportTable::new(alloc);
     numbers_by(alloc, &path, files, table, &nothing)
 }
 
@@ -63,7 +63,7 @@ fn scopes_of<'a>(
     alloc: Global,
     path: &[u8],
     files: &'a [FileTree],
-    names: &'a Interfaces,
+    names: &'a ExportTable,
 ) -> Result<PackageScopes<'a>, AllocError>
     ensures { IfOk result (AreScopesNamed path.now files.now (name_in names.now)) }
 {
@@ -75,7 +75,7 @@ fn scopes_of<'a>(
 fn package_scopes<'a>(
     alloc: Global,
     graph: &'a Graph,
-    names: &'a Interfaces,
+    names: &'a ExportTable,
     number: usize,
 ) -> Result<Option<PackageScopes<'a>>, AllocError>
     requires in_range { number < length (package_paths graph.now) }
@@ -94,7 +94,7 @@ fn package_scopes<'a>(
 pub fn scoped_packages<'a>(
     alloc: Global,
     graph: &'a Graph,
-    names: &'a Interfaces,
+    names: &'a ExportTable,
 ) -> Result<Vec<Option<PackageScopes<'a>>>, AllocError>
     requires { AreClauseNames graph.now (name_in names.now) }
     ensures { IfOk result (λ all. AreAllScopes graph.now all.items) }

@@ -6,8 +6,8 @@ ghost use Rattle.types_expr.specs.WorldView.{definition_or_none, underlying_of};
 ghost use Rattle.types_declared.specs.Laid.{is_exported};
 ghost use Rattle.types_declared.specs.Package.{Package as Checked};
 ghost use Rattle.base_edits.specs.Revisions.{Revision};
-ghost use Rattle.refs_binding.specs.Standing.{InPackage};
-ghost use Rattle.refs_binding.specs.Workspaces.{IsSound};
+ghost use Rattle.refs_binding.specs.DeclaringPlaces.{InPackage};
+ghost use Rattle.refs_binding.specs.Workspaces.{IsFaultless};
 ghost use Rattle.refactor_after.specs.MembersAfter.{HasFieldAfter, IsFieldIn, IsFirstField};
 ghost use Rattle.refactor_after.specs.MembersFound.{AreMembersFound, IsRankFound, IsStructFound, KnowsMembers, known_types};
 
@@ -106,7 +106,7 @@ impl TypesAfter<'_> {
 
     /// The struct that is the underlying type of a type definition.
     fn struct_of<'b>(&'b self, of: &'b Symbol) -> Option<&'b Symbol>
-        requires { IsSound self.now.graph.now self.now.found.now }
+        requires { IsFaultless self.now.graph.now self.now.found.now }
         ensures { (p : Checked) → known_types self.now p → p.path ≡ of.now.package → IsStructFound p of.now.rank (option_copied result) }
     {
         match self.graph.number_of(of.package.path()) {
@@ -117,7 +117,7 @@ impl TypesAfter<'_> {
 
     /// Whether the values of a type definition have a field of a name.
     pub fn has_field(&self, of: &Symbol, name: &[u8]) -> bool
-        requires { IsSound self.now.graph.now self.now.found.now }
+        requires { IsFaultless self.now.graph.now self.now.found.now }
         ensures { (r : Revision) → KnowsMembers r self.now → (p : Checked) → known_types self.now p → p.path ≡ of.now.package → IsTrue result ↔ HasFieldAfter (known_types self.now) r p of.now.rank name.now }
     {
         match self.struct_of(of) {

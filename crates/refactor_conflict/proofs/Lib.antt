@@ -1,15 +1,15 @@
 -- The lemmas of this crate.
 pub mod Beginnings
-pub mod OneStanding
-pub mod Become
+pub mod OnePlace
+pub mod Correspondence
 pub mod MembersStay
-pub mod Nowadays
+pub mod BoundAfter
 pub mod OneMember
-pub mod Taking
-pub mod Used
+pub mod KeepingFirst
+pub mod MemberUses
 pub mod Types
-pub mod Telling
+pub mod Conflicts
 pub mod Stayed
 pub mod Firsts
-pub mod Behind
-pub mod Turned
+pub mod LaterPackages
+pub mod ConflictsDiffer

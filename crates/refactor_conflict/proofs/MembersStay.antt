@@ -18,38 +18,38 @@ use Rattle.types_expr.specs.World.{Definition}
 use Rattle.types_declared.specs.Package.{Package, spelled}
 use Rattle.types_declared.specs.Definitions.{AreDefinitions}
 use Rattle.types_info.specs.MemberUses.{AreMemberUses, uses_in}
-use Rattle.types_info.specs.Uniqueness.{IsOneWorld}
-use Rattle.types_info.proofs.OneWorld.{one_world}
+use Rattle.types_info.specs.Uniqueness.{HasOneWorld}
+use Rattle.types_info.proofs.OneWorld.{has_one_world}
 use Rattle.workspace_check.specs.Verdicts.{Verdicts}
 use Rattle.workspace_check.proofs.OnePackage.{files_in_order}
 use Rattle.base_edits.specs.Revisions.{Revision}
 use Rattle.refs_binding.specs.declared.declaration.Declaration.{Declaration}
 use Rattle.refs_binding.specs.declared.declaration.Declaration.TheVariants.{Predeclared, Declared, Field, Method}
-use Rattle.refs_binding.specs.Binding.{BindsByName, IsNameOf, IsFieldAt, IsMethodAt, declaration_of}
+use Rattle.refs_binding.specs.Binding.{DeclaresMember, IsNameOf, IsFieldAt, IsMethodAt, declaration_of}
 use Rattle.refs_binding.specs.Identifiers.{NameBegins, BeginsAt, file_of}
 use Rattle.refs_binding.specs.Members.{member_at}
 use Rattle.refs_binding.specs.Steps.{ArePlaces, AtToken, UsesIn}
 use Rattle.refs_binding.specs.Uses.{IsPackage}
 use Rattle.refs_binding.proofs.MemberParts.{one_list, file_uses, has_uses}
 use Rattle.refs_binding.proofs.NamedPlaces.{name_to_found, stands_once}
-use Rattle.refs_binding.specs.Standing.{TokenBegins, TokenAt}
+use Rattle.refs_binding.specs.DeclaringPlaces.{TokenBegins, TokenAt}
 use Rattle.refs_places.proofs.Starts.{token_once}
 use Rattle.refactor_after.specs.OldPlaces.{field_at, method_at}
 use Rattle.refactor_after.specs.MembersAfter.{CountsAfter, IsMemberAfter}
-use Rattle.refactor_conflict.specs.Conflicts.{IsAhead, HoldsAhead, HoldsAtToken, HoldsAtFound, IsUsedNow, UseStays, UsesStay}
+use Rattle.refactor_conflict.specs.Conflicts.{IsBefore, HoldsBefore, HoldsAtToken, HoldsAtFound, UsedAfter, UseStays, UsesStay}
 use Rattle.refactor_conflict.specs.Staying.{StaysByMember, MembersStayIn, FieldsStayIn, MethodsStayIn, DeclaringNamesStayIn}
 use Rattle.refactor_conflict.specs.declared.conflict.Conflict.{Conflict}
-use Rattle.refactor_conflict.proofs.Used.{in_world, definitions_in}
+use Rattle.refactor_conflict.proofs.MemberUses.{in_world, definitions_in}
 
 -- A relation that holds of the numbers below a count, one after another.
 abbrev pub Below : (ℕ → Place → Type 0) → ℕ → Place → Type 0
 Below K count place = (k : ℕ) → k < count → K k place
 
-pub none_below : (K : ℕ → Place → Type 0) (first : Option Conflict) → HoldsAhead (Below K 0) first
+pub none_below : (K : ℕ → Place → Type 0) (first : Option Conflict) → HoldsBefore (Below K 0) first
 none_below K first = λ place ahead k lt. let less : k < 0 = lt in absurd (omega arith)
 
-pub next_below : (K : ℕ → Place → Type 0) (n : ℕ) (first : Option Conflict) → HoldsAhead (Below K n) first → HoldsAhead (K n) first →
-    HoldsAhead (Below K (n + 1)) first
+pub next_below : (K : ℕ → Place → Type 0) (n : ℕ) (first : Option Conflict) → HoldsBefore (Below K n) first → HoldsBefore (K n) first →
+    HoldsBefore (Below K (n + 1)) first
 next_below K n first h here = λ place ahead k lt. elim (cases_lt k n) [
   | inl less ↦ h place ahead k less
   | inr ge ↦ (
@@ -59,7 +59,7 @@ next_below K n first h here = λ place ahead k lt. elim (cases_lt k n) [
 ]
 
 pub all_below : (K : ℕ → Place → Type 0) (n : ℕ) (first : Option Conflict) → ((k : ℕ) (place : Place) → n ≤ k → K k place) →
-    HoldsAhead (Below K n) first → HoldsAhead (λ place. (k : ℕ) → K k place) first
+    HoldsBefore (Below K n) first → HoldsBefore (λ place. (k : ℕ) → K k place) first
 all_below K n first past h = λ place ahead k. elim (cases_lt k n) [
   | inl lt ↦ h place ahead k lt
   | inr ge ↦ past k place ge
@@ -76,24 +76,24 @@ token_of p at place h =
     subst (λ (x : Position). TokenAt p x place) (sym (stands_once p u at h.1.1)) (named_token (file_of p u) (p.layout.place u).index place h.1.0.1)
 
 pub holds_there : {E : Type 0} (p : Package) (at : Position) (K : Place → Type 0) (first : Option Conflict) (place : Place) (r : Result (Unit {0}) E) →
-    AtToken p at place → OnOk r (IsAhead first place → K place) → OnOk r (HoldsAtToken p at K first)
+    AtToken p at place → OnOk r (IsBefore first place → K place) → OnOk r (HoldsAtToken p at K first)
 holds_there p at K first place r is h =
     on_ok_weaker r (λ k x ahead token.
     let same : place ≡ x = token_once (slice_get p.files at.file) at.index place x (token_of p at place is) (token_of p at x token) in
-    subst K same (k (subst (IsAhead first) (sym same) ahead))) h
+    subst K same (k (subst (IsBefore first) (sym same) ahead))) h
 
 -- a use that was a member, and one that was none
 pub use_stays : {E : Type 0} (Known : Package → Type 0) (r : Revision) (ds : Symbol → Definition) (p : Package) (file : ℕ) (x : MemberUse)
     (old : Declaration) (first : Option Conflict) (answer : Result (Unit {0}) E) → member_at ds p file x.place x.before ≡ Some old →
-    OnOk answer (HoldsAtToken p (record { file = file; index = x.place }) (λ place. IsUsedNow Known r ds p file x place old) first) →
-    OnOk answer (HoldsAhead (UseStays Known r ds p file x) first)
+    OnOk answer (HoldsAtToken p (record { file = file; index = x.place }) (λ place. UsedAfter Known r ds p file x place old) first) →
+    OnOk answer (HoldsBefore (UseStays Known r ds p file x) first)
 use_stays Known r ds p file x old first answer is h =
     on_ok_weaker answer (λ k place ahead d u.
     let same : old ≡ d = same_Some old d (sym is ∙ u.is_member) in
-    subst (λ (z : Declaration). IsUsedNow Known r ds p file x place z) same (k place ahead u.at)) h
+    subst (λ (z : Declaration). UsedAfter Known r ds p file x place z) same (k place ahead u.at)) h
 
 pub no_use_stays : (Known : Package → Type 0) (r : Revision) (ds : Symbol → Definition) (p : Package) (file : ℕ) (x : MemberUse) (first : Option Conflict) →
-    member_at ds p file x.place x.before ≡ None → HoldsAhead (UseStays Known r ds p file x) first
+    member_at ds p file x.place x.before ≡ None → HoldsBefore (UseStays Known r ds p file x) first
 no_use_stays Known r ds p file x first none = λ place ahead d u. absurd (none-some d (sym none ∙ u.is_member))
 
 -- the uses of a file, by their ranks
@@ -120,7 +120,7 @@ module _ (w : Workspace) (known : Verdicts) (r : Revision) (p : Package) (is : I
       let f = (p.layout.place u).file in
       let t = (p.layout.place u).index in
       let x = was.found in
-      let one : IsOneWorld p = one_world p formed (files_in_order w known p.path p is.is_checked) in
+      let one : HasOneWorld p = has_one_world p formed (files_in_order w known p.path p is.is_checked) in
       let list : was.uses ≡ uses_in v = one_list p one f was.uses (uses_in v) was.judged (file_uses p members all f v at) in
       let has : Contains (uses_in v) x = subst (λ l. Contains l x) list was.is_use in
       let ranked : slice_get (uses_in v) has.0 ≡ Some x = slice_get_read (uses_in v) (length (uses_in v)) has.0 x refl has.1 (sym has.2) in
@@ -146,7 +146,7 @@ module _ (w : Workspace) (known : Verdicts) (r : Revision) (p : Package) (is : I
       absurd (omega (arith, lt, of_file, le))
 
 pub all_files : (w : Workspace) (known : Verdicts) (r : Revision) (p : Package) (first : Option Conflict) →
-    HoldsAhead (λ place. (file : ℕ) → FileStays w known r p file place) first → HoldsAhead (MembersStayIn w known r p) first
+    HoldsBefore (λ place. (file : ℕ) → FileStays w known r p file place) first → HoldsBefore (MembersStayIn w known r p) first
 all_files w known r p first h = λ place ahead u begins. h place ahead (p.layout.place u).file u begins refl
 
 -- the names of a rank, and of those beyond
@@ -158,7 +158,7 @@ MethodStays Known r p rank place = UsesIn p (λ u. IsNameOf (IsMethodAt p) p u r
 
 pub names_stay : (IsAt : (rank : ℕ) → Position → Type 0) → ((rank : ℕ) (a b : Position) → IsAt rank a → IsAt rank b → a ≡ b) → (p : Package) (rank : ℕ)
     (o : Option Position) → MatchOption o ((at : Position) → IsAt rank at → ⊥) (λ at. IsAt rank at) → (K : Type 0) (first : Option Conflict) →
-    HoldsAtFound p o (λ place. K) first → HoldsAhead (λ place. UsesIn p (λ u. IsNameOf IsAt p u rank) place → K) first
+    HoldsAtFound p o (λ place. K) first → HoldsBefore (λ place. UsesIn p (λ u. IsNameOf IsAt p u rank) place → K) first
 names_stay IsAt one p rank o is K first h = λ place ahead q. h place ahead (name_to_found IsAt one p rank o is place q)
 
 pub no_names_stay : (IsAt : (rank : ℕ) → Position → Type 0) (p : Package) (places : List (Option Position)) → ArePlaces IsAt places → (rank : ℕ) →
@@ -169,7 +169,7 @@ no_names_stay IsAt p places are rank le place q =
 
 -- the names of fields and methods
 declaring_stays : (Known : Package → Type 0) (r : Revision) (p : Package) (place : Place) (u : ℕ) → BeginsAt p place.path place.offset u →
-    FieldsStayIn Known r p place → MethodsStayIn Known r p place → (old : Declaration) → BindsByName p u old → CountsAfter Known r old
+    FieldsStayIn Known r p place → MethodsStayIn Known r p place → (old : Declaration) → DeclaresMember p u old → CountsAfter Known r old
 declaring_stays Known r p place u begins fields methods (Predeclared n) h = absurd h
 declaring_stays Known r p place u begins fields methods (Declared path n) h = absurd h
 declaring_stays Known r p place u begins fields methods (Field s) h =
@@ -178,7 +178,7 @@ declaring_stays Known r p place u begins fields methods (Method s) h =
     subst (λ q. CountsAfter Known r (Method (record { «package» = q; rank = s.rank }))) (sym h.0) (methods s.rank (u, (begins, h.1)))
 
 pub declaring_names_stay : (w : Workspace) (known : Verdicts) (r : Revision) (p : Package) (first : Option Conflict) →
-    HoldsAhead (FieldsStayIn (IsPackage w known) r p) first → HoldsAhead (MethodsStayIn (IsPackage w known) r p) first →
-    HoldsAhead (DeclaringNamesStayIn w known r p) first
+    HoldsBefore (FieldsStayIn (IsPackage w known) r p) first → HoldsBefore (MethodsStayIn (IsPackage w known) r p) first →
+    HoldsBefore (DeclaringNamesStayIn w known r p) first
 declaring_names_stay w known r p first fields methods = λ place ahead u begins.
     declaring_stays (IsPackage w known) r p place u begins (fields place ahead) (methods place ahead)

@@ -5,7 +5,7 @@ use Rattle.std.proofs.lemmas.Option.{same_Some}
 use Rattle.base_files.specs.Workspace.{Workspace}
 use Rattle.types_expr.specs.declared.symbol.Symbol.{Symbol}
 use Rattle.types_expr.specs.Types.{PlainType, Underlying}
-use Rattle.types_expr.specs.World.{struct_behind, owner}
+use Rattle.types_expr.specs.World.{field_owner, owner}
 use Rattle.types_declared.specs.Package.{Package}
 use Rattle.workspace_check.specs.Verdicts.{Verdicts}
 use Rattle.base_edits.specs.Revisions.{Revision}
@@ -58,7 +58,7 @@ module _ (w : Workspace) (known : Verdicts) (r : Revision) (own name : List ℕ)
   one_member_after definition t (Declared path n) e h k = absurd h
   one_member_after definition t (Field s) (Predeclared n) h k = absurd k
   one_member_after definition t (Field s) (Declared path n) h k = absurd k
-  one_member_after definition t (Field s) (Field u) h k = ap Field (one_field_of (struct_behind definition t) s u h k)
+  one_member_after definition t (Field s) (Field u) h k = ap Field (one_field_of (field_owner definition t) s u h k)
   one_member_after definition t (Field s) (Method u) h k = absurd (k.0 s h)
   one_member_after definition t (Method s) (Predeclared n) h k = absurd k
   one_member_after definition t (Method s) (Declared path n) h k = absurd k

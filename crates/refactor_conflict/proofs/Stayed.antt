@@ -11,15 +11,15 @@ use Rattle.workspace_check.specs.Verdicts.{Verdicts}
 use Rattle.base_edits.specs.Revisions.{Revision}
 use Rattle.refs_binding.specs.declared.declaration.Declaration.{Declaration}
 use Rattle.refs_binding.specs.Identifiers.{BeginsAt}
-use Rattle.refs_binding.specs.Steps.{IsDeclarationFound}
+use Rattle.refs_binding.specs.Steps.{IsDeclarationResult}
 use Rattle.refs_binding.specs.Workspaces.{IsPackageAt}
 use Rattle.refs_binding.proofs.Units.{numbered, number_within, one_at}
 use Rattle.refs_places.proofs.Starts.{begins_once}
-use Rattle.refactor_conflict.specs.Conflicts.{IsAhead, HoldsAhead}
+use Rattle.refactor_conflict.specs.Conflicts.{IsBefore, HoldsBefore}
 use Rattle.refactor_conflict.specs.Staying.{StaysBound, StaysByScope, StaysByPackage, NameStays, StaysIn, StaysInNumber, StaysAt, IfBegins}
 use Rattle.refactor_conflict.specs.Staying.{NamesStayIn, MembersStayIn, DeclaringNamesStayIn}
 use Rattle.refactor_conflict.specs.declared.conflict.Conflict.{Conflict}
-use Rattle.refactor_conflict.proofs.Telling.{found_so}
+use Rattle.refactor_conflict.proofs.Conflicts.{found_so}
 
 -- An identifier stays bound also by a weaker relation to what it is bound to.
 pub stays_as : (Becomes : Declaration → Declaration → Type 0) (K L : Declaration → Type 0) (old : Declaration) → ((d : Declaration) → K d → L d) →
@@ -28,32 +28,32 @@ stays_as Becomes K L old to h = record { declaration = h.declaration; bound = to
 
 -- An identifier that stays bound to the declaration found stays bound to the one that this is.
 pub call_stays : {E : Type 0} (Becomes : Declaration → Declaration → Type 0) (K : Declaration → Type 0) (old : Declaration) (now : Option Declaration)
-    (first : Option Conflict) (place : Place) (r : Result (Unit {0}) E) → IsDeclarationFound K now →
-    OnOk r (IsAhead first place → StaysBound Becomes (λ e. now ≡ Some e) old) → OnOk r (IsAhead first place → StaysBound Becomes K old)
+    (first : Option Conflict) (place : Place) (r : Result (Unit {0}) E) → IsDeclarationResult K now →
+    OnOk r (IsBefore first place → StaysBound Becomes (λ e. now ≡ Some e) old) → OnOk r (IsBefore first place → StaysBound Becomes K old)
 call_stays Becomes K old now first place r found h =
     on_ok_weaker r (λ k ahead. stays_as Becomes (λ e. now ≡ Some e) K old (λ e is. found_so K now found e is) (k ahead)) h
 
 -- Identifiers without a place, and identifiers at one place.
 pub begins_nowhere : (p : Package) (u : ℕ) (K : Place → Type 0) (first : Option Conflict) →
-    ((place : Place) → BeginsAt p place.path place.offset u → ⊥) → HoldsAhead (IfBegins p u K) first
+    ((place : Place) → BeginsAt p place.path place.offset u → ⊥) → HoldsBefore (IfBegins p u K) first
 begins_nowhere p u K first none = λ place ahead begins. absurd (none place begins)
 
 pub begins_here : {E : Type 0} (p : Package) (u : ℕ) (K : Place → Type 0) (first : Option Conflict) (place : Place) (r : Result (Unit {0}) E) →
-    BeginsAt p place.path place.offset u → OnOk r (IsAhead first place → K place) → OnOk r (HoldsAhead (IfBegins p u K) first)
+    BeginsAt p place.path place.offset u → OnOk r (IsBefore first place → K place) → OnOk r (HoldsBefore (IfBegins p u K) first)
 begins_here p u K first place r begins h =
     on_ok_weaker r (λ k x ahead at.
     let same : place ≡ x = begins_once p u place x begins at in
-    subst K same (k (subst (IsAhead first) (sym same) ahead))) h
+    subst K same (k (subst (IsBefore first) (sym same) ahead))) h
 
 -- Identifiers that were bound to nothing, and identifiers that were bound to one declaration.
 pub all_of_none : (p : Package) (u : ℕ) (K : Place → Declaration → Type 0) (Was : Declaration → Type 0) (first : Option Conflict) →
-    ((d : Declaration) → Was d → ⊥) → HoldsAhead (IfBegins p u (λ place. (d : Declaration) → Was d → K place d)) first
+    ((d : Declaration) → Was d → ⊥) → HoldsBefore (IfBegins p u (λ place. (d : Declaration) → Was d → K place d)) first
 all_of_none p u K Was first none = λ place ahead begins d was. absurd (none d was)
 
 pub all_of_one : {E : Type 0} (p : Package) (u : ℕ) (K : Place → Declaration → Type 0) (Was : Declaration → Type 0) (old : Declaration)
     (first : Option Conflict) (r : Result (Unit {0}) E) → ((d : Declaration) → Was d → old ≡ d) →
-    OnOk r (HoldsAhead (IfBegins p u (λ place. K place old)) first) →
-    OnOk r (HoldsAhead (IfBegins p u (λ place. (d : Declaration) → Was d → K place d)) first)
+    OnOk r (HoldsBefore (IfBegins p u (λ place. K place old)) first) →
+    OnOk r (HoldsBefore (IfBegins p u (λ place. (d : Declaration) → Was d → K place d)) first)
 all_of_one p u K Was old first r one h =
     on_ok_weaker r (λ k place ahead begins d was. subst (K place) (one d was) (k place ahead begins)) h
 
@@ -61,12 +61,12 @@ all_of_one p u K Was old first r one h =
 abbrev pub StaysBelow : Workspace → Verdicts → Revision → Package → ℕ → Place → Type 0
 StaysBelow w known r p count place = (u : ℕ) → u < count → BeginsAt p place.path place.offset u → NameStays w known r p u place
 
-pub none_stays : (w : Workspace) (known : Verdicts) (r : Revision) (p : Package) (first : Option Conflict) → HoldsAhead (StaysBelow w known r p 0) first
+pub none_stays : (w : Workspace) (known : Verdicts) (r : Revision) (p : Package) (first : Option Conflict) → HoldsBefore (StaysBelow w known r p 0) first
 none_stays w known r p first = λ place ahead u lt begins. let less : u < 0 = lt in absurd (omega arith)
 
 pub next_stays : (w : Workspace) (known : Verdicts) (r : Revision) (p : Package) (u : ℕ) (first : Option Conflict) →
-    HoldsAhead (StaysBelow w known r p u) first → HoldsAhead (IfBegins p u (StaysByScope w known r p u)) first →
-    HoldsAhead (IfBegins p u (StaysByPackage w known r p u)) first → HoldsAhead (StaysBelow w known r p (u + 1)) first
+    HoldsBefore (StaysBelow w known r p u) first → HoldsBefore (IfBegins p u (StaysByScope w known r p u)) first →
+    HoldsBefore (IfBegins p u (StaysByPackage w known r p u)) first → HoldsBefore (StaysBelow w known r p (u + 1)) first
 next_stays w known r p u first h scope behind = λ place ahead v lt begins. elim (cases_lt v u) [
   | inl less ↦ h place ahead v less begins
   | inr ge ↦ (
@@ -78,12 +78,12 @@ next_stays w known r p u first h scope behind = λ place ahead v lt begins. elim
 ]
 
 pub all_stay : (w : Workspace) (known : Verdicts) (r : Revision) (p : Package) (count : ℕ) (first : Option Conflict) → count ≡ p.size →
-    HoldsAhead (StaysBelow w known r p count) first → HoldsAhead (NamesStayIn w known r p) first
+    HoldsBefore (StaysBelow w known r p count) first → HoldsBefore (NamesStayIn w known r p) first
 all_stay w known r p count first end h = λ place ahead u begins. h place ahead u (subst (λ n. u < n) (sym end) begins.0.0) begins
 
 -- the identifiers of a package in every way
-pub stays_all : (w : Workspace) (known : Verdicts) (r : Revision) (p : Package) (first : Option Conflict) → HoldsAhead (NamesStayIn w known r p) first →
-    HoldsAhead (MembersStayIn w known r p) first → HoldsAhead (DeclaringNamesStayIn w known r p) first → HoldsAhead (StaysIn w known r p) first
+pub stays_all : (w : Workspace) (known : Verdicts) (r : Revision) (p : Package) (first : Option Conflict) → HoldsBefore (NamesStayIn w known r p) first →
+    HoldsBefore (MembersStayIn w known r p) first → HoldsBefore (DeclaringNamesStayIn w known r p) first → HoldsBefore (StaysIn w known r p) first
 stays_all w known r p first names members declaring = λ place ahead u begins. record {
   by_scope = (names place ahead u begins).by_scope;
   by_package = (names place ahead u begins).by_package;
@@ -99,11 +99,11 @@ pub in_number : (w : Workspace) (known : Verdicts) (r : Revision) (n : ℕ) (p :
     StaysIn w known r p place → StaysInNumber w known r n place
 in_number w known r n p at place h = λ q is. subst (λ (x : Package). StaysIn w known r x place) (one_at w known n p q at is) h
 
-pub none_in_number : (w : Workspace) (known : Verdicts) (r : Revision) (first : Option Conflict) → HoldsAhead (StaysInBelow w known r 0) first
+pub none_in_number : (w : Workspace) (known : Verdicts) (r : Revision) (first : Option Conflict) → HoldsBefore (StaysInBelow w known r 0) first
 none_in_number w known r first = λ place ahead n lt. let less : n < 0 = lt in absurd (omega arith)
 
-pub next_number : (w : Workspace) (known : Verdicts) (r : Revision) (n : ℕ) (first : Option Conflict) → HoldsAhead (StaysInBelow w known r n) first →
-    HoldsAhead (StaysInNumber w known r n) first → HoldsAhead (StaysInBelow w known r (n + 1)) first
+pub next_number : (w : Workspace) (known : Verdicts) (r : Revision) (n : ℕ) (first : Option Conflict) → HoldsBefore (StaysInBelow w known r n) first →
+    HoldsBefore (StaysInNumber w known r n) first → HoldsBefore (StaysInBelow w known r (n + 1)) first
 next_number w known r n first h here = λ place ahead m lt. elim (cases_lt m n) [
   | inl less ↦ h place ahead m less
   | inr ge ↦ (
@@ -113,7 +113,7 @@ next_number w known r n first h here = λ place ahead m lt. elim (cases_lt m n) 
 ]
 
 pub all_packages : (w : Workspace) (known : Verdicts) (r : Revision) (count : ℕ) (first : Option Conflict) → count ≡ length (package_paths w) →
-    HoldsAhead (StaysInBelow w known r count) first → HoldsAhead (StaysAt w known r) first
+    HoldsBefore (StaysInBelow w known r count) first → HoldsBefore (StaysAt w known r) first
 all_packages w known r count first end h = λ place ahead p is.
     let n = numbered w known p is in
     h place ahead n.0 (subst (λ m. n.0 < m) (sym end) (number_within w known n.0 p n.1)) p n.1

@@ -9,13 +9,13 @@ use Rattle.types_expr.specs.declared.world.Definitions.{Definitions}
 use Rattle.types_expr.specs.declared.world.World.{World}
 use Rattle.types_expr.specs.Types.{PlainType, Underlying, same_path}
 use Rattle.types_expr.specs.WorldView.{definition_in, definition_at, definition_or_none, imported_at, underlying_in}
-use Rattle.types_declared.specs.declared.unit.Package.{Package as PackageUnit}
+use Rattle.types_declared.specs.declared.index.Package.{Package as PackageUnit}
 use Rattle.workspace_check.specs.declared.findings.Findings.{Findings}
 use Rattle.workspace_check.specs.Verdicts.{Verdicts}
 use Rattle.base_edits.specs.Revisions.{Revision}
 use Rattle.refs_binding.specs.declared.declaration.Declaration.{Declaration}
 use Rattle.refs_binding.specs.Members.{definitions_seen}
-use Rattle.refs_binding.specs.Steps.{IsDeclarationFound}
+use Rattle.refs_binding.specs.Steps.{IsDeclarationResult}
 use Rattle.refs_binding.specs.Uses.{IsPackage}
 use Rattle.refs_binding.specs.Workspaces.{known_in}
 use Rattle.refactor_after.specs.declared.members.NewMembers.{NewMembers}
@@ -23,15 +23,15 @@ use Rattle.refactor_after.specs.declared.types_after.TypesAfter.{TypesAfter}
 use Rattle.refactor_after.specs.MembersAfter.{CountsAfter, IsMemberAfter}
 use Rattle.refactor_after.specs.MembersFound.{KnowsMembers, known_types}
 use Rattle.refactor_after.specs.NewMembers.{AreAllNewMembers}
-use Rattle.refactor_conflict.specs.Judging.{KnowsChange, workspace_in, known_verdicts, known_packages, change_in}
+use Rattle.refactor_conflict.specs.Judging.{KnowsChange, workspace_in, known_verdicts, known_packages, revision_in}
 use Rattle.refactor_conflict.specs.declared.judge.Judge.{Judge}
 
 -- A relation that the members of these types fulfil holds of the packages that are known.
 pub by_types : (j : Judge) (t : TypesAfter) → t.graph.now ≡ j.packages.now.graph.now → t.found.now ≡ j.packages.now.found.now →
     t.members.now ≡ j.members.now → KnowsChange j → (Q : Workspace → Verdicts → Type 0) →
-    (KnowsMembers (change_in j) t → Q t.graph.now (known_in t.found.now)) → Q (workspace_in j) (known_verdicts j)
+    (KnowsMembers (revision_in j) t → Q t.graph.now (known_in t.found.now)) → Q (workspace_in j) (known_verdicts j)
 by_types j t graph found members knows Q h =
-    let P : Workspace → Findings → List NewMembers → Type 0 = λ w f ms. AreAllNewMembers w (known_in f) (change_in j) ms → Q w (known_in f) in
+    let P : Workspace → Findings → List NewMembers → Type 0 = λ w f ms. AreAllNewMembers w (known_in f) (revision_in j) ms → Q w (known_in f) in
     let here : P j.packages.now.graph.now j.packages.now.found.now j.members.now =
     subst (λ ms. P j.packages.now.graph.now j.packages.now.found.now ms) members
     (subst (λ f. P j.packages.now.graph.now f t.members.now) found (subst (λ w. P w t.found.now t.members.now) graph h)) in
@@ -42,7 +42,7 @@ seen_by path own imported s = (definition_or_none s (if same_path path s.package
 
 -- the underlying types of the definitions that a package sees
 pub seen_underlying : (w : World) (unit : PackageUnit) (own : List Definition) → w.package.now ≡ unit.path.now → w.own.now ≡ own →
-    w.imported.now ≡ unit.interfaces.now.definitions → underlying_in w ≡ (λ s. (definitions_seen unit own s).underlying)
+    w.imported.now ≡ unit.export_table.now.definitions → underlying_in w ≡ (λ s. (definitions_seen unit own s).underlying)
 unfolding definition_in definition_at
 seen_underlying w unit own path same imported =
     ap (λ q. seen_by q w.own.now w.imported.now) path ∙ ap (λ l. seen_by unit.path.now l w.imported.now) same ∙ ap (λ d. seen_by unit.path.now own d) imported
@@ -50,30 +50,30 @@ seen_underlying w unit own path same imported =
 -- A member that does not count by these types does not count under its new name.
 pub not_counted : (j : Judge) (t : TypesAfter) → t.graph.now ≡ j.packages.now.graph.now → t.found.now ≡ j.packages.now.found.now →
     t.members.now ≡ j.members.now → KnowsChange j → (old : Declaration) {yes : Bool} → yes ≡ false →
-    ((r : Revision) → KnowsMembers r t → IsTrue yes ↔ CountsAfter (known_types t) r old) → CountsAfter (known_packages j) (change_in j) old → ⊥
+    ((r : Revision) → KnowsMembers r t → IsTrue yes ↔ CountsAfter (known_types t) r old) → CountsAfter (known_packages j) (revision_in j) old → ⊥
 not_counted j t graph found members knows old {yes} e h k =
-    let counts : IsTrue yes ↔ CountsAfter (known_packages j) (change_in j) old =
-    by_types j t graph found members knows (λ w known. IsTrue yes ↔ CountsAfter (IsPackage w known) (change_in j) old) (h (change_in j)) in
+    let counts : IsTrue yes ↔ CountsAfter (known_packages j) (revision_in j) old =
+    by_types j t graph found members knows (λ w known. IsTrue yes ↔ CountsAfter (IsPackage w known) (revision_in j) old) (h (revision_in j)) in
     false≢true (sym e ∙ counts.1 k)
 
 -- A member that counts by these types counts under its new name.
 pub counted : (j : Judge) (t : TypesAfter) → t.graph.now ≡ j.packages.now.graph.now → t.found.now ≡ j.packages.now.found.now →
     t.members.now ≡ j.members.now → KnowsChange j → (old : Declaration) {yes : Bool} → yes ≡ true →
-    ((r : Revision) → KnowsMembers r t → IsTrue yes ↔ CountsAfter (known_types t) r old) → CountsAfter (known_packages j) (change_in j) old
+    ((r : Revision) → KnowsMembers r t → IsTrue yes ↔ CountsAfter (known_types t) r old) → CountsAfter (known_packages j) (revision_in j) old
 counted j t graph found members knows old {yes} e h =
-    let counts : IsTrue yes ↔ CountsAfter (known_packages j) (change_in j) old =
-    by_types j t graph found members knows (λ w known. IsTrue yes ↔ CountsAfter (IsPackage w known) (change_in j) old) (h (change_in j)) in
+    let counts : IsTrue yes ↔ CountsAfter (known_packages j) (revision_in j) old =
+    by_types j t graph found members knows (λ w known. IsTrue yes ↔ CountsAfter (IsPackage w known) (revision_in j) old) (h (revision_in j)) in
     counts.0 e
 
 -- the member that a name is by these types, by the definitions that a package sees
 pub member_known : (j : Judge) (t : TypesAfter) → t.graph.now ≡ j.packages.now.graph.now → t.found.now ≡ j.packages.now.found.now →
     t.members.now ≡ j.members.now → KnowsChange j → (path own name : List ℕ) → path ≡ own → (u v : Symbol → Underlying) → u ≡ v →
     (before : PlainType) (found : Option Declaration) →
-    ((r : Revision) → KnowsMembers r t → IsDeclarationFound (IsMemberAfter (known_types t) r path name u before) found) →
-    IsDeclarationFound (IsMemberAfter (known_packages j) (change_in j) own name v before) found
+    ((r : Revision) → KnowsMembers r t → IsDeclarationResult (IsMemberAfter (known_types t) r path name u before) found) →
+    IsDeclarationResult (IsMemberAfter (known_packages j) (revision_in j) own name v before) found
 member_known j t graph found members knows path own name e u v same before o h =
-    let r = change_in j in
-    let here : IsDeclarationFound (IsMemberAfter (known_packages j) r path name u before) o =
-    by_types j t graph found members knows (λ w known. IsDeclarationFound (IsMemberAfter (IsPackage w known) r path name u before) o) (h r) in
-    subst (λ q. IsDeclarationFound (IsMemberAfter (known_packages j) r q name v before) o) e
-    (subst (λ x. IsDeclarationFound (IsMemberAfter (known_packages j) r path name x before) o) same here)
+    let r = revision_in j in
+    let here : IsDeclarationResult (IsMemberAfter (known_packages j) r path name u before) o =
+    by_types j t graph found members knows (λ w known. IsDeclarationResult (IsMemberAfter (IsPackage w known) r path name u before) o) (h r) in
+    subst (λ q. IsDeclarationResult (IsMemberAfter (known_packages j) r q name v before) o) e
+    (subst (λ x. IsDeclarationResult (IsMemberAfter (known_packages j) r path name x before) o) same here)

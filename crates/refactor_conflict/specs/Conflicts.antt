@@ -11,19 +11,19 @@ use Rattle.types_expr.specs.World.{Definition}
 use Rattle.types_declared.specs.Package.{Package}
 use Rattle.workspace_check.specs.Verdicts.{Verdicts}
 use Rattle.refs_binding.specs.declared.declaration.Declaration.{Declaration}
-use Rattle.types_info.specs.Qualified.{IsBehindPackage}
-use Rattle.refs_binding.specs.Binding.{BindsByScope, BindsByPackage, BindsByMember, BindsByName}
+use Rattle.types_info.specs.QualifiedIdentifiers.{IsQualifiedByPath}
+use Rattle.refs_binding.specs.Binding.{BindsByScope, BindsQualified, BindsByMember, DeclaresMember}
 use Rattle.refs_binding.specs.Identifiers.{BeginsAt}
 use Rattle.refs_binding.specs.Places.{place_cmp}
 use Rattle.refs_binding.specs.Members.{IsMemberUseOf, IsMemberUseAmong}
 use Rattle.refs_binding.specs.Steps.{AtToken, AtFound}
 use Rattle.refs_binding.specs.Uses.{IsPackage}
 use Rattle.base_edits.specs.Revisions.{Revision}
-use Rattle.refs_binding.specs.Standing.{IsDeclaredAt}
+use Rattle.refs_binding.specs.DeclaringPlaces.{IsDeclaredAt}
 use Rattle.refs_places.specs.Identified.{IsIdentifierAt}
 use Rattle.refactor_after.specs.MembersAfter.{CountsAfter}
-use Rattle.refactor_after.specs.Behind.{LiesBehind}
-use Rattle.refactor_conflict.specs.Afterwards.{HasBecome, IsBoundByScopes, IsBoundByPackage, IsBoundByMember, IsMemberNow}
+use Rattle.refactor_after.specs.FilesAfter.{IsAfterPlace}
+use Rattle.refactor_conflict.specs.BoundAfter.{HasBecome, IsBoundByScopes, IsBoundByPackage, IsBoundByMember, SelectsAfter}
 use Rattle.refactor_conflict.specs.Firsts.{IsNotBefore}
 use Rattle.refactor_conflict.specs.Staying.{NoneIsLost, NoneIsLostBefore}
 use Rattle.refactor_conflict.specs.declared.conflict.Capturer.{Capturer}
@@ -48,14 +48,14 @@ IsCapturer Known d (At place) = IsDeclaredAt Known d place
 --   // renaming n to total captures the n in the body: the parameter total shadows it
 --   var n int
 --   func f(total int) int { return n + total }
-pub data TellsOf (Becomes : Declaration → Declaration → Type 0) (Known : Package → Type 0) (E : Declaration → Type 0) (old : Declaration) : Option
+pub data LostOrCaptured (Becomes : Declaration → Declaration → Type 0) (Known : Package → Type 0) (E : Declaration → Type 0) (old : Declaration) : Option
     Capturer → Type 0 where
-  is_lost : ((e c : Declaration) → E e → Becomes c e → ⊥) → TellsOf Becomes Known E old None
+  is_lost : ((e c : Declaration) → E e → Becomes c e → ⊥) → LostOrCaptured Becomes Known E old None
   is_captured : {by : Capturer} (e c : Declaration) → E e → Becomes c e → IsCapturer Known c by → ((d : Declaration) → E d → Becomes old d → ⊥) →
-      TellsOf Becomes Known E old (Some by)
+      LostOrCaptured Becomes Known E old (Some by)
 
 -- After the change the identifier, which was bound to the field or method `old`, selects another member, which `by` names.
-pub record IsOther (Known : Package → Type 0) (E : Declaration → Type 0) (old : Declaration) (by : Capturer) : Type 0 where
+pub record IsCapturedMember (Known : Package → Type 0) (E : Declaration → Type 0) (old : Declaration) (by : Capturer) : Type 0 where
   pub declaration : Declaration
   pub bound : E declaration
   pub other : E old → ⊥
@@ -73,9 +73,9 @@ pub record IsOther (Known : Package → Type 0) (E : Declaration → Type 0) (ol
 --   // renaming y to x captures the y of t.y: of two fields of one name the first counts
 --   type T struct { x int; y int }
 --   func f(t T) int { return t.y }
-abbrev pub TellsMember : (Known : Package → Type 0) → (Declaration → Type 0) → Declaration → Option Capturer → Type 0
-TellsMember Known E old None = (e : Declaration) → E e → ⊥
-TellsMember Known E old (Some by) = IsOther Known E old by
+abbrev pub LosesMember : (Known : Package → Type 0) → (Declaration → Type 0) → Declaration → Option Capturer → Type 0
+LosesMember Known E old None = (e : Declaration) → E e → ⊥
+LosesMember Known E old (Some by) = IsCapturedMember Known E old by
 
 -- The change alters what the identifier `u` of the package `p` is bound to: by scopes, as a qualified identifier, as a member that is used,
 -- or as the declaring identifier of a member. A declaring identifier is lost where its field or method does not count under its new name.
@@ -83,20 +83,20 @@ TellsMember Known E old (Some by) = IsOther Known E old by
 --
 --   // renaming y to x loses the declaring identifier y: of two fields of one name the first counts
 --   type T struct { x int; y int }
-pub data IsTurned (w : Workspace) (known : Verdicts) (r : Revision) (p : Package) (u : ℕ) (c : Conflict) : Type 0 where
-  by_scope : (old : Declaration) → BindsByScope p u old → TellsOf (HasBecome w known r) (IsPackage w known) (IsBoundByScopes r c.used) old c.by →
-      IsTurned w known r p u c
-  by_package : (old : Declaration) → BindsByPackage (IsPackage w known) p u old →
-      TellsOf (HasBecome w known r) (IsPackage w known) (IsBoundByPackage w r c.used p u) old c.by → IsTurned w known r p u c
+pub data ChangesBinding (w : Workspace) (known : Verdicts) (r : Revision) (p : Package) (u : ℕ) (c : Conflict) : Type 0 where
+  by_scope : (old : Declaration) → BindsByScope p u old → LostOrCaptured (HasBecome w known r) (IsPackage w known) (IsBoundByScopes r c.used) old c.by →
+      ChangesBinding w known r p u c
+  by_package : (old : Declaration) → BindsQualified (IsPackage w known) p u old →
+      LostOrCaptured (HasBecome w known r) (IsPackage w known) (IsBoundByPackage w r c.used p u) old c.by → ChangesBinding w known r p u c
   by_member : (old : Declaration) (was : BindsByMember p u old) →
-      TellsMember (IsPackage w known) (IsBoundByMember (IsPackage w known) r c.used p u old was) old c.by → IsTurned w known r p u c
-  by_name : (old : Declaration) → BindsByName p u old → (CountsAfter (IsPackage w known) r old → ⊥) → c.by ≡ None → IsTurned w known r p u c
+      LosesMember (IsPackage w known) (IsBoundByMember (IsPackage w known) r c.used p u old was) old c.by → ChangesBinding w known r p u c
+  by_name : (old : Declaration) → DeclaresMember p u old → (CountsAfter (IsPackage w known) r old → ⊥) → c.by ≡ None → ChangesBinding w known r p u c
 
 -- An identifier of the package `p` begins at the place of the conflict, and the change alters what it is bound to.
 pub record IsConflictIn (w : Workspace) (known : Verdicts) (r : Revision) (p : Package) (c : Conflict) : Type 0 where
   pub user : ℕ
   pub begins : BeginsAt p c.used.path c.used.offset user
-  pub turned : IsTurned w known r p user c
+  pub turned : ChangesBinding w known r p user c
 
 -- An identifier of some package of the workspace begins at the place of the conflict, and the change alters what it is bound to.
 pub record IsConflict (w : Workspace) (known : Verdicts) (r : Revision) (c : Conflict) : Type 0 where
@@ -105,84 +105,84 @@ pub record IsConflict (w : Workspace) (known : Verdicts) (r : Revision) (c : Con
   pub conflict : IsConflictIn w known r used_in c
 
 -- The conflict names the first identifier of the workspace, as lost.
-pub record IsFirstOfAll (w : Workspace) (known : Verdicts) (c : Conflict) : Type 0 where
+pub record IsFirstIdentifierLost (w : Workspace) (known : Verdicts) (c : Conflict) : Type 0 where
   pub lost : c.by ≡ None
   pub is_identifier : IsIdentifierAt w known c.used
   pub first : (place : Place) → IsIdentifierAt w known place → IsNotBefore place c.used
 
 -- The conflict that a refusal reports: the first identifier that the change loses or captures. Where it loses and captures none, the first
 -- identifier of the workspace is reported as lost.
-pub data IsTold (w : Workspace) (known : Verdicts) (r : Revision) (c : Conflict) : Type 0 where
-  a_conflict : IsConflict w known r c → NoneIsLostBefore w known r c.used → IsTold w known r c
-  an_identifier : IsFirstOfAll w known c → NoneIsLost w known r → IsTold w known r c
+pub data IsReported (w : Workspace) (known : Verdicts) (r : Revision) (c : Conflict) : Type 0 where
+  a_conflict : IsConflict w known r c → NoneIsLostBefore w known r c.used → IsReported w known r c
+  an_identifier : IsFirstIdentifierLost w known c → NoneIsLost w known r → IsReported w known r c
 
 -- The workspace has no identifier.
-abbrev pub HasNone : Workspace → Verdicts → Type 0
-HasNone w known = (place : Place) → IsIdentifierAt w known place → ⊥
+abbrev pub HasNoIdentifiers : Workspace → Verdicts → Type 0
+HasNoIdentifiers w known = (place : Place) → IsIdentifierAt w known place → ⊥
 
 -- The first identifier of the workspace, as lost, or `None` where the workspace has no identifier.
-abbrev pub IsToldFirst : Workspace → Verdicts → Option Conflict → Type 0
-IsToldFirst w known told = MatchOption told (HasNone w known) (IsFirstOfAll w known)
+abbrev pub FirstLost : Workspace → Verdicts → Option Conflict → Type 0
+FirstLost w known told = MatchOption told (HasNoIdentifiers w known) (IsFirstIdentifierLost w known)
 
 -- The conflict that a refusal reports, or `None` where the workspace has no identifier.
-abbrev pub TellsFirst : Workspace → Verdicts → Revision → Option Conflict → Type 0
-TellsFirst w known r told = MatchOption told (HasNone w known) (IsTold w known r)
+abbrev pub IsFirstConflict : Workspace → Verdicts → Revision → Option Conflict → Type 0
+IsFirstConflict w known r told = MatchOption told (HasNoIdentifiers w known) (IsReported w known r)
 
 -- The place comes before the place of the first conflict found so far. Every place does where none is found.
-abbrev pub IsAhead : Option Conflict → Place → Type 0
-IsAhead None place = ⊤
-IsAhead (Some c) place = place_cmp place c.used ≡ Less
+abbrev pub IsBefore : Option Conflict → Place → Type 0
+IsBefore None place = ⊤
+IsBefore (Some c) place = place_cmp place c.used ≡ Less
 
 -- The first conflict found so far stays `old`, or becomes an earlier conflict of which `P` holds.
 abbrev pub Takes : (Conflict → Type 0) → Option Conflict → Option Conflict → Type 0
-Takes P old new = (new ≡ old) ⊎ ((c : Conflict) × ((new ≡ Some c) × (P c × IsAhead old c.used)))
+Takes P old new = (new ≡ old) ⊎ ((c : Conflict) × ((new ≡ Some c) × (P c × IsBefore old c.used)))
 
 -- `K` holds of each place before the first conflict found so far, and of every place where none is found.
-abbrev pub HoldsAhead : (Place → Type 0) → Option Conflict → Type 0
-HoldsAhead K first = (place : Place) → IsAhead first place → K place
+abbrev pub HoldsBefore : (Place → Type 0) → Option Conflict → Type 0
+HoldsBefore K first = (place : Place) → IsBefore first place → K place
 
 -- A conflict is found, and all these files come after its file in the order of paths.
-abbrev pub AreBehind : Option Conflict → List FileParts → Type 0
-AreBehind first files = (c : Conflict) × ((first ≡ Some c) × All (LiesBehind c.used) files)
+abbrev pub AreAfter : Option Conflict → List FileParts → Type 0
+AreAfter first files = (c : Conflict) × ((first ≡ Some c) × All (IsAfterPlace c.used) files)
 
 -- The conflict has this place and this capturer.
-abbrev pub IsKept : Place → Option Capturer → Conflict → Type 0
-IsKept used by c = (c.used ≡ used) × (c.by ≡ by)
+abbrev pub IsConflictBy : Place → Option Capturer → Conflict → Type 0
+IsConflictBy used by c = (c.used ≡ used) × (c.by ≡ by)
 
 -- The conflict of the identifier at `used`, which was bound to `old` and is bound to the declaration of which `E` holds after the change.
-abbrev pub IsNoted : (Becomes : Declaration → Declaration → Type 0) → (Package → Type 0) → (Declaration → Type 0) → Place → Declaration → Conflict → Type 0
-IsNoted Becomes Known E used old c = (c.used ≡ used) × TellsOf Becomes Known E old c.by
+abbrev pub IsConflictOf : (Becomes : Declaration → Declaration → Type 0) → (Package → Type 0) → (Declaration → Type 0) → Place → Declaration → Conflict → Type 0
+IsConflictOf Becomes Known E used old c = (c.used ≡ used) × LostOrCaptured Becomes Known E old c.by
 
 -- The conflict of the identifier at `used`, which was bound to the field or method `old`. After the change it selects the member of which
 -- `E` holds.
-abbrev pub IsOtherNoted : (Known : Package → Type 0) → (Declaration → Type 0) → Place → Declaration → Conflict → Type 0
-IsOtherNoted Known E used old c = (c.used ≡ used) × TellsMember Known E old c.by
+abbrev pub IsOtherMember : (Known : Package → Type 0) → (Declaration → Type 0) → Place → Declaration → Conflict → Type 0
+IsOtherMember Known E used old c = (c.used ≡ used) × LosesMember Known E old c.by
 
 -- The identifier `u` is the selector of a qualified identifier of the package with this path, and of no other package.
-abbrev pub IsOnlyBehind : Package → ℕ → List ℕ → Type 0
-IsOnlyBehind p u path = IsBehindPackage p u path × ((other : List ℕ) → IsBehindPackage p u other → other ≡ path)
+abbrev pub IsOnlyQualifiedBy : Package → ℕ → List ℕ → Type 0
+IsOnlyQualifiedBy p u path = IsQualifiedByPath p u path × ((other : List ℕ) → IsQualifiedByPath p u other → other ≡ path)
 
 -- `K` holds of the place at which the identifier at the token `at` begins, if that place is before the first conflict found so far.
 abbrev pub HoldsAtToken : Package → Position → (Place → Type 0) → Option Conflict → Type 0
-HoldsAtToken p at K first = HoldsAhead (λ place. AtToken p at place → K place) first
+HoldsAtToken p at K first = HoldsBefore (λ place. AtToken p at place → K place) first
 
 -- If a token was found and its identifier begins before the first conflict found so far, `K` holds of the place at which it begins.
 abbrev pub HoldsAtFound : Package → Option Position → (Place → Type 0) → Option Conflict → Type 0
-HoldsAtFound p at K first = HoldsAhead (λ place. AtFound p at place → K place) first
+HoldsAtFound p at K first = HoldsBefore (λ place. AtFound p at place → K place) first
 
 -- The conflict of the member use at the token `at`, which was bound to `old`. `E` gives the member after the change for the place where the
 -- token begins.
 abbrev pub IsOtherAt : (Known : Package → Type 0) → (Place → Declaration → Type 0) → Package → Position → Declaration → Conflict → Type 0
-IsOtherAt Known E p at old c = AtToken p at c.used × TellsMember Known (E c.used) old c.by
+IsOtherAt Known E p at old c = AtToken p at c.used × LosesMember Known (E c.used) old c.by
 
 -- The member that a member use of a file selects after the change, by the type definitions that the package sees.
-abbrev pub IsUsedNow : (Known : Package → Type 0) → Revision → (Symbol → Definition) → Package → (file : ℕ) → MemberUse → Place → Declaration → Type 0
-IsUsedNow Known r definitions p file found = IsMemberNow Known r definitions p (record { file = file; index = found.place }) found.before
+abbrev pub UsedAfter : (Known : Package → Type 0) → Revision → (Symbol → Definition) → Package → (file : ℕ) → MemberUse → Place → Declaration → Type 0
+UsedAfter Known r definitions p file found = SelectsAfter Known r definitions p (record { file = file; index = found.place }) found.before
 
 -- The member use at the place selects the same field or method before and after the change.
 abbrev pub UseStays : (Known : Package → Type 0) → Revision → (Symbol → Definition) → Package → (file : ℕ) → MemberUse → Place → Type 0
 UseStays Known r definitions p file found place = (old : Declaration) → IsMemberUseOf definitions p file old found place →
-    IsUsedNow Known r definitions p file found place old
+    UsedAfter Known r definitions p file found place old
 
 -- Each member use of a file that is at the place selects the same field or method before and after the change.
 abbrev pub UsesStay : (Known : Package → Type 0) → Revision → (Symbol → Definition) → Package → (file : ℕ) → List MemberUse → Place → Type 0
@@ -193,14 +193,14 @@ pub record IsMemberConflict (Known : Package → Type 0) (r : Revision) (definit
     (c : Conflict) : Type 0 where
   pub old : Declaration
   pub is_use : IsMemberUseOf definitions p file old found c.used
-  pub tells : TellsMember Known (IsUsedNow Known r definitions p file found c.used) old c.by
+  pub tells : LosesMember Known (UsedAfter Known r definitions p file found c.used) old c.by
 
 -- The conflict of some member use of a file.
-pub record IsMemberConflictAmong (Known : Package → Type 0) (r : Revision) (definitions : Symbol → Definition) (p : Package) (file : ℕ)
+pub record IsMemberConflictIn (Known : Package → Type 0) (r : Revision) (definitions : Symbol → Definition) (p : Package) (file : ℕ)
     (uses : List MemberUse) (c : Conflict) : Type 0 where
   pub old : Declaration
   pub is_use : IsMemberUseAmong definitions p file old uses c.used
-  pub tells : TellsMember Known (IsUsedNow Known r definitions p file is_use.1.found c.used) old c.by
+  pub tells : LosesMember Known (UsedAfter Known r definitions p file is_use.1.found c.used) old c.by
 
 -- The declaring identifier of the member `old` is lost, since `old` does not count under its new name.
 abbrev pub IsNameLost : (Known : Package → Type 0) → Revision → Declaration → Conflict → Type 0

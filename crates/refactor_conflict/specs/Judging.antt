@@ -7,31 +7,31 @@ use Rattle.base_edits.specs.Moved.{moved}
 use Rattle.types_declared.specs.Package.{Package}
 use Rattle.workspace_check.specs.Verdicts.{Verdicts}
 use Rattle.base_edits.specs.Revisions.{Revision}
-use Rattle.base_edits.specs.RevisionsOfEdits.{called_by, revision_of}
+use Rattle.base_edits.specs.RevisionsOfEdits.{new_name_at, revision_of}
 use Rattle.refs_binding.specs.declared.declaration.Declaration.{Declaration}
 use Rattle.refs_binding.specs.declared.packages.Packages.{Packages}
 use Rattle.refs_binding.specs.Exports.{AreExports}
 use Rattle.refs_binding.specs.Packages.{ArePackages}
 use Rattle.refs_binding.specs.Uses.{IsPackage}
-use Rattle.refs_binding.specs.Standing.{IsDeclaredAt}
-use Rattle.refs_places.specs.DeclaredPlaces.{AreDeclared}
+use Rattle.refs_binding.specs.DeclaringPlaces.{IsDeclaredAt}
+use Rattle.refs_places.specs.DeclaredPlaces.{AreAllPlaces}
 use Rattle.refactor_after.specs.NewMembers.{AreAllNewMembers}
 use Rattle.refactor_after.specs.Scopes.{AreAllScopes}
-use Rattle.refactor_after.specs.Read.{workspace_of, verdicts_of}
-use Rattle.refactor_after.specs.OldPlaces.{AreOldPlaces, HasGoneTo}
+use Rattle.refactor_after.specs.ReadPackages.{workspace_of, verdicts_of}
+use Rattle.refactor_after.specs.OldPlaces.{AreOldPlaces, HasMovedTo}
 use Rattle.refactor_after.specs.ScopeBindings.{AreScopeBindings}
-use Rattle.refactor_conflict.specs.Afterwards.{HasBecome}
+use Rattle.refactor_conflict.specs.BoundAfter.{HasBecome}
 use Rattle.refactor_conflict.specs.declared.first.Before.{Before}
 use Rattle.refactor_conflict.specs.declared.judge.Judge.{Judge}
 
 -- The change by the edits `s` that leads to the workspace `after`.
-abbrev pub change_by : Workspace → FileChanges → Revision
-change_by after s = record { after = after; moved = moved s; called = called_by s }
+abbrev pub revision_by : Workspace → FileChanges → Revision
+revision_by after s = record { after = after; moved = moved s; called = new_name_at s }
 
 -- `b` has the exports, the places of declarations and the members under new names of the workspace before the change.
 pub record KnowsBefore (p : Packages) (s : FileChanges) (b : Before) : Type 0 where
   pub exports : AreExports (workspace_of p) (verdicts_of p) b.exports.items
-  pub places : AreDeclared (workspace_of p) (verdicts_of p) b.places.items
+  pub places : AreAllPlaces (workspace_of p) (verdicts_of p) b.places.items
   pub old : AreOldPlaces (IsPackage (workspace_of p) (verdicts_of p)) (moved s) b.old.items
   pub members : AreAllNewMembers (workspace_of p) (verdicts_of p) (revision_of (workspace_of p) s) b.members.items
 
@@ -40,12 +40,12 @@ pub record KnowsBefore (p : Packages) (s : FileChanges) (b : Before) : Type 0 wh
 pub record KnowsChange (j : Judge) : Type 0 where
   pub read : ArePackages j.packages.now
   pub exports : AreExports (workspace_of j.packages.now) (verdicts_of j.packages.now) j.exports.now
-  pub places : AreDeclared (workspace_of j.packages.now) (verdicts_of j.packages.now) j.places.now
+  pub places : AreAllPlaces (workspace_of j.packages.now) (verdicts_of j.packages.now) j.places.now
   pub old : AreOldPlaces (IsPackage (workspace_of j.packages.now) (verdicts_of j.packages.now)) (moved j.moves.now) j.old.now
   pub after : j.after.now ≡ edited j.moves.now (workspace_of j.packages.now)
   pub scoped : AreAllScopes j.after.now j.scoped.now
   pub bound : AreScopeBindings j.after.now j.bound.now
-  pub members : AreAllNewMembers (workspace_of j.packages.now) (verdicts_of j.packages.now) (change_by j.after.now j.moves.now) j.members.now
+  pub members : AreAllNewMembers (workspace_of j.packages.now) (verdicts_of j.packages.now) (revision_by j.after.now j.moves.now) j.members.now
 
 -- The workspace before the change.
 abbrev pub workspace_in : Judge → Workspace
@@ -60,15 +60,15 @@ abbrev pub known_packages : Judge → Package → Type 0
 known_packages j = IsPackage (workspace_in j) (known_verdicts j)
 
 -- The change that is judged.
-abbrev pub change_in : Judge → Revision
-change_in j = change_by j.after.now j.moves.now
+abbrev pub revision_in : Judge → Revision
+revision_in j = revision_by j.after.now j.moves.now
 
 -- A declaration of the workspace before the change has become a declaration of the scopes after it.
 abbrev pub becomes_in : Judge → Declaration → Declaration → Type 0
-becomes_in j = HasBecome (workspace_in j) (known_verdicts j) (change_in j)
+becomes_in j = HasBecome (workspace_in j) (known_verdicts j) (revision_in j)
 
 -- The declaration `c` of the workspace before the change moves to the place of the declaration `e` of the workspace after it.
-pub record GoesWhere (Known After : Package → Type 0) (moved : Place → Place) (c e : Declaration) : Type 0 where
+pub record MovesToPlaceOf (Known After : Package → Type 0) (moved : Place → Place) (c e : Declaration) : Type 0 where
   pub to : Place
-  pub goes : HasGoneTo Known moved c to
+  pub goes : HasMovedTo Known moved c to
   pub stands : IsDeclaredAt After e to

@@ -1,9 +1,9 @@
 -- The definitions of this crate.
-pub mod Told
-pub mod Afterwards
+pub mod ConflictRefusal
+pub mod BoundAfter
 pub mod Firsts
 pub mod Staying
 pub mod Conflicts
 pub mod Refusals
-pub mod Now
+pub mod ScopesAfter
 pub mod Judging

@@ -7,7 +7,7 @@ use Rattle.base_files.specs.declared.place.Place.{Place}
 use Rattle.types_declared.specs.Package.{Package}
 use Rattle.workspace_check.specs.Verdicts.{Verdicts}
 use Rattle.refs_binding.specs.declared.declaration.Declaration.{Declaration}
-use Rattle.refs_binding.specs.Binding.{BindsByScope, BindsByPackage, BindsByMember, BindsByName, IsNameOf, IsFieldAt, IsMethodAt}
+use Rattle.refs_binding.specs.Binding.{BindsByScope, BindsQualified, BindsByMember, DeclaresMember, IsNameOf, IsFieldAt, IsMethodAt}
 use Rattle.refs_binding.specs.Identifiers.{BeginsAt}
 use Rattle.refs_binding.specs.Places.{place_cmp}
 use Rattle.refs_binding.specs.Steps.{UsesIn}
@@ -16,7 +16,7 @@ use Rattle.refs_binding.specs.Workspaces.{IsPackageAt}
 use Rattle.base_edits.specs.Revisions.{Revision}
 use Rattle.refactor_after.specs.MembersAfter.{CountsAfter}
 use Rattle.refactor_after.specs.OldPlaces.{field_at, method_at}
-use Rattle.refactor_conflict.specs.Afterwards.{HasBecome, IsBoundByScopes, IsBoundByPackage, IsBoundByMember}
+use Rattle.refactor_conflict.specs.BoundAfter.{HasBecome, IsBoundByScopes, IsBoundByPackage, IsBoundByMember}
 
 -- The identifier that was bound to `old` is bound after the change to the declaration that `old` has become. `E` holds of what it is bound
 -- to.
@@ -32,7 +32,7 @@ StaysByScope w known r p u place = (old : Declaration) → BindsByScope p u old 
 -- If the identifier `u` is the selector of a qualified identifier, it is bound after the change to what its declaration has become.
 abbrev pub StaysByPackage : Workspace → Verdicts → Revision → Package → ℕ → Place → Type 0
 StaysByPackage w known r p u place =
-    (old : Declaration) → BindsByPackage (IsPackage w known) p u old → StaysBound (HasBecome w known r) (IsBoundByPackage w r place p u) old
+    (old : Declaration) → BindsQualified (IsPackage w known) p u old → StaysBound (HasBecome w known r) (IsBoundByPackage w r place p u) old
 
 -- If the identifier `u` is a use of a member, its new name selects this member of the same type after the change.
 abbrev pub StaysByMember : Workspace → Verdicts → Revision → Package → ℕ → Place → Type 0
@@ -40,7 +40,7 @@ StaysByMember w known r p u place = (old : Declaration) (was : BindsByMember p u
 
 -- If the identifier `u` declares a field or method, this member counts under its new name.
 abbrev pub StaysByName : Workspace → Verdicts → Revision → Package → ℕ → Place → Type 0
-StaysByName w known r p u place = (old : Declaration) → BindsByName p u old → CountsAfter (IsPackage w known) r old
+StaysByName w known r p u place = (old : Declaration) → DeclaresMember p u old → CountsAfter (IsPackage w known) r old
 
 -- The identifier `u`, which begins at the place, stays bound in each way in which it was bound.
 pub record Stays (w : Workspace) (known : Verdicts) (r : Revision) (p : Package) (u : ℕ) (place : Place) : Type 0 where
@@ -50,12 +50,12 @@ pub record Stays (w : Workspace) (known : Verdicts) (r : Revision) (p : Package)
   pub by_name : StaysByName w known r p u place
 
 -- `K` holds of each identifier of the package that begins at the place.
-abbrev pub EachThere : Package → (ℕ → Place → Type 0) → Place → Type 0
-EachThere p K place = (u : ℕ) → BeginsAt p place.path place.offset u → K u place
+abbrev pub HoldsOfEachAt : Package → (ℕ → Place → Type 0) → Place → Type 0
+HoldsOfEachAt p K place = (u : ℕ) → BeginsAt p place.path place.offset u → K u place
 
 -- Each identifier of the package `p` that begins at the place stays bound.
 abbrev pub StaysIn : Workspace → Verdicts → Revision → Package → Place → Type 0
-StaysIn w known r p place = EachThere p (Stays w known r p) place
+StaysIn w known r p place = HoldsOfEachAt p (Stays w known r p) place
 
 -- Each identifier that begins at the place in the package of this number stays bound.
 abbrev pub StaysInNumber : Workspace → Verdicts → Revision → ℕ → Place → Type 0
@@ -83,11 +83,11 @@ pub record NameStays (w : Workspace) (known : Verdicts) (r : Revision) (p : Pack
 
 -- Each identifier of the package `p` that begins at the place stays bound by scopes and as the selector of a qualified identifier.
 abbrev pub NamesStayIn : Workspace → Verdicts → Revision → Package → Place → Type 0
-NamesStayIn w known r p place = EachThere p (NameStays w known r p) place
+NamesStayIn w known r p place = HoldsOfEachAt p (NameStays w known r p) place
 
 -- Each member use of the package `p` that begins at the place stays bound.
 abbrev pub MembersStayIn : Workspace → Verdicts → Revision → Package → Place → Type 0
-MembersStayIn w known r p place = EachThere p (StaysByMember w known r p) place
+MembersStayIn w known r p place = HoldsOfEachAt p (StaysByMember w known r p) place
 
 -- The fields of the package that are declared at the place count under their new names.
 abbrev pub FieldsStayIn : (Known : Package → Type 0) → Revision → Package → Place → Type 0
@@ -99,7 +99,7 @@ MethodsStayIn Known r p place = (rank : ℕ) → UsesIn p (λ u. IsNameOf (IsMet
 
 -- Each member of the package `p` that is declared at the place counts under its new name.
 abbrev pub DeclaringNamesStayIn : Workspace → Verdicts → Revision → Package → Place → Type 0
-DeclaringNamesStayIn w known r p place = EachThere p (StaysByName w known r p) place
+DeclaringNamesStayIn w known r p place = HoldsOfEachAt p (StaysByName w known r p) place
 
 -- If the identifier `u` of the package begins at the place, `K` holds of the place.
 abbrev pub IfBegins : Package → ℕ → (Place → Type 0) → Place → Type 0

@@ -2,7 +2,7 @@
 ghost use Rattle.std.specs.Prelude.{IfOk};
 ghost use Rattle.types_declared.specs.PackageView.{package_of, IsIndexOf};
 ghost use Rattle.refs_binding.specs.Steps.{AtToken};
-ghost use Rattle.refs_places.specs.DeclaredPlaces.{IsFound};
+ghost use Rattle.refs_places.specs.DeclaredPlaces.{IsChoice};
 
 use base_files::Place;
 use go_scope::model::Position;
@@ -17,7 +17,7 @@ pub fn token_beginning(
     at: Position,
 ) -> Result<Option<Place>, AllocError>
     requires { IsIndexOf (package_of unit) index.now }
-    ensures { IfOk result (IsFound (AtToken (package_of unit.entry) at)) }
+    ensures { IfOk result (IsChoice (AtToken (package_of unit.entry) at)) }
 {
     match index.identifiers.get(at) {
         None => Ok(None),

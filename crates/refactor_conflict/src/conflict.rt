@@ -1,6 +1,6 @@
 //! Conflicts: identifiers that a change would lose or capture.
 ghost use Rattle.std.specs.Prelude.{◌≡◌};
-ghost use Rattle.refactor_conflict.specs.Told.{told_by};
+ghost use Rattle.refactor_conflict.specs.ConflictRefusal.{refusal_for};
 
 use base_files::{Place, Refusal};
 
@@ -21,7 +21,7 @@ pub struct Conflict {
 
 /// The refusal that reports a conflict.
 pub fn told(conflict: Conflict) -> Refusal
-    ensures { result ≡ told_by conflict.by conflict.used }
+    ensures { result ≡ refusal_for conflict.by conflict.used }
 {
     let Conflict { used, by } = conflict;
     match by {

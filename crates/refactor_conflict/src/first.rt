@@ -4,11 +4,11 @@ ghost use Rattle.base_files.specs.Packages.{package_paths};
 ghost use Rattle.base_edits.specs.EditSet.{edited};
 ghost use Rattle.base_edits.specs.RevisionsOfEdits.{revision_of};
 ghost use Rattle.refs_binding.specs.Packages.{ArePackages};
-ghost use Rattle.refs_binding.specs.Workspaces.{IsSound, known_in};
+ghost use Rattle.refs_binding.specs.Workspaces.{IsFaultless, known_in};
 ghost use Rattle.refactor_after.specs.Scopes.{AreAllScopes};
-ghost use Rattle.refactor_conflict.specs.Conflicts.{AreBehind, IsConflict, IsToldFirst, TellsFirst, Takes, HoldsAhead};
-ghost use Rattle.refactor_after.specs.Read.{workspace_of, verdicts_of};
-ghost use Rattle.refactor_conflict.specs.Judging.{KnowsBefore, KnowsChange, workspace_in, known_verdicts, change_in};
+ghost use Rattle.refactor_conflict.specs.Conflicts.{AreAfter, IsConflict, FirstLost, IsFirstConflict, Takes, HoldsBefore};
+ghost use Rattle.refactor_after.specs.ReadPackages.{workspace_of, verdicts_of};
+ghost use Rattle.refactor_conflict.specs.Judging.{KnowsBefore, KnowsChange, workspace_in, known_verdicts, revision_in};
 ghost use Rattle.refactor_conflict.specs.Staying.{StaysAt, StaysInNumber};
 
 use crate::conflict::Conflict;
@@ -18,10 +18,10 @@ use crate::judging::judge_unit;
 use base_edits::{EditSet, Moves};
 use go_ast::FileTree;
 use refactor_after::{
-    NewMembers, PackageScopes, clause_names, lie_behind, new_members, old_places, scope_bindings,
-    scoped_packages,
+    NewMembers, PackageScopes, are_after_place, clause_names, new_members, old_places,
+    scope_bindings, scoped_packages,
 };
-use refs_binding::{BoundSpot, Packages, all_seen};
+use refs_binding::{BoundIdentifier, Packages, all_seen};
 use refs_index::exports::exports;
 use refs_places::declared_places::{DeclaredPlaces, declared_places};
 use std::alloc::{AllocError, Global};
@@ -30,12 +30,12 @@ use workspace_check::Findings;
 use workspace_graph::Graph;
 
 /// Whether a conflict is found and all these files come after its file, so that none of their identifiers can be an earlier one.
-fn are_behind(first: &Option<Conflict>, files: &[FileTree]) -> bool
-    ensures { IsTrue result → AreBehind first.now files.now }
+fn are_after(first: &Option<Conflict>, files: &[FileTree]) -> bool
+    ensures { IsTrue result → AreAfter first.now files.now }
 {
     match first {
         None => false,
-        Some(conflict) => lie_behind(&conflict.used, files),
+        Some(conflict) => are_after_place(&conflict.used, files),
     }
 }
 
@@ -48,11 +48,11 @@ fn judge_package(
 ) -> Result<(), AllocError>
     requires in_range { number < length (package_paths (workspace_in judge.now)) }
     requires knows { KnowsChange judge.now }
-    ensures takes { OnOk result (Takes (IsConflict (workspace_in judge.now) (known_verdicts judge.now) (change_in judge.now)) first.old first.new) }
-    ensures stays { OnOk result (HoldsAhead (StaysInNumber (workspace_in judge.now) (known_verdicts judge.now) (change_in judge.now) number) first.new) }
+    ensures takes { OnOk result (Takes (IsConflict (workspace_in judge.now) (known_verdicts judge.now) (revision_in judge.now)) first.old first.new) }
+    ensures stays { OnOk result (HoldsBefore (StaysInNumber (workspace_in judge.now) (known_verdicts judge.now) (revision_in judge.now) number) first.new) }
 {
     let unit = judge.packages.unit(number);
-    if are_behind(first, unit.files) {
+    if are_after(first, unit.files) {
         return Ok(());
     }
     judge_unit(alloc, first, judge, unit, number)
@@ -61,8 +61,8 @@ fn judge_package(
 /// The first identifier that the change loses or captures, or `None`.
 fn first_judged(alloc: Global, judge: &Judge<'_, '_, '_>) -> Result<Option<Conflict>, AllocError>
     requires { KnowsChange judge.now }
-    ensures takes { IfOk result (λ first. Takes (IsConflict (workspace_in judge.now) (known_verdicts judge.now) (change_in judge.now)) None first) }
-    ensures stays { IfOk result (HoldsAhead (StaysAt (workspace_in judge.now) (known_verdicts judge.now) (change_in judge.now))) }
+    ensures takes { IfOk result (λ first. Takes (IsConflict (workspace_in judge.now) (known_verdicts judge.now) (revision_in judge.now)) None first) }
+    ensures stays { IfOk result (HoldsBefore (StaysAt (workspace_in judge.now) (known_verdicts judge.now) (revision_in judge.now))) }
 {
     let mut first = None;
     for number in 0..judge.packages.graph.len() {
@@ -76,7 +76,7 @@ fn first_judged(alloc: Global, judge: &Judge<'_, '_, '_>) -> Result<Option<Confl
 struct Before {
     exports: Vec<BTreeMap<Vec<u8>, usize>>,
     places: Vec<DeclaredPlaces>,
-    old: Vec<BoundSpot>,
+    old: Vec<BoundIdentifier>,
     members: Vec<NewMembers>,
 }
 
@@ -113,7 +113,7 @@ fn first_found(
     requires after { after.now ≡ edited moves.now (workspace_of packages.now) }
     requires scoped { AreAllScopes after.now scoped.now }
     ensures takes { IfOk result (λ first. Takes (IsConflict (workspace_of packages.now) (verdicts_of packages.now) (revision_of (workspace_of packages.now) moves.now)) None first) }
-    ensures stays { IfOk result (HoldsAhead (StaysAt (workspace_of packages.now) (verdicts_of packages.now) (revision_of (workspace_of packages.now) moves.now))) }
+    ensures stays { IfOk result (HoldsBefore (StaysAt (workspace_of packages.now) (verdicts_of packages.now) (revision_of (workspace_of packages.now) moves.now))) }
 {
     let bound = scope_bindings(alloc, after, scoped)?;
     let judge = Judge {
@@ -142,7 +142,7 @@ fn first_afterwards(
     requires before { KnowsBefore packages.now moves.now before.now }
     requires after { after.now ≡ edited moves.now (workspace_of packages.now) }
     ensures takes { IfOk result (λ first. Takes (IsConflict (workspace_of packages.now) (verdicts_of packages.now) (revision_of (workspace_of packages.now) moves.now)) None first) }
-    ensures stays { IfOk result (HoldsAhead (StaysAt (workspace_of packages.now) (verdicts_of packages.now) (revision_of (workspace_of packages.now) moves.now))) }
+    ensures stays { IfOk result (HoldsBefore (StaysAt (workspace_of packages.now) (verdicts_of packages.now) (revision_of (workspace_of packages.now) moves.now))) }
 {
     let names = clause_names(alloc, after)?;
     let scoped = scoped_packages(alloc, after, &names)?;
@@ -159,7 +159,7 @@ fn judged_first(
     requires read { ArePackages packages.now }
     requires after { after.now ≡ edited edits.now (workspace_of packages.now) }
     ensures takes { IfOk result (λ first. Takes (IsConflict (workspace_of packages.now) (verdicts_of packages.now) (revision_of (workspace_of packages.now) edits.now)) None first) }
-    ensures stays { IfOk result (HoldsAhead (StaysAt (workspace_of packages.now) (verdicts_of packages.now) (revision_of (workspace_of packages.now) edits.now))) }
+    ensures stays { IfOk result (HoldsBefore (StaysAt (workspace_of packages.now) (verdicts_of packages.now) (revision_of (workspace_of packages.now) edits.now))) }
 {
     let moves = Moves::of(alloc, edits)?;
     let before = Before::of(alloc, packages, &moves)?;
@@ -169,7 +169,7 @@ fn judged_first(
 /// The first identifier of a workspace without faults, as a conflict that loses it.
 fn first_lost(alloc: Global, packages: &Packages<'_>) -> Result<Option<Conflict>, AllocError>
     requires { ArePackages packages.now }
-    ensures { IfOk result (IsToldFirst (workspace_of packages.now) (verdicts_of packages.now)) }
+    ensures { IfOk result (FirstLost (workspace_of packages.now) (verdicts_of packages.now)) }
 {
     match first_identifier(alloc, packages)? {
         None => Ok(None),
@@ -186,7 +186,7 @@ fn first_read(
 ) -> Result<Option<Conflict>, AllocError>
     requires read { ArePackages packages.now }
     requires after { after.now ≡ edited edits.now (workspace_of packages.now) }
-    ensures { IfOk result (TellsFirst (workspace_of packages.now) (verdicts_of packages.now) (revision_of (workspace_of packages.now) edits.now)) }
+    ensures { IfOk result (IsFirstConflict (workspace_of packages.now) (verdicts_of packages.now) (revision_of (workspace_of packages.now) edits.now)) }
 {
     match judged_first(alloc, packages, edits, after)? {
         Some(conflict) => Ok(Some(conflict)),
@@ -205,9 +205,9 @@ pub fn first_conflict(
     edits: &EditSet,
     after: &Graph,
 ) -> Result<Option<Conflict>, AllocError>
-    requires sound { IsSound graph.now found.now }
+    requires sound { IsFaultless graph.now found.now }
     requires after { after.now ≡ edited edits.now graph.now }
-    ensures { IfOk result (TellsFirst graph.now (known_in found.now) (revision_of graph.now edits.now)) }
+    ensures { IfOk result (IsFirstConflict graph.now (known_in found.now) (revision_of graph.now edits.now)) }
 {
     let seen = all_seen(alloc, graph, found)?;
     let packages = Packages::of(alloc, graph, found, &seen)?;

@@ -3,7 +3,7 @@ ghost use Rattle.std.specs.Prelude.{◌≡◌};
 
 use base_edits::Moves;
 use refactor_after::{NewMembers, PackageScopes, TypesAfter};
-use refs_binding::{BoundSpot, Packages};
+use refs_binding::{BoundIdentifier, Packages};
 use refs_places::declared_places::DeclaredPlaces;
 use std::collections::BTreeMap;
 use workspace_graph::Graph;
@@ -17,11 +17,11 @@ pub struct Judge<'a, 'm, 's> {
     pub members: &'a [NewMembers],
     pub exports: &'a [BTreeMap<Vec<u8>, usize>],
     pub places: &'a [DeclaredPlaces],
-    pub old: &'a [BoundSpot],
+    pub old: &'a [BoundIdentifier],
     pub moves: &'a Moves<'m>,
     pub after: &'a Graph,
     pub scoped: &'a [Option<PackageScopes<'s>>],
-    pub bound: &'a [BoundSpot],
+    pub bound: &'a [BoundIdentifier],
 }
 
 impl<'a> Judge<'a, '_, '_> {

@@ -4,22 +4,22 @@ ghost use Rattle.base_files.specs.Packages.{package_paths};
 ghost use Rattle.types_expr.specs.Found.{use_of};
 ghost use Rattle.types_expr.specs.View.{type_of};
 ghost use Rattle.types_declared.specs.PackageView.{package_of, IsIndexOf};
-ghost use Rattle.base_edits.specs.RevisionsOfEdits.{called_by};
-ghost use Rattle.refs_binding.specs.Binding.{BindsByScope, BindsByPackage};
+ghost use Rattle.base_edits.specs.RevisionsOfEdits.{new_name_at};
+ghost use Rattle.refs_binding.specs.Binding.{BindsByScope, BindsQualified};
 ghost use Rattle.refs_binding.specs.Members.{definitions_seen};
 ghost use Rattle.refs_binding.specs.Workspaces.{IsPackageAt};
 ghost use Rattle.refactor_after.specs.MembersAfter.{CountsAfter};
-ghost use Rattle.refactor_conflict.specs.Afterwards.{IsBoundByScopes, IsBoundByPackage, IsExportAfter, IsMemberNow};
-ghost use Rattle.refactor_conflict.specs.Conflicts.{IsConflictIn, IsNoted, IsOtherNoted, IsOtherAt, IsLostAt, IsLostAtFound, IsLostThere, IsMemberConflict, IsMemberConflictAmong, IsOnlyBehind, IsAhead, HoldsAhead, HoldsAtToken, HoldsAtFound, UseStays, UsesStay, Takes};
-ghost use Rattle.refactor_conflict.specs.Judging.{KnowsChange, workspace_in, known_verdicts, known_packages, change_in, becomes_in};
+ghost use Rattle.refactor_conflict.specs.BoundAfter.{IsBoundByScopes, IsBoundByPackage, IsExportAfter, SelectsAfter};
+ghost use Rattle.refactor_conflict.specs.Conflicts.{IsConflictIn, IsConflictOf, IsOtherMember, IsOtherAt, IsLostAt, IsLostAtFound, IsLostThere, IsMemberConflict, IsMemberConflictIn, IsOnlyQualifiedBy, IsBefore, HoldsBefore, HoldsAtToken, HoldsAtFound, UseStays, UsesStay, Takes};
+ghost use Rattle.refactor_conflict.specs.Judging.{KnowsChange, workspace_in, known_verdicts, known_packages, revision_in, becomes_in};
 ghost use Rattle.refactor_after.specs.OldPlaces.{field_at, method_at};
 ghost use Rattle.refactor_conflict.specs.Staying.{StaysBound, StaysByScope, StaysByPackage, StaysIn, NamesStayIn, MembersStayIn, FieldsStayIn, MethodsStayIn, DeclaringNamesStayIn, IfBegins};
 
 use crate::beginning::token_beginning;
+use crate::bound_after::{after_by_member, after_by_package, after_by_scope};
 use crate::conflict::Conflict;
+use crate::first_kept::{note, note_lost, note_member};
 use crate::judge::Judge;
-use crate::noting::{note, note_lost, note_member};
-use crate::now::{now_by_member, now_by_package, now_by_scope};
 use base_files::Place;
 use go_scope::model::Position;
 use refactor_after::{counts, symbol};
@@ -33,7 +33,7 @@ use std::alloc::{AllocError, Global};
 use types_declared::{Index, Package};
 use types_expr::found::MemberUse;
 use types_expr::world::Definition;
-use types_info::package_before;
+use types_info::qualifying_path;
 
 /// An exported name, with the path of its package.
 #[derive(Clone, Copy)]
@@ -75,10 +75,10 @@ fn note_by_scope(
     old: &Declaration,
 ) -> Result<(), AllocError>
     requires { KnowsChange judge.now }
-    ensures takes { OnOk result (Takes (IsNoted (becomes_in judge.now) (known_packages judge.now) (IsBoundByScopes (change_in judge.now) place) place old.now) first.old first.new) }
-    ensures stays { OnOk result (IsAhead first.new place → StaysBound (becomes_in judge.now) (IsBoundByScopes (change_in judge.now) place) old.now) }
+    ensures takes { OnOk result (Takes (IsConflictOf (becomes_in judge.now) (known_packages judge.now) (IsBoundByScopes (revision_in judge.now) place) place old.now) first.old first.new) }
+    ensures stays { OnOk result (IsBefore first.new place → StaysBound (becomes_in judge.now) (IsBoundByScopes (revision_in judge.now) place) old.now) }
 {
-    let now = now_by_scope(judge, &place)?;
+    let now = after_by_scope(judge, &place)?;
     note(judge, first, place, old, now)
 }
 
@@ -93,9 +93,9 @@ fn judge_bound(
     requires knows { KnowsChange judge.now }
     requires in_range { u < length unit.table.now.sites }
     requires was { BindsByScope (package_of unit) u old.now }
-    ensures takes { OnOk result (Takes (IsConflictIn (workspace_in judge.now) (known_verdicts judge.now) (change_in judge.now) (package_of unit.entry)) first.old first.new) }
+    ensures takes { OnOk result (Takes (IsConflictIn (workspace_in judge.now) (known_verdicts judge.now) (revision_in judge.now) (package_of unit.entry)) first.old first.new) }
     ensures stays { let p = package_of unit.entry in
-        OnOk result (HoldsAhead (IfBegins p u (λ at. StaysBound (becomes_in judge.now) (IsBoundByScopes (change_in judge.now) at) old.now)) first.new) }
+        OnOk result (HoldsBefore (IfBegins p u (λ at. StaysBound (becomes_in judge.now) (IsBoundByScopes (revision_in judge.now) at) old.now)) first.new) }
 {
     match beginning(unit, u)? {
         None => Ok(()),
@@ -112,9 +112,9 @@ fn judge_by_scope(
 ) -> Result<(), AllocError>
     requires knows { KnowsChange judge.now }
     requires in_range { u < length unit.table.now.sites }
-    ensures takes { OnOk result (Takes (IsConflictIn (workspace_in judge.now) (known_verdicts judge.now) (change_in judge.now) (package_of unit.entry)) first.old first.new) }
+    ensures takes { OnOk result (Takes (IsConflictIn (workspace_in judge.now) (known_verdicts judge.now) (revision_in judge.now) (package_of unit.entry)) first.old first.new) }
     ensures stays { let p = package_of unit.entry in
-        OnOk result (HoldsAhead (IfBegins p u (StaysByScope (workspace_in judge.now) (known_verdicts judge.now) (change_in judge.now) p u)) first.new) }
+        OnOk result (HoldsBefore (IfBegins p u (StaysByScope (workspace_in judge.now) (known_verdicts judge.now) (revision_in judge.now) p u)) first.new) }
 {
     go_scope::laws::bindings_are_unique();
     unit.table.is_well_formed();
@@ -135,11 +135,11 @@ fn note_by_package(
 ) -> Result<(), AllocError>
     requires knows { KnowsChange judge.now }
     requires there { Contains (package_paths (workspace_in judge.now)) export.path.now }
-    ensures takes { OnOk result (Takes (IsNoted (becomes_in judge.now) (known_packages judge.now) (IsExportAfter (workspace_in judge.now) (change_in judge.now) export.entry.path.now (called_by judge.now.moves.now place export.entry.name.now)) place old.now) first.old first.new) }
-    ensures stays { let now = IsExportAfter (workspace_in judge.now) (change_in judge.now) export.entry.path.now (called_by judge.now.moves.now place export.entry.name.now) in
-        OnOk result (IsAhead first.new place → StaysBound (becomes_in judge.now) now old.now) }
+    ensures takes { OnOk result (Takes (IsConflictOf (becomes_in judge.now) (known_packages judge.now) (IsExportAfter (workspace_in judge.now) (revision_in judge.now) export.entry.path.now (new_name_at judge.now.moves.now place export.entry.name.now)) place old.now) first.old first.new) }
+    ensures stays { let now = IsExportAfter (workspace_in judge.now) (revision_in judge.now) export.entry.path.now (new_name_at judge.now.moves.now place export.entry.name.now) in
+        OnOk result (IsBefore first.new place → StaysBound (becomes_in judge.now) now old.now) }
 {
-    let now = now_by_package(alloc, judge, export.path, &place, export.name)?;
+    let now = after_by_package(alloc, judge, export.path, &place, export.name)?;
     note(judge, first, place, old, now)
 }
 
@@ -153,12 +153,12 @@ fn judge_exported(
 ) -> Result<(), AllocError>
     requires knows { KnowsChange judge.now }
     requires in_range { of.now.u < length of.now.unit.table.now.sites }
-    requires behind { IsOnlyBehind (package_of of.now.unit) of.now.u of.now.behind.now }
+    requires behind { IsOnlyQualifiedBy (package_of of.now.unit) of.now.u of.now.behind.now }
     requires there { Contains (package_paths (workspace_in judge.now)) of.now.behind.now }
-    requires was { BindsByPackage (known_packages judge.now) (package_of of.now.unit) of.now.u old.now }
-    ensures takes { OnOk result (Takes (IsConflictIn (workspace_in judge.now) (known_verdicts judge.now) (change_in judge.now) (package_of of.now.unit)) first.old first.new) }
+    requires was { BindsQualified (known_packages judge.now) (package_of of.now.unit) of.now.u old.now }
+    ensures takes { OnOk result (Takes (IsConflictIn (workspace_in judge.now) (known_verdicts judge.now) (revision_in judge.now) (package_of of.now.unit)) first.old first.new) }
     ensures stays { let p = package_of of.now.unit in
-        OnOk result (HoldsAhead (IfBegins p of.now.u (λ at. StaysBound (becomes_in judge.now) (IsBoundByPackage (workspace_in judge.now) (change_in judge.now) at p of.now.u) old.now)) first.new) }
+        OnOk result (HoldsBefore (IfBegins p of.now.u (λ at. StaysBound (becomes_in judge.now) (IsBoundByPackage (workspace_in judge.now) (revision_in judge.now) at p of.now.u) old.now)) first.new) }
 {
     match beginning(of.unit, of.u)? {
         None => Ok(()),
@@ -181,10 +181,10 @@ fn judge_behind(
 ) -> Result<(), AllocError>
     requires knows { KnowsChange judge.now }
     requires in_range { of.now.u < length of.now.unit.table.now.sites }
-    requires behind { IsOnlyBehind (package_of of.now.unit) of.now.u of.now.behind.now }
-    ensures takes { OnOk result (Takes (IsConflictIn (workspace_in judge.now) (known_verdicts judge.now) (change_in judge.now) (package_of of.now.unit)) first.old first.new) }
+    requires behind { IsOnlyQualifiedBy (package_of of.now.unit) of.now.u of.now.behind.now }
+    ensures takes { OnOk result (Takes (IsConflictIn (workspace_in judge.now) (known_verdicts judge.now) (revision_in judge.now) (package_of of.now.unit)) first.old first.new) }
     ensures stays { let p = package_of of.now.unit in
-        OnOk result (HoldsAhead (IfBegins p of.now.u (StaysByPackage (workspace_in judge.now) (known_verdicts judge.now) (change_in judge.now) p of.now.u)) first.new) }
+        OnOk result (HoldsBefore (IfBegins p of.now.u (StaysByPackage (workspace_in judge.now) (known_verdicts judge.now) (revision_in judge.now) p of.now.u)) first.new) }
 {
     let name = of.unit.table.name(of.u);
     match exported(
@@ -211,11 +211,11 @@ fn judge_by_package(
     requires knows { KnowsChange judge.now }
     requires index { IsIndexOf (package_of unit) index.now }
     requires in_range { u < length unit.table.now.sites }
-    ensures takes { OnOk result (Takes (IsConflictIn (workspace_in judge.now) (known_verdicts judge.now) (change_in judge.now) (package_of unit.entry)) first.old first.new) }
+    ensures takes { OnOk result (Takes (IsConflictIn (workspace_in judge.now) (known_verdicts judge.now) (revision_in judge.now) (package_of unit.entry)) first.old first.new) }
     ensures stays { let p = package_of unit.entry in
-        OnOk result (HoldsAhead (IfBegins p u (StaysByPackage (workspace_in judge.now) (known_verdicts judge.now) (change_in judge.now) p u)) first.new) }
+        OnOk result (HoldsBefore (IfBegins p u (StaysByPackage (workspace_in judge.now) (known_verdicts judge.now) (revision_in judge.now) p u)) first.new) }
 {
-    match package_before(unit, index, u) {
+    match qualifying_path(unit, index, u) {
         None => Ok(()),
         Some(behind) => {
             let of = Selected { unit, behind, u };
@@ -234,8 +234,8 @@ fn judge_numbers(
 ) -> Result<(), AllocError>
     requires knows { KnowsChange judge.now }
     requires index { IsIndexOf (package_of unit) index.now }
-    ensures takes { OnOk result (Takes (IsConflictIn (workspace_in judge.now) (known_verdicts judge.now) (change_in judge.now) (package_of unit.entry)) first.old first.new) }
-    ensures stays { OnOk result (HoldsAhead (NamesStayIn (workspace_in judge.now) (known_verdicts judge.now) (change_in judge.now) (package_of unit.entry)) first.new) }
+    ensures takes { OnOk result (Takes (IsConflictIn (workspace_in judge.now) (known_verdicts judge.now) (revision_in judge.now) (package_of unit.entry)) first.old first.new) }
+    ensures stays { OnOk result (HoldsBefore (NamesStayIn (workspace_in judge.now) (known_verdicts judge.now) (revision_in judge.now) (package_of unit.entry)) first.new) }
 {
     for u in 0..unit.table.len() {
         judge_by_scope(first, judge, unit, u)?;
@@ -253,12 +253,12 @@ fn note_by_member(
     old: &Declaration,
 ) -> Result<(), AllocError>
     requires { KnowsChange judge.now }
-    ensures takes { let now = IsMemberNow (known_packages judge.now) (change_in judge.now) (definitions_seen used.now.unit used.now.own.now) (package_of used.now.unit) used.now.at (type_of used.now.found.now.before) place in
-        OnOk result (Takes (IsOtherNoted (known_packages judge.now) now place old.now) first.old first.new) }
-    ensures stays { OnOk result (IsAhead first.new place → IsMemberNow (known_packages judge.now) (change_in judge.now) (definitions_seen used.now.unit used.now.own.now) (package_of used.now.unit) used.now.at (type_of used.now.found.now.before) place old.now) }
+    ensures takes { let now = SelectsAfter (known_packages judge.now) (revision_in judge.now) (definitions_seen used.now.unit used.now.own.now) (package_of used.now.unit) used.now.at (type_of used.now.found.now.before) place in
+        OnOk result (Takes (IsOtherMember (known_packages judge.now) now place old.now) first.old first.new) }
+    ensures stays { OnOk result (IsBefore first.new place → SelectsAfter (known_packages judge.now) (revision_in judge.now) (definitions_seen used.now.unit used.now.own.now) (package_of used.now.unit) used.now.at (type_of used.now.found.now.before) place old.now) }
 {
     let name = used.unit.spelling(used.at.file, used.at.index);
-    let now = now_by_member(judge, used.unit, used.own, used.found, &place, name)?;
+    let now = after_by_member(judge, used.unit, used.own, used.found, &place, name)?;
     note_member(judge, first, place, old, now)
 }
 
@@ -272,9 +272,9 @@ fn judge_token(
 ) -> Result<(), AllocError>
     requires knows { KnowsChange judge.now }
     requires index { IsIndexOf (package_of used.now.unit) index.now }
-    ensures takes { let now = IsMemberNow (known_packages judge.now) (change_in judge.now) (definitions_seen used.now.unit used.now.own.now) (package_of used.now.unit) used.now.at (type_of used.now.found.now.before) in
+    ensures takes { let now = SelectsAfter (known_packages judge.now) (revision_in judge.now) (definitions_seen used.now.unit used.now.own.now) (package_of used.now.unit) used.now.at (type_of used.now.found.now.before) in
         OnOk result (Takes (IsOtherAt (known_packages judge.now) now (package_of used.now.unit) used.now.at old.now) first.old first.new) }
-    ensures stays { let now = IsMemberNow (known_packages judge.now) (change_in judge.now) (definitions_seen used.now.unit used.now.own.now) (package_of used.now.unit) used.now.at (type_of used.now.found.now.before) in
+    ensures stays { let now = SelectsAfter (known_packages judge.now) (revision_in judge.now) (definitions_seen used.now.unit used.now.own.now) (package_of used.now.unit) used.now.at (type_of used.now.found.now.before) in
         OnOk result (HoldsAtToken (package_of used.now.unit) used.now.at (λ place. now place old.now) first.new) }
 {
     match token_beginning(used.unit, index, used.at)? {
@@ -293,8 +293,8 @@ fn judge_by_member(
 ) -> Result<(), AllocError>
     requires knows { KnowsChange judge.now }
     requires index { IsIndexOf (package_of of.now.unit) of.now.index.now }
-    ensures takes { OnOk result (Takes (IsMemberConflict (known_packages judge.now) (change_in judge.now) (definitions_seen of.now.unit of.now.own.now) (package_of of.now.unit) file (use_of found.now)) first.old first.new) }
-    ensures stays { OnOk result (HoldsAhead (UseStays (known_packages judge.now) (change_in judge.now) (definitions_seen of.now.unit of.now.own.now) (package_of of.now.unit) file (use_of found.now)) first.new) }
+    ensures takes { OnOk result (Takes (IsMemberConflict (known_packages judge.now) (revision_in judge.now) (definitions_seen of.now.unit of.now.own.now) (package_of of.now.unit) file (use_of found.now)) first.old first.new) }
+    ensures stays { OnOk result (HoldsBefore (UseStays (known_packages judge.now) (revision_in judge.now) (definitions_seen of.now.unit of.now.own.now) (package_of of.now.unit) file (use_of found.now)) first.new) }
 {
     match member_declaration(of.unit, of.own, file, found)? {
         None => Ok(()),
@@ -323,8 +323,8 @@ fn judge_file(
 ) -> Result<(), AllocError>
     requires knows { KnowsChange judge.now }
     requires index { IsIndexOf (package_of of.now.unit) of.now.index.now }
-    ensures takes { OnOk result (Takes (IsMemberConflictAmong (known_packages judge.now) (change_in judge.now) (definitions_seen of.now.unit of.now.own.now) (package_of of.now.unit) file (map use_of uses.now)) first.old first.new) }
-    ensures stays { OnOk result (HoldsAhead (UsesStay (known_packages judge.now) (change_in judge.now) (definitions_seen of.now.unit of.now.own.now) (package_of of.now.unit) file (map use_of uses.now)) first.new) }
+    ensures takes { OnOk result (Takes (IsMemberConflictIn (known_packages judge.now) (revision_in judge.now) (definitions_seen of.now.unit of.now.own.now) (package_of of.now.unit) file (map use_of uses.now)) first.old first.new) }
+    ensures stays { OnOk result (HoldsBefore (UsesStay (known_packages judge.now) (revision_in judge.now) (definitions_seen of.now.unit of.now.own.now) (package_of of.now.unit) file (map use_of uses.now)) first.new) }
 {
     for k in 0..uses.len() {
         judge_by_member(first, judge, of, file, &uses[k])?;
@@ -344,8 +344,8 @@ fn judge_members(
     requires knows { KnowsChange judge.now }
     requires index { IsIndexOf (package_of unit) index.now }
     requires is_package { IsPackageAt (workspace_in judge.now) (known_verdicts judge.now) number (package_of unit) }
-    ensures takes { OnOk result (Takes (IsConflictIn (workspace_in judge.now) (known_verdicts judge.now) (change_in judge.now) (package_of unit.entry)) first.old first.new) }
-    ensures stays { OnOk result (HoldsAhead (MembersStayIn (workspace_in judge.now) (known_verdicts judge.now) (change_in judge.now) (package_of unit.entry)) first.new) }
+    ensures takes { OnOk result (Takes (IsConflictIn (workspace_in judge.now) (known_verdicts judge.now) (revision_in judge.now) (package_of unit.entry)) first.old first.new) }
+    ensures stays { OnOk result (HoldsBefore (MembersStayIn (workspace_in judge.now) (known_verdicts judge.now) (revision_in judge.now) (package_of unit.entry)) first.new) }
 {
     unit.table.is_well_formed();
     let own = own_of(judge.packages.graph, judge.packages.found, number);
@@ -365,8 +365,8 @@ fn note_by_name(
     old: &Declaration,
 ) -> Result<(), AllocError>
     requires { KnowsChange judge.now }
-    ensures takes { OnOk result (Takes (IsLostThere (known_packages judge.now) (change_in judge.now) place old.now) first.old first.new) }
-    ensures stays { OnOk result (IsAhead first.new place → CountsAfter (known_packages judge.now) (change_in judge.now) old.now) }
+    ensures takes { OnOk result (Takes (IsLostThere (known_packages judge.now) (revision_in judge.now) place old.now) first.old first.new) }
+    ensures stays { OnOk result (IsBefore first.new place → CountsAfter (known_packages judge.now) (revision_in judge.now) old.now) }
 {
     if counts(&judge.types(), old)? {
         return Ok(());
@@ -386,8 +386,8 @@ fn judge_by_name(
 ) -> Result<(), AllocError>
     requires knows { KnowsChange judge.now }
     requires index { IsIndexOf (package_of unit) index.now }
-    ensures takes { OnOk result (Takes (IsLostAt (known_packages judge.now) (change_in judge.now) (package_of unit.entry) at old.now) first.old first.new) }
-    ensures stays { OnOk result (HoldsAtToken (package_of unit.entry) at (λ place. CountsAfter (known_packages judge.now) (change_in judge.now) old.now) first.new) }
+    ensures takes { OnOk result (Takes (IsLostAt (known_packages judge.now) (revision_in judge.now) (package_of unit.entry) at old.now) first.old first.new) }
+    ensures stays { OnOk result (HoldsAtToken (package_of unit.entry) at (λ place. CountsAfter (known_packages judge.now) (revision_in judge.now) old.now) first.new) }
 {
     match token_beginning(unit, index, at)? {
         None => Ok(()),
@@ -406,8 +406,8 @@ fn judge_field(
 ) -> Result<(), AllocError>
     requires knows { KnowsChange judge.now }
     requires index { IsIndexOf (package_of unit) index.now }
-    ensures takes { OnOk result (Takes (IsLostAt (known_packages judge.now) (change_in judge.now) (package_of unit.entry) at (field_at unit.entry.path.now rank)) first.old first.new) }
-    ensures stays { OnOk result (HoldsAtToken (package_of unit.entry) at (λ place. CountsAfter (known_packages judge.now) (change_in judge.now) (field_at unit.entry.path.now rank)) first.new) }
+    ensures takes { OnOk result (Takes (IsLostAt (known_packages judge.now) (revision_in judge.now) (package_of unit.entry) at (field_at unit.entry.path.now rank)) first.old first.new) }
+    ensures stays { OnOk result (HoldsAtToken (package_of unit.entry) at (λ place. CountsAfter (known_packages judge.now) (revision_in judge.now) (field_at unit.entry.path.now rank)) first.new) }
 {
     let symbol = symbol(unit.path, rank)?;
     let old = Declaration::Field(symbol);
@@ -425,8 +425,8 @@ fn judge_counting_field(
 ) -> Result<(), AllocError>
     requires knows { KnowsChange judge.now }
     requires index { IsIndexOf (package_of unit) index.now }
-    ensures takes { OnOk result (Takes (IsLostAtFound (known_packages judge.now) (change_in judge.now) (package_of unit.entry) at (field_at unit.entry.path.now rank)) first.old first.new) }
-    ensures stays { OnOk result (HoldsAtFound (package_of unit.entry) at (λ place. CountsAfter (known_packages judge.now) (change_in judge.now) (field_at unit.entry.path.now rank)) first.new) }
+    ensures takes { OnOk result (Takes (IsLostAtFound (known_packages judge.now) (revision_in judge.now) (package_of unit.entry) at (field_at unit.entry.path.now rank)) first.old first.new) }
+    ensures stays { OnOk result (HoldsAtFound (package_of unit.entry) at (λ place. CountsAfter (known_packages judge.now) (revision_in judge.now) (field_at unit.entry.path.now rank)) first.new) }
 {
     match at {
         None => Ok(()),
@@ -444,8 +444,8 @@ fn judge_fields(
 ) -> Result<(), AllocError>
     requires knows { KnowsChange judge.now }
     requires index { IsIndexOf (package_of unit) index.now }
-    ensures takes { OnOk result (Takes (IsConflictIn (workspace_in judge.now) (known_verdicts judge.now) (change_in judge.now) (package_of unit.entry)) first.old first.new) }
-    ensures stays { OnOk result (HoldsAhead (FieldsStayIn (known_packages judge.now) (change_in judge.now) (package_of unit.entry)) first.new) }
+    ensures takes { OnOk result (Takes (IsConflictIn (workspace_in judge.now) (known_verdicts judge.now) (revision_in judge.now) (package_of unit.entry)) first.old first.new) }
+    ensures stays { OnOk result (HoldsBefore (FieldsStayIn (known_packages judge.now) (revision_in judge.now) (package_of unit.entry)) first.new) }
 {
     let fields = field_places(alloc, unit, index)?;
     for rank in 0..fields.len() {
@@ -465,8 +465,8 @@ fn judge_method(
 ) -> Result<(), AllocError>
     requires knows { KnowsChange judge.now }
     requires index { IsIndexOf (package_of unit) index.now }
-    ensures takes { OnOk result (Takes (IsLostAt (known_packages judge.now) (change_in judge.now) (package_of unit.entry) at (method_at unit.entry.path.now rank)) first.old first.new) }
-    ensures stays { OnOk result (HoldsAtToken (package_of unit.entry) at (λ place. CountsAfter (known_packages judge.now) (change_in judge.now) (method_at unit.entry.path.now rank)) first.new) }
+    ensures takes { OnOk result (Takes (IsLostAt (known_packages judge.now) (revision_in judge.now) (package_of unit.entry) at (method_at unit.entry.path.now rank)) first.old first.new) }
+    ensures stays { OnOk result (HoldsAtToken (package_of unit.entry) at (λ place. CountsAfter (known_packages judge.now) (revision_in judge.now) (method_at unit.entry.path.now rank)) first.new) }
 {
     let symbol = symbol(unit.path, rank)?;
     let old = Declaration::Method(symbol);
@@ -484,8 +484,8 @@ fn judge_counting_method(
 ) -> Result<(), AllocError>
     requires knows { KnowsChange judge.now }
     requires index { IsIndexOf (package_of unit) index.now }
-    ensures takes { OnOk result (Takes (IsLostAtFound (known_packages judge.now) (change_in judge.now) (package_of unit.entry) at (method_at unit.entry.path.now rank)) first.old first.new) }
-    ensures stays { OnOk result (HoldsAtFound (package_of unit.entry) at (λ place. CountsAfter (known_packages judge.now) (change_in judge.now) (method_at unit.entry.path.now rank)) first.new) }
+    ensures takes { OnOk result (Takes (IsLostAtFound (known_packages judge.now) (revision_in judge.now) (package_of unit.entry) at (method_at unit.entry.path.now rank)) first.old first.new) }
+    ensures stays { OnOk result (HoldsAtFound (package_of unit.entry) at (λ place. CountsAfter (known_packages judge.now) (revision_in judge.now) (method_at unit.entry.path.now rank)) first.new) }
 {
     match at {
         None => Ok(()),
@@ -503,8 +503,8 @@ fn judge_methods(
 ) -> Result<(), AllocError>
     requires knows { KnowsChange judge.now }
     requires index { IsIndexOf (package_of unit) index.now }
-    ensures takes { OnOk result (Takes (IsConflictIn (workspace_in judge.now) (known_verdicts judge.now) (change_in judge.now) (package_of unit.entry)) first.old first.new) }
-    ensures stays { OnOk result (HoldsAhead (MethodsStayIn (known_packages judge.now) (change_in judge.now) (package_of unit.entry)) first.new) }
+    ensures takes { OnOk result (Takes (IsConflictIn (workspace_in judge.now) (known_verdicts judge.now) (revision_in judge.now) (package_of unit.entry)) first.old first.new) }
+    ensures stays { OnOk result (HoldsBefore (MethodsStayIn (known_packages judge.now) (revision_in judge.now) (package_of unit.entry)) first.new) }
 {
     let methods = method_places(alloc, unit, index)?;
     for rank in 0..methods.len() {
@@ -523,8 +523,8 @@ fn judge_names(
 ) -> Result<(), AllocError>
     requires knows { KnowsChange judge.now }
     requires index { IsIndexOf (package_of unit) index.now }
-    ensures takes { OnOk result (Takes (IsConflictIn (workspace_in judge.now) (known_verdicts judge.now) (change_in judge.now) (package_of unit.entry)) first.old first.new) }
-    ensures stays { OnOk result (HoldsAhead (DeclaringNamesStayIn (workspace_in judge.now) (known_verdicts judge.now) (change_in judge.now) (package_of unit.entry)) first.new) }
+    ensures takes { OnOk result (Takes (IsConflictIn (workspace_in judge.now) (known_verdicts judge.now) (revision_in judge.now) (package_of unit.entry)) first.old first.new) }
+    ensures stays { OnOk result (HoldsBefore (DeclaringNamesStayIn (workspace_in judge.now) (known_verdicts judge.now) (revision_in judge.now) (package_of unit.entry)) first.new) }
 {
     judge_fields(alloc, first, judge, unit, index)?;
     judge_methods(alloc, first, judge, unit, index)
@@ -541,8 +541,8 @@ pub fn judge_unit(
     requires in_range { number < length (package_paths (workspace_in judge.now)) }
     requires knows { KnowsChange judge.now }
     requires is_package { IsPackageAt (workspace_in judge.now) (known_verdicts judge.now) number (package_of unit) }
-    ensures takes { OnOk result (Takes (IsConflictIn (workspace_in judge.now) (known_verdicts judge.now) (change_in judge.now) (package_of unit.entry)) first.old first.new) }
-    ensures stays { OnOk result (HoldsAhead (StaysIn (workspace_in judge.now) (known_verdicts judge.now) (change_in judge.now) (package_of unit.entry)) first.new) }
+    ensures takes { OnOk result (Takes (IsConflictIn (workspace_in judge.now) (known_verdicts judge.now) (revision_in judge.now) (package_of unit.entry)) first.old first.new) }
+    ensures stays { OnOk result (HoldsBefore (StaysIn (workspace_in judge.now) (known_verdicts judge.now) (revision_in judge.now) (package_of unit.entry)) first.new) }
 {
     let index = Index::of(alloc, unit)?;
     judge_numbers(alloc, first, judge, unit, &index)?;

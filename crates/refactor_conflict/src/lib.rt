@@ -3,15 +3,15 @@
 #![tactic(auto)]
 
 mod beginning;
+mod bound_after;
 mod conflict;
+mod correspondence;
 mod first;
 mod first_identifier;
+mod first_kept;
 mod judge;
 mod judging;
 pub mod laws;
-mod noting;
-mod now;
-mod standing;
 
 pub use conflict::{Capturer, Conflict, told};
 pub use first::first_conflict;

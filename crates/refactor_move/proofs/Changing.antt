@@ -23,8 +23,8 @@ use Rattle.refactor_rename.proofs.Sources.{entries_in_order}
 use Rattle.refactor_move.specs.declared.moved.Moved.{Moved}
 use Rattle.refactor_move.specs.Paths.{IsUnder}
 use Rattle.refactor_move.specs.Changes.{MovesOrEdits}
-use Rattle.refactor_move.specs.PathSteps.{TellsNewPath}
-use Rattle.refactor_move.specs.Steps.{EditMap, edits_found, change_by, TellsChange, TellsChanges, AreChangesOf, none, kept, changed}
+use Rattle.refactor_move.specs.PathSteps.{FindsNewPath}
+use Rattle.refactor_move.specs.Steps.{EditMap, edits_found, change_by, FindsChange, FindsChanges, AreChangesOf, none, kept, changed}
 
 abbrev pub Files : Type 0
 Files = List (List ℕ × List ℕ)
@@ -45,13 +45,13 @@ changed_more m edits e c path has moves (changed a b d rest) = changed a b d (ch
 
 -- one change
 
-pub told_change : (m : Moved) (path : List ℕ) (edits : List Edit) (new : Option (List ℕ)) → TellsNewPath m path (Ok new) →
-    TellsChange m path edits (Ok (change_by path edits new))
+pub told_change : (m : Moved) (path : List ℕ) (edits : List Edit) (new : Option (List ℕ)) → FindsNewPath m path (Ok new) →
+    FindsChange m path edits (Ok (change_by path edits new))
 told_change m path [] None h = (h, refl)
 told_change m path (e ∷ es) None h = (refl, refl, inr (h, (refl, λ empty. cc)))
 told_change m path edits (Some new) h = (refl, refl, inl (new, (h, refl)))
 
-pub change_refused : (m : Moved) (path : List ℕ) (edits : List Edit) (r : Refusal) → TellsNewPath m path (Err r) → TellsChange m path edits (Err r)
+pub change_refused : (m : Moved) (path : List ℕ) (edits : List Edit) (r : Refusal) → FindsNewPath m path (Err r) → FindsChange m path edits (Err r)
 change_refused m path edits TooLarge h = h
 change_refused m path edits Memory h = h
 change_refused m path edits _ h = h
@@ -70,7 +70,7 @@ parts_next : (passed rest all : Files) (e : List ℕ × List ℕ) → passed ++ 
 parts_next passed rest all e h = append_assoc passed (e ∷ []) rest ∙ h
 
 pub kept_next : (m : Moved) (edits : EditMap) (all left rest : Files) (cs : List FileChange) (e : List ℕ × List ℕ) → left ≡ e ∷ rest →
-    TellsChange m e.0 (edits_found edits e.0) (Ok None) → ChangesSoFar m edits all left cs → ChangesSoFar m edits all rest cs
+    FindsChange m e.0 (edits_found edits e.0) (Ok None) → ChangesSoFar m edits all left cs → ChangesSoFar m edits all rest cs
 kept_next m edits all left rest cs e is told h = record {
   passed = h.passed ++ e ∷ [];
   parts = parts_next h.passed rest all e (ap (λ l. h.passed ++ l) (sym is) ∙ h.parts);
@@ -78,7 +78,7 @@ kept_next m edits all left rest cs e is told h = record {
 }
 
 pub changed_next : (m : Moved) (edits : EditMap) (all left rest : Files) (cs ds : List FileChange) (e : List ℕ × List ℕ) (c : FileChange) →
-    left ≡ e ∷ rest → ds ≡ cs ++ c ∷ [] → TellsChange m e.0 (edits_found edits e.0) (Ok (Some c)) → ChangesSoFar m edits all left cs →
+    left ≡ e ∷ rest → ds ≡ cs ++ c ∷ [] → FindsChange m e.0 (edits_found edits e.0) (Ok (Some c)) → ChangesSoFar m edits all left cs →
     ChangesSoFar m edits all rest ds
 changed_next m edits all left rest cs ds e c is pushed told h = record {
   passed = h.passed ++ e ∷ [];
@@ -87,7 +87,7 @@ changed_next m edits all left rest cs ds e c is pushed told h = record {
 }
 
 pub next_changes : (m : Moved) (edits : EditMap) (all left rest : Files) (cs ds : List FileChange) (e : List ℕ × List ℕ) (o : Option FileChange) →
-    left ≡ e ∷ rest → ds ≡ cs ++ option_to_list o → TellsChange m e.0 (edits_found edits e.0) (Ok o) → ChangesSoFar m edits all left cs →
+    left ≡ e ∷ rest → ds ≡ cs ++ option_to_list o → FindsChange m e.0 (edits_found edits e.0) (Ok o) → ChangesSoFar m edits all left cs →
     ChangesSoFar m edits all rest ds
 next_changes m edits all left rest cs ds e None is pushed told h = subst (ChangesSoFar m edits all rest) (sym (pushed ∙ append-nil cs))
     (kept_next m edits all left rest cs e is told h)
@@ -100,7 +100,7 @@ all_changes m edits all left cs is h = subst (λ es. AreChangesOf m edits es cs)
 -- a file that is refused
 
 pub refused_next : (m : Moved) (edits : EditMap) (all left rest : Files) (cs : List FileChange) (e : List ℕ × List ℕ) (r : Refusal) → left ≡ e ∷ rest →
-    ChangesSoFar m edits all left cs → TellsChange m e.0 (edits_found edits e.0) (Err r) → TellsChanges {Z = Global} m edits all (Err r)
+    ChangesSoFar m edits all left cs → FindsChange m e.0 (edits_found edits e.0) (Err r) → FindsChanges {Z = Global} m edits all (Err r)
 refused_next m edits all left rest cs e TooLarge is h told =
     (e, (subst (λ l. Contains l e) (ap (λ l. h.passed ++ l) (sym is) ∙ h.parts) (Contains-append_right h.passed (e ∷ rest) e (first_in e rest)), told))
 refused_next m edits all left rest cs e Memory is h told = told

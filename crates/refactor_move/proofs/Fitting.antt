@@ -12,17 +12,17 @@ use Rattle.base_files.specs.Workspace.{Workspace}
 use Rattle.workspace_check.specs.declared.findings.Findings.{Findings}
 use Rattle.base_edits.specs.Edits.{AreInOrder, LieWithin}
 use Rattle.base_edits.specs.EditSet.{FileChanges, path_by, change_of}
-use Rattle.base_edits.specs.Fits.{IsEditSet, Fits, IsThere, path_by_change, path_after}
+use Rattle.base_edits.specs.Fits.{IsEditSet, Fits, HasSpans, path_by_change, path_after}
 use Rattle.base_edits.specs.Moved.{edits_by}
 use Rattle.base_edits.specs.declared.change.FileChange.{FileChange}
 use Rattle.base_edits.specs.declared.edit.Edit.{Edit}
 use Rattle.base_edits.proofs.Held.{nothing_in}
 use Rattle.base_edits.proofs.Entries.{entry_of, get_entry, value_of}
-use Rattle.refs_binding.specs.Workspaces.{IsSound, known_in}
+use Rattle.refs_binding.specs.Workspaces.{IsFaultless, known_in}
 use Rattle.refactor_move.specs.declared.moved.Moved.{Moved}
 use Rattle.refactor_move.specs.Paths.{IsUnder, HasMoved, HasMovedFile}
 use Rattle.refactor_move.specs.Changes.{AreGoEdits, AreEditsOf, IsPathAfter, MovesOrEdits}
-use Rattle.refactor_move.specs.MoveEdits.{IsMoveOf, AreMoveEdits, HoldsNoOther}
+use Rattle.refactor_move.specs.MoveEdits.{IsMoveOf, AreMoveEdits, HasOnlyMoved}
 use Rattle.refactor_move.specs.Steps.{EditMap, edits_for, edits_or_none, edits_found, KnowsEdits, AreChangesOf}
 use Rattle.refactor_move.proofs.PathParts.{one_source, moved_under}
 use Rattle.refactor_move.proofs.GoFiles.{text_of_file, package_of_file}
@@ -43,7 +43,7 @@ after_change : (m : Moved) (path : List ℕ) (c : FileChange) → c.path ≡ pat
 after_change m path c at (inl h) = inl (h.0, (subst (λ p. HasMovedFile m.from m.to p h.0) at h.1.0, ap (λ f. path_by f path) h.1.1))
 after_change m path c at (inr h) = inr (subst (λ p. IsUnder m.from p → ⊥) at h.0, ap (λ f. path_by f path) h.1.0)
 
-module _ (w : Workspace) (found : Findings) (sound : IsSound w found) (m : Moved) (edits : EditMap)
+module _ (w : Workspace) (found : Findings) (sound : IsFaultless w found) (m : Moved) (edits : EditMap)
     (knows : KnowsEdits w (known_in found) m (length (package_paths w)) edits) where
   -- the edits of a file
 
@@ -83,7 +83,7 @@ module _ (w : Workspace) (found : Findings) (sound : IsSound w found) (m : Moved
     all_of : (P : FileChange → Type 0) → ((c : FileChange) → Contains cs c → P c) → All P cs
     all_of P f = λ k d lt. f (get_or cs k d) (Contains-get_or cs k d lt)
 
-    text_in : (c : FileChange) → Contains cs c → AreInOrder 0 c.edits × IsThere w c
+    text_in : (c : FileChange) → Contains cs c → AreInOrder 0 c.edits × HasSpans w c
     text_in c has =
         let from = change_from m edits are c has in
         let at : get w from.file.0 ≡ Some from.file.1 = get_entry w from.file from.has in
@@ -129,7 +129,7 @@ module _ (w : Workspace) (found : Findings) (sound : IsSound w found) (m : Moved
 
     -- no two files get one path
 
-    one_file : (one other path : List ℕ) → HoldsNoOther w m.from m.to → IsSome (get w one) → IsSome (get w other) → IsPathAfter m one (Some path) →
+    one_file : (one other path : List ℕ) → HasOnlyMoved w m.from m.to → IsSome (get w one) → IsSome (get w other) → IsPathAfter m one (Some path) →
         IsPathAfter m other (Some path) → one ≡ other
     one_file one other path free a b (inl h) (inl k) =
         one_source m.from m.to one other path (subst (HasMoved m.from m.to one) (sym (same_Some path h.0 h.1.1)) h.1.0.moved)
@@ -140,9 +140,9 @@ module _ (w : Workspace) (found : Findings) (sound : IsSound w found) (m : Moved
         (h.0 (free one a (subst (IsUnder m.to) (sym (same_Some path k.0 k.1.1) ∙ same_Some path one h.1) (moved_under m.from m.to other k.0 k.1.0.moved))))
     one_file one other path free a b (inr h) (inr k) = sym (same_Some path one h.1) ∙ same_Some path other k.1
 
-    pub fits : HoldsNoOther w m.from m.to → Fits set_of w
+    pub fits : HasOnlyMoved w m.from m.to → Fits set_of w
     fits free = record {
-      there = all_of (IsThere w) (λ c has. (text_in c has).1);
+      there = all_of (HasSpans w) (λ c has. (text_in c has).1);
       apart = λ one other path h k. one_file one other path free h.0 k.0 (subst (IsPathAfter m one) h.1 (path_then one h.0))
           (subst (IsPathAfter m other) k.1 (path_then other k.0));
       free = λ old file has gets. absurd (nothing_in file has);

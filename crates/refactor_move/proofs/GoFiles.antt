@@ -10,7 +10,7 @@ use Rattle.base_files.specs.Path.{folder}
 use Rattle.base_files.specs.Workspace.{Workspace}
 use Rattle.go_ast.specs.SourceFile.{SourceFile, FileParts, source_of}
 use Rattle.workspace_graph.specs.Parsed.{AreParsed, none, tree}
-use Rattle.workspace_graph.proofs.Asked.{has_file, number}
+use Rattle.workspace_graph.proofs.ByPath.{has_file, number}
 use Rattle.types_declared.specs.Package.{Package}
 use Rattle.workspace_check.specs.declared.findings.Findings.{Findings}
 use Rattle.workspace_check.specs.Verdicts.{Verdicts}
@@ -19,7 +19,7 @@ use Rattle.workspace_check.proofs.PackageFiles.{at_rank}
 use Rattle.base_edits.proofs.Held.{nothing_in, first_or_later}
 use Rattle.base_edits.proofs.Entries.{entry_of}
 use Rattle.refs_binding.specs.Uses.{IsPackage}
-use Rattle.refs_binding.specs.Workspaces.{IsSound, IsPackageAt, known_in}
+use Rattle.refs_binding.specs.Workspaces.{IsFaultless, IsPackageAt, known_in}
 use Rattle.refs_lookup.proofs.OnePlace.{same_files}
 use Rattle.refs_binding.proofs.PackageNumbers.{package_there}
 use Rattle.refactor_rename.proofs.Sources.{source_text}
@@ -55,7 +55,7 @@ pub record HasPackage (w : Workspace) (known : Verdicts) (path : List ℕ) : Typ
   pub within : number < length (package_paths w)
   pub has : HasFileIn inside path
 
-pub package_of_file : (w : Workspace) (found : Findings) → IsSound w found → (path text : List ℕ) → get w path ≡ Some text → is_go path ≡ true →
+pub package_of_file : (w : Workspace) (found : Findings) → IsFaultless w found → (path text : List ℕ) → get w path ≡ Some text → is_go path ≡ true →
     HasPackage w (known_in found) path
 package_of_file w found sound path text at go =
     let known = known_in found in

@@ -7,13 +7,13 @@ use Rattle.go_ast.specs.SourceFile.{SourceFile}
 use Rattle.workspace_graph.specs.FileImports.{import_literals, HasValue, ListsImports}
 use Rattle.workspace_graph.specs.declared.file_imports.FileImport.{FileImport}
 use Rattle.workspace_graph.proofs.Collected.{none_held, one_more, no_import, zip_at, zip_length}
-use Rattle.refactor_move.specs.Steps.{Marks, IsLiteralAmong, AreMarks}
+use Rattle.refactor_move.specs.Steps.{NewMarks, IsLiteralAmong, AreMarksOf}
 
-pub none_marked : (imports : List FileImport) (marks : List Bool) → Marks marks marks (IsLiteralAmong (take 0 imports))
+pub none_marked : (imports : List FileImport) (marks : List Bool) → NewMarks marks marks (IsLiteralAmong (take 0 imports))
 none_marked imports marks = record { size = refl; each = λ i lt. ((λ t. inl t), (λ x. elim x [ inl t ↦ t | inr h ↦ absurd (none_held h.0 h.1) ])) }
 
 pub next_marked : (imports : List FileImport) (k : ℕ) (item : FileImport) (first old new : List Bool) → k < length imports → item ≡ get_or imports k item →
-    Marks first old (IsLiteralAmong (take k imports)) → Marks old new (λ i. i ≡ item.literal) → Marks first new (IsLiteralAmong (take (k + 1) imports))
+    NewMarks first old (IsLiteralAmong (take k imports)) → NewMarks old new (λ i. i ≡ item.literal) → NewMarks first new (IsLiteralAmong (take (k + 1) imports))
 next_marked imports k item first old new lt is h m = record {
   size = m.size ∙ h.size;
   each = λ i within.
@@ -51,7 +51,7 @@ import_of_literal file imports lists i has =
     (get_or imports k no_import, Contains-get_or imports k no_import (omega (arith, has.1, zip_length (tells file) lits imports lists)), told.0 ∙ has.2)
 
 pub all_marked : (file : SourceFile) (imports : List FileImport) (count : ℕ) (old new : List Bool) → ListsImports file imports →
-    AreMarks (λ i. ⊥) count old → Marks old new (IsLiteralAmong imports) → AreMarks (Contains (import_literals file.tree)) count new
+    AreMarksOf (λ i. ⊥) count old → NewMarks old new (IsLiteralAmong imports) → AreMarksOf (Contains (import_literals file.tree)) count new
 all_marked file imports count old new lists none h = record {
   size = h.size ∙ none.size;
   each = λ i lt.

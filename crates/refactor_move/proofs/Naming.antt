@@ -21,9 +21,9 @@ use Rattle.workspace_check.specs.declared.findings.Findings.{Findings}
 use Rattle.workspace_check.specs.Verdicts.{Verdicts}
 use Rattle.workspace_check.proofs.OnePackage.{one_sources}
 use Rattle.refs_binding.specs.Uses.{IsPackage}
-use Rattle.refs_binding.specs.Workspaces.{IsSound, known_in}
+use Rattle.refs_binding.specs.Workspaces.{IsFaultless, known_in}
 use Rattle.refs_lookup.proofs.OnePlace.{same_files}
-use Rattle.refs_binding.specs.Standing.{InPackage}
+use Rattle.refs_binding.specs.DeclaringPlaces.{InPackage}
 use Rattle.refs_binding.proofs.PackageNumbers.{package_there, in_package, of_package}
 use Rattle.refactor_rename.specs.NewName.{IsNewName, IsReserved}
 use Rattle.refactor_move.specs.Paths.{last_of}
@@ -77,7 +77,7 @@ pub files_are : (w : Workspace) (known : Verdicts) (p : Package) → IsPackage w
     p.files ≡ map source_of ts
 files_are w known p is ts parsed = same_files w known p.path p is.is_checked ∙ one_sources is.is_checked.parsed parsed
 
-pub called_in : (w : Workspace) (found : Findings) → IsSound w found → (n : ℕ) (path : List ℕ) → slice_get (package_paths w) n ≡ Some path →
+pub called_in : (w : Workspace) (found : Findings) → IsFaultless w found → (n : ℕ) (path : List ℕ) → slice_get (package_paths w) n ≡ Some path →
     (ts : List FileParts) → OfPackage w n (λ p. AreParsed (package_files w p) ts []) → (name : List ℕ) →
     InPackage (IsPackage w (known_in found)) path (λ p. package_name p.files ≡ name) ↔ (package_name (map source_of ts) ≡ name)
 called_in w found sound n path at ts parsed name =

@@ -11,7 +11,7 @@ use Rattle.base_files.specs.declared.refusal.Refusal.TheVariants.{Memory, TooLar
 use Rattle.std.specs.Prelude.{Ok, Err}
 use Rattle.refactor_move.specs.declared.moved.Moved.{Moved}
 use Rattle.refactor_move.specs.Paths.{IsUnder, HasMoved, HasMovedPackage}
-use Rattle.refactor_move.specs.PathSteps.{IsBehind, ReadsNewPath, TellsNewPath}
+use Rattle.refactor_move.specs.PathSteps.{IsPathRest, JoinsNewPath, FindsNewPath}
 
 -- The rest of a text after other bytes.
 
@@ -30,7 +30,7 @@ rest_found front text (Some x) h =
 pub record MovesBehind (from to old new : List ℕ) : Type 0 where
   pub rest : List ℕ
   pub was : old ≡ from ++ rest
-  pub behind : IsBehind rest
+  pub behind : IsPathRest rest
   pub is : new ≡ to ++ rest
 
 pub moves_behind : (from to old new : List ℕ) → HasMovedPackage from to old new → MovesBehind from to old new
@@ -57,13 +57,13 @@ moved_under from to old new h = (h.rest, h.is)
 
 -- a path of a file that moves
 
-pub moved_file : (m : Moved) (path rest new : List ℕ) → path ≡ m.from ++ 47 ∷ rest → ReadsNewPath m.to rest (Ok new) → TellsNewPath m path (Ok (Some new))
+pub moved_file : (m : Moved) (path rest new : List ℕ) → path ≡ m.from ++ 47 ∷ rest → JoinsNewPath m.to rest (Ok new) → FindsNewPath m path (Ok (Some new))
 moved_file m path rest new e h = record { moved = record { rest = rest; was = e; is = h.0 }; is_path = h.1 }
 
 -- a path that is none
 
-pub refused : (m : Moved) (path rest : List ℕ) → IsPath 1 path → path ≡ m.from ++ 47 ∷ rest → (r : Refusal) → ReadsNewPath m.to rest (Err r) →
-    TellsNewPath m path (Err r)
+pub refused : (m : Moved) (path rest : List ℕ) → IsPath 1 path → path ≡ m.from ++ 47 ∷ rest → (r : Refusal) → JoinsNewPath m.to rest (Err r) →
+    FindsNewPath m path (Err r)
 refused m path rest is e TooLarge h = (m.to ++ 47 ∷ rest, (record { rest = rest; was = e; is = refl }, h, is))
 refused m path rest is e Memory h = h
 refused m path rest is e _ h = h

@@ -23,7 +23,7 @@ use Rattle.refactor_rename.specs.FileEdits.{EndBy}
 use Rattle.refactor_rename.proofs.Editing.{all_one, end_more, end_push, follow_at, at_end}
 use Rattle.refactor_move.specs.declared.moved.Moved.{Moved}
 use Rattle.refactor_move.specs.Paths.{quoted, HasMovedPackage}
-use Rattle.refactor_move.specs.FileEdits.{ReplacesPath, ReplacesName, IsEditAt, AreFileEdits}
+use Rattle.refactor_move.specs.FileEdits.{ReplacesPath, ReplacesPackageName, IsMoveEditAt, AreFileEdits}
 use Rattle.refactor_move.specs.Steps.{IsNewLiteral, edits_with}
 use Rattle.refactor_move.proofs.PathParts.{one_moved_package}
 
@@ -108,8 +108,8 @@ no_path_at_name f m i token e at name h =
     no_string token.class name (subst (λ (t : Piece). IsStringClass t.class) here h.stands_for.is_string)
 
 pub names_are_edits : (p : Package) (rank : ℕ) (f : SourceFile) (m : Moved) (i : ℕ) (a b : List Edit) → ((e : Edit) → ReplacesPath f m i e → ⊥) →
-    AddsAll a b (ReplacesName p rank f m i) → AddsAll a b (IsEditAt p rank f m i)
-names_are_edits p rank f m i a b never h = all_as a b (ReplacesName p rank f m i) (IsEditAt p rank f m i) (λ e n. inr n)
+    AddsAll a b (ReplacesPackageName p rank f m i) → AddsAll a b (IsMoveEditAt p rank f m i)
+names_are_edits p rank f m i a b never h = all_as a b (ReplacesPackageName p rank f m i) (IsMoveEditAt p rank f m i) (λ e n. inr n)
     (λ e x. elim x [ inl path ↦ absurd (never e path) | inr n ↦ n ]) h
 
 -- the tokens so far
@@ -133,12 +133,12 @@ going_next Q f ts i d old new lt h ends added =
 
 -- all tokens
 
-within_tokens : (p : Package) (rank : ℕ) (f : SourceFile) (m : Moved) (i : ℕ) (e : Edit) → IsEditAt p rank f m i e → i < length (tokens_in f.cut)
+within_tokens : (p : Package) (rank : ℕ) (f : SourceFile) (m : Moved) (i : ℕ) (e : Edit) → IsMoveEditAt p rank f m i e → i < length (tokens_in f.cut)
 within_tokens p rank f m i e (inl h) = slice_get_within (tokens_in f.cut) i h.token h.at
 within_tokens p rank f m i e (inr h) = slice_get_within (tokens_in f.cut) i h.token h.at
 
 pub all_edits : (p : Package) (rank : ℕ) (f : SourceFile) (m : Moved) (ts : List Piece) (edits : List Edit) (n : ℕ) → ts ≡ tokens_in f.cut → n ≡ length ts →
-    Going (IsEditAt p rank f m) f ts n edits → AreFileEdits p rank f m edits
+    Going (IsMoveEditAt p rank f m) f ts n edits → AreFileEdits p rank f m edits
 all_edits p rank f m ts edits n e all h = record {
   end_by = end_more edits h.at (length f.cut.text) (at_end h.at (length f.cut.text) (drop n ts) h.follow) h.end_by;
   each = λ d. (

@@ -29,8 +29,8 @@ pub record ReplacesPath (f : SourceFile) (m : Moved) (i : ℕ) (e : Edit) : Type
   pub is_edit : e ≡ record { span = token.span; text = quoted new }
 
 -- The token `i` is the name in the package clause of a file of the package that moves.
-abbrev pub IsClauseName : Package → SourceFile → Moved → ℕ → Type 0
-IsClauseName p f m i = (p.path ≡ m.from) × (f.tree.name ≡ i)
+abbrev pub IsClauseNameToken : Package → SourceFile → Moved → ℕ → Type 0
+IsClauseNameToken p f m i = (p.path ≡ m.from) × (f.tree.name ≡ i)
 
 -- The token `i` is bound to an import, without a name, of the package that moves. `rank`: that of the file in its package.
 pub record IsImportUse (p : Package) (rank : ℕ) (m : Moved) (i : ℕ) : Type 0 where
@@ -43,20 +43,20 @@ pub record IsImportUse (p : Package) (rank : ℕ) (m : Moved) (i : ℕ) : Type 0
 --
 --   import "shapes"                        // moving shapes to areas
 --   func f() int { return shapes.Area() }  // becomes areas.Area()
-pub record ReplacesName (p : Package) (rank : ℕ) (f : SourceFile) (m : Moved) (i : ℕ) (e : Edit) : Type 0 where
+pub record ReplacesPackageName (p : Package) (rank : ℕ) (f : SourceFile) (m : Moved) (i : ℕ) (e : Edit) : Type 0 where
   pub token : Piece
   pub at : slice_get (tokens_in f.cut) i ≡ Some token
   pub is_name : token.class ≡ Name
-  pub names : IsClauseName p f m i ⊎ IsImportUse p rank m i
+  pub names : IsClauseNameToken p f m i ⊎ IsImportUse p rank m i
   pub name : List ℕ
   pub follows : m.name ≡ Some name
   pub is_edit : e ≡ record { span = token.span; text = name }
 
 -- The edit `e` of a move is that of the token `i`.
-abbrev pub IsEditAt : Package → (rank : ℕ) → SourceFile → Moved → ℕ → Edit → Type 0
-IsEditAt p rank f m i e = ReplacesPath f m i e ⊎ ReplacesName p rank f m i e
+abbrev pub IsMoveEditAt : Package → (rank : ℕ) → SourceFile → Moved → ℕ → Edit → Type 0
+IsMoveEditAt p rank f m i e = ReplacesPath f m i e ⊎ ReplacesPackageName p rank f m i e
 
 -- These are the edits of all tokens of a file, in order. `rank`: that of the file in its package.
 pub record AreFileEdits (p : Package) (rank : ℕ) (f : SourceFile) (m : Moved) (edits : List Edit) : Type 0 where
   pub end_by : EndBy edits (length f.cut.text)
-  pub each : (e : Edit) → Contains edits e ↔ ((i : ℕ) × IsEditAt p rank f m i e)
+  pub each : (e : Edit) → Contains edits e ↔ ((i : ℕ) × IsMoveEditAt p rank f m i e)

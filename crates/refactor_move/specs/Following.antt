@@ -2,7 +2,7 @@
 use Rattle.std.specs.Prelude.{ℕ, ◌≡◌, ◌≢◌, List, Option, MatchOption, codes}
 use Rattle.types_declared.specs.Files.{package_name}
 use Rattle.types_declared.specs.Package.{Package}
-use Rattle.refs_binding.specs.Standing.{InPackage}
+use Rattle.refs_binding.specs.DeclaringPlaces.{InPackage}
 use Rattle.refactor_rename.specs.NewName.{IsNewName, IsReserved}
 use Rattle.refactor_move.specs.Paths.{last_of}
 
@@ -17,5 +17,5 @@ pub record Follows (IsPackage : Package → Type 0) (from to : List ℕ) : Type 
   pub other : last_of to ≢ last_of from
 
 -- The new name of the package, or `None` where it keeps its name.
-abbrev pub IsNameAfter : (Package → Type 0) → (from to : List ℕ) → Option (List ℕ) → Type 0
-IsNameAfter IsPackage from to name = MatchOption name (¬ (Follows IsPackage from to)) (λ n. Follows IsPackage from to × (n ≡ last_of to))
+abbrev pub IsFollowingName : (Package → Type 0) → (from to : List ℕ) → Option (List ℕ) → Type 0
+IsFollowingName IsPackage from to name = MatchOption name (¬ (Follows IsPackage from to)) (λ n. Follows IsPackage from to × (n ≡ last_of to))

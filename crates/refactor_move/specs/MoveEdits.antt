@@ -13,14 +13,14 @@ use Rattle.base_edits.specs.declared.change.FileChange.{FileChange}
 use Rattle.refs_binding.specs.Uses.{IsPackage}
 use Rattle.refactor_move.specs.declared.moved.Moved.{Moved}
 use Rattle.refactor_move.specs.Paths.{IsUnder, HasMoved}
-use Rattle.refactor_move.specs.Following.{IsNameAfter}
+use Rattle.refactor_move.specs.Following.{IsFollowingName}
 use Rattle.refactor_move.specs.Changes.{AreEditsOf, IsPathAfter, MovesOrEdits}
 
 -- The move of the package `from` to the path `to`. Its name is the one that it has at the path `called`, if its name follows its path.
 pub record IsMoveOf (w : Workspace) (known : Verdicts) (from to called : List ℕ) (m : Moved) : Type 0 where
   pub source : m.from ≡ from
   pub target : m.to ≡ to
-  pub name : IsNameAfter (IsPackage w known) from called m.name
+  pub name : IsFollowingName (IsPackage w known) from called m.name
 
 -- The edit set of the move of the package `from` to the path `to`. It has in each file just the edits of its tokens. Just the files in the
 -- folder `from` move. A file that is neither edited nor moved is no part of the set, and no file is added. The package gets the name that
@@ -47,8 +47,8 @@ abbrev pub IsFree : Workspace → (folder : List ℕ) → Type 0
 IsFree w folder = (path : List ℕ) → IsSome (files.get w path) → IsUnder folder path → ⊥
 
 -- Each file in the folder `to` lies in the folder `from`, so that it moves.
-abbrev pub HoldsNoOther : Workspace → (from to : List ℕ) → Type 0
-HoldsNoOther w from to = (path : List ℕ) → IsSome (files.get w path) → IsUnder to path → IsUnder from path
+abbrev pub HasOnlyMoved : Workspace → (from to : List ℕ) → Type 0
+HasOnlyMoved w from to = (path : List ℕ) → IsSome (files.get w path) → IsUnder to path → IsUnder from path
 
 -- The edit set of a move, which fits the workspace, or `TooLarge` where a file would get too long a path.
 abbrev pub PlansMoveEdits : Workspace → Verdicts → (from to called : List ℕ) → Result FileChanges Refusal → Type 0

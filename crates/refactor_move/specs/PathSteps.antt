@@ -7,24 +7,24 @@ use Rattle.refactor_move.specs.declared.moved.Moved.{Moved}
 use Rattle.refactor_move.specs.Paths.{IsUnder, HasMoved, HasMovedFile}
 
 -- The bytes are empty or begin with a slash.
-abbrev pub IsBehind : List ℕ → Type 0
-IsBehind rest = (rest ≡ []) ⊎ ((more : List ℕ) × (rest ≡ 47 ∷ more))
+abbrev pub IsPathRest : List ℕ → Type 0
+IsPathRest rest = (rest ≡ []) ⊎ ((more : List ℕ) × (rest ≡ 47 ∷ more))
 
 -- The path `folder/rest`, or `TooLarge` where these bytes are no path.
-abbrev pub ReadsNewPath : (folder rest : List ℕ) → Result (List ℕ) Refusal → Type 0
-ReadsNewPath folder rest (Ok path) = (path ≡ folder ++ 47 ∷ rest) × IsPath 1 path
-ReadsNewPath folder rest (Err TooLarge) = ¬ (IsPath 1 (folder ++ 47 ∷ rest))
-ReadsNewPath folder rest (Err Memory) = ⊤
-ReadsNewPath folder rest (Err refusal) = ⊥
+abbrev pub JoinsNewPath : (folder rest : List ℕ) → Result (List ℕ) Refusal → Type 0
+JoinsNewPath folder rest (Ok path) = (path ≡ folder ++ 47 ∷ rest) × IsPath 1 path
+JoinsNewPath folder rest (Err TooLarge) = ¬ (IsPath 1 (folder ++ 47 ∷ rest))
+JoinsNewPath folder rest (Err Memory) = ⊤
+JoinsNewPath folder rest (Err refusal) = ⊥
 
 -- The path would move to bytes that are no path.
 abbrev pub HasNoPathFor : Moved → (path : List ℕ) → Type 0
 HasNoPathFor m path = (new : List ℕ) × (HasMoved m.from m.to path new × ¬ (IsPath 1 new) × IsPath 1 path)
 
 -- The new path of a file in the folder that moves, or `None` for a file outside it. `TooLarge` where the new path would be none.
-abbrev pub TellsNewPath : Moved → (path : List ℕ) → Result (Option (List ℕ)) Refusal → Type 0
-TellsNewPath m path (Ok None) = IsUnder m.from path → ⊥
-TellsNewPath m path (Ok (Some new)) = HasMovedFile m.from m.to path new
-TellsNewPath m path (Err TooLarge) = HasNoPathFor m path
-TellsNewPath m path (Err Memory) = ⊤
-TellsNewPath m path (Err refusal) = ⊥
+abbrev pub FindsNewPath : Moved → (path : List ℕ) → Result (Option (List ℕ)) Refusal → Type 0
+FindsNewPath m path (Ok None) = IsUnder m.from path → ⊥
+FindsNewPath m path (Ok (Some new)) = HasMovedFile m.from m.to path new
+FindsNewPath m path (Err TooLarge) = HasNoPathFor m path
+FindsNewPath m path (Err Memory) = ⊤
+FindsNewPath m path (Err refusal) = ⊥

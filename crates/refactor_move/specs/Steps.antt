@@ -51,7 +51,7 @@ edits_with span (Some text) = record { span = span; text = text } ∷ []
 -- Marks
 
 -- The new marks are the old ones, and those of the tokens of which `P` holds.
-pub record Marks (old new : List Bool) (P : ℕ → Type 0) : Type 0 where
+pub record NewMarks (old new : List Bool) (P : ℕ → Type 0) : Type 0 where
   pub size : length new ≡ length old
   pub each : (i : ℕ) → i < length old → IsTrue (slice_index_or new i false) ↔ (IsTrue (slice_index_or old i false) ⊎ P i)
 
@@ -60,13 +60,13 @@ abbrev pub IsLiteralAmong : List FileImport → ℕ → Type 0
 IsLiteralAmong imports i = (x : FileImport) × Contains imports x × (x.literal ≡ i)
 
 -- The list has `count` marks, and the tokens of which `P` holds are marked.
-pub record AreMarks (P : ℕ → Type 0) (count : ℕ) (marks : List Bool) : Type 0 where
+pub record AreMarksOf (P : ℕ → Type 0) (count : ℕ) (marks : List Bool) : Type 0 where
   pub size : length marks ≡ count
   pub each : (i : ℕ) → i < length marks → IsTrue (slice_index_or marks i false) ↔ P i
 
 -- The list has a mark for each token of the file, and the string literals of its imports are marked.
 abbrev pub AreImportMarks : SourceFile → List Bool → Type 0
-AreImportMarks f marks = AreMarks (Contains (import_literals f.tree)) (length (tokens_in f.cut)) marks
+AreImportMarks f marks = AreMarksOf (Contains (import_literals f.tree)) (length (tokens_in f.cut)) marks
 
 -- The edits of files, by their paths
 
@@ -127,12 +127,12 @@ change_by path edits None = edited_or_none path edits
 change_by path edits (Some new) = Some (record { path = path; edits = edits; fate = Moves new })
 
 -- The change of the file at this path, `None` where it is neither moved nor edited, or `TooLarge` where its new path would be none.
-abbrev pub TellsChange : Moved → (path : List ℕ) → List Edit → Result (Option FileChange) Refusal → Type 0
-TellsChange m path edits (Ok None) = (IsUnder m.from path → ⊥) × (edits ≡ [])
-TellsChange m path edits (Ok (Some c)) = (c.path ≡ path) × (c.edits ≡ edits) × MovesOrEdits m c
-TellsChange m path edits (Err TooLarge) = HasNoPathFor m path
-TellsChange m path edits (Err Memory) = ⊤
-TellsChange m path edits (Err refusal) = ⊥
+abbrev pub FindsChange : Moved → (path : List ℕ) → List Edit → Result (Option FileChange) Refusal → Type 0
+FindsChange m path edits (Ok None) = (IsUnder m.from path → ⊥) × (edits ≡ [])
+FindsChange m path edits (Ok (Some c)) = (c.path ≡ path) × (c.edits ≡ edits) × MovesOrEdits m c
+FindsChange m path edits (Err TooLarge) = HasNoPathFor m path
+FindsChange m path edits (Err Memory) = ⊤
+FindsChange m path edits (Err refusal) = ⊥
 
 -- The changes of the files of this list that move or have edits.
 pub data AreChangesOf (m : Moved) (map : EditMap) : List (List ℕ × List ℕ) → List FileChange → Type 0 where
@@ -143,8 +143,8 @@ pub data AreChangesOf (m : Moved) (map : EditMap) : List (List ℕ × List ℕ) 
       MovesOrEdits m c → AreChangesOf m map es cs → AreChangesOf m map (e ∷ es) (c ∷ cs)
 
 -- The changes of the files of this list, or `TooLarge` where the new path of one of them would be none.
-abbrev pub TellsChanges : {Z : Type 0} → Moved → EditMap → List (List ℕ × List ℕ) → Result (Vec FileChange Z) Refusal → Type 0
-TellsChanges m map files (Ok changes) = AreChangesOf m map files changes.items
-TellsChanges m map files (Err TooLarge) = (file : List ℕ × List ℕ) × (Contains files file × HasNoPathFor m file.0)
-TellsChanges m map files (Err Memory) = ⊤
-TellsChanges m map files (Err refusal) = ⊥
+abbrev pub FindsChanges : {Z : Type 0} → Moved → EditMap → List (List ℕ × List ℕ) → Result (Vec FileChange Z) Refusal → Type 0
+FindsChanges m map files (Ok changes) = AreChangesOf m map files changes.items
+FindsChanges m map files (Err TooLarge) = (file : List ℕ × List ℕ) × (Contains files file × HasNoPathFor m file.0)
+FindsChanges m map files (Err Memory) = ⊤
+FindsChanges m map files (Err refusal) = ⊥

@@ -2,7 +2,7 @@
 ghost use Rattle.std.specs.Prelude.{◌≡◌, ◌++◌, IfOk, OnOk};
 ghost use Rattle.std.specs.Option.{option_to_list};
 ghost use Rattle.std.specs.FinMap as map;
-ghost use Rattle.refactor_move.specs.Steps.{edits_found, TellsChange, TellsChanges, edited_or_none, change_by};
+ghost use Rattle.refactor_move.specs.Steps.{edits_found, FindsChange, FindsChanges, edited_or_none, change_by};
 
 use crate::moved::Moved;
 use crate::paths::new_path;
@@ -69,7 +69,7 @@ fn change_of(
     path: &Path,
     edits: &[Edit],
 ) -> Result<Option<FileChange>, Refusal>
-    ensures { TellsChange moved.now path.now edits.now result }
+    ensures { FindsChange moved.now path.now edits.now result }
 {
     match new_path(alloc, moved, path) {
         Err(refusal) => Err(refusal),
@@ -110,7 +110,7 @@ pub(crate) fn changes(
     edits: &BTreeMap<Path, Edits>,
     moved: &Moved,
 ) -> Result<Vec<FileChange>, Refusal>
-    ensures { TellsChanges moved.now edits.now (map.entries files.now) result }
+    ensures { FindsChanges moved.now edits.now (map.entries files.now) result }
 {
     let mut changed = Vec::new(alloc);
     for (path, _) in files.iter() {

@@ -7,7 +7,7 @@ ghost use Rattle.workspace_graph.specs.FileImports.{import_literals};
 ghost use Rattle.types_declared.specs.PackageView.{package_of, IsIndexOf};
 ghost use Rattle.refs_binding.specs.Bindings.{AddsAll};
 ghost use Rattle.refactor_rename.specs.FileEdits.{EndBy};
-ghost use Rattle.refactor_move.specs.FileEdits.{ReplacesPath, ReplacesName, IsEditAt, AreFileEdits};
+ghost use Rattle.refactor_move.specs.FileEdits.{ReplacesPath, ReplacesPackageName, IsMoveEditAt, AreFileEdits};
 ghost use Rattle.refactor_move.specs.Steps.{edits_with};
 
 use crate::literals::new_literal;
@@ -77,7 +77,7 @@ fn add_name(
     requires span { token.span.start ≤ token.span.end }
     requires order { EndBy edits.old.items token.span.start }
     ensures order { OnOk result (EndBy edits.new.items token.span.end) }
-    ensures adds { OnOk result (AddsAll edits.old.items edits.new.items (ReplacesName (package_of of.now.unit) of.now.rank (source_of of.now.file.now) of.now.moved.now number)) }
+    ensures adds { OnOk result (AddsAll edits.old.items edits.new.items (ReplacesPackageName (package_of of.now.unit) of.now.rank (source_of of.now.file.now) of.now.moved.now number)) }
 {
     if let Some(name) = &of.moved.name {
         if is_package_name(of.unit, of.index, of.file, of.rank, of.moved, number) {
@@ -105,7 +105,7 @@ fn add_edit(
     requires span { token.span.start ≤ token.span.end }
     requires order { EndBy edits.old.items token.span.start }
     ensures order { OnOk result (EndBy edits.new.items token.span.end) }
-    ensures adds { OnOk result (AddsAll edits.old.items edits.new.items (IsEditAt (package_of of.now.unit) of.now.rank (source_of of.now.file.now) of.now.moved.now number)) }
+    ensures adds { OnOk result (AddsAll edits.old.items edits.new.items (IsMoveEditAt (package_of of.now.unit) of.now.rank (source_of of.now.file.now) of.now.moved.now number)) }
 {
     if token.class == Class::Name {
         add_name(edits, of, number, token)

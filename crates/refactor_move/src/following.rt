@@ -3,11 +3,11 @@ ghost use Rattle.std.specs.Prelude.{◌≡◌, ◌<◌, ◌↔◌, IsTrue, IfOk,
 ghost use Rattle.go_ast.specs.SourceFile.{source_of};
 ghost use Rattle.types_declared.specs.Files.{package_name};
 ghost use Rattle.refs_binding.specs.Uses.{IsPackage};
-ghost use Rattle.refs_binding.specs.Workspaces.{IsSound, known_in};
-ghost use Rattle.refs_binding.specs.Standing.{InPackage};
+ghost use Rattle.refs_binding.specs.Workspaces.{IsFaultless, known_in};
+ghost use Rattle.refs_binding.specs.DeclaringPlaces.{InPackage};
 ghost use Rattle.refactor_rename.specs.NewName.{IsNewName, IsReserved};
 ghost use Rattle.refactor_move.specs.Paths.{last_of};
-ghost use Rattle.refactor_move.specs.Following.{Follows, IsNameAfter};
+ghost use Rattle.refactor_move.specs.Following.{Follows, IsFollowingName};
 ghost use Rattle.refactor_move.specs.Steps.{MayFollow};
 
 use base_files::{FileText, Path};
@@ -62,7 +62,7 @@ fn is_called(files: &[FileTree], name: &str) -> bool
 
 /// Whether the name of the package at a path is the last element of that path.
 fn is_called_so(graph: &Graph, found: &Findings, from: &Path) -> bool
-    requires { IsSound graph.now found.now }
+    requires { IsFaultless graph.now found.now }
     ensures { IsTrue result ↔ InPackage (IsPackage graph.now (known_in found.now)) from.now (λ p. package_name p.files ≡ last_of from.now) }
 {
     match graph.number_of(from.as_str().as_bytes()) {
@@ -73,7 +73,7 @@ fn is_called_so(graph: &Graph, found: &Findings, from: &Path) -> bool
 
 /// Whether the name of a package follows its path.
 fn follows(graph: &Graph, found: &Findings, from: &Path, to: &Path) -> bool
-    requires { IsSound graph.now found.now }
+    requires { IsFaultless graph.now found.now }
     ensures { IsTrue result ↔ Follows (IsPackage graph.now (known_in found.now)) from.now to.now }
 {
     let last = last_of(from.as_str());
@@ -89,8 +89,8 @@ pub(crate) fn name_after(
     from: &Path,
     to: &Path,
 ) -> Result<Option<FileText>, AllocError>
-    requires { IsSound graph.now found.now }
-    ensures { IfOk result (IsNameAfter (IsPackage graph.now (known_in found.now)) from.now to.now) }
+    requires { IsFaultless graph.now found.now }
+    ensures { IfOk result (IsFollowingName (IsPackage graph.now (known_in found.now)) from.now to.now) }
 {
     if follows(graph, found, from, to) {
         let name = Vec::from_slice(alloc, last_of(to.as_str()).as_bytes())?;

@@ -1,7 +1,7 @@
 //! Marks the tokens of a file that are string literals of imports.
 ghost use Rattle.std.specs.Prelude.{◌≡◌, IfOk};
 ghost use Rattle.go_ast.specs.SourceFile.{source_of};
-ghost use Rattle.refactor_move.specs.Steps.{Marks, IsLiteralAmong, AreMarks, AreImportMarks};
+ghost use Rattle.refactor_move.specs.Steps.{NewMarks, IsLiteralAmong, AreMarksOf, AreImportMarks};
 
 use go_ast::FileTree;
 use std::alloc::{AllocError, Global};
@@ -9,7 +9,7 @@ use workspace_graph::{FileImport, read_imports};
 
 /// Marks a token.
 fn mark(marks: &mut Vec<bool>, token: usize)
-    ensures { Marks marks.old.items marks.new.items (λ i. i ≡ token) }
+    ensures { NewMarks marks.old.items marks.new.items (λ i. i ≡ token) }
 {
     if token < marks.len() {
         marks[token] = true;
@@ -18,7 +18,7 @@ fn mark(marks: &mut Vec<bool>, token: usize)
 
 /// Marks the string literals of some imports.
 fn mark_all(marks: &mut Vec<bool>, imports: &[FileImport])
-    ensures { Marks marks.old.items marks.new.items (IsLiteralAmong imports.now) }
+    ensures { NewMarks marks.old.items marks.new.items (IsLiteralAmong imports.now) }
 {
     for import in imports {
         mark(marks, import.literal);
@@ -27,7 +27,7 @@ fn mark_all(marks: &mut Vec<bool>, imports: &[FileImport])
 
 /// A list of `count` marks, of which none is set.
 fn no_marks(alloc: Global, count: usize) -> Result<Vec<bool>, AllocError>
-    ensures { IfOk result (λ marks. AreMarks (λ i. ⊥) count marks.items) }
+    ensures { IfOk result (λ marks. AreMarksOf (λ i. ⊥) count marks.items) }
 {
     let marks = vec![in alloc; false; count]?;
     Ok(marks)

@@ -1,8 +1,8 @@
 //! The edit set that moves a package.
 ghost use Rattle.std.specs.Prelude.{◌≡◌, [], IfOk};
 ghost use Rattle.base_edits.specs.Fits.{IsEditSet};
-ghost use Rattle.refs_binding.specs.Workspaces.{IsSound, known_in};
-ghost use Rattle.refactor_move.specs.MoveEdits.{IsMoveOf, HoldsNoOther, PlansMoveEdits};
+ghost use Rattle.refs_binding.specs.Workspaces.{IsFaultless, known_in};
+ghost use Rattle.refactor_move.specs.MoveEdits.{IsMoveOf, HasOnlyMoved, PlansMoveEdits};
 
 use crate::changes::changes;
 use crate::following::name_after;
@@ -23,7 +23,7 @@ fn move_of(
     to: &Path,
     called: &Path,
 ) -> Result<Moved, AllocError>
-    requires { IsSound graph.now found.now }
+    requires { IsFaultless graph.now found.now }
     ensures { IfOk result (IsMoveOf graph.now (known_in found.now) from.now to.now called.now) }
 {
     let name = name_after(alloc, graph, found, from, called)?;
@@ -52,8 +52,8 @@ pub fn move_edits(
     to: &Path,
     called: &Path,
 ) -> Result<EditSet, Refusal>
-    requires sound { IsSound graph.now found.now }
-    requires free { HoldsNoOther graph.now from.now to.now }
+    requires sound { IsFaultless graph.now found.now }
+    requires free { HasOnlyMoved graph.now from.now to.now }
     ensures { PlansMoveEdits graph.now (known_in found.now) from.now to.now called.now result }
 {
     let moved = move_of(alloc, graph, found, from, to, called)?;

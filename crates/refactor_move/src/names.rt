@@ -5,7 +5,7 @@ ghost use Rattle.go_ast.specs.SourceFile.{source_of};
 ghost use Rattle.types_declared.specs.Laid.{literal_of};
 ghost use Rattle.types_declared.specs.PackageView.{package_of, IsIndexOf};
 ghost use Rattle.types_declared.specs.Written.{ImportsPath};
-ghost use Rattle.refactor_move.specs.FileEdits.{IsClauseName, IsImportUse};
+ghost use Rattle.refactor_move.specs.FileEdits.{IsClauseNameToken, IsImportUse};
 
 use crate::moved::Moved;
 use go_ast::FileTree;
@@ -50,7 +50,7 @@ fn is_import_use(
 
 /// Whether a token is the name in the package clause of a file of the package that moves.
 fn is_clause_name(unit: Package<'_>, file: &FileTree, moved: &Moved, token: usize) -> bool
-    ensures { IsTrue result ↔ IsClauseName (package_of unit.entry) (source_of file.now) moved.now token }
+    ensures { IsTrue result ↔ IsClauseNameToken (package_of unit.entry) (source_of file.now) moved.now token }
 {
     unit.path.path() == moved.from.as_str().as_bytes() && clause_token(file) == token
 }
@@ -65,7 +65,7 @@ pub(crate) fn is_package_name(
     token: usize,
 ) -> bool
     requires { IsIndexOf (package_of unit) index.now }
-    ensures { IsTrue result ↔ (IsClauseName (package_of unit.entry) (source_of file.now) moved.now token ⊎ IsImportUse (package_of unit.entry) rank moved.now token) }
+    ensures { IsTrue result ↔ (IsClauseNameToken (package_of unit.entry) (source_of file.now) moved.now token ⊎ IsImportUse (package_of unit.entry) rank moved.now token) }
 {
     is_clause_name(unit, file, moved, token) || is_import_use(unit, index, rank, moved, token)
 }

@@ -5,9 +5,9 @@ ghost use Rattle.base_files.specs.Packages.{package_paths};
 ghost use Rattle.base_files.specs.Workspace.{path_cmp};
 ghost use Rattle.go_ast.specs.SourceFile.{source_of};
 ghost use Rattle.types_info.specs.PackageOf.{package_in};
-ghost use Rattle.types_declared.specs.InterfacesView.{interface_in};
+ghost use Rattle.types_declared.specs.ExportTablesView.{export_data_in};
 ghost use Rattle.types_declared.specs.PackageView.{package_of, IsIndexOf};
-ghost use Rattle.refs_binding.specs.Workspaces.{IsSound, known_in};
+ghost use Rattle.refs_binding.specs.Workspaces.{IsFaultless, known_in};
 ghost use Rattle.refactor_move.specs.FileEdits.{AreFileEdits};
 ghost use Rattle.refactor_move.specs.Steps.{AddsEdits, AreEditsIn, HasFileIn, IsFileAt, AreEditsAt, KnowsEdits};
 
@@ -20,7 +20,7 @@ use go_scope::table::ScopeTable;
 use refs_binding::{laid_table, path_of, trees};
 use std::alloc::{AllocError, Global};
 use std::collections::BTreeMap;
-use types_declared::{Index, Interfaces, Package};
+use types_declared::{ExportTable, Index, Package};
 use types_expr::symbol::SharedPath;
 use workspace_check::{Findings, seen};
 use workspace_graph::Graph;
@@ -101,17 +101,17 @@ fn add_package_by(
     edits: &mut BTreeMap<Path, Edits>,
     of: &PackageFiles<'_, '_>,
     table: &ScopeTable<'_>,
-    interfaces: &Interfaces,
+    export_table: &ExportTable,
     moved: &Moved,
 ) -> Result<(), AllocError>
-    ensures { let p = package_in of.now.path.now (map source_of of.now.files.now) table.now (interface_in interfaces.now) in
+    ensures { let p = package_in of.now.path.now (map source_of of.now.files.now) table.now (export_data_in export_table.now) in
         OnOk result (AddsEdits edits.old edits.new (AreEditsIn p moved.now) (HasFileIn p)) }
 {
     let unit = Package {
         path: of.path,
         files: of.files,
         table,
-        interfaces,
+        export_table,
     };
     add_files(alloc, edits, unit, moved)
 }
@@ -126,11 +126,11 @@ fn add_package(
     moved: &Moved,
 ) -> Result<(), AllocError>
     requires in_range { number < length (package_paths graph.now) }
-    requires sound { IsSound graph.now found.now }
+    requires sound { IsFaultless graph.now found.now }
     ensures { OnOk result (KnowsEdits graph.now (known_in found.now) moved.now number edits.old → KnowsEdits graph.now (known_in found.now) moved.now (number + 1) edits.new) }
 {
     let files = trees(graph, found, number);
-    let seen = seen(alloc, graph, number, &found.interfaces)?;
+    let seen = seen(alloc, graph, number, &found.export_table)?;
     let table = laid_table(alloc, files, &seen)?;
     let path = path_of(graph, found, number);
     let of = PackageFiles { path, files };
@@ -144,7 +144,7 @@ pub(crate) fn all_edits(
     found: &Findings,
     moved: &Moved,
 ) -> Result<BTreeMap<Path, Edits>, AllocError>
-    requires { IsSound graph.now found.now }
+    requires { IsFaultless graph.now found.now }
     ensures { IfOk result (KnowsEdits graph.now (known_in found.now) moved.now (length (package_paths graph.now))) }
 {
     let mut edits = BTreeMap::new(alloc);

@@ -1,7 +1,7 @@
 //! The paths of files in the folder that moves.
 ghost use Rattle.std.specs.Prelude.{◌≡◌, ◌↔◌, ◌++◌, ◌∷◌, IsTrue, IfOk, MatchOption, string_bytes};
 ghost use Rattle.refactor_move.specs.Paths.{IsUnder};
-ghost use Rattle.refactor_move.specs.PathSteps.{ReadsNewPath, TellsNewPath};
+ghost use Rattle.refactor_move.specs.PathSteps.{JoinsNewPath, FindsNewPath};
 
 use crate::moved::Moved;
 use base_files::{Path, Refusal};
@@ -33,7 +33,7 @@ fn join(alloc: Global, folder: &str, rest: &str) -> Result<String, AllocError>
 
 /// The path `folder/rest`, refused as `TooLarge` where these bytes are no path.
 fn path_in(alloc: Global, folder: &Path, rest: &str) -> Result<Path, Refusal>
-    ensures { ReadsNewPath folder.now rest.now result }
+    ensures { JoinsNewPath folder.now rest.now result }
 {
     let path = join(alloc, folder.as_str(), rest)?;
     match Path::read(alloc, path.as_str(), 1) {
@@ -46,7 +46,7 @@ fn path_in(alloc: Global, folder: &Path, rest: &str) -> Result<Path, Refusal>
 /// The new path of a file in the folder that moves, or `None` for a file outside it. Refused as `TooLarge` where the new path would be too
 /// long.
 pub fn new_path(alloc: Global, moved: &Moved, path: &Path) -> Result<Option<Path>, Refusal>
-    ensures { TellsNewPath moved.now path.now result }
+    ensures { FindsNewPath moved.now path.now result }
 {
     match rest_under(moved.from.as_str(), path.as_str()) {
         None => Ok(None),

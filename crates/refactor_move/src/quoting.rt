@@ -1,15 +1,15 @@
 //! The new import paths of packages that move, in double quotes.
 ghost use Rattle.std.specs.Prelude.{ℕ, List, ◌≡◌, ◌↔◌, ◌++◌, IsTrue, IfOk, MatchOption};
 ghost use Rattle.refactor_move.specs.Paths.{HasMovedPackage, quoted};
-ghost use Rattle.refactor_move.specs.PathSteps.{IsBehind};
+ghost use Rattle.refactor_move.specs.PathSteps.{IsPathRest};
 
 use crate::moved::Moved;
 use base_files::FileText;
 use std::alloc::{AllocError, Global};
 
 /// Whether the bytes are empty or begin with a slash.
-fn is_behind(rest: &[u8]) -> bool
-    ensures { IsTrue result ↔ IsBehind rest.now }
+fn is_path_rest(rest: &[u8]) -> bool
+    ensures { IsTrue result ↔ IsPathRest rest.now }
 {
     match rest.first() {
         None => true,
@@ -26,10 +26,10 @@ fn rest_of<'a>(front: &[u8], text: &'a [u8]) -> Option<&'a [u8]>
 
 /// The rest of a package's path after a folder, if the package is in the folder: empty, or a slash and more.
 fn package_rest<'a>(folder: &[u8], path: &'a [u8]) -> Option<&'a [u8]>
-    ensures { MatchOption result ((rest : List ℕ) → path.now ≡ folder.now ++ rest → IsBehind rest → ⊥) (λ rest. (path.now ≡ folder.now ++ rest.now) × IsBehind rest.now) }
+    ensures { MatchOption result ((rest : List ℕ) → path.now ≡ folder.now ++ rest → IsPathRest rest → ⊥) (λ rest. (path.now ≡ folder.now ++ rest.now) × IsPathRest rest.now) }
 {
     let rest = rest_of(folder, path)?;
-    if is_behind(rest) { Some(rest) } else { None }
+    if is_path_rest(rest) { Some(rest) } else { None }
 }
 
 /// The path that two parts make, in double quotes.

@@ -8,8 +8,8 @@ use Rattle.base_files.specs.Workspace.{Workspace}
 use Rattle.workspace_check.specs.Verdicts.{Verdicts}
 use Rattle.base_edits.specs.Edits.{AreInOrder, LieWithin, edited_text}
 use Rattle.base_edits.specs.EditSet.{FileChanges, path_by, change_of, file_by, edited}
-use Rattle.base_edits.specs.Fits.{IsThere, Fits}
-use Rattle.base_edits.specs.Laws.{AreKept}
+use Rattle.base_edits.specs.Fits.{HasSpans, Fits}
+use Rattle.base_edits.specs.Laws.{AreUntouched}
 use Rattle.base_edits.specs.Moved.{moved_offset, edits_by}
 use Rattle.base_edits.specs.declared.edit.Edit.{Edit}
 use Rattle.base_edits.specs.declared.change.FileChange.{FileChange}
@@ -29,7 +29,7 @@ module _ (w : Workspace) (known : Verdicts) (r : Renamed) (s : FileChanges) (are
     in_order : AreInOrder 0 edits
     within : LieWithin (length text) edits
 
-  within_text : (c : FileChange) → c.path ≡ file → IsThere w c → LieWithin (length text) c.edits
+  within_text : (c : FileChange) → c.path ≡ file → HasSpans w c → LieWithin (length text) c.edits
   within_text c at h = subst (λ o. MatchOption o ⊥ (λ t. LieWithin (length t) c.edits)) (ap (get w) at ∙ is) h
 
   in_text : (o : Option FileChange) → change_of s file ≡ o → AreInText (edits_by o)
@@ -39,7 +39,7 @@ module _ (w : Workspace) (known : Verdicts) (r : Renamed) (s : FileChanges) (are
       let source = are.only c found.0 in
       let here : AreFileEdits source.source r (edits_by (Some c)) =
       subst (λ o. AreFileEdits source.source r (edits_by o)) (ap (change_of s) (source.of_path ∙ found.1) ∙ e) (are.each source.source source.is_source) in
-      record { in_order = here.end_by.in_order; within = within_text c found.1 (All-contains (IsThere w) s.changed c fit.there found.0) }
+      record { in_order = here.end_by.in_order; within = within_text c found.1 (All-contains (HasSpans w) s.changed c fit.there found.0) }
 
   -- and it stays where it is
   same_text : (t : List ℕ) → drop 0 t ≡ t
@@ -54,7 +54,7 @@ module _ (w : Workspace) (known : Verdicts) (r : Renamed) (s : FileChanges) (are
   new_there : get (edited s w) file ≡ Some (edited_text (edits_by (change_of s file)) text)
   new_there = has_file s w fit file (edited_text (edits_by (change_of s file)) text) (inr (file, text, is, stays_there (change_of s file) refl))
 
-  pub bytes_kept : (start end : ℕ) → start < end → end ≤ length text → AreKept (edits_by (change_of s file)) start end → (new : List ℕ) ×
+  pub bytes_kept : (start end : ℕ) → start < end → end ≤ length text → AreUntouched (edits_by (change_of s file)) start end → (new : List ℕ) ×
       ((get (edited s w) file ≡ Some new) ×
       (slice_range new (moved_offset (edits_by (change_of s file)) start) (moved_offset (edits_by (change_of s file)) start + (end - start)) ≡ slice_range
       text start end))

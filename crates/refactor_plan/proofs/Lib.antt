@@ -3,7 +3,7 @@ pub mod Planned
 pub mod Keeping
 pub mod MovePlanned
 pub mod Taken
-pub mod Own
-pub mod Alike
+pub mod OwnExports
+pub mod BoundAlike
 pub mod Renaming
 pub mod Moving

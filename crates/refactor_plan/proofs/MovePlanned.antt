@@ -14,8 +14,8 @@ use Rattle.refs_binding.specs.Workspaces.{RefusesFaults}
 use Rattle.base_edits.specs.RevisionsOfEdits.{revision_of}
 use Rattle.refactor_preserve.specs.Planned.{KeepsLimits}
 use Rattle.refactor_preserve.specs.Preserved.{Preserves}
-use Rattle.refactor_conflict.specs.Refusals.{IsToldOr}
-use Rattle.refactor_conflict.specs.Told.{told_by}
+use Rattle.refactor_conflict.specs.Refusals.{IsReportedOr}
+use Rattle.refactor_conflict.specs.ConflictRefusal.{refusal_for}
 use Rattle.refactor_conflict.specs.declared.conflict.Capturer.{Capturer}
 use Rattle.refactor_conflict.specs.declared.conflict.Capturer.TheVariants.{Universe, At}
 use Rattle.base_edits.specs.EditSet.{FileChanges}
@@ -25,15 +25,15 @@ use Rattle.workspace_snapshot.specs.declared.snapshot.Snapshot.{Snapshot}
 use Rattle.workspace_snapshot.specs.declared.change.Change.{Change}
 use Rattle.base_files.specs.Workspace.{Workspace}
 use Rattle.refactor_move.specs.Paths.{IsUnder}
-use Rattle.refactor_move.specs.MoveEdits.{AreMoveEdits, HasNoNewPath, IsFree, HoldsNoOther, PlansMoveEdits}
-use Rattle.refactor_plan.specs.MovePlan.{IsAsked, IsElsewhere, IsBeside, IsMovable, IsMoving, IsNaming, PlansMove}
-use Rattle.refactor_plan.specs.MoveSteps.{moving_by, ArePaths, RefusesTarget, RefusesConflict, RefusesLength, PlansEdits, PlansIn}
+use Rattle.refactor_move.specs.MoveEdits.{AreMoveEdits, HasNoNewPath, IsFree, HasOnlyMoved, PlansMoveEdits}
+use Rattle.refactor_plan.specs.MovePlan.{NamesPackage, HasOtherTarget, HasOutsideTarget, IsMovable, MovesPackage, OnlyRenamesPackage, PlansMove}
+use Rattle.refactor_plan.specs.MoveSteps.{moving_by, ArePaths, RefusesTarget, RefusesConflict, RefusesLength, PlansMoveBy, PlansMoveTo}
 
 -- The refusal that reports a conflict.
 
 pub told_conflict : (w : Workspace) (from : List ℕ) (known : Verdicts) → AreVerdicts w known → (s : FileChanges) → (Preserves w (revision_of w s) → ⊥) →
-    (by : Option Capturer) (used : Place) → IsToldOr w known (revision_of w s) (record { path = from; offset = 0 }) (record { used = used; by = by }) →
-    RefusesConflict w from s (Err (told_by by used))
+    (by : Option Capturer) (used : Place) → IsReportedOr w known (revision_of w s) (record { path = from; offset = 0 }) (record { used = used; by = by }) →
+    RefusesConflict w from s (Err (refusal_for by used))
 told_conflict w from known right s not None used is =
     (not, record { known = known; right = right; tells = record { conflict = record { used = used; by = None }; is_told = is; tells = refl } })
 told_conflict w from known right s not (Some Universe) used is =
@@ -42,7 +42,7 @@ told_conflict w from known right s not (Some (At place)) used is =
     (not, record { known = known; right = right; tells = record { conflict = record { used = used; by = Some (At place) }; is_told = is; tells = refl } })
 
 pub conflict_planned : (snapshot : Snapshot) (from : List ℕ) (s : FileChanges) (r : Refusal) → RefusesConflict snapshot.files from s (Err r) →
-    PlansEdits snapshot from s (Err r)
+    PlansMoveBy snapshot from s (Err r)
 conflict_planned snapshot from s (Captured a b) h = h
 conflict_planned snapshot from s (Lost a) h = h
 conflict_planned snapshot from s Memory h = h
@@ -57,18 +57,18 @@ conflict_of_length w from s _ h = absurd h
 -- a change that keeps the limits, or does not
 
 kept_refused : (snapshot : Snapshot) (from : List ℕ) (s : FileChanges) (change : Change) → change ≡ moving_by snapshot s →
-    Preserves snapshot.files (revision_of snapshot.files s) → (r : Refusal) → KeepsLimits snapshot.limits change (Err r) → PlansEdits snapshot from s (Err r)
+    Preserves snapshot.files (revision_of snapshot.files s) → (r : Refusal) → KeepsLimits snapshot.limits change (Err r) → PlansMoveBy snapshot from s (Err r)
 kept_refused snapshot from s change is kept TooLarge h = (kept, λ fits. h (subst (λ (c : Change). FitsLimits snapshot.limits c.files) (sym is) fits))
 kept_refused snapshot from s change is kept _ h = absurd h
 
 pub kept_planned : (snapshot : Snapshot) (from : List ℕ) (s : FileChanges) (change : Change) → change ≡ moving_by snapshot s →
-    Preserves snapshot.files (revision_of snapshot.files s) → (r : Result Change Refusal) → KeepsLimits snapshot.limits change r → PlansEdits snapshot from s r
+    Preserves snapshot.files (revision_of snapshot.files s) → (r : Result Change Refusal) → KeepsLimits snapshot.limits change r → PlansMoveBy snapshot from s r
 kept_planned snapshot from s change is kept (Ok same) h = (kept, subst (λ (c : Change). FitsLimits snapshot.limits c.files) is h.1, h.0 ∙ is)
 kept_planned snapshot from s change is kept (Err r) h = kept_refused snapshot from s change is kept r h
 
 -- the edits, and what they make
 
-pub spared_by_free : (w : Workspace) (from to : List ℕ) → IsFree w to → HoldsNoOther w from to
+pub spared_by_free : (w : Workspace) (from to : List ℕ) → IsFree w to → HasOnlyMoved w from to
 spared_by_free w from to free = λ path is under. absurd (free path is under)
 
 -- a file that is left where it is has its path
@@ -77,64 +77,64 @@ same_path : (w : Workspace) (from : List ℕ) → HasNoNewPath w from from → �
 same_path w from h = h.no_path (subst (IsPath 1) (h.moves.was ∙ sym h.moves.is) h.is_path)
 
 pub name_refused : (snapshot : Snapshot) (known : Verdicts) (from to : List ℕ) (r : Refusal) → PlansMoveEdits snapshot.files known from from to (Err r) →
-    PlansIn snapshot from to (Err r)
+    PlansMoveTo snapshot from to (Err r)
 name_refused snapshot known from to TooLarge h = absurd (same_path snapshot.files from h)
 name_refused snapshot known from to Memory h = h
 name_refused snapshot known from to _ h = absurd h
 
 module _ (snapshot : Snapshot) (from to : List ℕ) (sound : ListsFaults snapshot.files []) (known : Verdicts) (right : AreVerdicts snapshot.files known)
     (no_path : HasNoNewPath snapshot.files from to) (s : FileChanges) (are : AreMoveEdits snapshot.files known from from to s) where
-  naming : IsNaming snapshot.files from to s
+  naming : OnlyRenamesPackage snapshot.files from to s
   naming = record { known = known; right = right; edits = are }
 
-  length_refused : (r : Refusal) → RefusesLength snapshot.files from s (Err r) → PlansIn snapshot from to (Err r)
+  length_refused : (r : Refusal) → RefusesLength snapshot.files from s (Err r) → PlansMoveTo snapshot from to (Err r)
   length_refused TooLarge h = (sound, inl (record { no_path = no_path; changes = s; naming = naming; preserves = h }))
   length_refused (Captured a b) h = (sound, inr (record { no_path = no_path; changes = s; naming = naming; not_preserved = h.0; told = h.1 }))
   length_refused (Lost a) h = (sound, inr (record { no_path = no_path; changes = s; naming = naming; not_preserved = h.0; told = h.1 }))
   length_refused Memory h = h
   length_refused _ h = absurd h
 
-  pub name_planned : (r : Result Change Refusal) → RefusesLength snapshot.files from s r → PlansIn snapshot from to r
+  pub name_planned : (r : Result Change Refusal) → RefusesLength snapshot.files from s r → PlansMoveTo snapshot from to r
   name_planned (Err r) h = length_refused r h
   name_planned (Ok change) h = absurd h
 
 module _ (snapshot : Snapshot) (from to : List ℕ) (sound : ListsFaults snapshot.files []) (known : Verdicts) (right : AreVerdicts snapshot.files known)
     (s : FileChanges) (are : AreMoveEdits snapshot.files known from to to s) (fit : Fits s snapshot.files) where
-  moving : IsMoving snapshot.files from to s
+  moving : MovesPackage snapshot.files from to s
   moving = record { known = known; right = right; edits = are }
 
-  edits_refused : (r : Refusal) → PlansEdits snapshot from s (Err r) → PlansIn snapshot from to (Err r)
+  edits_refused : (r : Refusal) → PlansMoveBy snapshot from s (Err r) → PlansMoveTo snapshot from to (Err r)
   edits_refused TooLarge h = (sound, inr (record { changes = s; moving = moving; preserves = h.0; too_large = h.1 }))
   edits_refused (Captured a b) h = (sound, inl (record { changes = s; moving = moving; not_preserved = h.0; told = h.1 }))
   edits_refused (Lost a) h = (sound, inl (record { changes = s; moving = moving; not_preserved = h.0; told = h.1 }))
   edits_refused Memory h = h
   edits_refused _ h = absurd h
 
-  pub edits_planned : (r : Result Change Refusal) → PlansEdits snapshot from s r → PlansIn snapshot from to r
+  pub edits_planned : (r : Result Change Refusal) → PlansMoveBy snapshot from s r → PlansMoveTo snapshot from to r
   edits_planned (Err r) h = edits_refused r h
   edits_planned (Ok change) h =
-      subst (λ (c : Change). PlansIn snapshot from to (Ok c)) (sym h.2)
+      subst (λ (c : Change). PlansMoveTo snapshot from to (Ok c)) (sym h.2)
       (sound, record { moving = moving; preserves = h.0; fits = h.1; fit_files = fit; is_change = refl })
 
 -- the first fault
 
 pub faults_refused : (snapshot : Snapshot) (from to : List ℕ) (found : Findings) (r : Refusal) → RefusesFaults snapshot.files found (Err r) →
-    PlansIn snapshot from to (Err r)
+    PlansMoveTo snapshot from to (Err r)
 faults_refused snapshot from to found (Faulty a b) h = h
 faults_refused snapshot from to found Memory h = h
 faults_refused snapshot from to found _ h = absurd h
 
 -- the folder that a package gets
 
-asked : (snapshot : Snapshot) (from to : List ℕ) → ArePaths from to → Contains (package_paths snapshot.files) from → IsAsked snapshot.files from to
+asked : (snapshot : Snapshot) (from to : List ℕ) → ArePaths from to → Contains (package_paths snapshot.files) from → NamesPackage snapshot.files from to
 asked snapshot from to paths has = record { source = paths.source; target = paths.target; is_package = has }
 
 elsewhere : (snapshot : Snapshot) (from to : List ℕ) → ArePaths from to → Contains (package_paths snapshot.files) from → (to ≡ from → ⊥) →
-    IsElsewhere snapshot.files from to
+    HasOtherTarget snapshot.files from to
 elsewhere snapshot from to paths has other = record { asked = asked snapshot from to paths has; other = other }
 
 beside : (snapshot : Snapshot) (from to : List ℕ) → ArePaths from to → Contains (package_paths snapshot.files) from → (to ≡ from → ⊥) →
-    (IsUnder from to → ⊥) → IsBeside snapshot.files from to
+    (IsUnder from to → ⊥) → HasOutsideTarget snapshot.files from to
 beside snapshot from to paths has other outside = record { elsewhere = elsewhere snapshot from to paths has other; outside = outside }
 
 pub target_refused : (snapshot : Snapshot) (from to : List ℕ) → ArePaths from to → (r : Refusal) → RefusesTarget snapshot.files from to (Err r) →
@@ -151,7 +151,7 @@ target_refused snapshot from to paths _ h = absurd h
 movable : (snapshot : Snapshot) (from to : List ℕ) → ArePaths from to → RefusesTarget snapshot.files from to (Ok tt) → IsMovable snapshot.files from to
 movable snapshot from to paths h = record { beside = beside snapshot from to paths h.0 h.1 h.2; free = h.3 }
 
-in_refused : (snapshot : Snapshot) (from to : List ℕ) → IsMovable snapshot.files from to → (r : Refusal) → PlansIn snapshot from to (Err r) →
+in_refused : (snapshot : Snapshot) (from to : List ℕ) → IsMovable snapshot.files from to → (r : Refusal) → PlansMoveTo snapshot from to (Err r) →
     PlansMove snapshot from to (Err r)
 in_refused snapshot from to is (Faulty a b) h = (is, h)
 in_refused snapshot from to is (Captured a b) h = (record { movable = is; sound = h.0 }, h.1)
@@ -161,7 +161,7 @@ in_refused snapshot from to is Memory h = h
 in_refused snapshot from to is _ h = absurd h
 
 pub in_planned : (snapshot : Snapshot) (from to : List ℕ) → ArePaths from to → RefusesTarget snapshot.files from to (Ok tt) → (r : Result Change Refusal) →
-    PlansIn snapshot from to r → PlansMove snapshot from to r
+    PlansMoveTo snapshot from to r → PlansMove snapshot from to r
 in_planned snapshot from to paths ok (Ok change) h = (record { movable = movable snapshot from to paths ok; sound = h.0 }, h.1)
 in_planned snapshot from to paths ok (Err r) h = in_refused snapshot from to (movable snapshot from to paths ok) r h
 

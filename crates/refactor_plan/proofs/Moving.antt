@@ -8,7 +8,7 @@ use Rattle.history_machine.specs.Machine.{Content, Machine}
 use Rattle.history_machine.proofs.RunLaws.{undo_restores}
 use Rattle.base_edits.specs.RevisionsOfEdits.{revision_of}
 use Rattle.refactor_preserve.specs.Preserved.{Preserves}
-use Rattle.refactor_plan.specs.MovePlan.{IsMoving, IsMoved}
+use Rattle.refactor_plan.specs.MovePlan.{MovesPackage, IsMoved}
 use Rattle.refactor_plan.specs.Moves.{HasMovedExactly, MovesKeepBindings, UndoTakesMovesBack}
 
 -- The state after a committed move, from the snapshot on which the move was planned.
@@ -17,7 +17,7 @@ exactly : (snapshot : Snapshot) (from to : List ℕ) (change : Change) (old new 
 exactly snapshot from to change old new r base files =
     let same : snapshot.files ≡ old.current.files = sym (ap (λ (c : Change). c.base) r.is_change) ∙ base in
     record {
-      moving = subst (λ (w : Workspace). IsMoving w from to change.edits) same r.moving;
+      moving = subst (λ (w : Workspace). MovesPackage w from to change.edits) same r.moving;
       files = files ∙ ap (λ (c : Change). c.files) r.is_change ∙ ap (λ (w : Workspace). edited change.edits w) same;
       preserves = subst (λ (w : Workspace). Preserves w (revision_of w change.edits)) same r.preserves;
     }

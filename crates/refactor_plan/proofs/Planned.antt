@@ -23,16 +23,16 @@ use Rattle.workspace_snapshot.specs.declared.change.Change.{Change}
 use Rattle.refactor_rename.specs.NewName.{IsNewName}
 use Rattle.refactor_rename.specs.Naming.{IsFixed, IsReservedFor, RefusesName}
 use Rattle.refactor_rename.specs.RenameEdits.{AreRenameEdits}
-use Rattle.refactor_plan.specs.Plan.{IsWellAsked, IsAsked, IsRenamable, MayBeCalled, IsRenaming, PlansRename}
-use Rattle.refactor_conflict.specs.Refusals.{IsToldOr}
-use Rattle.refactor_conflict.specs.Told.{told_by}
-use Rattle.refactor_plan.specs.Steps.{renaming_by, PlansEdits, PlansDeclaration, PlansIn}
+use Rattle.refactor_plan.specs.Plan.{IsValidRename, ResolvesIdentifier, IsRenamable, IsLegalName, RenamesIdentifier, PlansRename}
+use Rattle.refactor_conflict.specs.Refusals.{IsReportedOr}
+use Rattle.refactor_conflict.specs.ConflictRefusal.{refusal_for}
+use Rattle.refactor_plan.specs.Steps.{renaming_by, PlansRenameBy, PlansDeclaration, PlansAtByte}
 
 -- The refusal that reports a conflict.
 
 pub told_conflict : (snapshot : Snapshot) (known : Verdicts) (asked : Place) (s : FileChanges) → (Preserves snapshot.files (revision_of snapshot.files s) → ⊥) →
-    (by : Option Capturer) (used : Place) → IsToldOr snapshot.files known (revision_of snapshot.files s) asked (record { used = used; by = by }) →
-    PlansEdits snapshot known asked s (Err (told_by by used))
+    (by : Option Capturer) (used : Place) → IsReportedOr snapshot.files known (revision_of snapshot.files s) asked (record { used = used; by = by }) →
+    PlansRenameBy snapshot known asked s (Err (refusal_for by used))
 told_conflict snapshot known asked s not None used is = (not, record { conflict = record { used = used; by = None }; is_told = is; tells = refl })
 told_conflict snapshot known asked s not (Some Universe) used is =
     (not, record { conflict = record { used = used; by = Some Universe }; is_told = is; tells = refl })
@@ -43,11 +43,11 @@ told_conflict snapshot known asked s not (Some (At place)) used is =
 
 module _ (snapshot : Snapshot) (known : Verdicts) (asked : Place) (s : FileChanges) (change : Change) (is : change ≡ renaming_by snapshot s)
     (kept : Preserves snapshot.files (revision_of snapshot.files s)) where
-  kept_refused : (r : Refusal) → KeepsLimits snapshot.limits change (Err r) → PlansEdits snapshot known asked s (Err r)
+  kept_refused : (r : Refusal) → KeepsLimits snapshot.limits change (Err r) → PlansRenameBy snapshot known asked s (Err r)
   kept_refused refusal.TooLarge h = (kept, λ fits. h (subst (λ (c : Change). FitsLimits snapshot.limits c.files) (sym is) fits))
   kept_refused _ h = absurd h
 
-  pub kept_planned : (r : Result Change Refusal) → KeepsLimits snapshot.limits change r → PlansEdits snapshot known asked s r
+  pub kept_planned : (r : Result Change Refusal) → KeepsLimits snapshot.limits change r → PlansRenameBy snapshot known asked s r
   kept_planned (Ok same) h = (kept, subst (λ (c : Change). FitsLimits snapshot.limits c.files) is h.1, h.0 ∙ is)
   kept_planned (Err r) h = kept_refused r h
 
@@ -55,7 +55,7 @@ module _ (snapshot : Snapshot) (known : Verdicts) (asked : Place) (s : FileChang
 
 module _ (snapshot : Snapshot) (path : List ℕ) (offset : ℕ) (name : List ℕ) (sound : ListsFaults snapshot.files []) (known : Verdicts)
     (right : AreVerdicts snapshot.files known) where
-  pub finds_refused : (r : Refusal) → FindsDeclaration snapshot.files known path offset (Err r) → PlansIn snapshot path offset name (Err r)
+  pub finds_refused : (r : Refusal) → FindsDeclaration snapshot.files known path offset (Err r) → PlansAtByte snapshot path offset name (Err r)
   finds_refused refusal.Memory h = h
   finds_refused refusal.BadCommand h = absurd h
   finds_refused refusal.BadPath h = absurd h
@@ -86,17 +86,17 @@ module _ (snapshot : Snapshot) (path : List ℕ) (offset : ℕ) (name : List ℕ
   finds_refused refusal.BodyShort h = absurd h
 
   module _ (d : Declaration) (has : HasDeclaration snapshot.files known path offset d) where
-    abbrev asked : IsAsked snapshot.files path offset
+    abbrev asked : ResolvesIdentifier snapshot.files path offset
     asked = record { known = known; right = right; declaration = d; has = has }
 
     abbrev renamable : (IsFixed (IsPackage snapshot.files known) d → ⊥) → IsRenamable snapshot.files path offset
     renamable free = record { asked = asked; not_fixed = free }
 
     abbrev may_be : (IsFixed (IsPackage snapshot.files known) d → ⊥) → (IsReservedFor (IsPackage snapshot.files known) d name → ⊥) →
-        MayBeCalled snapshot.files path offset name
+        IsLegalName snapshot.files path offset name
     may_be free allowed = record { renamable = renamable free; allowed = allowed }
 
-    pub name_refused : (r : Refusal) → RefusesName (IsPackage snapshot.files known) d name (Err r) → PlansIn snapshot path offset name (Err r)
+    pub name_refused : (r : Refusal) → RefusesName (IsPackage snapshot.files known) d name (Err r) → PlansAtByte snapshot path offset name (Err r)
     name_refused refusal.Memory h = h
     name_refused refusal.BadCommand h = absurd h
     name_refused refusal.BadPath h = absurd h
@@ -123,11 +123,11 @@ module _ (snapshot : Snapshot) (path : List ℕ) (offset : ℕ) (name : List ℕ
     name_refused refusal.BodyShort h = absurd h
 
     module _ (ok : RefusesName (IsPackage snapshot.files known) d name (Ok tt)) where
-      renaming : (s : FileChanges) → AreRenameEdits snapshot.files known d name s → IsRenaming snapshot.files path offset name s
+      renaming : (s : FileChanges) → AreRenameEdits snapshot.files known d name s → RenamesIdentifier snapshot.files path offset name s
       renaming s are = record { may = may_be ok.0 ok.1; other = ok.2; edits = are }
 
-      edits_refused : (s : FileChanges) → IsRenaming snapshot.files path offset name s → (r : Refusal) →
-          PlansEdits snapshot known (record { path = path; offset = offset }) s (Err r) → PlansIn snapshot path offset name (Err r)
+      edits_refused : (s : FileChanges) → RenamesIdentifier snapshot.files path offset name s → (r : Refusal) →
+          PlansRenameBy snapshot known (record { path = path; offset = offset }) s (Err r) → PlansAtByte snapshot path offset name (Err r)
       edits_refused s is refusal.Memory h = h
       edits_refused s is refusal.BadCommand h = absurd h
       edits_refused s is refusal.BadPath h = absurd h
@@ -157,21 +157,21 @@ module _ (snapshot : Snapshot) (path : List ℕ) (offset : ℕ) (name : List ℕ
       edits_refused s is refusal.BodyShort h = absurd h
 
       edits_planned : (s : FileChanges) → AreRenameEdits snapshot.files known d name s → Fits s snapshot.files → (r : Result Change Refusal) →
-          PlansEdits snapshot known (record { path = path; offset = offset }) s r → PlansIn snapshot path offset name r
+          PlansRenameBy snapshot known (record { path = path; offset = offset }) s r → PlansAtByte snapshot path offset name r
       edits_planned s are fit (Err r) h = edits_refused s (renaming s are) r h
       edits_planned s are fit (Ok change) h =
-          subst (λ (c : Change). PlansIn snapshot path offset name (Ok c)) (sym h.2)
+          subst (λ (c : Change). PlansAtByte snapshot path offset name (Ok c)) (sym h.2)
           (sound, record { renaming = renaming s are; preserves = h.0; fits = h.1; fit_files = fit; is_change = refl })
 
       pub declaration_planned : (r : Result Change Refusal) → PlansDeclaration snapshot known (record { path = path; offset = offset }) d name r →
-          PlansIn snapshot path offset name r
-      declaration_planned r (inl none) = subst (PlansIn snapshot path offset name) (sym none) tt
+          PlansAtByte snapshot path offset name r
+      declaration_planned r (inl none) = subst (PlansAtByte snapshot path offset name) (sym none) tt
       declaration_planned r (inr h) = edits_planned h.0 h.1.0 h.1.1.0 r h.1.1.1
 
 -- the first fault
 
 pub faults_refused : (snapshot : Snapshot) (path : List ℕ) (offset : ℕ) (name : List ℕ) (found : Findings) (r : Refusal) →
-    RefusesFaults snapshot.files found (Err r) → PlansIn snapshot path offset name (Err r)
+    RefusesFaults snapshot.files found (Err r) → PlansAtByte snapshot path offset name (Err r)
 faults_refused snapshot path offset name found refusal.Memory h = h
 faults_refused snapshot path offset name found refusal.BadCommand h = absurd h
 faults_refused snapshot path offset name found refusal.BadPath h = absurd h
@@ -200,10 +200,10 @@ faults_refused snapshot path offset name found refusal.BodyShort h = absurd h
 -- a file that is there, and a name that has its form
 
 module _ (snapshot : Snapshot) (path : List ℕ) (offset : ℕ) (name : List ℕ) (is : IsFile snapshot.files path) (form : IsNewName name) where
-  well : ListsFaults snapshot.files [] → IsWellAsked snapshot.files path name
+  well : ListsFaults snapshot.files [] → IsValidRename snapshot.files path name
   well sound = record { file = is; form = form; sound = sound }
 
-  refused : (r : Refusal) → PlansIn snapshot path offset name (Err r) → PlansRename snapshot path offset name (Err r)
+  refused : (r : Refusal) → PlansAtByte snapshot path offset name (Err r) → PlansRename snapshot path offset name (Err r)
   refused refusal.Memory h = h
   refused refusal.BadCommand h = absurd h
   refused refusal.BadPath h = absurd h
@@ -229,6 +229,6 @@ module _ (snapshot : Snapshot) (path : List ℕ) (offset : ℕ) (name : List ℕ
   refused refusal.NoJob h = absurd h
   refused refusal.BodyShort h = absurd h
 
-  pub planned : (r : Result Change Refusal) → PlansIn snapshot path offset name r → PlansRename snapshot path offset name r
+  pub planned : (r : Result Change Refusal) → PlansAtByte snapshot path offset name r → PlansRename snapshot path offset name r
   planned (Ok change) h = (well h.0, h.1)
   planned (Err r) h = refused r h

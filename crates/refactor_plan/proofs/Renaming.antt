@@ -8,16 +8,16 @@ use Rattle.history_machine.specs.Machine.{Content, Machine}
 use Rattle.history_machine.proofs.RunLaws.{undo_restores}
 use Rattle.base_edits.specs.RevisionsOfEdits.{revision_of}
 use Rattle.refactor_preserve.specs.Preserved.{Preserves}
-use Rattle.refactor_plan.specs.Plan.{IsRenaming, IsRenamed}
-use Rattle.refactor_plan.specs.Renames.{IsExactly, RenamesKeepBindings, UndoTakesRenamesBack}
+use Rattle.refactor_plan.specs.Plan.{RenamesIdentifier, IsRenamed}
+use Rattle.refactor_plan.specs.Renames.{HasRenamedExactly, RenamesKeepBindings, UndoTakesRenamesBack}
 
 -- The state after a committed rename, from the snapshot on which the rename was planned.
 exactly : (snapshot : Snapshot) (path : List ℕ) (offset : ℕ) (name : List ℕ) (change : Change) (old new : Machine) → IsRenamed snapshot path offset name change
-    → change.base ≡ old.current.files → new.current.files ≡ change.files → IsExactly path offset name change old.current new.current
+    → change.base ≡ old.current.files → new.current.files ≡ change.files → HasRenamedExactly path offset name change old.current new.current
 exactly snapshot path offset name change old new r base files =
     let same : snapshot.files ≡ old.current.files = sym (ap (λ (c : Change). c.base) r.is_change) ∙ base in
     record {
-      renaming = subst (λ (w : Workspace). IsRenaming w path offset name change.edits) same r.renaming;
+      renaming = subst (λ (w : Workspace). RenamesIdentifier w path offset name change.edits) same r.renaming;
       files = files ∙ ap (λ (c : Change). c.files) r.is_change ∙ ap (λ (w : Workspace). edited change.edits w) same;
       preserves = subst (λ (w : Workspace). Preserves w (revision_of w change.edits)) same r.preserves;
     }

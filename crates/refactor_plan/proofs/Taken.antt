@@ -7,7 +7,7 @@ use Rattle.base_edits.proofs.Held.{nothing_in, first_in, later_in, first_or_late
 use Rattle.base_edits.proofs.Entries.{entry_of, get_entry, value_of, some_is}
 use Rattle.refactor_move.specs.Paths.{IsUnder}
 use Rattle.refactor_move.specs.MoveEdits.{IsFree}
-use Rattle.refactor_plan.specs.MovePlan.{IsTaken}
+use Rattle.refactor_plan.specs.MovePlan.{HasFileUnder}
 
 -- The files left in the list have all those that lie in the folder.
 pub record AreLeft (folder : List ℕ) (all left : List (List ℕ × List ℕ)) : Type 0 where
@@ -28,7 +28,7 @@ next_left folder all left rest d is outside h = record {
 }
 
 pub one_taken : (folder : List ℕ) (w : Workspace) (left rest : List (List ℕ × List ℕ)) (d : List ℕ × List ℕ) → left ≡ d ∷ rest → IsUnder folder d.0 →
-    AreLeft folder (entries w) left → IsTaken w folder
+    AreLeft folder (entries w) left → HasFileUnder w folder
 one_taken folder w left rest d is under h =
     let has = h.within d (subst (λ l. Contains l d) (sym is) (first_in d rest)) in
     record { path = d.0; is_file = some_is (get w d.0) d.1 (get_entry w d has); under = under }

@@ -3,7 +3,7 @@ use Rattle.std.specs.Prelude.{ℕ, ◌≡◌, ◌+◌, ◌-◌, ◌<◌, ◌≤�
 use Rattle.std.specs.List.{slice_range}
 use Rattle.std.specs.FinMap as files
 use Rattle.base_edits.specs.EditSet.{change_of}
-use Rattle.base_edits.specs.Laws.{AreKept}
+use Rattle.base_edits.specs.Laws.{AreUntouched}
 use Rattle.base_edits.specs.Moved.{moved_offset, edits_by}
 use Rattle.base_edits.specs.declared.edit.Edit.{Edit}
 use Rattle.workspace_snapshot.specs.declared.snapshot.Snapshot.{Snapshot}
@@ -27,4 +27,4 @@ abbrev pub RenamesKeepOtherBytes : Type 0
 RenamesKeepOtherBytes = (snapshot : Snapshot) (path : List ℕ) (offset : ℕ) (name : List ℕ) (change : Change) →
     PlansRename snapshot path offset name (Ok change) →
     (file text : List ℕ) → files.get snapshot.files file ≡ Some text → (start end : ℕ) → start < end → end ≤ length text →
-    AreKept (edits_in change file) start end → KeepsBytes change file text start end
+    AreUntouched (edits_in change file) start end → KeepsBytes change file text start end

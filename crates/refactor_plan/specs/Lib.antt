@@ -2,10 +2,10 @@
 pub mod Plan
 pub mod Steps
 pub mod Laws
-pub mod Asked
+pub mod Requests
 pub mod MovePlan
 pub mod MoveSteps
-pub mod Own
+pub mod OwnExports
 pub mod Restored
 pub mod Renames
 pub mod Moves

@@ -5,7 +5,7 @@ use Rattle.workspace_snapshot.specs.declared.snapshot.Snapshot.{Snapshot}
 use Rattle.workspace_snapshot.specs.declared.change.Change.{Change}
 use Rattle.base_edits.specs.RevisionsOfEdits.{revision_of}
 use Rattle.refactor_preserve.specs.Preserved.{Preserves}
-use Rattle.refactor_plan.specs.MovePlan.{PlansMove, IsMoving}
+use Rattle.refactor_plan.specs.MovePlan.{PlansMove, MovesPackage}
 use Rattle.history_machine.specs.declared.event.Event.{Event}
 use Rattle.history_machine.specs.declared.event.Event.TheVariants.{Commit, Undo}
 use Rattle.history_machine.specs.declared.event.Reply.{Reply}
@@ -13,11 +13,11 @@ use Rattle.history_machine.specs.declared.event.Reply.TheVariants.{Done}
 use Rattle.history_machine.specs.State.{State}
 use Rattle.history_machine.specs.Machine.{Machine}
 use Rattle.history_machine.specs.Step.{Step}
-use Rattle.history_machine.specs.Run.{Run, IsQuiet, Restores}
+use Rattle.history_machine.specs.Run.{Run, AdmitsNoChange, Restores}
 
 -- The state after the change has the files that its edits make of the state before. The edits move the package and preserve bindings.
 pub record HasMovedExactly (from to : List ℕ) (change : Change) (before after : State) : Type 0 where
-  pub moving : IsMoving before.files from to change.edits
+  pub moving : MovesPackage before.files from to change.edits
   pub files : after.files ≡ edited change.edits before.files
   pub preserves : Preserves before.files (revision_of before.files change.edits)
 
@@ -34,6 +34,6 @@ UndoTakesMovesBack = (snapshot : Snapshot) (from to : List ℕ) (change : Change
     (between : List (Event × Reply)) (reply : Reply)
     → PlansMove snapshot from to (Ok change)
     → Step start (Commit basis change) (Done number) changed
-    → Run changed between settled → IsQuiet between
+    → Run changed between settled → AdmitsNoChange between
     → Step settled (Undo settled.current.number) reply end
     → Restores start.current settled reply end

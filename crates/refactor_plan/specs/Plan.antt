@@ -10,10 +10,10 @@ use Rattle.workspace_check.specs.Verdicts.{Verdicts, AreVerdicts}
 use Rattle.workspace_check.specs.FaultLists.{ListsFaults}
 use Rattle.refs_binding.specs.declared.declaration.Declaration.{Declaration}
 use Rattle.refs_binding.specs.Uses.{IsPackage, IsFile, HasDeclaration, HasNoIdentifier, HasNoDeclaration, HasFirstFault}
-use Rattle.refs_binding.specs.Called.{IsCalled}
+use Rattle.refs_binding.specs.DeclaredNames.{HasDeclaredName}
 use Rattle.base_edits.specs.RevisionsOfEdits.{revision_of}
 use Rattle.refactor_preserve.specs.Preserved.{Preserves}
-use Rattle.refactor_conflict.specs.Refusals.{TellsConflict}
+use Rattle.refactor_conflict.specs.Refusals.{ReportsConflict}
 use Rattle.base_edits.specs.EditSet.{FileChanges, edited}
 use Rattle.base_edits.specs.Fits.{Fits}
 use Rattle.workspace_snapshot.specs.Fits.{FitsLimits}
@@ -25,69 +25,69 @@ use Rattle.refactor_rename.specs.Naming.{IsFixed, IsReservedFor}
 use Rattle.refactor_rename.specs.RenameEdits.{AreRenameEdits}
 
 -- The path and the name have their forms, the file exists, and the workspace has no fault.
-pub record IsWellAsked (w : Workspace) (path name : List ℕ) : Type 0 where
+pub record IsValidRename (w : Workspace) (path name : List ℕ) : Type 0 where
   pub file : IsFile w path
   pub form : IsNewName name
   pub sound : ListsFaults w []
 
 -- The identifier at the byte is bound to a declaration, `declaration`.
-pub record IsAsked (w : Workspace) (path : List ℕ) (offset : ℕ) : Type 0 where
+pub record ResolvesIdentifier (w : Workspace) (path : List ℕ) (offset : ℕ) : Type 0 where
   pub known : Verdicts
   pub right : AreVerdicts w known
   pub declaration : Declaration
   pub has : HasDeclaration w known path offset declaration
 
 -- The identifier at the byte is bound to a declaration that cannot be renamed.
-pub record IsAskedFixed (w : Workspace) (path : List ℕ) (offset : ℕ) : Type 0 where
-  pub asked : IsAsked w path offset
+pub record ResolvesToFixed (w : Workspace) (path : List ℕ) (offset : ℕ) : Type 0 where
+  pub asked : ResolvesIdentifier w path offset
   pub fixed : IsFixed (IsPackage w asked.known) asked.declaration
 
 -- The identifier at the byte is bound to a declaration that can be renamed.
 pub record IsRenamable (w : Workspace) (path : List ℕ) (offset : ℕ) : Type 0 where
-  pub asked : IsAsked w path offset
+  pub asked : ResolvesIdentifier w path offset
   pub not_fixed : ¬ (IsFixed (IsPackage w asked.known) asked.declaration)
 
 -- The identifier at the byte is bound to a declaration that can be renamed, but not to this name, which is reserved for it.
-pub record IsAskedReserved (w : Workspace) (path : List ℕ) (offset : ℕ) (name : List ℕ) : Type 0 where
+pub record ResolvesToReserved (w : Workspace) (path : List ℕ) (offset : ℕ) (name : List ℕ) : Type 0 where
   pub renamable : IsRenamable w path offset
   pub reserved : IsReservedFor (IsPackage w renamable.asked.known) renamable.asked.declaration name
 
 -- The identifier at the byte is bound to a declaration that can be renamed, and `name` is a legal name for it.
-pub record MayBeCalled (w : Workspace) (path : List ℕ) (offset : ℕ) (name : List ℕ) : Type 0 where
+pub record IsLegalName (w : Workspace) (path : List ℕ) (offset : ℕ) (name : List ℕ) : Type 0 where
   pub renamable : IsRenamable w path offset
   pub allowed : ¬ (IsReservedFor (IsPackage w renamable.asked.known) renamable.asked.declaration name)
 
 -- The identifier at the byte is bound to a declaration that already has this name.
-pub record IsAskedSame (w : Workspace) (path : List ℕ) (offset : ℕ) (name : List ℕ) : Type 0 where
-  pub may : MayBeCalled w path offset name
-  pub called : IsCalled (IsPackage w may.renamable.asked.known) may.renamable.asked.declaration name
+pub record ResolvesToNamesake (w : Workspace) (path : List ℕ) (offset : ℕ) (name : List ℕ) : Type 0 where
+  pub may : IsLegalName w path offset name
+  pub called : HasDeclaredName (IsPackage w may.renamable.asked.known) may.renamable.asked.declaration name
 
 -- These are the edits that rename the declaration of the identifier at the byte. The name is legal for it and is not its present name.
-pub record IsRenaming (w : Workspace) (path : List ℕ) (offset : ℕ) (name : List ℕ) (s : FileChanges) : Type 0 where
-  pub may : MayBeCalled w path offset name
-  pub other : ¬ (IsCalled (IsPackage w may.renamable.asked.known) may.renamable.asked.declaration name)
+pub record RenamesIdentifier (w : Workspace) (path : List ℕ) (offset : ℕ) (name : List ℕ) (s : FileChanges) : Type 0 where
+  pub may : IsLegalName w path offset name
+  pub other : ¬ (HasDeclaredName (IsPackage w may.renamable.asked.known) may.renamable.asked.declaration name)
   pub edits : AreRenameEdits w may.renamable.asked.known may.renamable.asked.declaration name s
 
 -- The edits of the rename do not preserve bindings. The refusal names the first identifier that they lose or capture, or the byte where
 -- there is no such identifier.
 pub record HasConflict (w : Workspace) (path : List ℕ) (offset : ℕ) (name : List ℕ) (refusal : Refusal) : Type 0 where
   pub changes : FileChanges
-  pub renaming : IsRenaming w path offset name changes
+  pub renaming : RenamesIdentifier w path offset name changes
   pub not_preserved : ¬ (Preserves w (revision_of w changes))
   pub known : Verdicts
   pub right : AreVerdicts w known
-  pub told : TellsConflict w known (revision_of w changes) (record { path = path; offset = offset }) refusal
+  pub told : ReportsConflict w known (revision_of w changes) (record { path = path; offset = offset }) refusal
 
 -- The edits of the rename preserve bindings, but the files after them exceed a limit of the snapshot.
-pub record IsTooLarge (snapshot : Snapshot) (path : List ℕ) (offset : ℕ) (name : List ℕ) : Type 0 where
+pub record IsRenameTooLarge (snapshot : Snapshot) (path : List ℕ) (offset : ℕ) (name : List ℕ) : Type 0 where
   pub changes : FileChanges
-  pub renaming : IsRenaming snapshot.files path offset name changes
+  pub renaming : RenamesIdentifier snapshot.files path offset name changes
   pub preserves : Preserves snapshot.files (revision_of snapshot.files changes)
   pub too_large : ¬ (FitsLimits snapshot.limits (edited changes snapshot.files))
 
 -- The change has the edits of the rename and the files that they make of the snapshot's. They preserve bindings and keep within the limits.
 pub record IsRenamed (snapshot : Snapshot) (path : List ℕ) (offset : ℕ) (name : List ℕ) (change : Change) : Type 0 where
-  pub renaming : IsRenaming snapshot.files path offset name change.edits
+  pub renaming : RenamesIdentifier snapshot.files path offset name change.edits
   pub preserves : Preserves snapshot.files (revision_of snapshot.files change.edits)
   pub fits : FitsLimits snapshot.limits (edited change.edits snapshot.files)
   pub fit_files : Fits change.edits snapshot.files
@@ -95,19 +95,19 @@ pub record IsRenamed (snapshot : Snapshot) (path : List ℕ) (offset : ℕ) (nam
 
 -- The change that renames the identifier at `path:offset` to `name`, or the first reason for which there is none.
 abbrev pub PlansRename : Snapshot → List ℕ → ℕ → List ℕ → Result Change Refusal → Type 0
-PlansRename snapshot path offset name (Ok change) = IsWellAsked snapshot.files path name × IsRenamed snapshot path offset name change
+PlansRename snapshot path offset name (Ok change) = IsValidRename snapshot.files path name × IsRenamed snapshot path offset name change
 PlansRename snapshot path offset name (Err BadPath) = ¬ (IsPath 2 path)
 PlansRename snapshot path offset name (Err BadName) =
-    (IsPath 2 path × ¬ (IsNewName name)) ⊎ (IsWellAsked snapshot.files path name × IsAskedReserved snapshot.files path offset name)
+    (IsPath 2 path × ¬ (IsNewName name)) ⊎ (IsValidRename snapshot.files path name × ResolvesToReserved snapshot.files path offset name)
 PlansRename snapshot path offset name (Err NoFile) = IsPath 2 path × IsNewName name × (files.get snapshot.files path ≡ None)
 PlansRename snapshot path offset name (Err (Faulty place kind)) = IsFile snapshot.files path × IsNewName name × HasFirstFault snapshot.files place kind
-PlansRename snapshot path offset name (Err NoIdentifier) = IsWellAsked snapshot.files path name × HasNoIdentifier snapshot.files path offset
+PlansRename snapshot path offset name (Err NoIdentifier) = IsValidRename snapshot.files path name × HasNoIdentifier snapshot.files path offset
 PlansRename snapshot path offset name (Err NotRenamable) =
-    IsWellAsked snapshot.files path name × (HasNoDeclaration snapshot.files path offset ⊎ IsAskedFixed snapshot.files path offset)
-PlansRename snapshot path offset name (Err Same) = IsWellAsked snapshot.files path name × IsAskedSame snapshot.files path offset name
-PlansRename snapshot path offset name (Err (Captured used by)) = IsWellAsked snapshot.files path name ×
+    IsValidRename snapshot.files path name × (HasNoDeclaration snapshot.files path offset ⊎ ResolvesToFixed snapshot.files path offset)
+PlansRename snapshot path offset name (Err Same) = IsValidRename snapshot.files path name × ResolvesToNamesake snapshot.files path offset name
+PlansRename snapshot path offset name (Err (Captured used by)) = IsValidRename snapshot.files path name ×
     HasConflict snapshot.files path offset name (Captured used by)
-PlansRename snapshot path offset name (Err (Lost used)) = IsWellAsked snapshot.files path name × HasConflict snapshot.files path offset name (Lost used)
-PlansRename snapshot path offset name (Err TooLarge) = IsWellAsked snapshot.files path name × IsTooLarge snapshot path offset name
+PlansRename snapshot path offset name (Err (Lost used)) = IsValidRename snapshot.files path name × HasConflict snapshot.files path offset name (Lost used)
+PlansRename snapshot path offset name (Err TooLarge) = IsValidRename snapshot.files path name × IsRenameTooLarge snapshot path offset name
 PlansRename snapshot path offset name (Err Memory) = ⊤
 PlansRename snapshot path offset name (Err refusal) = ⊥

@@ -5,7 +5,7 @@ use Rattle.workspace_snapshot.specs.declared.snapshot.Snapshot.{Snapshot}
 use Rattle.workspace_snapshot.specs.declared.change.Change.{Change}
 use Rattle.base_edits.specs.RevisionsOfEdits.{revision_of}
 use Rattle.refactor_preserve.specs.Preserved.{Preserves}
-use Rattle.refactor_plan.specs.Plan.{PlansRename, IsRenaming}
+use Rattle.refactor_plan.specs.Plan.{PlansRename, RenamesIdentifier}
 use Rattle.history_machine.specs.declared.event.Event.{Event}
 use Rattle.history_machine.specs.declared.event.Event.TheVariants.{Commit, Undo}
 use Rattle.history_machine.specs.declared.event.Reply.{Reply}
@@ -13,12 +13,12 @@ use Rattle.history_machine.specs.declared.event.Reply.TheVariants.{Done}
 use Rattle.history_machine.specs.State.{State}
 use Rattle.history_machine.specs.Machine.{Machine}
 use Rattle.history_machine.specs.Step.{Step}
-use Rattle.history_machine.specs.Run.{Run, IsQuiet, Restores}
+use Rattle.history_machine.specs.Run.{Run, AdmitsNoChange, Restores}
 
 -- The state after the change has the files that its edits make of the state before. The edits rename the identifier at the byte and
 -- preserve bindings.
-pub record IsExactly (path : List ℕ) (offset : ℕ) (name : List ℕ) (change : Change) (before after : State) : Type 0 where
-  pub renaming : IsRenaming before.files path offset name change.edits
+pub record HasRenamedExactly (path : List ℕ) (offset : ℕ) (name : List ℕ) (change : Change) (before after : State) : Type 0 where
+  pub renaming : RenamesIdentifier before.files path offset name change.edits
   pub files : after.files ≡ edited change.edits before.files
   pub preserves : Preserves before.files (revision_of before.files change.edits)
 
@@ -27,7 +27,7 @@ abbrev pub RenamesKeepBindings : Type 0
 RenamesKeepBindings = (snapshot : Snapshot) (path : List ℕ) (offset : ℕ) (name : List ℕ) (change : Change) (old new : Machine) (basis number : ℕ)
     → PlansRename snapshot path offset name (Ok change)
     → Step old (Commit basis change) (Done number) new
-    → IsExactly path offset name change old.current new.current
+    → HasRenamedExactly path offset name change old.current new.current
 
 -- Where a planned rename is committed and only quiet events follow, undo restores the state before the rename, or changes nothing.
 abbrev pub UndoTakesRenamesBack : Type 0
@@ -36,6 +36,6 @@ UndoTakesRenamesBack = (snapshot : Snapshot) (path : List ℕ) (offset : ℕ) (n
     (between : List (Event × Reply)) (reply : Reply)
     → PlansRename snapshot path offset name (Ok change)
     → Step start (Commit basis change) (Done number) changed
-    → Run changed between settled → IsQuiet between
+    → Run changed between settled → AdmitsNoChange between
     → Step settled (Undo settled.current.number) reply end
     → Restores start.current settled reply end

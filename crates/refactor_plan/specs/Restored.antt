@@ -11,7 +11,7 @@ use Rattle.history_machine.specs.declared.event.Event.TheVariants.{Commit, Undo,
 use Rattle.history_machine.specs.declared.event.Reply.{Reply}
 use Rattle.history_machine.specs.declared.event.Reply.TheVariants.{Done}
 use Rattle.history_machine.specs.Machine.{Machine}
-use Rattle.history_machine.specs.Run.{Run, IsQuiet}
+use Rattle.history_machine.specs.Run.{Run, AdmitsNoChange}
 use Rattle.history_machine.specs.Step.{Step}
 
 -- In both workspaces the uses of each declaration are at identical places.
@@ -23,7 +23,7 @@ AreBoundAlike w x = (known other : Verdicts) → AreVerdicts w known → AreVerd
 abbrev pub UndoRestoresBindings : Type 0
 UndoRestoresBindings = (start changed settled end : Machine) (basis number undone : ℕ) (change : Change) (between : List (Event × Reply))
     → Step start (Commit basis change) (Done number) changed
-    → Run changed between settled → IsQuiet between
+    → Run changed between settled → AdmitsNoChange between
     → Step settled (Undo settled.current.number) (Done undone) end
     → AreBoundAlike start.current.files end.current.files
 
@@ -31,6 +31,6 @@ UndoRestoresBindings = (start changed settled end : Machine) (basis number undon
 abbrev pub RedoRestoresBindings : Type 0
 RedoRestoresBindings = (start undone settled end : Machine) (basis number redone : ℕ) (between : List (Event × Reply))
     → Step start (Undo basis) (Done number) undone
-    → Run undone between settled → IsQuiet between
+    → Run undone between settled → AdmitsNoChange between
     → Step settled (Redo settled.current.number) (Done redone) end
     → AreBoundAlike start.current.files end.current.files

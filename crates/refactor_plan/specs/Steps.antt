@@ -9,7 +9,7 @@ use Rattle.refs_binding.specs.declared.declaration.Declaration.{Declaration}
 use Rattle.refs_binding.specs.Uses.{HasNoIdentifier, HasNoDeclaration, HasFirstFault}
 use Rattle.base_edits.specs.RevisionsOfEdits.{revision_of}
 use Rattle.refactor_preserve.specs.Preserved.{Preserves}
-use Rattle.refactor_conflict.specs.Refusals.{TellsConflict}
+use Rattle.refactor_conflict.specs.Refusals.{ReportsConflict}
 use Rattle.base_edits.specs.EditSet.{FileChanges, edited}
 use Rattle.base_edits.specs.Fits.{Fits}
 use Rattle.workspace_snapshot.specs.Fits.{FitsLimits}
@@ -17,7 +17,7 @@ use Rattle.workspace_snapshot.specs.declared.snapshot.Snapshot.{Snapshot}
 use Rattle.workspace_snapshot.specs.declared.change.Change.{Change}
 use Rattle.workspace_snapshot.specs.declared.change.ChangeKind.TheVariants.{Rename}
 use Rattle.refactor_rename.specs.RenameEdits.{AreRenameEdits}
-use Rattle.refactor_plan.specs.Plan.{IsAskedFixed, IsAskedReserved, IsAskedSame, HasConflict, IsTooLarge, IsRenamed}
+use Rattle.refactor_plan.specs.Plan.{ResolvesToFixed, ResolvesToReserved, ResolvesToNamesake, HasConflict, IsRenameTooLarge, IsRenamed}
 
 -- The change of kind `Rename` that has these edits of the snapshot's files.
 abbrev pub renaming_by : Snapshot → FileChanges → Change
@@ -25,38 +25,38 @@ renaming_by snapshot s = record { base = snapshot.files; kind = Rename; edits = 
 
 -- These edits do not preserve bindings, and the refusal names their first conflict, or the place `asked` where no identifier is in
 -- conflict.
-abbrev pub IsConflict : Snapshot → Verdicts → Place → FileChanges → Refusal → Type 0
-IsConflict snapshot known asked s refusal =
-    (¬ (Preserves snapshot.files (revision_of snapshot.files s))) × TellsConflict snapshot.files known (revision_of snapshot.files s) asked refusal
+abbrev pub IsRenameConflict : Snapshot → Verdicts → Place → FileChanges → Refusal → Type 0
+IsRenameConflict snapshot known asked s refusal =
+    (¬ (Preserves snapshot.files (revision_of snapshot.files s))) × ReportsConflict snapshot.files known (revision_of snapshot.files s) asked refusal
 
 -- The change that these edits make of the snapshot, or a refusal where they do not preserve bindings or exceed a limit.
-abbrev pub PlansEdits : Snapshot → Verdicts → Place → FileChanges → Result Change Refusal → Type 0
-PlansEdits snapshot known asked s (Ok change) =
+abbrev pub PlansRenameBy : Snapshot → Verdicts → Place → FileChanges → Result Change Refusal → Type 0
+PlansRenameBy snapshot known asked s (Ok change) =
     Preserves snapshot.files (revision_of snapshot.files s) × FitsLimits snapshot.limits (edited s snapshot.files) × (change ≡ renaming_by snapshot s)
-PlansEdits snapshot known asked s (Err (Captured used by)) = IsConflict snapshot known asked s (Captured used by)
-PlansEdits snapshot known asked s (Err (Lost used)) = IsConflict snapshot known asked s (Lost used)
-PlansEdits snapshot known asked s (Err TooLarge) = Preserves snapshot.files (revision_of snapshot.files s) ×
+PlansRenameBy snapshot known asked s (Err (Captured used by)) = IsRenameConflict snapshot known asked s (Captured used by)
+PlansRenameBy snapshot known asked s (Err (Lost used)) = IsRenameConflict snapshot known asked s (Lost used)
+PlansRenameBy snapshot known asked s (Err TooLarge) = Preserves snapshot.files (revision_of snapshot.files s) ×
     ¬ (FitsLimits snapshot.limits (edited s snapshot.files))
-PlansEdits snapshot known asked s (Err Memory) = ⊤
-PlansEdits snapshot known asked s (Err refusal) = ⊥
+PlansRenameBy snapshot known asked s (Err Memory) = ⊤
+PlansRenameBy snapshot known asked s (Err refusal) = ⊥
 
 -- What planning answers for the edits that give the declaration `d` the name `name`, or `Memory` where there was no memory for them.
 abbrev pub PlansDeclaration : Snapshot → Verdicts → Place → Declaration → List ℕ → Result Change Refusal → Type 0
 PlansDeclaration snapshot known asked d name result =
     (result ≡ Err Memory) ⊎ ((s : FileChanges) × (AreRenameEdits snapshot.files known d name s ×
-    (Fits s snapshot.files × PlansEdits snapshot known asked s result)))
+    (Fits s snapshot.files × PlansRenameBy snapshot known asked s result)))
 
 -- What planning a rename answers where the arguments have their forms and the file exists.
-abbrev pub PlansIn : Snapshot → List ℕ → ℕ → List ℕ → Result Change Refusal → Type 0
-PlansIn snapshot path offset name (Ok change) = ListsFaults snapshot.files [] × IsRenamed snapshot path offset name change
-PlansIn snapshot path offset name (Err (Faulty place kind)) = HasFirstFault snapshot.files place kind
-PlansIn snapshot path offset name (Err NoIdentifier) = ListsFaults snapshot.files [] × HasNoIdentifier snapshot.files path offset
-PlansIn snapshot path offset name (Err NotRenamable) = ListsFaults snapshot.files [] ×
-    (HasNoDeclaration snapshot.files path offset ⊎ IsAskedFixed snapshot.files path offset)
-PlansIn snapshot path offset name (Err BadName) = ListsFaults snapshot.files [] × IsAskedReserved snapshot.files path offset name
-PlansIn snapshot path offset name (Err Same) = ListsFaults snapshot.files [] × IsAskedSame snapshot.files path offset name
-PlansIn snapshot path offset name (Err (Captured used by)) = ListsFaults snapshot.files [] × HasConflict snapshot.files path offset name (Captured used by)
-PlansIn snapshot path offset name (Err (Lost used)) = ListsFaults snapshot.files [] × HasConflict snapshot.files path offset name (Lost used)
-PlansIn snapshot path offset name (Err TooLarge) = ListsFaults snapshot.files [] × IsTooLarge snapshot path offset name
-PlansIn snapshot path offset name (Err Memory) = ⊤
-PlansIn snapshot path offset name (Err refusal) = ⊥
+abbrev pub PlansAtByte : Snapshot → List ℕ → ℕ → List ℕ → Result Change Refusal → Type 0
+PlansAtByte snapshot path offset name (Ok change) = ListsFaults snapshot.files [] × IsRenamed snapshot path offset name change
+PlansAtByte snapshot path offset name (Err (Faulty place kind)) = HasFirstFault snapshot.files place kind
+PlansAtByte snapshot path offset name (Err NoIdentifier) = ListsFaults snapshot.files [] × HasNoIdentifier snapshot.files path offset
+PlansAtByte snapshot path offset name (Err NotRenamable) = ListsFaults snapshot.files [] ×
+    (HasNoDeclaration snapshot.files path offset ⊎ ResolvesToFixed snapshot.files path offset)
+PlansAtByte snapshot path offset name (Err BadName) = ListsFaults snapshot.files [] × ResolvesToReserved snapshot.files path offset name
+PlansAtByte snapshot path offset name (Err Same) = ListsFaults snapshot.files [] × ResolvesToNamesake snapshot.files path offset name
+PlansAtByte snapshot path offset name (Err (Captured used by)) = ListsFaults snapshot.files [] × HasConflict snapshot.files path offset name (Captured used by)
+PlansAtByte snapshot path offset name (Err (Lost used)) = ListsFaults snapshot.files [] × HasConflict snapshot.files path offset name (Lost used)
+PlansAtByte snapshot path offset name (Err TooLarge) = ListsFaults snapshot.files [] × IsRenameTooLarge snapshot path offset name
+PlansAtByte snapshot path offset name (Err Memory) = ⊤
+PlansAtByte snapshot path offset name (Err refusal) = ⊥

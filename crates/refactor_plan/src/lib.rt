@@ -2,7 +2,7 @@
 //! and the export data of a package is its own.
 #![tactic(auto)]
 
-pub mod exact;
+pub mod admitted_plans;
 pub mod exports;
 pub mod laws;
 mod move_plan;

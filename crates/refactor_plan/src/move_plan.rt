@@ -4,14 +4,14 @@ ghost use Rattle.base_files.specs.Path.{IsPath};
 ghost use Rattle.base_edits.specs.EditSet.{edited};
 ghost use Rattle.base_edits.specs.Fits.{Fits};
 ghost use Rattle.workspace_check.specs.Found.{IsFound, KnowsVerdicts};
-ghost use Rattle.refs_binding.specs.Workspaces.{IsSound, known_in};
+ghost use Rattle.refs_binding.specs.Workspaces.{IsFaultless, known_in};
 ghost use Rattle.base_edits.specs.RevisionsOfEdits.{revision_of};
 ghost use Rattle.refactor_preserve.specs.Planned.{change_in};
 ghost use Rattle.refactor_preserve.specs.Preserved.{Preserves};
-ghost use Rattle.refactor_conflict.specs.Refusals.{IsToldOr};
+ghost use Rattle.refactor_conflict.specs.Refusals.{IsReportedOr};
 ghost use Rattle.refactor_move.specs.MoveEdits.{HasNoNewPath, IsFree};
 ghost use Rattle.refactor_plan.specs.MovePlan.{PlansMove};
-ghost use Rattle.refactor_plan.specs.MoveSteps.{moving_by, ArePaths, RefusesConflict, RefusesLength, PlansEdits, PlansIn};
+ghost use Rattle.refactor_plan.specs.MoveSteps.{moving_by, ArePaths, RefusesConflict, RefusesLength, PlansMoveBy, PlansMoveTo};
 
 use crate::targets::refuse_target;
 use base_edits::EditSet;
@@ -33,9 +33,9 @@ fn conflict_of(
     from: &Path,
     change: &Change,
 ) -> Result<Conflict, AllocError>
-    requires sound { IsSound snapshot.now.files found.now.findings }
+    requires sound { IsFaultless snapshot.now.files found.now.findings }
     requires after { change.now.files ≡ edited change.now.edits snapshot.now.files }
-    ensures { IfOk result (IsToldOr snapshot.now.files (known_in found.now.findings) (revision_of snapshot.now.files change.now.edits) (record { path = from.now; offset = 0 })) }
+    ensures { IfOk result (IsReportedOr snapshot.now.files (known_in found.now.findings) (revision_of snapshot.now.files change.now.edits) (record { path = from.now; offset = 0 })) }
 {
     match first_conflict(
         alloc,
@@ -63,7 +63,7 @@ fn refusal_of(
     from: &Path,
     change: &Change,
 ) -> Refusal
-    requires sound { IsSound snapshot.now.files found.now.findings }
+    requires sound { IsFaultless snapshot.now.files found.now.findings }
     requires after { change.now.files ≡ edited change.now.edits snapshot.now.files }
     requires not_preserved { ¬ (Preserves snapshot.now.files (revision_of snapshot.now.files change.now.edits)) }
     ensures { RefusesConflict snapshot.now.files from.now change.now.edits (Err result) }
@@ -82,7 +82,7 @@ fn refuse_conflict(
     from: &Path,
     change: &MadeChange,
 ) -> Result<Known, Refusal>
-    requires sound { IsSound snapshot.now.files found.now.findings }
+    requires sound { IsFaultless snapshot.now.files found.now.findings }
     requires known { KnowsVerdicts snapshot.now.files found.now.known }
     requires base { change.now.base ≡ snapshot.now.files }
     requires after { change.now.files ≡ edited change.now.edits snapshot.now.files }
@@ -95,17 +95,17 @@ fn refuse_conflict(
 }
 
 /// Plans a given change: refuses it where it does not preserve bindings or exceeds a limit.
-fn judged(
+fn plan_change(
     alloc: Global,
     snapshot: &Snapshot,
     found: &Found,
     from: &Path,
     change: MadeChange,
 ) -> Result<Planned, Refusal>
-    requires sound { IsSound snapshot.now.files found.now.findings }
+    requires sound { IsFaultless snapshot.now.files found.now.findings }
     requires known { KnowsVerdicts snapshot.now.files found.now.known }
     requires is_change { change ≡ moving_by snapshot.now change.edits }
-    ensures planned { PlansEdits snapshot.now from.now change.edits (change_in result) }
+    ensures planned { PlansMoveBy snapshot.now from.now change.edits (change_in result) }
     ensures known { IfOk result (λ p. KnowsVerdicts p.change.files p.known) }
 {
     match refuse_conflict(alloc, snapshot, found, from, &change) {
@@ -122,14 +122,14 @@ fn plan_edits(
     from: &Path,
     edits: EditSet,
 ) -> Result<Planned, Refusal>
-    requires sound { IsSound snapshot.now.files found.now.findings }
+    requires sound { IsFaultless snapshot.now.files found.now.findings }
     requires known { KnowsVerdicts snapshot.now.files found.now.known }
     requires fits { Fits edits snapshot.now.files }
-    ensures planned { PlansEdits snapshot.now from.now edits (change_in result) }
+    ensures planned { PlansMoveBy snapshot.now from.now edits (change_in result) }
     ensures known { IfOk result (λ p. KnowsVerdicts p.change.files p.known) }
 {
     let change = MadeChange::of(alloc, snapshot, ChangeKind::Move, edits)?;
-    judged(alloc, snapshot, found, from, change)
+    plan_change(alloc, snapshot, found, from, change)
 }
 
 /// Why a move that would give a file too long a path is refused, by the edits of the package's name alone: their first conflict, or
@@ -141,7 +141,7 @@ fn refuse_length(
     from: &Path,
     edits: EditSet,
 ) -> Result<Planned, Refusal>
-    requires sound { IsSound snapshot.now.files found.now.findings }
+    requires sound { IsFaultless snapshot.now.files found.now.findings }
     requires known { KnowsVerdicts snapshot.now.files found.now.known }
     requires fits { Fits edits snapshot.now.files }
     ensures planned { RefusesLength snapshot.now.files from.now edits (change_in result) }
@@ -162,10 +162,10 @@ fn refuse_long(
     from: &Path,
     to: &Path,
 ) -> Result<Planned, Refusal>
-    requires sound { IsSound snapshot.now.files found.now.findings }
+    requires sound { IsFaultless snapshot.now.files found.now.findings }
     requires known { KnowsVerdicts snapshot.now.files found.now.known }
     requires no_path { HasNoNewPath snapshot.now.files from.now to.now }
-    ensures planned { PlansIn snapshot.now from.now to.now (change_in result) }
+    ensures planned { PlansMoveTo snapshot.now from.now to.now (change_in result) }
     ensures known { IfOk result (λ p. KnowsVerdicts p.change.files p.known) }
 {
     match move_edits(alloc, &snapshot.files, &found.findings, from, from, to) {
@@ -182,10 +182,10 @@ fn plan_found(
     from: &Path,
     to: &Path,
 ) -> Result<Planned, Refusal>
-    requires sound { IsSound snapshot.now.files found.now.findings }
+    requires sound { IsFaultless snapshot.now.files found.now.findings }
     requires known { KnowsVerdicts snapshot.now.files found.now.known }
     requires free { IsFree snapshot.now.files to.now }
-    ensures planned { PlansIn snapshot.now from.now to.now (change_in result) }
+    ensures planned { PlansMoveTo snapshot.now from.now to.now (change_in result) }
     ensures known { IfOk result (λ p. KnowsVerdicts p.change.files p.known) }
 {
     match move_edits(alloc, &snapshot.files, &found.findings, from, to, to) {
@@ -205,7 +205,7 @@ fn plan_in(
 ) -> Result<Planned, Refusal>
     requires found { IsFound snapshot.now.files found.now }
     requires free { IsFree snapshot.now.files to.now }
-    ensures planned { PlansIn snapshot.now from.now to.now (change_in result) }
+    ensures planned { PlansMoveTo snapshot.now from.now to.now (change_in result) }
     ensures known { IfOk result (λ p. KnowsVerdicts p.change.files p.known) }
 {
     match refuse_faults(alloc, &snapshot.files, &found.findings) {

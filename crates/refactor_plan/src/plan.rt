@@ -3,14 +3,14 @@ ghost use Rattle.std.specs.Prelude.{◌≡◌, None, IfOk};
 ghost use Rattle.base_edits.specs.EditSet.{edited};
 ghost use Rattle.workspace_check.specs.Found.{IsFound, KnowsVerdicts};
 ghost use Rattle.refs_binding.specs.Uses.{HasDeclaration};
-ghost use Rattle.refs_binding.specs.Workspaces.{IsSound, known_in};
+ghost use Rattle.refs_binding.specs.Workspaces.{IsFaultless, known_in};
 ghost use Rattle.base_edits.specs.RevisionsOfEdits.{revision_of};
 ghost use Rattle.refactor_preserve.specs.Planned.{change_in};
 ghost use Rattle.refactor_preserve.specs.Preserved.{Preserves};
-ghost use Rattle.refactor_conflict.specs.Refusals.{IsToldOr};
+ghost use Rattle.refactor_conflict.specs.Refusals.{IsReportedOr};
 ghost use Rattle.refactor_plan.specs.Plan.{PlansRename};
-ghost use Rattle.refactor_plan.specs.Asked.{asked_place};
-ghost use Rattle.refactor_plan.specs.Steps.{renaming_by, PlansEdits, PlansDeclaration, PlansIn};
+ghost use Rattle.refactor_plan.specs.Requests.{byte_place};
+ghost use Rattle.refactor_plan.specs.Steps.{renaming_by, PlansRenameBy, PlansDeclaration, PlansAtByte};
 
 use base_files::{Path, Place, Refusal};
 use refactor_conflict::{Conflict, first_conflict, told};
@@ -24,15 +24,15 @@ use workspace_snapshot::{Change, ChangeKind, MadeChange, Snapshot};
 
 /// The arguments of a rename: the path of a file, a byte offset in it, and the new name.
 #[derive(Clone, Copy)]
-struct AskedName<'a> {
+struct RenameRequest<'a> {
     path: &'a Path,
     offset: usize,
     name: &'a [u8],
 }
 
 /// The conflict that names the byte of the rename as lost.
-fn asked_lost(asked: &AskedName<'_>) -> Result<Conflict, AllocError>
-    ensures { IfOk result (λ c. c ≡ record { used = asked_place asked.now; by = None }) }
+fn requested_lost(asked: &RenameRequest<'_>) -> Result<Conflict, AllocError>
+    ensures { IfOk result (λ c. c ≡ record { used = byte_place asked.now; by = None }) }
 {
     Ok(Conflict {
         used: Place {
@@ -48,12 +48,12 @@ fn conflict_of(
     alloc: Global,
     snapshot: &Snapshot,
     found: &Found,
-    asked: &AskedName<'_>,
+    asked: &RenameRequest<'_>,
     change: &Change,
 ) -> Result<Conflict, AllocError>
-    requires sound { IsSound snapshot.now.files found.now.findings }
+    requires sound { IsFaultless snapshot.now.files found.now.findings }
     requires after { change.now.files ≡ edited change.now.edits snapshot.now.files }
-    ensures { IfOk result (IsToldOr snapshot.now.files (known_in found.now.findings) (revision_of snapshot.now.files change.now.edits) (asked_place asked.now)) }
+    ensures { IfOk result (IsReportedOr snapshot.now.files (known_in found.now.findings) (revision_of snapshot.now.files change.now.edits) (byte_place asked.now)) }
 {
     match first_conflict(
         alloc,
@@ -63,7 +63,7 @@ fn conflict_of(
         &change.files,
     )? {
         Some(conflict) => Ok(conflict),
-        None => asked_lost(asked),
+        None => requested_lost(asked),
     }
 }
 
@@ -72,13 +72,13 @@ fn refusal_of(
     alloc: Global,
     snapshot: &Snapshot,
     found: &Found,
-    asked: &AskedName<'_>,
+    asked: &RenameRequest<'_>,
     change: &Change,
 ) -> Refusal
-    requires sound { IsSound snapshot.now.files found.now.findings }
+    requires sound { IsFaultless snapshot.now.files found.now.findings }
     requires after { change.now.files ≡ edited change.now.edits snapshot.now.files }
     requires not_preserved { ¬ (Preserves snapshot.now.files (revision_of snapshot.now.files change.now.edits)) }
-    ensures { PlansEdits snapshot.now (known_in found.now.findings) (asked_place asked.now) change.now.edits (Err result) }
+    ensures { PlansRenameBy snapshot.now (known_in found.now.findings) (byte_place asked.now) change.now.edits (Err result) }
 {
     match conflict_of(alloc, snapshot, found, asked, change) {
         Ok(conflict) => told(conflict),
@@ -87,17 +87,17 @@ fn refusal_of(
 }
 
 /// Plans a given change: refuses it where it does not preserve bindings or exceeds a limit.
-fn judged(
+fn plan_change(
     alloc: Global,
     snapshot: &Snapshot,
     found: &Found,
-    asked: &AskedName<'_>,
+    asked: &RenameRequest<'_>,
     change: MadeChange,
 ) -> Result<Planned, Refusal>
-    requires sound { IsSound snapshot.now.files found.now.findings }
+    requires sound { IsFaultless snapshot.now.files found.now.findings }
     requires known { KnowsVerdicts snapshot.now.files found.now.known }
     requires is_change { change ≡ renaming_by snapshot.now change.edits }
-    ensures planned { PlansEdits snapshot.now (known_in found.now.findings) (asked_place asked.now) change.edits (change_in result) }
+    ensures planned { PlansRenameBy snapshot.now (known_in found.now.findings) (byte_place asked.now) change.edits (change_in result) }
     ensures known { IfOk result (λ p. KnowsVerdicts p.change.files p.known) }
 {
     match preserves(alloc, &snapshot.files, found, &change)? {
@@ -112,11 +112,11 @@ fn plan_declaration(
     snapshot: &Snapshot,
     found: &Found,
     declaration: &Declaration,
-    asked: &AskedName<'_>,
+    asked: &RenameRequest<'_>,
 ) -> Result<Planned, Refusal>
-    requires sound { IsSound snapshot.now.files found.now.findings }
+    requires sound { IsFaultless snapshot.now.files found.now.findings }
     requires known { KnowsVerdicts snapshot.now.files found.now.known }
-    ensures planned { PlansDeclaration snapshot.now (known_in found.now.findings) (asked_place asked.now) declaration.now asked.now.name.now (change_in result) }
+    ensures planned { PlansDeclaration snapshot.now (known_in found.now.findings) (byte_place asked.now) declaration.now asked.now.name.now (change_in result) }
     ensures known { IfOk result (λ p. KnowsVerdicts p.change.files p.known) }
 {
     let edits = rename_edits(
@@ -127,7 +127,7 @@ fn plan_declaration(
         asked.name,
     )?;
     let change = MadeChange::of(alloc, snapshot, ChangeKind::Rename, edits)?;
-    judged(alloc, snapshot, found, asked, change)
+    plan_change(alloc, snapshot, found, asked, change)
 }
 
 /// Plans the rename of a declaration, or refuses it where the declaration is fixed or the name is not legal for it.
@@ -136,12 +136,12 @@ fn plan_named(
     snapshot: &Snapshot,
     found: &Found,
     declaration: &Declaration,
-    asked: &AskedName<'_>,
+    asked: &RenameRequest<'_>,
 ) -> Result<Planned, Refusal>
-    requires sound { IsSound snapshot.now.files found.now.findings }
+    requires sound { IsFaultless snapshot.now.files found.now.findings }
     requires known { KnowsVerdicts snapshot.now.files found.now.known }
     requires has { HasDeclaration snapshot.now.files (known_in found.now.findings) asked.now.path.now asked.now.offset declaration.now }
-    ensures planned { PlansIn snapshot.now asked.now.path.now asked.now.offset asked.now.name.now (change_in result) }
+    ensures planned { PlansAtByte snapshot.now asked.now.path.now asked.now.offset asked.now.name.now (change_in result) }
     ensures known { IfOk result (λ p. KnowsVerdicts p.change.files p.known) }
 {
     match refuse_name(
@@ -161,11 +161,11 @@ fn plan_found(
     alloc: Global,
     snapshot: &Snapshot,
     found: &Found,
-    asked: &AskedName<'_>,
+    asked: &RenameRequest<'_>,
 ) -> Result<Planned, Refusal>
-    requires sound { IsSound snapshot.now.files found.now.findings }
+    requires sound { IsFaultless snapshot.now.files found.now.findings }
     requires known { KnowsVerdicts snapshot.now.files found.now.known }
-    ensures planned { PlansIn snapshot.now asked.now.path.now asked.now.offset asked.now.name.now (change_in result) }
+    ensures planned { PlansAtByte snapshot.now asked.now.path.now asked.now.offset asked.now.name.now (change_in result) }
     ensures known { IfOk result (λ p. KnowsVerdicts p.change.files p.known) }
 {
     match declaration_at(
@@ -185,10 +185,10 @@ fn plan_in(
     alloc: Global,
     snapshot: &Snapshot,
     found: &Found,
-    asked: &AskedName<'_>,
+    asked: &RenameRequest<'_>,
 ) -> Result<Planned, Refusal>
     requires { IsFound snapshot.now.files found.now }
-    ensures planned { PlansIn snapshot.now asked.now.path.now asked.now.offset asked.now.name.now (change_in result) }
+    ensures planned { PlansAtByte snapshot.now asked.now.path.now asked.now.offset asked.now.name.now (change_in result) }
     ensures known { IfOk result (λ p. KnowsVerdicts p.change.files p.known) }
 {
     match refuse_faults(alloc, &snapshot.files, &found.findings) {
@@ -221,7 +221,7 @@ pub fn plan_rename(
     if snapshot.files.files().get(&path).is_none() {
         return Err(Refusal::NoFile);
     }
-    let asked = AskedName {
+    let asked = RenameRequest {
         path: &path,
         offset,
         name: name.as_bytes(),

@@ -2,7 +2,7 @@
 ghost use Rattle.std.specs.Prelude.{◌↔◌, Contains, IsTrue, MatchBool};
 ghost use Rattle.base_files.specs.Packages.{package_paths};
 ghost use Rattle.refactor_move.specs.MoveEdits.{IsFree};
-ghost use Rattle.refactor_plan.specs.MovePlan.{IsTaken};
+ghost use Rattle.refactor_plan.specs.MovePlan.{HasFileUnder};
 ghost use Rattle.refactor_plan.specs.MoveSteps.{RefusesTarget};
 
 use base_files::{Files, Path, Refusal};
@@ -18,7 +18,7 @@ fn is_package(graph: &Graph, path: &Path) -> bool
 
 /// Whether some file lies in a folder.
 fn is_taken(files: &Files, folder: &Path) -> bool
-    ensures { MatchBool result (IsTaken files.now folder.now) (IsFree files.now folder.now) }
+    ensures { MatchBool result (HasFileUnder files.now folder.now) (IsFree files.now folder.now) }
 {
     for (path, _) in files.iter() {
         if is_under(folder, path) {

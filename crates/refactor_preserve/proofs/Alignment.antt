@@ -11,9 +11,9 @@ use Rattle.std.proofs.lemmas.Option.{none-some, same_Some, slice_get_within, sli
 use Rattle.base_files.specs.Packages.{package_paths}
 use Rattle.base_files.specs.declared.place.Place.{Place}
 use Rattle.types_declared.specs.Package.{Package}
-use Rattle.refs_binding.specs.declared.bound_spot.BoundSpot.{BoundSpot}
+use Rattle.refs_binding.specs.declared.bound_identifier.BoundIdentifier.{BoundIdentifier}
 use Rattle.refs_binding.specs.declared.declaration.Declaration.{Declaration}
-use Rattle.refs_binding.specs.Bindings.{place_at}
+use Rattle.refs_binding.specs.Bindings.{bound_place}
 use Rattle.refs_binding.specs.Places.{place_cmp}
 use Rattle.refs_binding.specs.Uses.{IsUseOf}
 use Rattle.refs_binding.specs.Workspaces.{IsPackageAt, known_in}
@@ -25,13 +25,13 @@ use Rattle.refs_places.specs.Beginnings.{BeginsAmong}
 use Rattle.refactor_preserve.specs.declared.aligned.Compared.{Compared}
 use Rattle.refactor_preserve.specs.Aligned.{AreCompared, moved_in, old_of, new_of, IsAligned, AreApart, AreApartBelow, AreAlignedBelow, GoInOrder, IsSafeAt, IsSafeIn}
 use Rattle.refactor_preserve.specs.Aligned.{IsSafeNumber, AreSafe}
-use Rattle.refs_index.specs.Sound.{view_in}
+use Rattle.refs_index.specs.FaultlessViews.{view_in}
 use Rattle.refactor_preserve.specs.Steps.{IsBoundBy, KeepsAll, AddsNowhere}
 use Rattle.refs_index.specs.Becoming.{Becomes}
 use Rattle.refactor_preserve.proofs.Every.{spot_at}
 
-abbrev InOrder : List BoundSpot → Type 0
-InOrder bs = IsSortedBy (λ a b. is_lt (place_cmp (place_at a) (place_at b))) bs
+abbrev InOrder : List BoundIdentifier → Type 0
+InOrder bs = IsSortedBy (λ a b. is_lt (place_cmp (bound_place a) (bound_place b))) bs
 
 equal_by : (o : Ordering) → ordering_index o ≡ 1 → o ≡ Equal
 equal_by Less e = absurd (omega (arith, e))
@@ -39,14 +39,14 @@ equal_by Equal e = refl
 equal_by Greater e = absurd (omega (arith, e))
 
 -- where no two neighbours begin at one place, no two do at all
-same_behind : (bs : List BoundSpot) (i j : ℕ) (a b : BoundSpot) → InOrder bs → AreApart bs i → slice_get bs i ≡ Some a → slice_get bs j ≡ Some b →
-    place_at a ≡ place_at b → i < j → ⊥
+same_behind : (bs : List BoundIdentifier) (i j : ℕ) (a b : BoundIdentifier) → InOrder bs → AreApart bs i → slice_get bs i ≡ Some a → slice_get bs j ≡ Some b →
+    bound_place a ≡ bound_place b → i < j → ⊥
 same_behind bs i j a b sorted apart at also same lt =
     let last : j < length bs = slice_get_within bs j b also in
     let within : i + 1 < length bs = omega arith in
     let x = element bs (i + 1) within in
-    let place = place_at a in
-    let index : BoundSpot → ℕ = λ y. ordering_index (compared place y) in
+    let place = bound_place a in
+    let index : BoundIdentifier → ℕ = λ y. ordering_index (compared place y) in
     let one : index a ≡ 1 = ap ordering_index (tied_itself place_cmp_total place) in
     let other : index b ≡ 1 = ap (λ p. ordering_index (place_cmp p place)) (sym same) ∙ one in
     let mine = get_or_from_slice_get bs (i + 1) x.0 x.0 x.1 in
@@ -55,10 +55,10 @@ same_behind bs i j a b sorted apart at also same lt =
     let down : index x.0 ≤ index b = subst (λ y. index x.0 ≤ index y) (get_or_from_slice_get bs j b x.0 also)
     (subst (λ y. index y ≤ index (get_or bs j x.0)) mine (rises bs place sorted (i + 1) j x.0 (omega arith) last)) in
     let between : index x.0 ≡ 1 = omega arith in
-    apart a x.0 at x.1 (sym (place_cmp_exact (place_at x.0) place (equal_by (compared place x.0) between)))
+    apart a x.0 at x.1 (sym (place_cmp_exact (bound_place x.0) place (equal_by (compared place x.0) between)))
 
-pub one_there : (bs : List BoundSpot) (i j : ℕ) (a b : BoundSpot) → InOrder bs → ((n : ℕ) → n < length bs → AreApart bs n) → slice_get bs i ≡ Some a →
-    slice_get bs j ≡ Some b → place_at a ≡ place_at b → i ≡ j
+pub one_there : (bs : List BoundIdentifier) (i j : ℕ) (a b : BoundIdentifier) → InOrder bs → ((n : ℕ) → n < length bs → AreApart bs n) → slice_get bs i ≡ Some a →
+    slice_get bs j ≡ Some b → bound_place a ≡ bound_place b → i ≡ j
 one_there bs i j a b sorted apart at also same = elim (cases_lt i j) [
   | inl lt ↦ absurd (same_behind bs i j a b sorted (apart i (slice_get_within bs i a at)) at also same lt)
   | inr ge ↦ elim (cases_lt j i) [
@@ -80,10 +80,10 @@ pub at_of : {X : Type 0} (xs : List X) (x : X) (h : Contains xs x) → slice_get
 at_of xs x h = slice_get_read xs (length xs) h.0 x refl h.1 (sym h.2)
 
 -- one number more
-pub none_aligned : (c : Compared) (old : List BoundSpot) → AreAlignedBelow c old 0
+pub none_aligned : (c : Compared) (old : List BoundIdentifier) → AreAlignedBelow c old 0
 none_aligned c old = record { each = λ n lt. absurd (omega arith) }
 
-pub one_aligned : (c : Compared) (old : List BoundSpot) (k : ℕ) (x : BoundSpot) → slice_get old k ≡ Some x → IsAligned c x → AreAlignedBelow c old k →
+pub one_aligned : (c : Compared) (old : List BoundIdentifier) (k : ℕ) (x : BoundIdentifier) → slice_get old k ≡ Some x → IsAligned c x → AreAlignedBelow c old k →
     AreAlignedBelow c old (k + 1)
 one_aligned c old k x has is h = record {
   each = λ n lt b at. elim (cases_lt n k) [
@@ -93,10 +93,10 @@ one_aligned c old k x has is h = record {
   ];
 }
 
-pub none_apart : (new : List BoundSpot) → AreApartBelow new 0
+pub none_apart : (new : List BoundIdentifier) → AreApartBelow new 0
 none_apart new = record { each = λ n lt. absurd (omega arith) }
 
-pub one_apart : (new : List BoundSpot) (k : ℕ) → AreApart new k → AreApartBelow new k → AreApartBelow new (k + 1)
+pub one_apart : (new : List BoundIdentifier) (k : ℕ) → AreApart new k → AreApartBelow new k → AreApartBelow new (k + 1)
 one_apart new k is h = record {
   each = λ n lt. elim (cases_lt n k) [
     | inl below ↦ h.each n below
@@ -152,7 +152,7 @@ all_numbers_safe c count end h p is =
     h.each k.0 (omega arith) p k.1
 
 module _ (c : Compared) (held : AreCompared c) (go : GoInOrder c) where
-  aligned : (b : BoundSpot) → Contains (old_of c) b → IsAligned c b
+  aligned : (b : BoundIdentifier) → Contains (old_of c) b → IsAligned c b
   aligned b h = go.each.each h.0 h.1 b (at_of (old_of c) b h)
 
   pub keeps_ordered : KeepsAll (view_in c.before.now) (view_in c.then.now) (moved_in c)
@@ -175,7 +175,7 @@ module _ (c : Compared) (held : AreCompared c) (go : GoInOrder c) where
       let mine = p.partner.listed in
       let f = spot_at e (moved_in c place) in
       let has : Contains (new_of c) f = (held.then.bindings.each f).1 is in
-      let same : place_at p.one ≡ place_at f = sym p.partner.goes ∙ ap (moved_in c) h.begins in
+      let same : bound_place p.one ≡ bound_place f = sym p.partner.goes ∙ ap (moved_in c) h.begins in
       let number : mine.0 ≡ has.0 =
       one_there (new_of c) mine.0 has.0 p.one f held.then.bindings.in_order go.apart.each (at_of (new_of c) p.one mine) (at_of (new_of c) f has) same in
       let is_f : p.one ≡ f =
@@ -184,7 +184,7 @@ module _ (c : Compared) (held : AreCompared c) (go : GoInOrder c) where
       record {
         declaration = h.one.declaration;
         is_use = subst (IsUseOf s.workspace s.known h.one.declaration) h.begins ((held.before.bindings.each h.one).0 h.listed);
-        holds = subst (λ (x : BoundSpot). Becomes s (view_in c.then.now) (moved_in c) h.one.declaration x.declaration) is_f p.becomes;
+        holds = subst (λ (x : BoundIdentifier). Becomes s (view_in c.then.now) (moved_in c) h.one.declaration x.declaration) is_f p.becomes;
       }
 
   pub adds_ordered : AreSafe c → AddsNowhere (view_in c.before.now) (view_in c.then.now) (moved_in c)

@@ -18,25 +18,25 @@ use Rattle.workspace_check.proofs.OneList.{one_whole_list}
 use Rattle.refs_binding.specs.declared.declaration.Declaration.{Declaration}
 use Rattle.refs_binding.specs.declared.declaration.Declaration.TheVariants.{Predeclared, Declared, Field, Method}
 use Rattle.refs_binding.specs.Uses.{IsPackage, HasFirstFault}
-use Rattle.refs_binding.specs.Workspaces.{IsSound, RefusesFaults, known_in}
+use Rattle.refs_binding.specs.Workspaces.{IsFaultless, RefusesFaults, known_in}
 use Rattle.refs_binding.proofs.Units.{list_of_sound}
 use Rattle.base_edits.specs.EditSet.{FileChanges, edited}
 use Rattle.base_edits.specs.Moved.{moved}
-use Rattle.refs_binding.specs.Standing.{InPackage, StandsIn, IsDeclaredAt}
+use Rattle.refs_binding.specs.DeclaringPlaces.{InPackage, DeclaresAt, IsDeclaredAt}
 use Rattle.base_edits.specs.Revisions.{Revision}
 use Rattle.base_edits.specs.RevisionsOfEdits.{revision_of}
 use Rattle.refs_index.specs.Corresponding.{Corresponds, predeclared, stands}
 use Rattle.refactor_preserve.specs.BoundToOne.{IsBoundToOne}
-use Rattle.refactor_preserve.specs.Preserved.{KeepsBindings, Preserves, TellsPreserved}
+use Rattle.refactor_preserve.specs.Preserved.{KeepsBindings, Preserves, FindsPreserved}
 use Rattle.refs_places.specs.Identified.{IsIdentifierAt}
-use Rattle.refs_index.specs.Sound.{SoundView}
+use Rattle.refs_index.specs.FaultlessViews.{FaultlessView}
 use Rattle.refactor_preserve.specs.Steps.{KeepsAll, AddsNowhere}
 use Rattle.refactor_preserve.proofs.Resolving.{same_package, same_use}
 
 -- Places of declarations do not depend on the findings for paths that are no packages.
 module _ (w : Workspace) (a b : Verdicts) (right : AreVerdicts w a) (also : AreVerdicts w b) where
-  same_inside : (path : List ℕ) (d : Declaration) (place : Place) → InPackage (IsPackage w a) path (λ p. StandsIn p d place) →
-      InPackage (IsPackage w b) path (λ p. StandsIn p d place)
+  same_inside : (path : List ℕ) (d : Declaration) (place : Place) → InPackage (IsPackage w a) path (λ p. DeclaresAt p d place) →
+      InPackage (IsPackage w b) path (λ p. DeclaresAt p d place)
   same_inside path d place h = record {
     inside = h.inside;
     is_package = same_package w a b right also h.inside h.is_package;
@@ -82,12 +82,12 @@ same_kept w r a b c d right also right_after also_after h =
     }
 
 -- both halves
-abbrev pub view_of : Workspace → Verdicts → SoundView
+abbrev pub view_of : Workspace → Verdicts → FaultlessView
 view_of w known = record { workspace = w; known = known }
 
-module _ (w after : Workspace) (s : FileChanges) (known known_after : Verdicts) (before then : SoundView) (moves : FileChanges) (same : after ≡ edited s w)
+module _ (w after : Workspace) (s : FileChanges) (known known_after : Verdicts) (before then : FaultlessView) (moves : FileChanges) (same : after ≡ edited s w)
     (old : before ≡ view_of w known) (new : then ≡ view_of after known_after) (is : moves ≡ s) where
-  as_told : (P : SoundView → SoundView → (Place → Place) → Type 0) → P before then (moved moves) →
+  as_told : (P : FaultlessView → FaultlessView → (Place → Place) → Type 0) → P before then (moved moves) →
       P (view_of w known) (view_of (edited s w) known_after) (moved s)
   as_told P h =
       subst (λ m. P (view_of w known) (view_of (edited s w) known_after) (moved m)) is
@@ -102,8 +102,8 @@ module _ (w after : Workspace) (s : FileChanges) (known known_after : Verdicts) 
       )
 
 -- the answers
-pub decided : (w after : Workspace) (s : FileChanges) (found found_after : Findings) (answer : Bool) → IsSound w found → after ≡ edited s w →
-    IsSound after found_after →
+pub decided : (w after : Workspace) (s : FileChanges) (found found_after : Findings) (answer : Bool) → IsFaultless w found → after ≡ edited s w →
+    IsFaultless after found_after →
     IsTrue answer ↔ KeepsBindings w (known_in found) (revision_of w s) (known_in found_after) → IsTrue answer ↔ Preserves w (revision_of w s)
 decided w after s found found_after answer sound same sound_after h =
     let right_after : AreVerdicts (edited s w) (known_in found_after) = subst (λ v. AreVerdicts v (known_in found_after)) same sound_after.findings.right in
@@ -141,8 +141,8 @@ not_preserved w after s same faulty = (
 -- The answer has what is known of the packages where bindings are preserved.
 pub told_preserved : (w after : Workspace) (s : FileChanges) (known : Known) (answer : Bool) (told : Option Known) → after ≡ edited s w →
     KnowsVerdicts after known → IsTrue answer ↔ Preserves w (revision_of w s) → MatchBool answer (told ≡ Some known) (told ≡ None) →
-    TellsPreserved w (revision_of w s) told
+    FindsPreserved w (revision_of w s) told
 told_preserved w after s known true told same right is answers =
-    subst (TellsPreserved w (revision_of w s)) (sym answers) (is.0 refl, subst (λ v. KnowsVerdicts v known) same right)
+    subst (FindsPreserved w (revision_of w s)) (sym answers) (is.0 refl, subst (λ v. KnowsVerdicts v known) same right)
 told_preserved w after s known false told same right is answers =
-    subst (TellsPreserved w (revision_of w s)) (sym answers) (λ kept. false≢true (is.1 kept))
+    subst (FindsPreserved w (revision_of w s)) (sym answers) (λ kept. false≢true (is.1 kept))

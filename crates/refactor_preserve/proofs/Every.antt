@@ -4,24 +4,24 @@ use Rattle.std.specs.Prelude.{Some, IsTrue, ◌↔◌, Contains, slice_get}
 use Rattle.std.proofs.lemmas.Bool.{cases_lt, false≢true}
 use Rattle.std.proofs.lemmas.Option.{same_Some, slice_get_read}
 use Rattle.base_files.specs.declared.place.Place.{Place}
-use Rattle.refs_binding.specs.declared.bound_spot.BoundSpot.{BoundSpot}
+use Rattle.refs_binding.specs.declared.bound_identifier.BoundIdentifier.{BoundIdentifier}
 use Rattle.refs_binding.specs.declared.declaration.Declaration.{Declaration}
-use Rattle.refs_binding.specs.Bindings.{place_at}
+use Rattle.refs_binding.specs.Bindings.{bound_place}
 use Rattle.refs_binding.specs.Uses.{IsUseOf}
 use Rattle.refs_places.specs.Identified.{IsIdentifierAt}
-use Rattle.refs_index.specs.Sound.{SoundView, IsBoundIn, IsBoundHere}
-use Rattle.refactor_preserve.specs.Steps.{HasBound, IsBoundBy, IsKept, AllWere, AddsNone, KeepsAll, AddsNowhere}
+use Rattle.refs_index.specs.FaultlessViews.{FaultlessView, IsBoundInView, IsBoundAtPlace}
+use Rattle.refactor_preserve.specs.Steps.{HasBound, IsBoundBy, IsKept, AllCorrespond, AddsNone, KeepsAll, AddsNowhere}
 use Rattle.refs_index.specs.Becoming.{Becomes}
 
 -- it holds of each of the first elements
-pub record HoldsBelow {X : Type 0} (P : X → Type 0) (xs : List X) (count : ℕ) : Type 0 where
+pub record ListsBelow {X : Type 0} (P : X → Type 0) (xs : List X) (count : ℕ) : Type 0 where
   pub each : (n : ℕ) (x : X) → n < count → slice_get xs n ≡ Some x → P x
 
-pub none_yet : {X : Type 0} (P : X → Type 0) (xs : List X) → HoldsBelow P xs 0
+pub none_yet : {X : Type 0} (P : X → Type 0) (xs : List X) → ListsBelow P xs 0
 none_yet P xs = record { each = λ n x lt has. absurd (omega arith) }
 
-pub one_more : {X : Type 0} (P : X → Type 0) (xs : List X) (k : ℕ) (x : X) → k < length xs → x ≡ get_or xs k x → P x → HoldsBelow P xs k →
-    HoldsBelow P xs (k + 1)
+pub one_more : {X : Type 0} (P : X → Type 0) (xs : List X) (k : ℕ) (x : X) → k < length xs → x ≡ get_or xs k x → P x → ListsBelow P xs k →
+    ListsBelow P xs (k + 1)
 one_more P xs k x lt is p h = record {
   each = λ n y less has. elim (cases_lt n k) [
     | inl below ↦ h.each n y below has
@@ -32,7 +32,7 @@ one_more P xs k x lt is p h = record {
   ];
 }
 
-pub of_each : {X : Type 0} (P : X → Type 0) (xs : List X) (count : ℕ) → length xs ≤ count → HoldsBelow P xs count → (x : X) → Contains xs x → P x
+pub of_each : {X : Type 0} (P : X → Type 0) (xs : List X) (count : ℕ) → length xs ≤ count → ListsBelow P xs count → (x : X) → Contains xs x → P x
 of_each P xs count le h x c = h.each c.0 x (let lt : c.0 < length xs = c.1 in omega arith) (slice_get_read xs (length xs) c.0 x refl c.1 (sym c.2))
 
 -- From a test of one element to all elements.
@@ -46,50 +46,50 @@ pub fails_not : {X : Type 0} (P : X → Type 0) (x : X) (answer : Bool) → answ
 fails_not P x answer denied is p = false≢true (sym denied ∙ is.1 p)
 
 -- one of some bound identifiers
-abbrev pub Not : (Declaration → Type 0) → BoundSpot → Type 0
+abbrev pub Not : (Declaration → Type 0) → BoundIdentifier → Type 0
 Not P b = P b.declaration → ⊥
 
-pub one_has : (P : Declaration → Type 0) (bound : List BoundSpot) (k : ℕ) (b : BoundSpot) (answer : Bool) → k < length bound → b ≡ get_or bound k b →
+pub one_has : (P : Declaration → Type 0) (bound : List BoundIdentifier) (k : ℕ) (b : BoundIdentifier) (answer : Bool) → k < length bound → b ≡ get_or bound k b →
     answer ≡ true → IsTrue answer ↔ P b.declaration → IsTrue true ↔ HasBound P bound
 one_has P bound k b answer lt is e h = ((λ t. record { one = b; listed = contained bound k b lt is; holds = h.0 e }), (λ p. refl))
 
-pub none_has : (P : Declaration → Type 0) (bound : List BoundSpot) (count : ℕ) → length bound ≤ count → HoldsBelow (Not P) bound count →
+pub none_has : (P : Declaration → Type 0) (bound : List BoundIdentifier) (count : ℕ) → length bound ≤ count → ListsBelow (Not P) bound count →
     IsTrue false ↔ HasBound P bound
 none_has P bound count le h = ((λ t. absurd (false≢true t)), (λ p. absurd (of_each (Not P) bound count le h p.one p.listed p.holds)))
 
 -- those that begin at a place
-pub bound_by : (s : SoundView) (place : Place) (P : Declaration → Type 0) (here : List BoundSpot) →
-    ((b : BoundSpot) → Contains here b ↔ IsBoundHere s place b) → HasBound P here → IsBoundBy s place P
+pub bound_by : (s : FaultlessView) (place : Place) (P : Declaration → Type 0) (here : List BoundIdentifier) →
+    ((b : BoundIdentifier) → Contains here b ↔ IsBoundAtPlace s place b) → HasBound P here → IsBoundBy s place P
 bound_by s place P here each h =
     let is = (each h.one).0 h.listed in
     record { declaration = h.one.declaration; is_use = subst (IsUseOf s.workspace s.known h.one.declaration) is.1 is.0; holds = h.holds }
 
-abbrev pub spot_at : Declaration → Place → BoundSpot
+abbrev pub spot_at : Declaration → Place → BoundIdentifier
 spot_at d place = record { spot = record { path = place.path; offset = place.offset }; declaration = d }
 
-pub bound_to : (s : SoundView) (place : Place) (P : Declaration → Type 0) (here : List BoundSpot) →
-    ((b : BoundSpot) → Contains here b ↔ IsBoundHere s place b) → IsBoundBy s place P → HasBound P here
+pub bound_to : (s : FaultlessView) (place : Place) (P : Declaration → Type 0) (here : List BoundIdentifier) →
+    ((b : BoundIdentifier) → Contains here b ↔ IsBoundAtPlace s place b) → IsBoundBy s place P → HasBound P here
 bound_to s place P here each h = record { one = spot_at h.declaration place; listed = (each (spot_at h.declaration place)).1 (h.is_use, refl); holds = h.holds }
 
-pub has_as : (s : SoundView) (place : Place) (P : Declaration → Type 0) (here : List BoundSpot) (answer : Bool) →
-    ((b : BoundSpot) → Contains here b ↔ IsBoundHere s place b) → IsTrue answer ↔ HasBound P here →
+pub has_as : (s : FaultlessView) (place : Place) (P : Declaration → Type 0) (here : List BoundIdentifier) (answer : Bool) →
+    ((b : BoundIdentifier) → Contains here b ↔ IsBoundAtPlace s place b) → IsTrue answer ↔ HasBound P here →
     IsTrue answer ↔ IsBoundBy s place P
 has_as s place P here answer each h = ((λ t. bound_by s place P here each (h.0 t)), (λ b. h.1 (bound_to s place P here each b)))
 
-module _ (before then : SoundView) (moved : Place → Place) where
+module _ (before then : FaultlessView) (moved : Place → Place) where
   -- all bound identifiers
-  pub keeps_all : (bound : List BoundSpot) → ((b : BoundSpot) → Contains bound b ↔ IsBoundIn before b) →
-      ((b : BoundSpot) → Contains bound b → IsKept before then moved b) → KeepsAll before then moved
+  pub keeps_all : (bound : List BoundIdentifier) → ((b : BoundIdentifier) → Contains bound b ↔ IsBoundInView before b) →
+      ((b : BoundIdentifier) → Contains bound b → IsKept before then moved b) → KeepsAll before then moved
   keeps_all bound each h place d is = h (spot_at d place) ((each (spot_at d place)).1 is)
 
-  pub kept_one : (bound : List BoundSpot) → ((b : BoundSpot) → Contains bound b ↔ IsBoundIn before b) → KeepsAll before then moved → (b : BoundSpot) →
+  pub kept_one : (bound : List BoundIdentifier) → ((b : BoundIdentifier) → Contains bound b ↔ IsBoundInView before b) → KeepsAll before then moved → (b : BoundIdentifier) →
       Contains bound b → IsKept before then moved b
-  kept_one bound each h b c = h (place_at b) b.declaration ((each b).0 c)
+  kept_one bound each h b c = h (bound_place b) b.declaration ((each b).0 c)
 
   -- what is bound at a place afterwards
-  pub were_as : (place : Place) (old new : List BoundSpot) (answer : Bool) → ((b : BoundSpot) → Contains old b ↔ IsBoundHere before place b) →
-      ((b : BoundSpot) → Contains new b ↔ IsBoundHere then (moved place) b) →
-      IsTrue answer ↔ AllWere before then moved old new → IsTrue answer ↔ AddsNone before then moved place
+  pub were_as : (place : Place) (old new : List BoundIdentifier) (answer : Bool) → ((b : BoundIdentifier) → Contains old b ↔ IsBoundAtPlace before place b) →
+      ((b : BoundIdentifier) → Contains new b ↔ IsBoundAtPlace then (moved place) b) →
+      IsTrue answer ↔ AllCorrespond before then moved old new → IsTrue answer ↔ AddsNone before then moved place
   were_as place old new answer each_old each_new h = (
     (λ t e is. bound_by before place (λ d. Becomes before then moved d e) old each_old
         (h.0 t (spot_at e (moved place)) ((each_new (spot_at e (moved place))).1 (is, refl)))),

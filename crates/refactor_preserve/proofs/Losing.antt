@@ -8,21 +8,21 @@ use Rattle.base_edits.specs.EditSet.{FileChanges, edited}
 use Rattle.base_edits.specs.Moved.{moved}
 use Rattle.types_declared.specs.Package.{Package}
 use Rattle.workspace_check.specs.Verdicts.{AreVerdicts}
-use Rattle.refs_binding.specs.declared.bound_spot.BoundSpot.{BoundSpot}
+use Rattle.refs_binding.specs.declared.bound_identifier.BoundIdentifier.{BoundIdentifier}
 use Rattle.refs_binding.specs.declared.declaration.Declaration.{Declaration}
-use Rattle.refs_binding.specs.Bindings.{place_at}
+use Rattle.refs_binding.specs.Bindings.{bound_place}
 use Rattle.refs_binding.specs.Workspaces.{known_in}
 use Rattle.base_edits.specs.Revisions.{Revision}
-use Rattle.base_edits.specs.RevisionsOfEdits.{called_by, revision_of}
+use Rattle.base_edits.specs.RevisionsOfEdits.{new_name_at, revision_of}
 use Rattle.refactor_preserve.specs.Affected.{AreAffected}
 use Rattle.refactor_preserve.specs.declared.among.MarkedPackages.{MarkedPackages}
 use Rattle.refactor_preserve.specs.declared.answer.Answer.{Answer}
 use Rattle.refactor_preserve.specs.declared.answer.Answer.TheVariants.{Yes, No, Unknown}
-use Rattle.refactor_preserve.specs.Among.{view_among, IsBoundMarked, IsBoundThere, TellsMarked}
-use Rattle.refactor_preserve.specs.Answers.{Tells}
+use Rattle.refactor_preserve.specs.Among.{view_among, IsBoundMarked, IsBoundThere, AnswersForMarked}
+use Rattle.refactor_preserve.specs.Answers.{AnswersFor}
 use Rattle.refactor_preserve.specs.Preserved.{KeepsBindings}
-use Rattle.refs_binding.specs.Standing.{IsDeclaredAt}
-use Rattle.refs_index.specs.Sound.{SoundView, packages_of}
+use Rattle.refs_binding.specs.DeclaringPlaces.{IsDeclaredAt}
+use Rattle.refs_index.specs.FaultlessViews.{FaultlessView, view_packages}
 use Rattle.refs_index.specs.Becoming.{IsSamePredeclared, Becomes}
 use Rattle.refactor_preserve.specs.Steps.{HasBound, IsKept}
 use Rattle.refs_index.proofs.Becoming.{old_nowhere, new_nowhere}
@@ -33,26 +33,26 @@ use Rattle.refactor_preserve.proofs.Marked.{IsMarkedFolder, among_use, use_among
 stands_nowhere : (B : Package → Type 0) (d : Declaration) → IsSamePredeclared d d → (place : Place) → IsDeclaredAt B d place → ⊥
 stands_nowhere B d h place at = subst (λ x. IsDeclaredAt B x place) h.one at
 
-module _ (before then : SoundView) (moved : Place → Place) (d e : Declaration) (r : Bool) (same : IsTrue r ↔ IsSamePredeclared d e) (denied : r ≡ false) where
+module _ (before then : FaultlessView) (moved : Place → Place) (d e : Declaration) (r : Bool) (same : IsTrue r ↔ IsSamePredeclared d e) (denied : r ≡ false) where
   pub becomes_no_other : IsSamePredeclared d d → Becomes before then moved d e → ⊥
-  becomes_no_other h b = false≢true ((old_nowhere before then moved d e r same denied (stands_nowhere (packages_of before) d h)).1 b)
+  becomes_no_other h b = false≢true ((old_nowhere before then moved d e r same denied (stands_nowhere (view_packages before) d h)).1 b)
 
   pub none_becomes : IsSamePredeclared e e → Becomes before then moved d e → ⊥
-  none_becomes h b = false≢true ((new_nowhere before then moved d e r same denied (stands_nowhere (packages_of then) e h)).1 b)
+  none_becomes h b = false≢true ((new_nowhere before then moved d e r same denied (stands_nowhere (view_packages then) e h)).1 b)
 
 -- If no identifier at the place to which an identifier is moved is bound to what its declaration has become, it does not stay bound.
-pub lost_here : (before then : MarkedPackages) (moved : Place → Place) (b : BoundSpot) (to : Place) (here : List BoundSpot) → to ≡ moved (place_at b) →
-    IsMarkedFolder then to → ((x : BoundSpot) → Contains here x ↔ IsBoundThere then to x) →
+pub lost_here : (before then : MarkedPackages) (moved : Place → Place) (b : BoundIdentifier) (to : Place) (here : List BoundIdentifier) → to ≡ moved (bound_place b) →
+    IsMarkedFolder then to → ((x : BoundIdentifier) → Contains here x ↔ IsBoundThere then to x) →
     (HasBound (λ e. Becomes (view_among before) (view_among then) moved b.declaration e) here → ⊥) →
     IsKept (view_among before) (view_among then) moved b → ⊥
 lost_here before then moved b to here same within each none kept =
-    let place : IsMarkedFolder then (moved (place_at b)) = subst (IsMarkedFolder then) same within in
-    let there : (x : BoundSpot) → Contains here x ↔ IsBoundThere then (moved (place_at b)) x =
-    subst (λ (q : Place). (x : BoundSpot) → Contains here x ↔ IsBoundThere then q x) same each in
-    let x = spot_at kept.declaration (moved (place_at b)) in
+    let place : IsMarkedFolder then (moved (bound_place b)) = subst (IsMarkedFolder then) same within in
+    let there : (x : BoundIdentifier) → Contains here x ↔ IsBoundThere then (moved (bound_place b)) x =
+    subst (λ (q : Place). (x : BoundIdentifier) → Contains here x ↔ IsBoundThere then q x) same each in
+    let x = spot_at kept.declaration (moved (bound_place b)) in
     none (record {
       one = x;
-      listed = (there x).1 (use_among then kept.declaration (moved (place_at b)) place.0 place.1 place.2 kept.is_use, refl);
+      listed = (there x).1 (use_among then kept.declaration (moved (bound_place b)) place.0 place.1 place.2 kept.is_use, refl);
       holds = kept.holds;
     })
 
@@ -60,18 +60,18 @@ module _ (before then : MarkedPackages) (s : FileChanges) (right : AreVerdicts b
     (also : AreVerdicts then.graph.now (known_in then.found.now))
     (are : AreAffected before.graph.now before.graph.now then.graph.now s before.marks.now) (same : then.graph.now ≡ edited s before.graph.now) where
   abbrev revision_to : Workspace → Revision
-  revision_to x = record { after = x; moved = moved s; called = called_by s }
+  revision_to x = record { after = x; moved = moved s; called = new_name_at s }
 
-  lost_by_marked : (b : BoundSpot) → IsBoundMarked before b → (IsKept (view_among before) (view_among then) (moved s) b → ⊥) →
+  lost_by_marked : (b : BoundIdentifier) → IsBoundMarked before b → (IsKept (view_among before) (view_among then) (moved s) b → ⊥) →
       KeepsBindings before.graph.now (known_in before.found.now) (revision_of before.graph.now s) (known_in then.found.now) → ⊥
   lost_by_marked b is lost kept =
       let here : KeepsBindings before.graph.now (known_in before.found.now) (revision_to then.graph.now) (known_in then.found.now) =
       subst (λ x. KeepsBindings before.graph.now (known_in before.found.now) (revision_to x) (known_in then.found.now)) (sym same) kept in
-      lost (here.keeps (place_at b) b.declaration (among_use before b is))
+      lost (here.keeps (bound_place b) b.declaration (among_use before b is))
 
   -- what the marked packages tell of all
-  pub told_by_marked : (answer : Answer) → TellsMarked before then (moved s) answer →
-      Tells answer (KeepsBindings before.graph.now (known_in before.found.now) (revision_of before.graph.now s) (known_in then.found.now))
+  pub told_by_marked : (answer : Answer) → AnswersForMarked before then (moved s) answer →
+      AnswersFor answer (KeepsBindings before.graph.now (known_in before.found.now) (revision_of before.graph.now s) (known_in then.found.now))
   told_by_marked Yes h = kept_by_marked before then s right also are same h.0 h.1
   told_by_marked No h = lost_by_marked h.0 h.1.0 h.1.1
   told_by_marked Unknown h = h

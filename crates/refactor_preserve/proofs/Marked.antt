@@ -12,29 +12,29 @@ use Rattle.base_files.specs.declared.place.Place.{Place}
 use Rattle.base_edits.specs.EditSet.{FileChanges, edited}
 use Rattle.base_edits.specs.Moved.{moved}
 use Rattle.workspace_graph.specs.Search.{IsMarked}
-use Rattle.workspace_graph.proofs.Asked.{number}
+use Rattle.workspace_graph.proofs.ByPath.{number}
 use Rattle.types_declared.specs.Package.{Package}
 use Rattle.workspace_check.specs.Verdicts.{Verdicts, AreVerdicts}
-use Rattle.refs_binding.specs.declared.bound_spot.BoundSpot.{BoundSpot}
+use Rattle.refs_binding.specs.declared.bound_identifier.BoundIdentifier.{BoundIdentifier}
 use Rattle.refs_binding.specs.declared.declaration.Declaration.{Declaration}
 use Rattle.refs_binding.specs.declared.declaration.Declaration.TheVariants.{Predeclared, Declared, Field, Method}
-use Rattle.refs_binding.specs.Bindings.{place_at}
+use Rattle.refs_binding.specs.Bindings.{bound_place}
 use Rattle.refs_binding.specs.Uses.{IsPackage, IsUseOf}
 use Rattle.refs_binding.specs.Workspaces.{IsPackageAt, known_in}
-use Rattle.refs_binding.specs.Standing.{StandsIn, IsDeclaredAt}
+use Rattle.refs_binding.specs.DeclaringPlaces.{DeclaresAt, IsDeclaredAt}
 use Rattle.refs_binding.proofs.PackageNumbers.{in_package}
 use Rattle.refs_binding.proofs.Folders.{begins_in_folder}
 use Rattle.base_edits.specs.Revisions.{Revision}
-use Rattle.base_edits.specs.RevisionsOfEdits.{called_by, revision_of}
+use Rattle.base_edits.specs.RevisionsOfEdits.{new_name_at, revision_of}
 use Rattle.refactor_preserve.specs.Affected.{AreAffected}
 use Rattle.refactor_preserve.specs.declared.among.MarkedPackages.{MarkedPackages}
 use Rattle.refs_places.specs.declared.declared_places.DeclaredPlaces.{DeclaredPlaces}
 use Rattle.refs_index.specs.Corresponding.{stands}
-use Rattle.refs_index.specs.Sound.{packages_of}
-use Rattle.refactor_preserve.specs.Among.{AreHeldOf, BothGo, view_among, IsBoundMarked, IsBoundThere, IsIdentifierAmong, BecomesAmong, AllWereAmong}
+use Rattle.refs_index.specs.FaultlessViews.{view_packages}
+use Rattle.refactor_preserve.specs.Among.{AreHeldOf, BothGo, view_among, IsBoundMarked, IsBoundThere, IsIdentifierAmong, BecomesAmong, AllCorrespondAmong}
 use Rattle.refactor_preserve.specs.Among.{AddsNoneAmong, KeepsMarked, AddsMarked}
-use Rattle.refs_places.specs.DeclaredPlaces.{IsFoundIn, AreDeclaredIn, AreDeclaredAt, IsPlaceIn}
-use Rattle.refs_places.specs.Outside.{path_by}
+use Rattle.refs_places.specs.DeclaredPlaces.{IsChoiceIn, AreDeclaredIn, AreDeclaredAt, IsPlaceIn}
+use Rattle.refs_places.specs.Outside.{declaring_path}
 use Rattle.refactor_preserve.specs.BoundToOne.{IsBoundToOne}
 use Rattle.refactor_preserve.specs.Preserved.{KeepsBindings}
 use Rattle.refs_places.specs.Identified.{IsIdentifierAt}
@@ -44,7 +44,7 @@ use Rattle.refactor_preserve.proofs.Every.{spot_at}
 use Rattle.refactor_preserve.proofs.Unaffected.{Becoming, unaffected_becomes, unaffected_keeps, unaffected_adds}
 
 -- a bound identifier of a marked package is one of the workspace, and begins in the folder of the package
-pub among_use : (s : MarkedPackages) (b : BoundSpot) → IsBoundMarked s b → IsUseOf s.graph.now (known_in s.found.now) b.declaration (place_at b)
+pub among_use : (s : MarkedPackages) (b : BoundIdentifier) → IsBoundMarked s b → IsUseOf s.graph.now (known_in s.found.now) b.declaration (bound_place b)
 among_use s b h = record {
   used_in = h.bound.used_in;
   is_package = h.bound.is_package.is_package;
@@ -134,7 +134,7 @@ module _ (before then : MarkedPackages) (s : FileChanges) (right : AreVerdicts b
       number before.graph.now (folder place.path) (subst (Contains (package_paths before.graph.now)) own i.is_package.of_workspace)
 
   abbrev revision_to : Workspace → Revision
-  revision_to x = record { after = x; moved = moved s; called = called_by s }
+  revision_to x = record { after = x; moved = moved s; called = new_name_at s }
 
   all_kept : KeepsMarked before then (moved s) → AddsMarked before then (moved s) →
       KeepsBindings before.graph.now (known_in before.found.now) (revision_to then.graph.now) (known_in then.found.now)
@@ -160,8 +160,8 @@ abbrev pub IsMarkedFolder : MarkedPackages → Place → Type 0
 IsMarkedFolder s place = (n : ℕ) × (slice_get (package_paths s.graph.now) n ≡ Some (folder place.path)) × IsMarked s.marks.now n
 
 -- those that begin at a place
-pub bound_among : (s : MarkedPackages) (place : Place) (P : Declaration → Type 0) (here : List BoundSpot) →
-    ((b : BoundSpot) → Contains here b ↔ IsBoundThere s place b) → HasBound P here → IsBoundBy (view_among s) place P
+pub bound_among : (s : MarkedPackages) (place : Place) (P : Declaration → Type 0) (here : List BoundIdentifier) →
+    ((b : BoundIdentifier) → Contains here b ↔ IsBoundThere s place b) → HasBound P here → IsBoundBy (view_among s) place P
 bound_among s place P here each h =
     let is = (each h.one).0 h.listed in
     record {
@@ -170,41 +170,41 @@ bound_among s place P here each h =
       holds = h.holds;
     }
 
-pub were_among : (before then : MarkedPackages) (moved : Place → Place) (place : Place) (old new : List BoundSpot) → IsMarkedFolder then (moved place) →
-    ((b : BoundSpot) → Contains old b ↔ IsBoundThere before place b) → ((b : BoundSpot) → Contains new b ↔ IsBoundThere then (moved place) b) →
-    AllWereAmong before then moved old new → AddsNoneAmong before then moved place
+pub were_among : (before then : MarkedPackages) (moved : Place → Place) (place : Place) (old new : List BoundIdentifier) → IsMarkedFolder then (moved place) →
+    ((b : BoundIdentifier) → Contains old b ↔ IsBoundThere before place b) → ((b : BoundIdentifier) → Contains new b ↔ IsBoundThere then (moved place) b) →
+    AllCorrespondAmong before then moved old new → AddsNoneAmong before then moved place
 were_among before then moved place old new within each_old each_new all e is =
     let b = spot_at e (moved place) in
     bound_among before place (λ d. BecomesAmong before then moved d e) old each_old
     (all b ((each_new b).1 (use_among then e (moved place) within.0 within.1 within.2 is, refl)))
 
-pub both_ways : (all here : List BoundSpot) (s : MarkedPackages) (place : Place) (b : BoundSpot) → Contains all b ↔ IsBoundMarked s b →
-    Contains here b ↔ (Contains all b × (place_at b ≡ place)) → Contains here b ↔ IsBoundThere s place b
+pub both_ways : (all here : List BoundIdentifier) (s : MarkedPackages) (place : Place) (b : BoundIdentifier) → Contains all b ↔ IsBoundMarked s b →
+    Contains here b ↔ (Contains all b × (bound_place b ≡ place)) → Contains here b ↔ IsBoundThere s place b
 both_ways all here s place b are some = ((λ h. let x = some.0 h in (are.0 x.0, x.1)), (λ h. some.1 (are.1 h.0, h.1)))
 
 -- A declaration at a place in the package of its path is declared there.
 declared_in : (w : Workspace) (known : Verdicts) (n : ℕ) (p : Package) (path : List ℕ) (d : Declaration) (place : Place) → IsPackageAt w known n p →
-    slice_get (package_paths w) n ≡ Some path → path_by d ≡ Some path → StandsIn p d place → IsDeclaredAt (IsPackage w known) d place
+    slice_get (package_paths w) n ≡ Some path → declaring_path d ≡ Some path → DeclaresAt p d place → IsDeclaredAt (IsPackage w known) d place
 declared_in w known n p path (Predeclared m) place is at of h = absurd (none-some path of)
 declared_in w known n p path (Declared q m) place is at of h =
-    in_package w known n p q (λ c. StandsIn c (Declared q m) place) is (at ∙ sym of) h
+    in_package w known n p q (λ c. DeclaresAt c (Declared q m) place) is (at ∙ sym of) h
 declared_in w known n p path (Field s) place is at of h =
-    in_package w known n p s.package (λ c. StandsIn c (Field s) place) is (at ∙ sym of) h
+    in_package w known n p s.package (λ c. DeclaresAt c (Field s) place) is (at ∙ sym of) h
 declared_in w known n p path (Method s) place is at of h =
-    in_package w known n p s.package (λ c. StandsIn c (Method s) place) is (at ∙ sym of) h
+    in_package w known n p s.package (λ c. DeclaresAt c (Method s) place) is (at ∙ sym of) h
 
-some_found : {X : Type 0} (P Q : X → Type 0) (o : Option (Bor X)) → ((x : X) → P x → Q x) → IsFoundIn P o → IfSome o (λ x. Q x.now)
+some_found : {X : Type 0} (P Q : X → Type 0) (o : Option (Bor X)) → ((x : X) → P x → Q x) → IsChoiceIn P o → IfSome o (λ x. Q x.now)
 some_found P Q None to h = tt
 some_found P Q (Some x) to h = to x.now h
 
 -- The place of a declaration of a marked package.
 pub place_among : (w : Workspace) (known : Verdicts) (marks : List Bool) (all : List (Option DeclaredPlaces)) (n : ℕ) (path : List ℕ) (d : Declaration)
-    (places : DeclaredPlaces) (o : Option (Bor Place)) → AreHeldOf w known marks all → slice_get (package_paths w) n ≡ Some path → path_by d ≡ Some path →
+    (places : DeclaredPlaces) (o : Option (Bor Place)) → AreHeldOf w known marks all → slice_get (package_paths w) n ≡ Some path → declaring_path d ≡ Some path →
     slice_get all n ≡ Some (Some places) → ((p : Package) → AreDeclaredIn p places → IsPlaceIn p d o) →
     IfSome o (λ place. IsDeclaredAt (IsPackage w known) d place.now)
 place_among w known marks all n path d places o are at of has told =
     let here : AreDeclaredAt w known n places = are.each n (Some places) has in
-    some_found (StandsIn here.inside d) (IsDeclaredAt (IsPackage w known) d) o
+    some_found (DeclaresAt here.inside d) (IsDeclaredAt (IsPackage w known) d) o
     (λ place h. declared_in w known n here.inside path d place here.is_package at of h) (told here.inside here.declared)
 
 of_some : {X : Type 0} (P : X → Type 0) (o : Option (Bor X)) (x : X) → IfSome o (λ y. P y.now) → option_copied o ≡ Some x → P x
@@ -213,9 +213,9 @@ of_some P (Some b) x h e = subst P (same_Some b.now x e) h
 
 -- where both declarations stand at known places, and the one goes to the other
 pub become_by : (before then : MarkedPackages) (moved : Place → Place) (d e : Declaration) (old new : Option (Bor Place)) →
-    IfSome old (λ place. IsDeclaredAt (packages_of (view_among before)) d place.now) →
-    IfSome new (λ place. IsDeclaredAt (packages_of (view_among then)) e place.now) → BothGo moved (option_copied old) (option_copied new) →
+    IfSome old (λ place. IsDeclaredAt (view_packages (view_among before)) d place.now) →
+    IfSome new (λ place. IsDeclaredAt (view_packages (view_among then)) e place.now) → BothGo moved (option_copied old) (option_copied new) →
     Becoming_to (view_among before) (view_among then) moved d e
 become_by before then moved d e old new here there h =
-    stands h.from (of_some (IsDeclaredAt (packages_of (view_among before)) d) old h.from here h.is_old)
-    (of_some (IsDeclaredAt (packages_of (view_among then)) e) new (moved h.from) there h.is_new)
+    stands h.from (of_some (IsDeclaredAt (view_packages (view_among before)) d) old h.from here h.is_old)
+    (of_some (IsDeclaredAt (view_packages (view_among then)) e) new (moved h.from) there h.is_new)

@@ -24,7 +24,7 @@ use Rattle.build_carry.specs.Changes.{MarkClosures, MarkFolders}
 use Rattle.build_carry.proofs.ChangedFolders.{marks_skip, marks_more}
 use Rattle.build_carry.proofs.ClosureTexts.{package_there}
 use Rattle.refactor_preserve.specs.Affected.{IsUnaffected, AreAffected}
-use Rattle.refactor_preserve.specs.Marking.{folders_of, TellsAffected}
+use Rattle.refactor_preserve.specs.Marking.{folders_of, FindsAffected}
 
 -- the folder of a changed file is among their folders
 folder_among : (changed : List FileChange) (c : FileChange) → Contains changed c → Contains (folders_of changed) (folder c.path)
@@ -58,11 +58,11 @@ module _ (w : Workspace) (s : FileChanges) (n : ℕ) (p : List ℕ) (at : slice_
 -- Whether a package is affected that is there before and after the change.
 module _ (w x : Workspace) (s : FileChanges) (n : ℕ) where
   abbrev Tells : Bool → Type 0
-  Tells answer = OfPackage w n (λ p. TellsAffected w x s p answer)
+  Tells answer = OfPackage w n (λ p. FindsAffected w x s p answer)
 
   -- The answer about the package at one path.
-  pub tells_one : (p : List ℕ) → slice_get (package_paths w) n ≡ Some p → (answer : Bool) → TellsAffected w x s p answer → Tells answer
-  tells_one p at answer told q there = subst (λ r. TellsAffected w x s r answer) (same_Some p q (sym at ∙ there)) told
+  pub tells_one : (p : List ℕ) → slice_get (package_paths w) n ≡ Some p → (answer : Bool) → FindsAffected w x s p answer → Tells answer
+  tells_one p at answer told q there = subst (λ r. FindsAffected w x s r answer) (same_Some p q (sym at ∙ there)) told
 
   pub by_touched : (p : List ℕ) → slice_get (package_paths w) n ≡ Some p → (touched : List Bool) →
       MarkClosures w (folders_of s.changed) touched → IsMarked touched n → Tells true
@@ -77,22 +77,22 @@ module _ (w x : Workspace) (s : FileChanges) (n : ℕ) where
       tells_one p at true (λ (h : IsUnaffected w x s p). false≢true (is.1 h.same))
 
 -- a package that is there on one side alone is affected
-pub gone : (w x : Workspace) (s : FileChanges) (p : List ℕ) → Contains (package_paths w) p → (Contains (package_paths x) p → ⊥) → TellsAffected w x s p true
+pub gone : (w x : Workspace) (s : FileChanges) (p : List ℕ) → Contains (package_paths w) p → (Contains (package_paths x) p → ⊥) → FindsAffected w x s p true
 gone w x s p has none = λ (is : IsUnaffected w x s p). none (package_there w x p has is.same)
 
-pub come : (w x : Workspace) (s : FileChanges) (p : List ℕ) → Contains (package_paths x) p → (Contains (package_paths w) p → ⊥) → TellsAffected w x s p true
+pub come : (w x : Workspace) (s : FileChanges) (p : List ℕ) → Contains (package_paths x) p → (Contains (package_paths w) p → ⊥) → FindsAffected w x s p true
 come w x s p has none = λ (is : IsUnaffected w x s p). none (package_there x w p has (same_back w x p is.same))
 
 -- the marks of the first packages
 pub record AreMarked (v w x : Workspace) (s : FileChanges) (count : ℕ) (marks : List Bool) : Type 0 where
   pub size : length marks ≡ count
-  pub each : (i : ℕ) (p : List ℕ) → i < count → slice_get (package_paths v) i ≡ Some p → TellsAffected w x s p (get_or marks i false)
+  pub each : (i : ℕ) (p : List ℕ) → i < count → slice_get (package_paths v) i ≡ Some p → FindsAffected w x s p (get_or marks i false)
 
 module _ (v w x : Workspace) (s : FileChanges) where
   pub no_marks : (marks : List Bool) → marks ≡ [] → AreMarked v w x s 0 marks
   no_marks marks e = record { size = ap length e; each = λ i p lt at. absurd (omega arith) }
 
-  pub more_marks : (count : ℕ) (old new : List Bool) (mark : Bool) → OfPackage v count (λ p. TellsAffected w x s p mark) → new ≡ old ++ (mark ∷ []) →
+  pub more_marks : (count : ℕ) (old new : List Bool) (mark : Bool) → OfPackage v count (λ p. FindsAffected w x s p mark) → new ≡ old ++ (mark ∷ []) →
       AreMarked v w x s count old → AreMarked v w x s (count + 1) new
   more_marks count old new mark told grown h = record {
     size = ap length grown ∙ length_push old mark ∙ ap (λ n. n + 1) h.size;
@@ -100,16 +100,16 @@ module _ (v w x : Workspace) (s : FileChanges) where
       | inl below ↦ (
           let same : get_or new i false ≡ get_or old i false =
           ap (λ l. get_or l i false) grown ∙ get_or_append_left old (mark ∷ []) false i (omega (arith, h.size)) in
-          subst (TellsAffected w x s p) (sym same) (h.each i p below at))
+          subst (FindsAffected w x s p) (sym same) (h.each i p below at))
       | inr ge ↦ (
           let last : i ≡ count = omega arith in
           let same : get_or new count false ≡ mark = ap (λ l. get_or l count false) grown ∙ get_or_push old mark false count h.size in
-          subst (λ k. TellsAffected w x s p (get_or new k false)) (sym last)
-          (subst (TellsAffected w x s p) (sym same) (told p (subst (λ (k : ℕ). slice_get (package_paths v) k ≡ Some p) last at))))
+          subst (λ k. FindsAffected w x s p (get_or new k false)) (sym last)
+          (subst (FindsAffected w x s p) (sym same) (told p (subst (λ (k : ℕ). slice_get (package_paths v) k ≡ Some p) last at))))
     ];
   }
 
-  by_mark : (p : List ℕ) (b mark : Bool) → b ≡ mark → TellsAffected w x s p mark →
+  by_mark : (p : List ℕ) (b mark : Bool) → b ≡ mark → FindsAffected w x s p mark →
       ((b ≡ true) → IsUnaffected w x s p → ⊥) × (((b ≡ true) → ⊥) → IsUnaffected w x s p)
   by_mark p b true e told = ((λ t is. told is), (λ no. absurd (no e)))
   by_mark p b false e told = ((λ t is. true≢false (sym t ∙ e)), (λ no. told))

@@ -13,19 +13,19 @@ use Rattle.types_declared.proofs.Mentioning.{get_set_same, get_set_other}
 use Rattle.workspace_check.proofs.Members.{nothing_in}
 use Rattle.refs_index.specs.KnownExports.{AreSomeExports}
 use Rattle.refs_binding.specs.Bindings.{AddsAll, IsBoundAt, IsBoundAmong}
-use Rattle.refs_binding.specs.Exports.{AreNumbersAt}
+use Rattle.refs_binding.specs.Exports.{AreExportsByNameAt}
 use Rattle.refs_binding.specs.Packages.{HoldsOfEach}
 use Rattle.refs_binding.specs.Workspaces.{known_in}
 use Rattle.refs_binding.proofs.AddingAll.{all_as, all_none, all_then}
 use Rattle.refs_binding.proofs.BindingOrder.{bound_in_range}
 use Rattle.refs_binding.proofs.Units.{number_within}
 use Rattle.refactor_preserve.specs.Among.{AreHeldOf, IsIdentifierAmong}
-use Rattle.refactor_preserve.specs.ReadSoFar.{HoldsAllNumbers, IsHeldOfSome, IsReadSoFar, MayRead, OfSome, ReadsOne}
-use Rattle.refactor_preserve.specs.declared.reading_order.SoFar.{SoFar}
-use Rattle.refactor_preserve.specs.declared.reading_order.Wanted.{Wanted}
+use Rattle.refactor_preserve.specs.ReadStates.{HoldsAllNumbers, IsHeldOfSome, IsReadState, ReadsIfMarked, OfSome, ReadsOne}
+use Rattle.refactor_preserve.specs.declared.reading_order.ReadState.{ReadState}
+use Rattle.refactor_preserve.specs.declared.reading_order.ToRead.{ToRead}
 use Rattle.refs_places.specs.declared.declared_places.DeclaredPlaces.{DeclaredPlaces}
 use Rattle.refs_places.specs.DeclaredPlaces.{AreDeclaredAt}
-use Rattle.refs_places.specs.Identified.{BeginsInNumber}
+use Rattle.refs_places.specs.Identified.{BeginsInPackageAt}
 
 -- a list of so many things, of which one is set
 
@@ -59,10 +59,10 @@ told_by_more Q some more n still own cases a b c h k =
 
 -- nothing was read
 
-pub nothing_read : (wanted : Wanted) (s : SoFar) →
+pub nothing_read : (wanted : ToRead) (s : ReadState) →
     HoldsOfEach (λ n held. held ≡ None) (length (package_paths wanted.graph.now)) s.places.items →
     HoldsOfEach (λ n held. held ≡ None) (length (package_paths wanted.graph.now)) s.numbers.items →
-    s.gathered.bound.items ≡ [] → s.gathered.identifiers.items ≡ [] → IsReadSoFar wanted [] s
+    s.gathered.bound.items ≡ [] → s.gathered.identifiers.items ≡ [] → IsReadState wanted [] s
 nothing_read wanted s places numbers bound identifiers =
     let w = wanted.graph.now in
     let known = known_in wanted.found.now in
@@ -74,22 +74,22 @@ nothing_read wanted s places numbers bound identifiers =
       };
       exports = record {
         size = numbers.size;
-        each = λ n held at. subst (λ (o : Option (BTreeMap (Vec ℕ) ℕ)). IfSome o (AreNumbersAt w known n)) (sym (numbers.each n held at)) tt;
+        each = λ n held at. subst (λ (o : Option (BTreeMap (Vec ℕ) ℕ)). IfSome o (AreExportsByNameAt w known n)) (sym (numbers.each n held at)) tt;
       };
       bound = told_by_none (λ n b. IsMarked marks n × IsBoundAt w known n b) s.gathered.bound.items bound;
-      identifiers = λ _. told_by_none (λ n place. IsMarked marks n × BeginsInNumber w known n place) s.gathered.identifiers.items identifiers;
+      identifiers = λ _. told_by_none (λ n place. IsMarked marks n × BeginsInPackageAt w known n place) s.gathered.identifiers.items identifiers;
     }
 
 -- one more was passed
 
-held_still : (wanted : Wanted) (some more : List ℕ) (m : ℕ) (held : Option DeclaredPlaces) → (Contains more m → IsMarked wanted.marks.now m → Contains some m) →
+held_still : (wanted : ToRead) (some more : List ℕ) (m : ℕ) (held : Option DeclaredPlaces) → (Contains more m → IsMarked wanted.marks.now m → Contains some m) →
     IsHeldOfSome wanted some m held → IsHeldOfSome wanted more m held
 held_still wanted some more m None back h = λ in_more marked. h (back in_more marked) marked
 held_still wanted some more m (Some places) back h = h
 
-one_read : (wanted : Wanted) (some more : List ℕ) (n : ℕ) → n < length (package_paths wanted.graph.now) → ((m : ℕ) → Contains some m → Contains more m) →
+one_read : (wanted : ToRead) (some more : List ℕ) (n : ℕ) → n < length (package_paths wanted.graph.now) → ((m : ℕ) → Contains some m → Contains more m) →
     Contains more n → ((m : ℕ) → Contains more m → Contains some m ⊎ (n ≡ m)) →
-    (old new : SoFar) → IsReadSoFar wanted some old → IsMarked wanted.marks.now n → ReadsOne wanted n old new → IsReadSoFar wanted more new
+    (old new : ReadState) → IsReadState wanted some old → IsMarked wanted.marks.now n → ReadsOne wanted n old new → IsReadState wanted more new
 one_read wanted some more n lt still own cases old new h marked r =
     let w = wanted.graph.now in
     let known = known_in wanted.found.now in
@@ -116,15 +116,15 @@ one_read wanted some more n lt still own cases old new h marked r =
       bound = told_by_more (λ m b. IsMarked marks m × IsBoundAt w known m b) some more n still own cases [] old.gathered.bound.items new.gathered.bound.items
           h.bound (all_as old.gathered.bound.items new.gathered.bound.items (IsBoundAt w known n) (λ b. IsMarked marks n × IsBoundAt w known n b)
           (λ b x. (marked, x)) (λ b x. x.1) r.bound);
-      identifiers = λ t. told_by_more (λ m place. IsMarked marks m × BeginsInNumber w known m place) some more n still own cases []
+      identifiers = λ t. told_by_more (λ m place. IsMarked marks m × BeginsInPackageAt w known m place) some more n still own cases []
           old.gathered.identifiers.items new.gathered.identifiers.items (h.identifiers t)
-          (all_as old.gathered.identifiers.items new.gathered.identifiers.items (BeginsInNumber w known n)
-          (λ place. IsMarked marks n × BeginsInNumber w known n place) (λ place x. (marked, x)) (λ place x. x.1) (r.identifiers t));
+          (all_as old.gathered.identifiers.items new.gathered.identifiers.items (BeginsInPackageAt w known n)
+          (λ place. IsMarked marks n × BeginsInPackageAt w known n place) (λ place x. (marked, x)) (λ place x. x.1) (r.identifiers t));
     }
 
-one_passed : (wanted : Wanted) (some more : List ℕ) (n : ℕ) → ((m : ℕ) → Contains some m → Contains more m) →
+one_passed : (wanted : ToRead) (some more : List ℕ) (n : ℕ) → ((m : ℕ) → Contains some m → Contains more m) →
     Contains more n → ((m : ℕ) → Contains more m → Contains some m ⊎ (n ≡ m)) →
-    (old : SoFar) → IsReadSoFar wanted some old → (IsMarked wanted.marks.now n → ⊥) → IsReadSoFar wanted more old
+    (old : ReadState) → IsReadState wanted some old → (IsMarked wanted.marks.now n → ⊥) → IsReadState wanted more old
 one_passed wanted some more n still own cases old h unmarked =
     let w = wanted.graph.now in
     let known = known_in wanted.found.now in
@@ -139,27 +139,27 @@ one_passed wanted some more n still own cases old h unmarked =
       exports = h.exports;
       bound = told_by_more (λ m b. IsMarked marks m × IsBoundAt w known m b) some more n still own cases [] old.gathered.bound.items old.gathered.bound.items
           h.bound (all_none old.gathered.bound.items (λ b. IsMarked marks n × IsBoundAt w known n b) (λ b x. unmarked x.0));
-      identifiers = λ t. told_by_more (λ m place. IsMarked marks m × BeginsInNumber w known m place) some more n still own cases []
+      identifiers = λ t. told_by_more (λ m place. IsMarked marks m × BeginsInPackageAt w known m place) some more n still own cases []
           old.gathered.identifiers.items old.gathered.identifiers.items (h.identifiers t)
-          (all_none old.gathered.identifiers.items (λ place. IsMarked marks n × BeginsInNumber w known n place) (λ place x. unmarked x.0));
+          (all_none old.gathered.identifiers.items (λ place. IsMarked marks n × BeginsInPackageAt w known n place) (λ place x. unmarked x.0));
     }
 
-pub next_read : (wanted : Wanted) (some more : List ℕ) (n : ℕ) → n < length (package_paths wanted.graph.now) → ((m : ℕ) → Contains some m → Contains more m) →
+pub next_read : (wanted : ToRead) (some more : List ℕ) (n : ℕ) → n < length (package_paths wanted.graph.now) → ((m : ℕ) → Contains some m → Contains more m) →
     Contains more n → ((m : ℕ) → Contains more m → Contains some m ⊎ (n ≡ m)) →
-    (old new : SoFar) → IsReadSoFar wanted some old → MayRead wanted n old new → IsReadSoFar wanted more new
+    (old new : ReadState) → IsReadState wanted some old → ReadsIfMarked wanted n old new → IsReadState wanted more new
 next_read wanted some more n lt still own cases old new h may = elim may [
   | inl r ↦ one_read wanted some more n lt still own cases old new h r.0 r.1
-  | inr r ↦ subst (IsReadSoFar wanted more) (sym r.1) (one_passed wanted some more n still own cases old h r.0)
+  | inr r ↦ subst (IsReadState wanted more) (sym r.1) (one_passed wanted some more n still own cases old h r.0)
 ]
 
 -- all were passed
 
-all_held : (wanted : Wanted) (order : List ℕ) (n : ℕ) (held : Option DeclaredPlaces) → Contains order n → IsHeldOfSome wanted order n held →
+all_held : (wanted : ToRead) (order : List ℕ) (n : ℕ) (held : Option DeclaredPlaces) → Contains order n → IsHeldOfSome wanted order n held →
     MatchOption held (IsMarked wanted.marks.now n → ⊥) (λ places. AreDeclaredAt wanted.graph.now (known_in wanted.found.now) n places)
 all_held wanted order n None in_order h = h in_order
 all_held wanted order n (Some places) in_order h = h
 
-pub places_held : (wanted : Wanted) (order : List ℕ) (s : SoFar) → HoldsAllNumbers wanted.graph.now order → IsReadSoFar wanted order s →
+pub places_held : (wanted : ToRead) (order : List ℕ) (s : ReadState) → HoldsAllNumbers wanted.graph.now order → IsReadState wanted order s →
     AreHeldOf wanted.graph.now (known_in wanted.found.now) wanted.marks.now s.places.items
 places_held wanted order s all h = record {
   size = h.places.size;
@@ -167,7 +167,7 @@ places_held wanted order s all h = record {
       ((all n).1 (subst (λ k. n < k) h.places.size (slice_get_within s.places.items n held at))) (h.places.each n held at);
 }
 
-pub bound_read : (wanted : Wanted) (order : List ℕ) (s : SoFar) → HoldsAllNumbers wanted.graph.now order → IsReadSoFar wanted order s →
+pub bound_read : (wanted : ToRead) (order : List ℕ) (s : ReadState) → HoldsAllNumbers wanted.graph.now order → IsReadState wanted order s →
     AddsAll [] s.gathered.bound.items (IsBoundAmong wanted.graph.now (known_in wanted.found.now) (IsMarked wanted.marks.now))
 bound_read wanted order s all h =
     let w = wanted.graph.now in
@@ -177,13 +177,13 @@ bound_read wanted order s all h =
     (λ b x. record { number = x.0; is_of = x.1.1.0; bound = x.1.1.1 })
     (λ b x. let r = bound_in_range w known (IsMarked marks) b x in (r.0, ((all r.0).1 r.1, r.2))) h.bound
 
-pub identifiers_read : (wanted : Wanted) (order : List ℕ) (s : SoFar) → HoldsAllNumbers wanted.graph.now order → IsReadSoFar wanted order s →
+pub identifiers_read : (wanted : ToRead) (order : List ℕ) (s : ReadState) → HoldsAllNumbers wanted.graph.now order → IsReadState wanted order s →
     IsTrue wanted.identifiers →
     AddsAll [] s.gathered.identifiers.items (IsIdentifierAmong wanted.graph.now (known_in wanted.found.now) wanted.marks.now)
 identifiers_read wanted order s all h t =
     let w = wanted.graph.now in
     let known = known_in wanted.found.now in
     let marks = wanted.marks.now in
-    all_as [] s.gathered.identifiers.items (OfSome order (λ n place. IsMarked marks n × BeginsInNumber w known n place)) (IsIdentifierAmong w known marks)
+    all_as [] s.gathered.identifiers.items (OfSome order (λ n place. IsMarked marks n × BeginsInPackageAt w known n place)) (IsIdentifierAmong w known marks)
     (λ place x. record { number = x.0; marked = x.1.1.0; begins = x.1.1.1 })
     (λ place x. (x.number, ((all x.number).1 (number_within w known x.number x.begins.used_in x.begins.is_package), (x.marked, x.begins)))) (h.identifiers t)

@@ -8,7 +8,7 @@ use Rattle.workspace_check.proofs.Alike.{package_as}
 use Rattle.workspace_check.proofs.OneVerdict.{right_alike, right_below}
 use Rattle.refs_binding.specs.declared.declaration.Declaration.{Declaration}
 use Rattle.refs_binding.specs.declared.declaration.Declaration.TheVariants.{Predeclared, Declared, Field, Method}
-use Rattle.refs_binding.specs.Binding.{Binds, by_scope, by_package, by_member, by_name, BindsByPackage}
+use Rattle.refs_binding.specs.Binding.{Binds, by_scope, by_package, by_member, by_name, BindsQualified}
 use Rattle.refs_binding.specs.Uses.{IsPackage, IsUseOf}
 
 module _ (w : Workspace) (a b : Verdicts) (right : AreVerdicts w a) (also : AreVerdicts w b) where
@@ -18,7 +18,7 @@ module _ (w : Workspace) (a b : Verdicts) (right : AreVerdicts w a) (also : AreV
     is_checked = package_as w p.path a b (right_alike w p.path a b (right_below w a right p.path) (right_below w b also p.path)) p h.is_checked;
   }
 
-  same_export : (p : Package) (u : ℕ) (d : Declaration) → BindsByPackage (IsPackage w a) p u d → BindsByPackage (IsPackage w b) p u d
+  same_export : (p : Package) (u : ℕ) (d : Declaration) → BindsQualified (IsPackage w a) p u d → BindsQualified (IsPackage w b) p u d
   same_export p u (Predeclared n) h = h
   same_export p u (Declared path n) h = record {
     behind = h.behind;

@@ -14,15 +14,15 @@ use Rattle.workspace_check.proofs.Local.{same_back}
 use Rattle.refs_binding.specs.declared.declaration.Declaration.{Declaration}
 use Rattle.refs_binding.specs.declared.declaration.Declaration.TheVariants.{Predeclared, Declared, Field, Method}
 use Rattle.refs_binding.specs.Uses.{IsPackage, IsUseOf}
-use Rattle.refs_binding.specs.Standing.{InPackage, StandsIn, IsDeclaredAt}
-use Rattle.refs_lookup.specs.Within.{StandsWithin, IsDeclaredWithin, predeclared as predeclared_within, stands as stands_within}
+use Rattle.refs_binding.specs.DeclaringPlaces.{InPackage, DeclaresAt, IsDeclaredAt}
+use Rattle.refs_lookup.specs.Within.{DeclaresWithin, IsDeclaredWithin, predeclared as predeclared_within, stands as stands_within}
 use Rattle.refs_binding.proofs.Folders.{begins_in_folder, file_in_folder}
 use Rattle.refs_lookup.proofs.Bindings.{use_stays}
 use Rattle.refs_lookup.proofs.Standing.{token_file, bound_within}
 use Rattle.refactor_preserve.specs.Affected.{IsUnaffected}
 use Rattle.refactor_preserve.proofs.UnaffectedPackages.{stays_put, declared_then}
 use Rattle.refs_index.specs.Corresponding.{Corresponds, predeclared, stands}
-use Rattle.refs_places.specs.Outside.{path_by}
+use Rattle.refs_places.specs.Outside.{declaring_path}
 use Rattle.refactor_preserve.specs.BoundToOne.{IsBoundToOne}
 use Rattle.refs_places.specs.Identified.{IsIdentifierAt}
 
@@ -32,7 +32,7 @@ pub record StandsInFolder (w : Workspace) (path : List ℕ) (place : Place) : Ty
   pub of_workspace : Contains (package_paths w) path
 
 module _ (w : Workspace) (known : Verdicts) (place : Place) where
-  package_folder : (path : List ℕ) (d : Declaration) → InPackage (IsPackage w known) path (λ p. StandsIn p d place) → StandsInFolder w path place
+  package_folder : (path : List ℕ) (d : Declaration) → InPackage (IsPackage w known) path (λ p. DeclaresAt p d place) → StandsInFolder w path place
   package_folder path d h =
       let c = h.inside in
       let f = token_file (slice_get c.files h.holds.at.file) h.holds.at.index place h.holds.begins in
@@ -41,7 +41,7 @@ module _ (w : Workspace) (known : Verdicts) (place : Place) where
         of_workspace = subst (Contains (package_paths w)) h.of_path h.is_package.of_workspace;
       }
 
-  pub declared_folder : (d : Declaration) (path : List ℕ) → path_by d ≡ Some path → IsDeclaredAt (IsPackage w known) d place → StandsInFolder w path place
+  pub declared_folder : (d : Declaration) (path : List ℕ) → declaring_path d ≡ Some path → IsDeclaredAt (IsPackage w known) d place → StandsInFolder w path place
   declared_folder (Predeclared n) path e h = absurd h
   declared_folder (Declared q n) path e h = subst (λ p. StandsInFolder w p place) (same_Some q path e) (package_folder q (Declared q n) h)
   declared_folder (Field s) path e h = subst (λ p. StandsInFolder w p place) (same_Some s.package path e) (package_folder s.package (Field s) h)
@@ -69,17 +69,17 @@ module _ (w x : Workspace) (s : FileChanges) (before after : Verdicts) (right : 
       stands place h.declared (declared_then w x s p is before after right also d place h)
 
   -- a declaration of an unaffected package, to which a use is bound, becomes itself
-  own_becomes : (p path : List ℕ) → IsUnaffected w x s path → (d : Declaration) → path_by d ≡ Some path → IsDeclaredWithin w before p d → Becoming d d
+  own_becomes : (p path : List ℕ) → IsUnaffected w x s path → (d : Declaration) → declaring_path d ≡ Some path → IsDeclaredWithin w before p d → Becoming d d
   own_becomes p path is _ e (predeclared_within h) = predeclared
   own_becomes p path is d e (stands_within place h) =
       let there = declared_folder w before place d path e h.declared in
-      let own : StandsWithin w before path d place = record {
+      let own : DeclaresWithin w before path d place = record {
         declared = h.declared;
         in_closure = subst (λ q. IsInClosure w path q) (sym there.in_folder) (itself there.of_workspace);
       } in
       becomes_itself path is d (stands_within place own)
 
-  pub unaffected_becomes : (path : List ℕ) → IsUnaffected w x s path → (d : Declaration) → path_by d ≡ Some path → (place : Place) →
+  pub unaffected_becomes : (path : List ℕ) → IsUnaffected w x s path → (d : Declaration) → declaring_path d ≡ Some path → (place : Place) →
       IsUseOf w before d place → Becoming d d
   unaffected_becomes path is d e place h = own_becomes (folder place.path) path is d e (use_within w before right d place h)
 

@@ -7,19 +7,19 @@ use Rattle.base_files.specs.declared.place.Place.{Place}
 use Rattle.workspace_graph.specs.Search.{IsMarked}
 use Rattle.workspace_check.specs.declared.findings.Findings.{Findings}
 use Rattle.workspace_check.specs.Verdicts.{Verdicts}
-use Rattle.refs_binding.specs.declared.bound_spot.BoundSpot.{BoundSpot}
+use Rattle.refs_binding.specs.declared.bound_identifier.BoundIdentifier.{BoundIdentifier}
 use Rattle.refs_binding.specs.declared.declaration.Declaration.{Declaration}
-use Rattle.refs_binding.specs.Bindings.{IsBoundAmong, AreBindingsAmong, place_at}
+use Rattle.refs_binding.specs.Bindings.{IsBoundAmong, AreBindingsAmong, bound_place}
 use Rattle.refs_binding.specs.Packages.{HoldsOfEach}
 use Rattle.refs_binding.specs.Uses.{IsUseOf}
-use Rattle.refs_binding.specs.Workspaces.{IsSound, known_in}
+use Rattle.refs_binding.specs.Workspaces.{IsFaultless, known_in}
 use Rattle.refactor_preserve.specs.declared.among.KnownBefore.{KnownBefore}
 use Rattle.refactor_preserve.specs.declared.among.MarkedPackages.{MarkedPackages}
 use Rattle.refs_places.specs.declared.declared_places.DeclaredPlaces.{DeclaredPlaces}
 use Rattle.refs_places.specs.DeclaredPlaces.{AreDeclaredAt}
 use Rattle.refs_places.specs.Outside.{IsOutside}
-use Rattle.refs_index.specs.Sound.{SoundView}
-use Rattle.refs_places.specs.Identified.{BeginsInNumber}
+use Rattle.refs_index.specs.FaultlessViews.{FaultlessView}
+use Rattle.refs_places.specs.Identified.{BeginsInPackageAt}
 use Rattle.refactor_preserve.specs.Steps.{IsBoundBy, IsKept, HasBound}
 use Rattle.refs_index.specs.Becoming.{Becomes}
 use Rattle.refactor_preserve.specs.declared.answer.Answer.{Answer}
@@ -34,8 +34,8 @@ abbrev pub AreHeldOf : Workspace → Verdicts → List Bool → List (Option Dec
 AreHeldOf w known marks all = HoldsOfEach (IsHeldOf w known marks) (length (package_paths w)) all
 
 -- The workspace has no fault. `all` has the places of the declarations of marked packages, and `bound` the bindings of their identifiers.
-pub record HoldsMarked (w : Workspace) (found : Findings) (marks : List Bool) (all : List (Option DeclaredPlaces)) (bound : List BoundSpot) : Type 0 where
-  pub sound : IsSound w found
+pub record HoldsMarked (w : Workspace) (found : Findings) (marks : List Bool) (all : List (Option DeclaredPlaces)) (bound : List BoundIdentifier) : Type 0 where
+  pub sound : IsFaultless w found
   pub declared : AreHeldOf w (known_in found) marks all
   pub bindings : AreBindingsAmong w (known_in found) (IsMarked marks) bound
 
@@ -44,22 +44,22 @@ abbrev pub AreHeld : MarkedPackages → Type 0
 AreHeld s = HoldsMarked s.graph.now s.found.now s.marks.now s.places.items s.bindings
 
 -- The workspace of the marked packages, with its findings.
-abbrev pub view_among : MarkedPackages → SoundView
+abbrev pub view_among : MarkedPackages → FaultlessView
 view_among s = record { workspace = s.graph.now; known = known_in s.found.now }
 
 -- An identifier of a marked package is bound to the declaration of `b` and begins at its place.
-abbrev pub IsBoundMarked : MarkedPackages → BoundSpot → Type 0
+abbrev pub IsBoundMarked : MarkedPackages → BoundIdentifier → Type 0
 IsBoundMarked s b = IsBoundAmong s.graph.now (known_in s.found.now) (IsMarked s.marks.now) b
 
 -- An identifier of a marked package is bound to the declaration of `b` and begins at `place`, which is the place of `b`.
-abbrev pub IsBoundThere : MarkedPackages → Place → BoundSpot → Type 0
-IsBoundThere s place b = IsBoundMarked s b × (place_at b ≡ place)
+abbrev pub IsBoundThere : MarkedPackages → Place → BoundIdentifier → Type 0
+IsBoundThere s place b = IsBoundMarked s b × (bound_place b ≡ place)
 
 -- An identifier of a marked package begins at the place.
 pub record IsIdentifierAmong (w : Workspace) (known : Verdicts) (marks : List Bool) (place : Place) : Type 0 where
   pub number : ℕ
   pub marked : IsMarked marks number
-  pub begins : BeginsInNumber w known number place
+  pub begins : BeginsInPackageAt w known number place
 
 -- The places at which identifiers of the marked packages begin.
 abbrev pub AreIdentifiersAmong : Workspace → Verdicts → List Bool → List Place → Type 0
@@ -81,12 +81,12 @@ abbrev pub BecomesAmong : MarkedPackages → MarkedPackages → (Place → Place
 BecomesAmong before then moved d e = Becomes (view_among before) (view_among then) moved d e ⊎ ((d ≡ e) × IsOutside before.graph.now before.marks.now d)
 
 -- The bound identifier is bound after the change to what its declaration has become, as the marked packages show it.
-abbrev pub IsKeptAmong : MarkedPackages → MarkedPackages → (Place → Place) → BoundSpot → Type 0
-IsKeptAmong before then moved b = IsBoundBy (view_among then) (moved (place_at b)) (λ e. BecomesAmong before then moved b.declaration e)
+abbrev pub IsKeptAmong : MarkedPackages → MarkedPackages → (Place → Place) → BoundIdentifier → Type 0
+IsKeptAmong before then moved b = IsBoundBy (view_among then) (moved (bound_place b)) (λ e. BecomesAmong before then moved b.declaration e)
 
 -- The marked packages show that each of the new bound identifiers is bound to what the declaration of an old one has become.
-abbrev pub AllWereAmong : MarkedPackages → MarkedPackages → (Place → Place) → List BoundSpot → List BoundSpot → Type 0
-AllWereAmong before then moved old new = (b : BoundSpot) → Contains new b → HasBound (λ d. BecomesAmong before then moved d b.declaration) old
+abbrev pub AllCorrespondAmong : MarkedPackages → MarkedPackages → (Place → Place) → List BoundIdentifier → List BoundIdentifier → Type 0
+AllCorrespondAmong before then moved old new = (b : BoundIdentifier) → Contains new b → HasBound (λ d. BecomesAmong before then moved d b.declaration) old
 
 -- After the change, the identifier at the place is bound only to what its declarations have become, as the marked packages show it.
 abbrev pub AddsNoneAmong : MarkedPackages → MarkedPackages → (Place → Place) → Place → Type 0
@@ -96,7 +96,7 @@ AddsNoneAmong before then moved place =
 
 -- Each bound identifier of the marked packages stays bound.
 abbrev pub KeepsMarked : MarkedPackages → MarkedPackages → (Place → Place) → Type 0
-KeepsMarked before then moved = (b : BoundSpot) → IsBoundMarked before b → IsKeptAmong before then moved b
+KeepsMarked before then moved = (b : BoundIdentifier) → IsBoundMarked before b → IsKeptAmong before then moved b
 
 -- After the change, each identifier of the marked packages is bound only to what its declarations have become.
 abbrev pub AddsMarked : MarkedPackages → MarkedPackages → (Place → Place) → Type 0
@@ -105,7 +105,7 @@ AddsMarked before then moved =
 
 -- The meaning of an answer about the marked packages. Yes: each of their identifiers stays bound, and is bound to nothing more. No: one of
 -- them does not stay bound. Unknown: nothing.
-abbrev pub TellsMarked : MarkedPackages → MarkedPackages → (Place → Place) → Answer → Type 0
-TellsMarked before then moved Yes = KeepsMarked before then moved × AddsMarked before then moved
-TellsMarked before then moved No = (b : BoundSpot) × (IsBoundMarked before b × (IsKept (view_among before) (view_among then) moved b → ⊥))
-TellsMarked before then moved Unknown = ⊤
+abbrev pub AnswersForMarked : MarkedPackages → MarkedPackages → (Place → Place) → Answer → Type 0
+AnswersForMarked before then moved Yes = KeepsMarked before then moved × AddsMarked before then moved
+AnswersForMarked before then moved No = (b : BoundIdentifier) × (IsBoundMarked before b × (IsKept (view_among before) (view_among then) moved b → ⊥))
+AnswersForMarked before then moved Unknown = ⊤

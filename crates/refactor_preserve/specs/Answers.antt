@@ -4,7 +4,7 @@ use Rattle.refactor_preserve.specs.declared.answer.Answer.{Answer}
 use Rattle.refactor_preserve.specs.declared.answer.Answer.TheVariants.{Yes, No, Unknown}
 
 -- What an answer says about the fact `P`: yes, that it holds; no, that it does not; unknown, nothing.
-abbrev pub Tells : Answer → Type 0 → Type 0
-Tells Yes P = P
-Tells No P = P → ⊥
-Tells Unknown P = ⊤
+abbrev pub AnswersFor : Answer → Type 0 → Type 0
+AnswersFor Yes P = P
+AnswersFor No P = P → ⊥
+AnswersFor Unknown P = ⊤

@@ -4,7 +4,7 @@ pub mod BoundToOne
 pub mod Steps
 pub mod Preserved
 pub mod Among
-pub mod ReadSoFar
+pub mod ReadStates
 pub mod Planned
 pub mod Answers
 pub mod Marked

@@ -31,6 +31,6 @@ pub record Preserves (w : Workspace) (r : Revision) : Type 0 where
   pub kept : KeepsBindings w before r after
 
 -- Whether a change preserves all bindings. `Some` has what is known of the packages after the change.
-abbrev pub TellsPreserved : Workspace → Revision → Option Known → Type 0
-TellsPreserved w r None = ¬ (Preserves w r)
-TellsPreserved w r (Some known) = Preserves w r × KnowsVerdicts r.after known
+abbrev pub FindsPreserved : Workspace → Revision → Option Known → Type 0
+FindsPreserved w r None = ¬ (Preserves w r)
+FindsPreserved w r (Some known) = Preserves w r × KnowsVerdicts r.after known

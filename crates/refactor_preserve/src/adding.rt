@@ -2,28 +2,28 @@
 ghost use Rattle.std.specs.Prelude.{◌↔◌, IsTrue, IfOk, Contains};
 ghost use Rattle.base_files.specs.declared.place.Place.{Place as At};
 ghost use Rattle.base_edits.specs.Moved.{moved};
-ghost use Rattle.refs_index.specs.Held.{IsHeld};
-ghost use Rattle.refs_index.specs.Sound.{view_in};
-ghost use Rattle.refactor_preserve.specs.Steps.{HasBound, AllWere, AddsNone, AddsNowhere};
+ghost use Rattle.refs_index.specs.WorkspaceIndex.{HasWorkspaceIndex};
+ghost use Rattle.refs_index.specs.FaultlessViews.{view_in};
+ghost use Rattle.refactor_preserve.specs.Steps.{HasBound, AllCorrespond, AddsNone, AddsNowhere};
 ghost use Rattle.refs_index.specs.Becoming.{Becomes};
 
-use crate::near::Near;
+use crate::search_starts::SearchStarts;
 use base_edits::Moves;
 use base_files::Place;
-use refs_binding::{BoundSpot, Declaration};
-use refs_index::{SoundWorkspace, corresponds};
+use refs_binding::{BoundIdentifier, Declaration};
+use refs_index::{FaultlessWorkspace, corresponds};
 use std::alloc::{AllocError, Global};
 
 /// Whether the declaration of one of these bound identifiers has become `e`.
-fn some_was(
+fn some_corresponds(
     moves: &Moves<'_>,
-    before: &SoundWorkspace<'_>,
-    then: &SoundWorkspace<'_>,
-    bound: &[BoundSpot],
+    before: &FaultlessWorkspace<'_>,
+    then: &FaultlessWorkspace<'_>,
+    bound: &[BoundIdentifier],
     e: &Declaration,
 ) -> Result<bool, AllocError>
-    requires before { IsHeld before.now }
-    requires then { IsHeld then.now }
+    requires before { HasWorkspaceIndex before.now }
+    requires then { HasWorkspaceIndex then.now }
     ensures { IfOk result (λ yes. IsTrue yes ↔ HasBound (λ d. Becomes (view_in before.now) (view_in then.now) (moved moves.now) d e.now) bound.now) }
 {
     for b in bound {
@@ -35,19 +35,19 @@ fn some_was(
 }
 
 /// Whether each of the new bound identifiers is bound to what the declaration of one of the old ones has become.
-fn all_were(
+fn all_correspond(
     moves: &Moves<'_>,
-    before: &SoundWorkspace<'_>,
-    then: &SoundWorkspace<'_>,
-    old: &[BoundSpot],
-    new: &[BoundSpot],
+    before: &FaultlessWorkspace<'_>,
+    then: &FaultlessWorkspace<'_>,
+    old: &[BoundIdentifier],
+    new: &[BoundIdentifier],
 ) -> Result<bool, AllocError>
-    requires before { IsHeld before.now }
-    requires then { IsHeld then.now }
-    ensures { IfOk result (λ yes. IsTrue yes ↔ AllWere (view_in before.now) (view_in then.now) (moved moves.now) old.now new.now) }
+    requires before { HasWorkspaceIndex before.now }
+    requires then { HasWorkspaceIndex then.now }
+    ensures { IfOk result (λ yes. IsTrue yes ↔ AllCorrespond (view_in before.now) (view_in then.now) (moved moves.now) old.now new.now) }
 {
     for b in new {
-        if !some_was(moves, before, then, old, &b.declaration)? {
+        if !some_corresponds(moves, before, then, old, &b.declaration)? {
             return Ok(false);
         }
     }
@@ -57,17 +57,17 @@ fn all_were(
 /// Whether the identifier at a place is bound after the change only to what its declarations have become.
 fn adds_none(
     moves: &Moves<'_>,
-    before: &SoundWorkspace<'_>,
-    then: &SoundWorkspace<'_>,
-    near: &mut Near,
+    before: &FaultlessWorkspace<'_>,
+    then: &FaultlessWorkspace<'_>,
+    near: &mut SearchStarts,
     place: &Place,
 ) -> Result<bool, AllocError>
-    requires before { IsHeld before.now }
-    requires then { IsHeld then.now }
+    requires before { HasWorkspaceIndex before.now }
+    requires then { HasWorkspaceIndex then.now }
     ensures { IfOk result (λ yes. IsTrue yes ↔ AddsNone (view_in before.now) (view_in then.now) (moved moves.now) place.now) }
 {
     let to = moves.place(&place.path, place.offset)?;
-    all_were(
+    all_correspond(
         moves,
         before,
         then,
@@ -79,15 +79,15 @@ fn adds_none(
 /// Whether the identifiers at all these places are bound after the change only to what their declarations have become.
 fn add_none(
     moves: &Moves<'_>,
-    before: &SoundWorkspace<'_>,
-    then: &SoundWorkspace<'_>,
+    before: &FaultlessWorkspace<'_>,
+    then: &FaultlessWorkspace<'_>,
     places: &[Place],
 ) -> Result<bool, AllocError>
-    requires before { IsHeld before.now }
-    requires then { IsHeld then.now }
+    requires before { HasWorkspaceIndex before.now }
+    requires then { HasWorkspaceIndex then.now }
     ensures { IfOk result (λ yes. IsTrue yes ↔ ((place : At) → Contains places.now place → AddsNone (view_in before.now) (view_in then.now) (moved moves.now) place)) }
 {
-    let mut near = Near { before: 0, then: 0 };
+    let mut near = SearchStarts { before: 0, then: 0 };
     for place in places {
         if !adds_none(moves, before, then, &mut near, place)? {
             return Ok(false);
@@ -100,11 +100,11 @@ fn add_none(
 pub fn adds_nowhere(
     alloc: Global,
     moves: &Moves<'_>,
-    before: &SoundWorkspace<'_>,
-    then: &SoundWorkspace<'_>,
+    before: &FaultlessWorkspace<'_>,
+    then: &FaultlessWorkspace<'_>,
 ) -> Result<bool, AllocError>
-    requires before { IsHeld before.now }
-    requires then { IsHeld then.now }
+    requires before { HasWorkspaceIndex before.now }
+    requires then { HasWorkspaceIndex then.now }
     ensures { IfOk result (λ yes. IsTrue yes ↔ AddsNowhere (view_in before.now) (view_in then.now) (moved moves.now)) }
 {
     let places = before.identifier_places(alloc)?;

@@ -5,18 +5,18 @@ ghost use Rattle.base_files.specs.Packages.{package_paths};
 ghost use Rattle.types_declared.specs.PackageView.{package_of};
 ghost use Rattle.refs_places.specs.Beginnings.{place_of};
 ghost use Rattle.base_edits.specs.FilesMoved.{AreMovesOf};
-ghost use Rattle.refs_binding.specs.Bindings.{place_at};
+ghost use Rattle.refs_binding.specs.Bindings.{bound_place};
 ghost use Rattle.refactor_preserve.specs.Aligned.{AreCompared, moved_in, new_of, IsPartner, IsAligned, AreApart, AreApartBelow, AreAlignedBelow, GoInOrder, IsSafe, IsSafeAt, IsSafeIn, IsSafeNumber, AreSafe};
-ghost use Rattle.refs_index.specs.Sound.{view_in};
+ghost use Rattle.refs_index.specs.FaultlessViews.{view_in};
 ghost use Rattle.refactor_preserve.specs.Steps.{KeepsAll, AddsNowhere};
 ghost use Rattle.refs_index.specs.Becoming.{Becomes};
 
-use crate::near::Near;
+use crate::search_starts::SearchStarts;
 use base_edits::{FileMoves, Moves};
 use base_files::Place;
 use refs_binding::bindings::find;
-use refs_binding::{BoundSpot, Declaration};
-use refs_index::{SoundWorkspace, are_predeclared};
+use refs_binding::{BoundIdentifier, Declaration};
+use refs_index::{FaultlessWorkspace, are_predeclared};
 use refs_places::bound_here::is_bound;
 use refs_places::{NameStart, start};
 use std::alloc::AllocError;
@@ -26,14 +26,14 @@ use types_declared::Package;
 #[derive(Clone, Copy)]
 pub struct Compared<'a, 'm, 'b, 't> {
     pub moves: &'a Moves<'m>,
-    pub before: &'a SoundWorkspace<'b>,
-    pub then: &'a SoundWorkspace<'t>,
+    pub before: &'a FaultlessWorkspace<'b>,
+    pub then: &'a FaultlessWorkspace<'t>,
 }
 
 /// Whether the declaration `d` has become `e`. `file` are the moves of a file, often that of `d`, in which case they need not be looked up.
 fn became(
     both: &Compared<'_, '_, '_, '_>,
-    near: &mut Near,
+    near: &mut SearchStarts,
     file: FileMoves<'_>,
     d: &Declaration,
     e: &Declaration,
@@ -62,9 +62,9 @@ fn partner_if<'a>(
     both: &Compared<'_, '_, '_, '_>,
     next: &mut usize,
     file: FileMoves<'_>,
-    old: &BoundSpot,
-    one: &'a BoundSpot,
-) -> Result<Option<&'a BoundSpot>, AllocError>
+    old: &BoundIdentifier,
+    one: &'a BoundIdentifier,
+) -> Result<Option<&'a BoundIdentifier>, AllocError>
     requires both { AreCompared both.now }
     requires file { AreMovesOf both.now.moves.now file }
     requires path { file.old.now ≡ old.now.spot.path }
@@ -87,8 +87,8 @@ fn near_partner<'a>(
     both: &Compared<'a, '_, '_, '_>,
     next: &mut usize,
     file: FileMoves<'_>,
-    old: &BoundSpot,
-) -> Result<Option<&'a BoundSpot>, AllocError>
+    old: &BoundIdentifier,
+) -> Result<Option<&'a BoundIdentifier>, AllocError>
     requires both { AreCompared both.now }
     requires file { AreMovesOf both.now.moves.now file }
     requires path { file.old.now ≡ old.now.spot.path }
@@ -105,11 +105,11 @@ fn near_partner<'a>(
 fn partner_at<'a>(
     both: &Compared<'a, '_, '_, '_>,
     next: &mut usize,
-    old: &BoundSpot,
+    old: &BoundIdentifier,
     to: &Place,
-) -> Option<&'a BoundSpot>
+) -> Option<&'a BoundIdentifier>
     requires both { AreCompared both.now }
-    requires to { to.now ≡ moved_in both.now (place_at old.now) }
+    requires to { to.now ≡ moved_in both.now (bound_place old.now) }
     ensures { IfSome result (λ b. IsPartner both.now old.now b.now) }
 {
     match both.then.bound_at(next, to).first() {
@@ -122,8 +122,8 @@ fn partner_at<'a>(
 fn far_partner<'a>(
     both: &Compared<'a, '_, '_, '_>,
     next: &mut usize,
-    old: &BoundSpot,
-) -> Result<Option<&'a BoundSpot>, AllocError>
+    old: &BoundIdentifier,
+) -> Result<Option<&'a BoundIdentifier>, AllocError>
     requires { AreCompared both.now }
     ensures { IfOk result (λ found. IfSome found (λ b. IsPartner both.now old.now b.now)) }
 {
@@ -137,8 +137,8 @@ fn partner<'a>(
     both: &Compared<'a, '_, '_, '_>,
     next: &mut usize,
     file: FileMoves<'_>,
-    old: &BoundSpot,
-) -> Result<Option<&'a BoundSpot>, AllocError>
+    old: &BoundIdentifier,
+) -> Result<Option<&'a BoundIdentifier>, AllocError>
     requires both { AreCompared both.now }
     requires file { AreMovesOf both.now.moves.now file }
     requires path { file.old.now ≡ old.now.spot.path }
@@ -153,10 +153,10 @@ fn partner<'a>(
 /// Whether `old` is moved to the place of an identifier that is bound to what its declaration has become.
 fn is_aligned(
     both: &Compared<'_, '_, '_, '_>,
-    near: &mut Near,
+    near: &mut SearchStarts,
     next: &mut usize,
     file: FileMoves<'_>,
-    old: &BoundSpot,
+    old: &BoundIdentifier,
 ) -> Result<bool, AllocError>
     requires both { AreCompared both.now }
     requires file { AreMovesOf both.now.moves.now file }
@@ -170,14 +170,14 @@ fn is_aligned(
 }
 
 /// Whether two identifiers begin at different places.
-fn differ(one: &BoundSpot, other: &BoundSpot) -> bool
-    ensures { IsTrue result → place_at one.now ≡ place_at other.now → ⊥ }
+fn differ(one: &BoundIdentifier, other: &BoundIdentifier) -> bool
+    ensures { IsTrue result → bound_place one.now ≡ bound_place other.now → ⊥ }
 {
     one.spot.offset != other.spot.offset || one.spot.path != other.spot.path
 }
 
 /// Whether the identifier of a number and the next one, if there is one, begin at different places.
-fn are_apart(new: &[BoundSpot], number: usize) -> bool
+fn are_apart(new: &[BoundIdentifier], number: usize) -> bool
     requires { number < length new.now }
     ensures { IsTrue result → AreApart new.now number }
 {
@@ -188,7 +188,7 @@ fn are_apart(new: &[BoundSpot], number: usize) -> bool
 }
 
 /// Whether any two neighbours in the list begin at different places.
-fn are_all_apart(new: &[BoundSpot]) -> bool
+fn are_all_apart(new: &[BoundIdentifier]) -> bool
     ensures { IsTrue result → AreApartBelow new.now (length new.now) }
 {
     for number in 0..new.len() {
@@ -203,14 +203,14 @@ fn are_all_apart(new: &[BoundSpot]) -> bool
 fn are_all_aligned<'a>(
     both: &Compared<'a, '_, '_, '_>,
     file: FileMoves<'a>,
-    old: &'a [BoundSpot],
+    old: &'a [BoundIdentifier],
 ) -> Result<bool, AllocError>
     requires both { AreCompared both.now }
     requires file { AreMovesOf both.now.moves.now file }
     ensures { IfOk result (λ yes. IsTrue yes → AreAlignedBelow both.now old.now (length old.now)) }
 {
     let mut file = file;
-    let mut near = Near { before: 0, then: 0 };
+    let mut near = SearchStarts { before: 0, then: 0 };
     let mut next = 0;
     for number in 0..old.len() {
         let one = &old[number];

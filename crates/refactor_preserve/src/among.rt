@@ -3,16 +3,16 @@ ghost use Rattle.std.specs.Prelude.{ℕ, ◌≡◌, ◌↔◌, Some, slice_get, 
 ghost use Rattle.base_files.specs.Packages.{package_paths};
 ghost use Rattle.base_files.specs.Path.{folder};
 ghost use Rattle.workspace_graph.specs.Search.{IsMarked};
-ghost use Rattle.refs_binding.specs.declared.bound_spot.BoundSpot.{BoundSpot as Bound};
-ghost use Rattle.refs_binding.specs.Workspaces.{IsSound, known_in};
-ghost use Rattle.refs_binding.specs.Standing.{IsDeclaredAt};
+ghost use Rattle.refs_binding.specs.declared.bound_identifier.BoundIdentifier.{BoundIdentifier as Bound};
+ghost use Rattle.refs_binding.specs.Workspaces.{IsFaultless, known_in};
+ghost use Rattle.refs_binding.specs.DeclaringPlaces.{IsDeclaredAt};
 ghost use Rattle.refactor_preserve.specs.Among.{AreHeld, AreIdentifiersAmong, IsBoundMarked, IsBoundThere, IsKnownBefore, view_among};
-ghost use Rattle.refs_places.specs.Outside.{IsOutside, path_by};
-ghost use Rattle.refs_index.specs.Sound.{packages_of};
+ghost use Rattle.refs_places.specs.Outside.{IsOutside, declaring_path};
+ghost use Rattle.refs_index.specs.FaultlessViews.{view_packages};
 
-use crate::reading_order::{Held, read_marked};
+use crate::reading_order::{HeldPackages, read_marked};
 use base_files::{Path, Place};
-use refs_binding::{BoundSpot, Declaration};
+use refs_binding::{BoundIdentifier, Declaration};
 use refs_index::{Bindings, is_same};
 use refs_places::bound_here::bound_here;
 use refs_places::declared_places::{DeclaredPlaces, package_path};
@@ -40,13 +40,13 @@ impl<'a> MarkedPackages<'a> {
         found: &'a Findings,
         marks: &'a [bool],
     ) -> Result<MarkedPackages<'a>, AllocError>
-        requires { IsSound graph.now found.now }
+        requires { IsFaultless graph.now found.now }
         ensures graph { IfOk result (λ marked. marked.graph.now ≡ graph.now) }
         ensures found { IfOk result (λ marked. marked.found.now ≡ found.now) }
         ensures marks { IfOk result (λ marked. marked.marks.now ≡ marks.now) }
         ensures held { IfOk result (λ marked. AreHeld marked) }
     {
-        let Held {
+        let HeldPackages {
             places,
             bindings,
             identifiers,
@@ -64,7 +64,7 @@ impl<'a> MarkedPackages<'a> {
     /// The place of a declaration, if its package is marked.
     pub fn declared_at(&self, declaration: &Declaration) -> Option<&Place>
         requires { AreHeld self.now }
-        ensures { IfSome result (λ place. IsDeclaredAt (packages_of (view_among self.now)) declaration.now place.now) }
+        ensures { IfSome result (λ place. IsDeclaredAt (view_packages (view_among self.now)) declaration.now place.now) }
     {
         match package_path(declaration) {
             None => None,
@@ -75,8 +75,8 @@ impl<'a> MarkedPackages<'a> {
     /// The place of a declaration of the package at a path, if that package is marked.
     fn declared_under(&self, path: &SharedPath, declaration: &Declaration) -> Option<&Place>
         requires held { AreHeld self.now }
-        requires path { path_by declaration.now ≡ Some path.now }
-        ensures { IfSome result (λ place. IsDeclaredAt (packages_of (view_among self.now)) declaration.now place.now) }
+        requires path { declaring_path declaration.now ≡ Some path.now }
+        ensures { IfSome result (λ place. IsDeclaredAt (view_packages (view_among self.now)) declaration.now place.now) }
     {
         match self.graph.number_of(path.path()) {
             None => None,
@@ -105,7 +105,7 @@ impl<'a> MarkedPackages<'a> {
     }
 
     /// The bound identifiers of the marked packages, each with its declaration.
-    pub fn bound(&self) -> &[BoundSpot]
+    pub fn bound(&self) -> &[BoundIdentifier]
         requires { AreHeld self.now }
         ensures { (b : Bound) → Contains result.now b ↔ IsBoundMarked self.now b }
     {
@@ -113,7 +113,7 @@ impl<'a> MarkedPackages<'a> {
     }
 
     /// The bound identifiers that begin at a place. The search begins at the number `near`, at which the last one ended.
-    pub fn bound_at(&self, near: &mut usize, place: &Place) -> &[BoundSpot]
+    pub fn bound_at(&self, near: &mut usize, place: &Place) -> &[BoundIdentifier]
         requires { AreHeld self.now }
         ensures { (b : Bound) → Contains result.now b ↔ IsBoundThere self.now place.now b }
     {
@@ -136,13 +136,13 @@ impl<'a> KnownBefore<'a> {
         found: &'a Findings,
         marks: &'a [bool],
     ) -> Result<KnownBefore<'a>, AllocError>
-        requires { IsSound graph.now found.now }
+        requires { IsFaultless graph.now found.now }
         ensures graph { IfOk result (λ known. known.packages.graph.now ≡ graph.now) }
         ensures found { IfOk result (λ known. known.packages.found.now ≡ found.now) }
         ensures marks { IfOk result (λ known. known.packages.marks.now ≡ marks.now) }
         ensures held { IfOk result (λ known. IsKnownBefore known) }
     {
-        let Held {
+        let HeldPackages {
             places,
             bindings,
             identifiers,

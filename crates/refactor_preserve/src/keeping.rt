@@ -1,26 +1,26 @@
 //! Whether identifiers stay bound to what their declarations become.
 ghost use Rattle.std.specs.Prelude.{◌↔◌, IsTrue, IfOk};
 ghost use Rattle.base_edits.specs.Moved.{moved};
-ghost use Rattle.refs_index.specs.Held.{IsHeld};
-ghost use Rattle.refs_index.specs.Sound.{view_in};
+ghost use Rattle.refs_index.specs.WorkspaceIndex.{HasWorkspaceIndex};
+ghost use Rattle.refs_index.specs.FaultlessViews.{view_in};
 ghost use Rattle.refactor_preserve.specs.Steps.{HasBound, IsKept, KeepsAll};
 ghost use Rattle.refs_index.specs.Becoming.{Becomes};
 
 use base_edits::Moves;
-use refs_binding::{BoundSpot, Declaration};
-use refs_index::{SoundWorkspace, corresponds};
+use refs_binding::{BoundIdentifier, Declaration};
+use refs_index::{FaultlessWorkspace, corresponds};
 use std::alloc::AllocError;
 
 /// Whether one of these bound identifiers is bound to what the declaration `d` has become.
 fn some_became(
     moves: &Moves<'_>,
-    before: &SoundWorkspace<'_>,
-    then: &SoundWorkspace<'_>,
+    before: &FaultlessWorkspace<'_>,
+    then: &FaultlessWorkspace<'_>,
     d: &Declaration,
-    bound: &[BoundSpot],
+    bound: &[BoundIdentifier],
 ) -> Result<bool, AllocError>
-    requires before { IsHeld before.now }
-    requires then { IsHeld then.now }
+    requires before { HasWorkspaceIndex before.now }
+    requires then { HasWorkspaceIndex then.now }
     ensures { IfOk result (λ yes. IsTrue yes ↔ HasBound (λ e. Becomes (view_in before.now) (view_in then.now) (moved moves.now) d.now e) bound.now) }
 {
     for b in bound {
@@ -34,13 +34,13 @@ fn some_became(
 /// Whether a bound identifier is bound after the change to what its declaration has become. The search begins at the number `near`.
 fn is_kept(
     moves: &Moves<'_>,
-    before: &SoundWorkspace<'_>,
-    then: &SoundWorkspace<'_>,
+    before: &FaultlessWorkspace<'_>,
+    then: &FaultlessWorkspace<'_>,
     near: &mut usize,
-    bound: &BoundSpot,
+    bound: &BoundIdentifier,
 ) -> Result<bool, AllocError>
-    requires before { IsHeld before.now }
-    requires then { IsHeld then.now }
+    requires before { HasWorkspaceIndex before.now }
+    requires then { HasWorkspaceIndex then.now }
     ensures { IfOk result (λ yes. IsTrue yes ↔ IsKept (view_in before.now) (view_in then.now) (moved moves.now) bound.now) }
 {
     let place = moves.place(&bound.spot.path, bound.spot.offset)?;
@@ -56,11 +56,11 @@ fn is_kept(
 /// Whether each bound identifier is bound after the change to what its declaration has become.
 pub fn are_kept(
     moves: &Moves<'_>,
-    before: &SoundWorkspace<'_>,
-    then: &SoundWorkspace<'_>,
+    before: &FaultlessWorkspace<'_>,
+    then: &FaultlessWorkspace<'_>,
 ) -> Result<bool, AllocError>
-    requires before { IsHeld before.now }
-    requires then { IsHeld then.now }
+    requires before { HasWorkspaceIndex before.now }
+    requires then { HasWorkspaceIndex then.now }
     ensures { IfOk result (λ yes. IsTrue yes ↔ KeepsAll (view_in before.now) (view_in then.now) (moved moves.now)) }
 {
     let all = before.bound();

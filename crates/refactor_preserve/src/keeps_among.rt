@@ -4,16 +4,16 @@ ghost use Rattle.std.specs.Option.{option_copied};
 ghost use Rattle.base_files.specs.declared.place.Place.{Place as At};
 ghost use Rattle.base_edits.specs.EditSet.{edited};
 ghost use Rattle.base_edits.specs.Moved.{moved};
-ghost use Rattle.refs_binding.specs.Workspaces.{IsSound, known_in};
+ghost use Rattle.refs_binding.specs.Workspaces.{IsFaultless, known_in};
 ghost use Rattle.base_edits.specs.RevisionsOfEdits.{revision_of};
 ghost use Rattle.refactor_preserve.specs.Affected.{AreAffected};
-ghost use Rattle.refactor_preserve.specs.Among.{AreHeld, IsKnownBefore, BecomesAmong, IsKeptAmong, AllWereAmong, AddsNoneAmong, KeepsMarked, AddsMarked, BothGo, IsBoundMarked, TellsMarked};
-ghost use Rattle.refactor_preserve.specs.Answers.{Tells};
+ghost use Rattle.refactor_preserve.specs.Among.{AreHeld, IsKnownBefore, BecomesAmong, IsKeptAmong, AllCorrespondAmong, AddsNoneAmong, KeepsMarked, AddsMarked, BothGo, IsBoundMarked, AnswersForMarked};
+ghost use Rattle.refactor_preserve.specs.Answers.{AnswersFor};
 ghost use Rattle.refactor_preserve.specs.Marked.{HasMarks};
 ghost use Rattle.refactor_preserve.specs.Preserved.{KeepsBindings};
 ghost use Rattle.refactor_preserve.specs.Steps.{HasBound};
 
-use crate::Near;
+use crate::SearchStarts;
 use crate::among::{KnownBefore, MarkedPackages};
 use crate::answer::{Answer, no_or_unknown, yes_or_unknown};
 use crate::edited_workspace::EditedWorkspace;
@@ -21,7 +21,7 @@ use crate::lost::is_lost;
 use crate::marking::affected_by;
 use base_edits::{EditSet, Moves};
 use base_files::Place;
-use refs_binding::{BoundSpot, Declaration};
+use refs_binding::{BoundIdentifier, Declaration};
 use refs_index::{are_predeclared, goes_to};
 use std::alloc::{AllocError, Global};
 use workspace_check::Findings;
@@ -67,7 +67,7 @@ fn some_became(
     before: &MarkedPackages<'_>,
     then: &MarkedPackages<'_>,
     d: &Declaration,
-    bound: &[BoundSpot],
+    bound: &[BoundIdentifier],
 ) -> Result<bool, AllocError>
     requires before { AreHeld before.now }
     requires then { AreHeld then.now }
@@ -82,11 +82,11 @@ fn some_became(
 }
 
 /// Whether the declaration of one of these bound identifiers has become `e`.
-fn some_was(
+fn some_corresponds(
     moves: &Moves<'_>,
     before: &MarkedPackages<'_>,
     then: &MarkedPackages<'_>,
-    bound: &[BoundSpot],
+    bound: &[BoundIdentifier],
     e: &Declaration,
 ) -> Result<bool, AllocError>
     requires before { AreHeld before.now }
@@ -107,7 +107,7 @@ fn is_kept(
     before: &MarkedPackages<'_>,
     then: &MarkedPackages<'_>,
     near: &mut usize,
-    bound: &BoundSpot,
+    bound: &BoundIdentifier,
 ) -> Result<bool, AllocError>
     requires before { AreHeld before.now }
     requires then { AreHeld then.now }
@@ -128,7 +128,7 @@ fn first_unkept<'a>(
     moves: &Moves<'_>,
     before: &'a MarkedPackages<'_>,
     then: &MarkedPackages<'_>,
-) -> Result<Option<&'a BoundSpot>, AllocError>
+) -> Result<Option<&'a BoundIdentifier>, AllocError>
     requires before { AreHeld before.now }
     requires then { AreHeld then.now }
     ensures { IfOk result (λ first. MatchOption first (KeepsMarked before.now then.now (moved moves.now)) (λ b. IsBoundMarked before.now b.now)) }
@@ -144,19 +144,19 @@ fn first_unkept<'a>(
 }
 
 /// Whether each of the new bound identifiers is bound to what the declaration of one of the old ones has become.
-fn all_were(
+fn all_correspond(
     moves: &Moves<'_>,
     before: &MarkedPackages<'_>,
     then: &MarkedPackages<'_>,
-    old: &[BoundSpot],
-    new: &[BoundSpot],
+    old: &[BoundIdentifier],
+    new: &[BoundIdentifier],
 ) -> Result<bool, AllocError>
     requires before { AreHeld before.now }
     requires then { AreHeld then.now }
-    ensures { IfOk result (λ yes. IsTrue yes → AllWereAmong before.now then.now (moved moves.now) old.now new.now) }
+    ensures { IfOk result (λ yes. IsTrue yes → AllCorrespondAmong before.now then.now (moved moves.now) old.now new.now) }
 {
     for b in new {
-        if !some_was(moves, before, then, old, &b.declaration)? {
+        if !some_corresponds(moves, before, then, old, &b.declaration)? {
             return Ok(false);
         }
     }
@@ -168,7 +168,7 @@ fn adds_none(
     moves: &Moves<'_>,
     before: &MarkedPackages<'_>,
     then: &MarkedPackages<'_>,
-    near: &mut Near,
+    near: &mut SearchStarts,
     place: &Place,
 ) -> Result<bool, AllocError>
     requires before { AreHeld before.now }
@@ -179,7 +179,7 @@ fn adds_none(
     if !then.holds(&to.path) {
         return Ok(false);
     }
-    all_were(
+    all_correspond(
         moves,
         before,
         then,
@@ -199,7 +199,7 @@ fn add_none(
     requires then { AreHeld then.now }
     ensures { IfOk result (λ yes. IsTrue yes → (place : At) → Contains places.now place → AddsNoneAmong before.now then.now (moved moves.now) place) }
 {
-    let mut near = Near { before: 0, then: 0 };
+    let mut near = SearchStarts { before: 0, then: 0 };
     for place in places {
         if !adds_none(moves, before, then, &mut near, place)? {
             return Ok(false);
@@ -231,7 +231,7 @@ fn adds_marked(
     requires before { IsKnownBefore before.now }
     requires then { AreHeld then.now }
     requires keeps { KeepsMarked before.now.packages then.now (moved moves.now) }
-    ensures { IfOk result (λ answer. TellsMarked before.now.packages then.now (moved moves.now) answer) }
+    ensures { IfOk result (λ answer. AnswersForMarked before.now.packages then.now (moved moves.now) answer) }
 {
     let adds_none = adds_nowhere(moves, before, then)?;
     Ok(yes_or_unknown(adds_none))
@@ -242,12 +242,12 @@ fn loses_marked(
     moves: &Moves<'_>,
     before: &MarkedPackages<'_>,
     then: &MarkedPackages<'_>,
-    bound: &BoundSpot,
+    bound: &BoundIdentifier,
 ) -> Result<Answer, AllocError>
     requires before { AreHeld before.now }
     requires then { AreHeld then.now }
     requires bound { IsBoundMarked before.now bound.now }
-    ensures { IfOk result (λ answer. TellsMarked before.now then.now (moved moves.now) answer) }
+    ensures { IfOk result (λ answer. AnswersForMarked before.now then.now (moved moves.now) answer) }
 {
     let lost = is_lost(moves, before, then, bound)?;
     Ok(no_or_unknown(lost))
@@ -261,7 +261,7 @@ fn tell_marked(
 ) -> Result<Answer, AllocError>
     requires before { IsKnownBefore before.now }
     requires then { AreHeld then.now }
-    ensures { IfOk result (λ answer. TellsMarked before.now.packages then.now (moved moves.now) answer) }
+    ensures { IfOk result (λ answer. AnswersForMarked before.now.packages then.now (moved moves.now) answer) }
 {
     match first_unkept(moves, &before.packages, then)? {
         None => adds_marked(moves, before, then),
@@ -280,7 +280,7 @@ fn keeps_marked(
     requires then { AreHeld then.now }
     requires edited { then.now.graph.now ≡ edited edits.now before.now.packages.graph.now }
     requires affected { AreAffected before.now.packages.graph.now before.now.packages.graph.now then.now.graph.now edits.now before.now.packages.marks.now }
-    ensures { IfOk result (λ answer. Tells answer (KeepsBindings before.now.packages.graph.now (known_in before.now.packages.found.now) (revision_of before.now.packages.graph.now edits.now) (known_in then.now.found.now))) }
+    ensures { IfOk result (λ answer. AnswersFor answer (KeepsBindings before.now.packages.graph.now (known_in before.now.packages.found.now) (revision_of before.now.packages.graph.now edits.now) (known_in then.now.found.now))) }
 {
     let moves = Moves::of(alloc, edits)?;
     tell_marked(&moves, before, then)
@@ -295,11 +295,11 @@ pub fn keeps_among(
     change: &EditedWorkspace<'_>,
     found_after: &Findings,
 ) -> Result<Answer, AllocError>
-    requires sound { IsSound graph.now found.now }
+    requires sound { IsFaultless graph.now found.now }
     requires after { change.now.after.now ≡ edited change.now.edits.now graph.now }
     requires marks { HasMarks graph.now change.now }
-    requires sound_after { IsSound change.now.after.now found_after.now }
-    ensures { IfOk result (λ answer. Tells answer (KeepsBindings graph.now (known_in found.now) (revision_of graph.now change.now.edits.now) (known_in found_after.now))) }
+    requires sound_after { IsFaultless change.now.after.now found_after.now }
+    ensures { IfOk result (λ answer. AnswersFor answer (KeepsBindings graph.now (known_in found.now) (revision_of graph.now change.now.edits.now) (known_in found_after.now))) }
 {
     let affected = affected_by(alloc, graph, change.edits, change.after, change.marks)?;
     if affected.before.iter().all(|mark| *mark) {

@@ -1,26 +1,26 @@
 //! Whether all identifiers stay bound to what their declarations become.
 ghost use Rattle.std.specs.Prelude.{◌↔◌, IsTrue, IfOk};
 ghost use Rattle.base_edits.specs.Moved.{moved};
-ghost use Rattle.refs_index.specs.Held.{IsHeld};
-ghost use Rattle.refs_index.specs.Sound.{view_in};
+ghost use Rattle.refs_index.specs.WorkspaceIndex.{HasWorkspaceIndex};
+ghost use Rattle.refs_index.specs.FaultlessViews.{view_in};
 ghost use Rattle.refactor_preserve.specs.Steps.{KeepsAll, AddsNowhere};
 
 use crate::adding::adds_nowhere;
 use crate::aligned::{Compared, keep_order};
 use crate::keeping::are_kept;
 use base_edits::Moves;
-use refs_index::SoundWorkspace;
+use refs_index::FaultlessWorkspace;
 use std::alloc::{AllocError, Global};
 
 /// Whether each identifier stays bound to what its declaration becomes and is bound to nothing more, by a search for each.
 fn keeps_each(
     alloc: Global,
     moves: &Moves<'_>,
-    before: &SoundWorkspace<'_>,
-    then: &SoundWorkspace<'_>,
+    before: &FaultlessWorkspace<'_>,
+    then: &FaultlessWorkspace<'_>,
 ) -> Result<bool, AllocError>
-    requires before { IsHeld before.now }
-    requires then { IsHeld then.now }
+    requires before { HasWorkspaceIndex before.now }
+    requires then { HasWorkspaceIndex then.now }
     ensures { IfOk result (λ kept. IsTrue kept
         ↔ (KeepsAll (view_in before.now) (view_in then.now) (moved moves.now) × AddsNowhere (view_in before.now) (view_in then.now) (moved moves.now))) }
 {
@@ -36,11 +36,11 @@ fn keeps_each(
 pub fn keeps(
     alloc: Global,
     moves: &Moves<'_>,
-    before: &SoundWorkspace<'_>,
-    then: &SoundWorkspace<'_>,
+    before: &FaultlessWorkspace<'_>,
+    then: &FaultlessWorkspace<'_>,
 ) -> Result<bool, AllocError>
-    requires before { IsHeld before.now }
-    requires then { IsHeld then.now }
+    requires before { HasWorkspaceIndex before.now }
+    requires then { HasWorkspaceIndex then.now }
     ensures { IfOk result (λ kept. IsTrue kept
         ↔ (KeepsAll (view_in before.now) (view_in then.now) (moved moves.now) × AddsNowhere (view_in before.now) (view_in then.now) (moved moves.now))) }
 {

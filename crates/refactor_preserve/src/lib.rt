@@ -12,15 +12,15 @@ mod keeps_among;
 mod kept;
 mod lost;
 mod marking;
-mod near;
 mod planned;
 mod preserving;
 mod reading;
 mod reading_order;
+mod search_starts;
 
 pub use keeping::are_kept;
 pub use kept::keeps;
 pub use marking::{Affected, affected_by};
-pub use near::Near;
 pub use planned::{Planned, within_limits};
 pub use preserving::preserves;
+pub use search_starts::SearchStarts;

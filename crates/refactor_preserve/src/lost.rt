@@ -7,7 +7,7 @@ ghost use Rattle.refactor_preserve.specs.Steps.{HasBound, IsKept};
 
 use crate::among::MarkedPackages;
 use base_edits::Moves;
-use refs_binding::{BoundSpot, Declaration};
+use refs_binding::{BoundIdentifier, Declaration};
 use refs_index::{are_predeclared, goes_to};
 use std::alloc::AllocError;
 
@@ -54,7 +54,7 @@ fn none_became(
     before: &MarkedPackages<'_>,
     then: &MarkedPackages<'_>,
     d: &Declaration,
-    bound: &[BoundSpot],
+    bound: &[BoundIdentifier],
 ) -> Result<bool, AllocError>
     requires before { AreHeld before.now }
     requires then { AreHeld then.now }
@@ -73,7 +73,7 @@ pub fn is_lost(
     moves: &Moves<'_>,
     before: &MarkedPackages<'_>,
     then: &MarkedPackages<'_>,
-    bound: &BoundSpot,
+    bound: &BoundIdentifier,
 ) -> Result<bool, AllocError>
     requires before { AreHeld before.now }
     requires then { AreHeld then.now }

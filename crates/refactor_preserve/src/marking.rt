@@ -3,12 +3,12 @@
 ghost use Rattle.std.specs.Prelude.{◌≡◌, ◌<◌, IfOk, length, slice_get};
 ghost use Rattle.base_files.specs.Packages.{package_paths};
 ghost use Rattle.workspace_graph.specs.Graphs.{OfPackage};
-ghost use Rattle.build_carry.specs.Changes.{AreMarks, MarkClosures, MarkFolders};
+ghost use Rattle.build_carry.specs.Changes.{MarkChanges, MarkClosures, MarkFolders};
 ghost use Rattle.refactor_preserve.specs.Affected.{AreAffected};
-ghost use Rattle.refactor_preserve.specs.Marking.{IsRead, TellsAffected, folders_of};
+ghost use Rattle.refactor_preserve.specs.Marking.{HasMarkedClosures, FindsAffected, folders_of};
 
 use base_edits::{EditSet, FileChange};
-use build_carry::{Marks, keeps_texts};
+use build_carry::{Marks, keeps_closure};
 use std::alloc::{AllocError, Global};
 use workspace_check::is_marked;
 use workspace_graph::Graph;
@@ -61,12 +61,12 @@ impl<'a> MarkedChange<'a> {
         after: &'a Graph,
         marks: &'a Marks,
     ) -> Result<MarkedChange<'a>, AllocError>
-        requires before_marks { AreMarks before.now after.now marks.now.before.items }
-        requires after_marks { AreMarks after.now before.now marks.now.after.items }
+        requires before_marks { MarkChanges before.now after.now marks.now.before.items }
+        requires after_marks { MarkChanges after.now before.now marks.now.after.items }
         ensures before { IfOk result (λ change. change.before.now ≡ before.now) }
         ensures edits { IfOk result (λ change. change.edits.now ≡ edits.now) }
         ensures after { IfOk result (λ change. change.after.now ≡ after.now) }
-        ensures read { IfOk result (λ change. IsRead change) }
+        ensures read { IfOk result (λ change. HasMarkedClosures change) }
     {
         let touched = reaching_marks(alloc, before, edits.changed())?;
         Ok(MarkedChange {
@@ -83,20 +83,20 @@ impl<'a> MarkedChange<'a> {
         requires old { old < length (package_paths self.now.before.now) }
         requires same { slice_get (package_paths self.now.before.now) old ≡ slice_get (package_paths self.now.after.now) new }
         requires new { new < length (package_paths self.now.after.now) }
-        requires read { IsRead self.now }
-        ensures { OfPackage self.now.before.now old (λ p. TellsAffected self.now.before.now self.now.after.now self.now.edits.now p result) }
+        requires read { HasMarkedClosures self.now }
+        ensures { OfPackage self.now.before.now old (λ p. FindsAffected self.now.before.now self.now.after.now self.now.edits.now p result) }
     {
         if is_marked(&self.touched, old) {
             return true;
         }
-        !keeps_texts(self.marks, old, new)
+        !keeps_closure(self.marks, old, new)
     }
 
     /// Whether a package of the workspace before the change is affected, by its number there.
     fn affects_old(&self, old: usize) -> bool
         requires old { old < length (package_paths self.now.before.now) }
-        requires read { IsRead self.now }
-        ensures { OfPackage self.now.before.now old (λ p. TellsAffected self.now.before.now self.now.after.now self.now.edits.now p result) }
+        requires read { HasMarkedClosures self.now }
+        ensures { OfPackage self.now.before.now old (λ p. FindsAffected self.now.before.now self.now.after.now self.now.edits.now p result) }
     {
         match self.after.number_of(&self.before.package(old).path) {
             None => true,
@@ -107,8 +107,8 @@ impl<'a> MarkedChange<'a> {
     /// Whether a package of the workspace after the change is affected, by its number there.
     fn affects_new(&self, new: usize) -> bool
         requires new { new < length (package_paths self.now.after.now) }
-        requires read { IsRead self.now }
-        ensures { OfPackage self.now.after.now new (λ p. TellsAffected self.now.before.now self.now.after.now self.now.edits.now p result) }
+        requires read { HasMarkedClosures self.now }
+        ensures { OfPackage self.now.after.now new (λ p. FindsAffected self.now.before.now self.now.after.now self.now.edits.now p result) }
     {
         match self.before.number_of(&self.after.package(new).path) {
             None => true,
@@ -118,7 +118,7 @@ impl<'a> MarkedChange<'a> {
 
     /// The marks of the affected packages of the workspace before the change.
     fn before_marks(&self, alloc: Global) -> Result<Vec<bool>, AllocError>
-        requires { IsRead self.now }
+        requires { HasMarkedClosures self.now }
         ensures { IfOk result (λ marks. AreAffected self.now.before.now self.now.before.now self.now.after.now self.now.edits.now marks.items) }
     {
         let mut marks = Vec::new(alloc);
@@ -130,7 +130,7 @@ impl<'a> MarkedChange<'a> {
 
     /// The marks of the affected packages of the workspace after the change.
     fn then_marks(&self, alloc: Global) -> Result<Vec<bool>, AllocError>
-        requires { IsRead self.now }
+        requires { HasMarkedClosures self.now }
         ensures { IfOk result (λ marks. AreAffected self.now.after.now self.now.before.now self.now.after.now self.now.edits.now marks.items) }
     {
         let mut marks = Vec::new(alloc);
@@ -157,8 +157,8 @@ pub fn affected_by(
     after: &Graph,
     marks: &Marks,
 ) -> Result<Affected, AllocError>
-    requires before_marks { AreMarks before.now after.now marks.now.before.items }
-    requires after_marks { AreMarks after.now before.now marks.now.after.items }
+    requires before_marks { MarkChanges before.now after.now marks.now.before.items }
+    requires after_marks { MarkChanges after.now before.now marks.now.after.items }
     ensures before { IfOk result (λ marks. AreAffected before.now before.now after.now edits.now marks.before.items) }
     ensures then { IfOk result (λ marks. AreAffected after.now before.now after.now edits.now marks.then.items) }
 {

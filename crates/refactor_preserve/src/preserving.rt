@@ -4,9 +4,9 @@ ghost use Rattle.base_edits.specs.EditSet.{edited};
 ghost use Rattle.workspace_check.specs.FaultLists.{ListsFaults};
 ghost use Rattle.workspace_check.specs.Found.{AreFindings, IsFound, KnowsVerdicts};
 ghost use Rattle.refs_binding.specs.Packages.{ArePackages};
-ghost use Rattle.refs_binding.specs.Workspaces.{IsSound, known_in};
+ghost use Rattle.refs_binding.specs.Workspaces.{IsFaultless, known_in};
 ghost use Rattle.refactor_preserve.specs.Marked.{HasMarks};
-ghost use Rattle.refactor_preserve.specs.Preserved.{KeepsBindings, Preserves, TellsPreserved};
+ghost use Rattle.refactor_preserve.specs.Preserved.{KeepsBindings, Preserves, FindsPreserved};
 ghost use Rattle.base_edits.specs.RevisionsOfEdits.{revision_of};
 
 use crate::answer::Answer;
@@ -17,7 +17,7 @@ use base_edits::{EditSet, Moves};
 use base_files::Refusal;
 use build_carry::{known_after, marks_of};
 use refs_binding::{Packages, all_seen, refuse_faults};
-use refs_index::SoundWorkspace;
+use refs_index::FaultlessWorkspace;
 use std::alloc::{AllocError, Global};
 use workspace_check::{Findings, Found, Known, verdicts};
 use workspace_graph::Graph;
@@ -37,8 +37,8 @@ fn keeps_read(
     ensures { IfOk result (λ kept. IsTrue kept ↔ KeepsBindings before.now.graph.now (known_in before.now.found.now) (revision_of before.now.graph.now edits.now) (known_in after.now.found.now)) }
 {
     let moves = Moves::of(alloc, edits)?;
-    let before = SoundWorkspace::of(alloc, before)?;
-    let then = SoundWorkspace::of(alloc, after)?;
+    let before = FaultlessWorkspace::of(alloc, before)?;
+    let then = FaultlessWorkspace::of(alloc, after)?;
     keeps(alloc, &moves, &before, &then)
 }
 
@@ -51,9 +51,9 @@ fn keeps_all_bindings(
     after: &Graph,
     found_after: &Findings,
 ) -> Result<bool, AllocError>
-    requires sound { IsSound graph.now found.now }
+    requires sound { IsFaultless graph.now found.now }
     requires after { after.now ≡ edited edits.now graph.now }
-    requires sound_after { IsSound after.now found_after.now }
+    requires sound_after { IsFaultless after.now found_after.now }
     ensures { IfOk result (λ kept. IsTrue kept ↔ KeepsBindings graph.now (known_in found.now) (revision_of graph.now edits.now) (known_in found_after.now)) }
 {
     let seen = all_seen(alloc, graph, found)?;
@@ -71,10 +71,10 @@ fn keeps_bindings(
     change: &EditedWorkspace<'_>,
     found_after: &Findings,
 ) -> Result<bool, AllocError>
-    requires sound { IsSound graph.now found.now }
+    requires sound { IsFaultless graph.now found.now }
     requires after { change.now.after.now ≡ edited change.now.edits.now graph.now }
     requires marks { HasMarks graph.now change.now }
-    requires sound_after { IsSound change.now.after.now found_after.now }
+    requires sound_after { IsFaultless change.now.after.now found_after.now }
     ensures { IfOk result (λ kept. IsTrue kept ↔ KeepsBindings graph.now (known_in found.now) (revision_of graph.now change.now.edits.now) (known_in found_after.now)) }
 {
     match keeps_among(alloc, graph, found, change, found_after)? {
@@ -94,7 +94,7 @@ fn keeps_bindings(
 /// Whether the findings of a workspace have no fault.
 fn is_sound(alloc: Global, graph: &Graph, found: &Findings) -> Result<bool, AllocError>
     requires { AreFindings graph.now found.now }
-    ensures { IfOk result (λ sound. MatchBool sound (IsSound graph.now found.now) (ListsFaults graph.now [] → ⊥)) }
+    ensures { IfOk result (λ sound. MatchBool sound (IsFaultless graph.now found.now) (ListsFaults graph.now [] → ⊥)) }
 {
     match refuse_faults(alloc, graph, found) {
         Ok(()) => Ok(true),
@@ -126,7 +126,7 @@ fn are_preserved(
     change: &EditedWorkspace<'_>,
     found_after: &Findings,
 ) -> Result<bool, AllocError>
-    requires sound { IsSound graph.now found.now }
+    requires sound { IsFaultless graph.now found.now }
     requires after { change.now.after.now ≡ edited change.now.edits.now graph.now }
     requires marks { HasMarks graph.now change.now }
     requires found_after { AreFindings change.now.after.now found_after.now }
@@ -156,11 +156,11 @@ fn preserves_marked(
     found: &Found,
     change: &EditedWorkspace<'_>,
 ) -> Result<Option<Known>, AllocError>
-    requires sound { IsSound graph.now found.now.findings }
+    requires sound { IsFaultless graph.now found.now.findings }
     requires known { KnowsVerdicts graph.now found.now.known }
     requires after { change.now.after.now ≡ edited change.now.edits.now graph.now }
     requires marks { HasMarks graph.now change.now }
-    ensures { IfOk result (TellsPreserved graph.now (revision_of graph.now change.now.edits.now)) }
+    ensures { IfOk result (FindsPreserved graph.now (revision_of graph.now change.now.edits.now)) }
 {
     let then = found_after(alloc, graph, &found.known, change)?;
     let kept = are_preserved(alloc, graph, &found.findings, change, &then.findings)?;
@@ -175,11 +175,11 @@ pub fn preserves(
     found: &Found,
     change: &MadeChange,
 ) -> Result<Option<Known>, AllocError>
-    requires sound { IsSound graph.now found.now.findings }
+    requires sound { IsFaultless graph.now found.now.findings }
     requires known { KnowsVerdicts graph.now found.now.known }
     requires base { change.now.base ≡ graph.now }
     requires after { change.now.files ≡ edited change.now.edits graph.now }
-    ensures { IfOk result (TellsPreserved graph.now (revision_of graph.now change.now.edits)) }
+    ensures { IfOk result (FindsPreserved graph.now (revision_of graph.now change.now.edits)) }
 {
     let marks = marks_of(alloc, graph, change)?;
     let made = change.get();

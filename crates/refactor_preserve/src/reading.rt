@@ -4,29 +4,29 @@ ghost use Rattle.std.specs.Prelude.{◌<◌, length, IfOk, IfSome, IsTrue, OnOk}
 ghost use Rattle.base_files.specs.Packages.{package_paths};
 ghost use Rattle.refs_index.specs.KnownExports.{KnowsExports};
 ghost use Rattle.refs_binding.specs.Bindings.{AddsAll, IsBoundAt};
-ghost use Rattle.refs_binding.specs.Exports.{AreNumbersAt};
+ghost use Rattle.refs_binding.specs.Exports.{AreExportsByNameAt};
 ghost use Rattle.refs_binding.specs.Packages.{IsTableAs};
-ghost use Rattle.refs_binding.specs.Workspaces.{IsSound, known_in};
+ghost use Rattle.refs_binding.specs.Workspaces.{IsFaultless, known_in};
 ghost use Rattle.refs_places.specs.DeclaredPlaces.{AreDeclaredAt};
-ghost use Rattle.refs_places.specs.Identified.{BeginsInNumber};
+ghost use Rattle.refs_places.specs.Identified.{BeginsInPackageAt};
 
 use base_files::Place;
 use go_scope::table::ScopeTable;
 use refs_binding::exports::numbers_by;
-use refs_binding::{BoundSpot, path_of, read_table};
+use refs_binding::{BoundIdentifier, path_of, read_table};
 use refs_index::{KnownExports, bind_laid};
-use refs_places::declared_places::{DeclaredPlaces, unit_places};
+use refs_places::declared_places::{DeclaredPlaces, package_places};
 use refs_places::identifier_places::add_unit;
 use std::alloc::{AllocError, Global};
 use std::collections::BTreeMap;
-use types_declared::{Interfaces, Package};
+use types_declared::{ExportTable, Package};
 use workspace_check::{Findings, is_marked, seen};
 use workspace_graph::Graph;
 
 /// What to read: the marked packages, by the exports of the packages that they import, and whether the places of their identifiers are
 /// wanted.
 #[derive(Clone, Copy)]
-pub struct Reading<'a> {
+pub struct ReadRequest<'a> {
     pub exports: &'a KnownExports<'a>,
     pub marks: &'a [bool],
     pub identifiers: bool,
@@ -34,8 +34,8 @@ pub struct Reading<'a> {
 
 /// The bound identifiers of the packages that are read so far, and the places of their identifiers.
 #[derive(Drop)]
-pub struct Gathered {
-    pub bound: Vec<BoundSpot>,
+pub struct GatheredBindings {
+    pub bound: Vec<BoundIdentifier>,
     pub identifiers: Vec<Place>,
 }
 
@@ -51,12 +51,12 @@ fn places_laid(
     alloc: Global,
     graph: &Graph,
     found: &Findings,
-    seen: &Interfaces,
+    seen: &ExportTable,
     table: &ScopeTable<'_>,
     number: usize,
 ) -> Result<DeclaredPlaces, AllocError>
     requires in_range { number < length (package_paths graph.now) }
-    requires sound { IsSound graph.now found.now }
+    requires sound { IsFaultless graph.now found.now }
     requires table { IsTableAs graph.now (known_in found.now) number table.now seen.now }
     ensures { IfOk result (AreDeclaredAt graph.now (known_in found.now) number) }
 {
@@ -66,9 +66,9 @@ fn places_laid(
         path,
         files,
         table,
-        interfaces: seen,
+        export_table: seen,
     };
-    unit_places(alloc, unit)
+    package_places(alloc, unit)
 }
 
 /// Appends the places of the identifiers of the package of a number, by its scope table and the export data that it sees.
@@ -76,14 +76,14 @@ fn add_laid(
     places: &mut Vec<Place>,
     graph: &Graph,
     found: &Findings,
-    seen: &Interfaces,
+    seen: &ExportTable,
     table: &ScopeTable<'_>,
     number: usize,
 ) -> Result<(), AllocError>
     requires in_range { number < length (package_paths graph.now) }
-    requires sound { IsSound graph.now found.now }
+    requires sound { IsFaultless graph.now found.now }
     requires table { IsTableAs graph.now (known_in found.now) number table.now seen.now }
-    ensures { OnOk result (AddsAll places.old.items places.new.items (BeginsInNumber graph.now (known_in found.now) number)) }
+    ensures { OnOk result (AddsAll places.old.items places.new.items (BeginsInPackageAt graph.now (known_in found.now) number)) }
 {
     let path = path_of(graph, found, number);
     let files = table.files();
@@ -91,7 +91,7 @@ fn add_laid(
         path,
         files,
         table,
-        interfaces: seen,
+        export_table: seen,
     };
     add_unit(places, unit)
 }
@@ -99,8 +99,8 @@ fn add_laid(
 /// Appends the places of the identifiers of the package of a number, if they are wanted.
 fn add_wanted(
     places: &mut Vec<Place>,
-    reading: &Reading<'_>,
-    seen: &Interfaces,
+    reading: &ReadRequest<'_>,
+    seen: &ExportTable,
     table: &ScopeTable<'_>,
     number: usize,
 ) -> Result<(), AllocError>
@@ -108,7 +108,7 @@ fn add_wanted(
     requires exports { KnowsExports reading.now.exports.now }
     requires table { let e = reading.now.exports.now in IsTableAs e.graph.now (known_in e.found.now) number table.now seen.now }
     ensures { let e = reading.now.exports.now in
-        OnOk result (IsTrue reading.now.identifiers → AddsAll places.old.items places.new.items (BeginsInNumber e.graph.now (known_in e.found.now) number)) }
+        OnOk result (IsTrue reading.now.identifiers → AddsAll places.old.items places.new.items (BeginsInPackageAt e.graph.now (known_in e.found.now) number)) }
 {
     if reading.identifiers {
         let graph = reading.exports.graph;
@@ -123,9 +123,9 @@ fn add_wanted(
 /// declarations.
 fn gather_laid(
     alloc: Global,
-    gathered: &mut Gathered,
-    reading: &Reading<'_>,
-    seen: &Interfaces,
+    gathered: &mut GatheredBindings,
+    reading: &ReadRequest<'_>,
+    seen: &ExportTable,
     table: &ScopeTable<'_>,
     number: usize,
 ) -> Result<DeclaredPlaces, AllocError>
@@ -136,7 +136,7 @@ fn gather_laid(
     ensures bound { let e = reading.now.exports.now in
         OnOk result (AddsAll gathered.old.bound.items gathered.new.bound.items (IsBoundAt e.graph.now (known_in e.found.now) number)) }
     ensures identifiers { let e = reading.now.exports.now in
-        OnOk result (IsTrue reading.now.identifiers → AddsAll gathered.old.identifiers.items gathered.new.identifiers.items (BeginsInNumber e.graph.now (known_in e.found.now) number)) }
+        OnOk result (IsTrue reading.now.identifiers → AddsAll gathered.old.identifiers.items gathered.new.identifiers.items (BeginsInPackageAt e.graph.now (known_in e.found.now) number)) }
 {
     let exports = reading.exports;
     bind_laid(alloc, &mut gathered.bound, exports, seen, table, number)?;
@@ -161,14 +161,14 @@ fn numbers_laid(
     alloc: Global,
     graph: &Graph,
     found: &Findings,
-    seen: &Interfaces,
+    seen: &ExportTable,
     table: &ScopeTable<'_>,
     number: usize,
 ) -> Result<BTreeMap<Vec<u8>, usize>, AllocError>
     requires in_range { number < length (package_paths graph.now) }
-    requires sound { IsSound graph.now found.now }
+    requires sound { IsFaultless graph.now found.now }
     requires table { IsTableAs graph.now (known_in found.now) number table.now seen.now }
-    ensures { IfOk result (AreNumbersAt graph.now (known_in found.now) number) }
+    ensures { IfOk result (AreExportsByNameAt graph.now (known_in found.now) number) }
 {
     let path = path_of(graph, found, number);
     let files = table.files();
@@ -178,15 +178,15 @@ fn numbers_laid(
 /// The exports of the package of a number, if a marked package imports it.
 fn imported_numbers(
     alloc: Global,
-    reading: &Reading<'_>,
-    seen: &Interfaces,
+    reading: &ReadRequest<'_>,
+    seen: &ExportTable,
     table: &ScopeTable<'_>,
     number: usize,
 ) -> Result<Option<BTreeMap<Vec<u8>, usize>>, AllocError>
     requires in_range { number < length (package_paths reading.now.exports.now.graph.now) }
     requires exports { KnowsExports reading.now.exports.now }
     requires table { let e = reading.now.exports.now in IsTableAs e.graph.now (known_in e.found.now) number table.now seen.now }
-    ensures { let e = reading.now.exports.now in IfOk result (λ numbers. IfSome numbers (AreNumbersAt e.graph.now (known_in e.found.now) number)) }
+    ensures { let e = reading.now.exports.now in IfOk result (λ numbers. IfSome numbers (AreExportsByNameAt e.graph.now (known_in e.found.now) number)) }
 {
     let graph = reading.exports.graph;
     let found = reading.exports.found;
@@ -200,9 +200,9 @@ fn imported_numbers(
 /// Reads the package of a number, by its scope table and the export data that it sees.
 fn read_laid(
     alloc: Global,
-    gathered: &mut Gathered,
-    reading: &Reading<'_>,
-    seen: &Interfaces,
+    gathered: &mut GatheredBindings,
+    reading: &ReadRequest<'_>,
+    seen: &ExportTable,
     table: &ScopeTable<'_>,
     number: usize,
 ) -> Result<ReadPackage, AllocError>
@@ -210,11 +210,11 @@ fn read_laid(
     requires exports { KnowsExports reading.now.exports.now }
     requires table { let e = reading.now.exports.now in IsTableAs e.graph.now (known_in e.found.now) number table.now seen.now }
     ensures places { let e = reading.now.exports.now in IfOk result (λ read. AreDeclaredAt e.graph.now (known_in e.found.now) number read.places) }
-    ensures numbers { let e = reading.now.exports.now in IfOk result (λ read. IfSome read.numbers (AreNumbersAt e.graph.now (known_in e.found.now) number)) }
+    ensures numbers { let e = reading.now.exports.now in IfOk result (λ read. IfSome read.numbers (AreExportsByNameAt e.graph.now (known_in e.found.now) number)) }
     ensures bound { let e = reading.now.exports.now in
         OnOk result (AddsAll gathered.old.bound.items gathered.new.bound.items (IsBoundAt e.graph.now (known_in e.found.now) number)) }
     ensures identifiers { let e = reading.now.exports.now in
-        OnOk result (IsTrue reading.now.identifiers → AddsAll gathered.old.identifiers.items gathered.new.identifiers.items (BeginsInNumber e.graph.now (known_in e.found.now) number)) }
+        OnOk result (IsTrue reading.now.identifiers → AddsAll gathered.old.identifiers.items gathered.new.identifiers.items (BeginsInPackageAt e.graph.now (known_in e.found.now) number)) }
 {
     let numbers = imported_numbers(alloc, reading, seen, table, number)?;
     let places = gather_laid(alloc, gathered, reading, seen, table, number)?;
@@ -224,22 +224,22 @@ fn read_laid(
 /// Reads the package of a number: appends its bindings and, where they are wanted, the places of its identifiers. Returns the rest.
 pub(crate) fn gather_read(
     alloc: Global,
-    gathered: &mut Gathered,
-    reading: &Reading<'_>,
+    gathered: &mut GatheredBindings,
+    reading: &ReadRequest<'_>,
     number: usize,
 ) -> Result<ReadPackage, AllocError>
     requires in_range { number < length (package_paths reading.now.exports.now.graph.now) }
     requires exports { KnowsExports reading.now.exports.now }
     ensures places { let e = reading.now.exports.now in IfOk result (λ read. AreDeclaredAt e.graph.now (known_in e.found.now) number read.places) }
-    ensures numbers { let e = reading.now.exports.now in IfOk result (λ read. IfSome read.numbers (AreNumbersAt e.graph.now (known_in e.found.now) number)) }
+    ensures numbers { let e = reading.now.exports.now in IfOk result (λ read. IfSome read.numbers (AreExportsByNameAt e.graph.now (known_in e.found.now) number)) }
     ensures bound { let e = reading.now.exports.now in
         OnOk result (AddsAll gathered.old.bound.items gathered.new.bound.items (IsBoundAt e.graph.now (known_in e.found.now) number)) }
     ensures identifiers { let e = reading.now.exports.now in
-        OnOk result (IsTrue reading.now.identifiers → AddsAll gathered.old.identifiers.items gathered.new.identifiers.items (BeginsInNumber e.graph.now (known_in e.found.now) number)) }
+        OnOk result (IsTrue reading.now.identifiers → AddsAll gathered.old.identifiers.items gathered.new.identifiers.items (BeginsInPackageAt e.graph.now (known_in e.found.now) number)) }
 {
     let graph = reading.exports.graph;
     let found = reading.exports.found;
-    let seen = seen(alloc, graph, number, &found.interfaces)?;
+    let seen = seen(alloc, graph, number, &found.export_table)?;
     let table = read_table(alloc, graph, found, &seen, number)?;
     read_laid(alloc, gathered, reading, &seen, &table, number)
 }

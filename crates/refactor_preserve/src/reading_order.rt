@@ -2,18 +2,18 @@
 //! point.
 ghost use Rattle.std.specs.Prelude.{◌≡◌, ◌<◌, [], None, length, IfOk, IfSome, IsTrue, OnOk};
 ghost use Rattle.base_files.specs.Packages.{package_paths};
-ghost use Rattle.workspace_graph.specs.Imports.{HoldsBelow};
+ghost use Rattle.workspace_graph.specs.Imports.{ListsBelow};
 ghost use Rattle.refs_index.specs.KnownExports.{AreSomeExports};
 ghost use Rattle.refs_binding.specs.Bindings.{AddsAll, IsBoundAt};
-ghost use Rattle.refs_binding.specs.Exports.{AreNumbersAt};
+ghost use Rattle.refs_binding.specs.Exports.{AreExportsByNameAt};
 ghost use Rattle.refs_binding.specs.Packages.{HoldsOfEach};
-ghost use Rattle.refs_binding.specs.Workspaces.{IsSound, known_in};
+ghost use Rattle.refs_binding.specs.Workspaces.{IsFaultless, known_in};
 ghost use Rattle.refactor_preserve.specs.Among.{AreIdentifiersAmong, HoldsMarked};
-ghost use Rattle.refactor_preserve.specs.ReadSoFar.{HoldsAllNumbers, IsReadSoFar, MayRead, ReadsOne};
+ghost use Rattle.refactor_preserve.specs.ReadStates.{HoldsAllNumbers, IsReadState, ReadsIfMarked, ReadsOne};
 ghost use Rattle.refs_places.specs.DeclaredPlaces.{AreDeclaredAt};
-ghost use Rattle.refs_places.specs.Identified.{BeginsInNumber};
+ghost use Rattle.refs_places.specs.Identified.{BeginsInPackageAt};
 
-use crate::reading::{Gathered, ReadPackage, Reading, gather_read};
+use crate::reading::{GatheredBindings, ReadPackage, ReadRequest, gather_read};
 use base_files::Place;
 use refs_index::exports::numbers_at;
 use refs_index::{Bindings, KnownExports};
@@ -26,7 +26,7 @@ use workspace_graph::Graph;
 /// The marked packages: the places of their declarations, by the packages' numbers, the bindings of their identifiers and, where wanted,
 /// the places of these.
 #[derive(Drop)]
-pub struct Held {
+pub struct HeldPackages {
     pub places: Vec<Option<DeclaredPlaces>>,
     pub bindings: Bindings,
     pub identifiers: Vec<Place>,
@@ -34,7 +34,7 @@ pub struct Held {
 
 /// What to read of a workspace: the marked packages, and whether the places of their identifiers are wanted.
 #[derive(Clone, Copy)]
-pub struct Wanted<'a> {
+pub struct ToRead<'a> {
     pub graph: &'a Graph,
     pub found: &'a Findings,
     pub marks: &'a [bool],
@@ -44,8 +44,8 @@ pub struct Wanted<'a> {
 /// The packages read so far: their bindings, the places of their declarations, and the exports that are known, both by the packages'
 /// numbers.
 #[derive(Drop)]
-pub struct SoFar {
-    pub gathered: Gathered,
+pub struct ReadState {
+    pub gathered: GatheredBindings,
     pub places: Vec<Option<DeclaredPlaces>>,
     pub numbers: Vec<Option<BTreeMap<Vec<u8>, usize>>>,
 }
@@ -61,18 +61,18 @@ fn nothing<T: Drop>(alloc: Global, count: usize) -> Result<Vec<Option<T>>, Alloc
     Ok(all)
 }
 
-impl SoFar {
+impl ReadState {
     /// The state before any package is read.
-    fn new(alloc: Global, wanted: &Wanted<'_>) -> Result<SoFar, AllocError>
-        ensures { IfOk result (IsReadSoFar wanted.now []) }
+    fn new(alloc: Global, wanted: &ToRead<'_>) -> Result<ReadState, AllocError>
+        ensures { IfOk result (IsReadState wanted.now []) }
     {
         let places = nothing(alloc, wanted.graph.len())?;
         let numbers = nothing(alloc, wanted.graph.len())?;
-        let gathered = Gathered {
+        let gathered = GatheredBindings {
             bound: Vec::new(alloc),
             identifiers: Vec::new(alloc),
         };
-        Ok(SoFar {
+        Ok(ReadState {
             gathered,
             places,
             numbers,
@@ -83,12 +83,12 @@ impl SoFar {
 /// Makes the exports of the package of a number known, and reads that package where they are not.
 fn know_one(
     alloc: Global,
-    wanted: &Wanted<'_>,
+    wanted: &ToRead<'_>,
     numbers: &mut Vec<Option<BTreeMap<Vec<u8>, usize>>>,
     number: usize,
 ) -> Result<(), AllocError>
     requires in_range { number < length (package_paths wanted.now.graph.now) }
-    requires sound { IsSound wanted.now.graph.now wanted.now.found.now }
+    requires sound { IsFaultless wanted.now.graph.now wanted.now.found.now }
     requires numbers { AreSomeExports wanted.now.graph.now (known_in wanted.now.found.now) numbers.old.items }
     ensures { OnOk result (AreSomeExports wanted.now.graph.now (known_in wanted.now.found.now) numbers.new.items) }
 {
@@ -102,12 +102,12 @@ fn know_one(
 /// Makes the exports known of each package that the package of a number imports.
 fn know_imports(
     alloc: Global,
-    wanted: &Wanted<'_>,
+    wanted: &ToRead<'_>,
     numbers: &mut Vec<Option<BTreeMap<Vec<u8>, usize>>>,
     number: usize,
 ) -> Result<(), AllocError>
     requires in_range { number < length (package_paths wanted.now.graph.now) }
-    requires sound { IsSound wanted.now.graph.now wanted.now.found.now }
+    requires sound { IsFaultless wanted.now.graph.now wanted.now.found.now }
     requires numbers { AreSomeExports wanted.now.graph.now (known_in wanted.now.found.now) numbers.old.items }
     ensures { OnOk result (AreSomeExports wanted.now.graph.now (known_in wanted.now.found.now) numbers.new.items) }
 {
@@ -120,26 +120,26 @@ fn know_imports(
 /// Reads the package of a number, by the exports that are known.
 fn read_known(
     alloc: Global,
-    wanted: &Wanted<'_>,
-    gathered: &mut Gathered,
+    wanted: &ToRead<'_>,
+    gathered: &mut GatheredBindings,
     numbers: &[Option<BTreeMap<Vec<u8>, usize>>],
     number: usize,
 ) -> Result<ReadPackage, AllocError>
     requires in_range { number < length (package_paths wanted.now.graph.now) }
-    requires sound { IsSound wanted.now.graph.now wanted.now.found.now }
+    requires sound { IsFaultless wanted.now.graph.now wanted.now.found.now }
     requires numbers { AreSomeExports wanted.now.graph.now (known_in wanted.now.found.now) numbers.now }
     ensures places { IfOk result (λ read. AreDeclaredAt wanted.now.graph.now (known_in wanted.now.found.now) number read.places) }
-    ensures numbers { IfOk result (λ read. IfSome read.numbers (AreNumbersAt wanted.now.graph.now (known_in wanted.now.found.now) number)) }
+    ensures numbers { IfOk result (λ read. IfSome read.numbers (AreExportsByNameAt wanted.now.graph.now (known_in wanted.now.found.now) number)) }
     ensures bound { OnOk result (AddsAll gathered.old.bound.items gathered.new.bound.items (IsBoundAt wanted.now.graph.now (known_in wanted.now.found.now) number)) }
     ensures identifiers { OnOk result (IsTrue wanted.now.identifiers →
-        AddsAll gathered.old.identifiers.items gathered.new.identifiers.items (BeginsInNumber wanted.now.graph.now (known_in wanted.now.found.now) number)) }
+        AddsAll gathered.old.identifiers.items gathered.new.identifiers.items (BeginsInPackageAt wanted.now.graph.now (known_in wanted.now.found.now) number)) }
 {
     let exports = KnownExports {
         graph: wanted.graph,
         found: wanted.found,
         numbers,
     };
-    let reading = Reading {
+    let reading = ReadRequest {
         exports: &exports,
         marks: wanted.marks,
         identifiers: wanted.identifiers,
@@ -150,12 +150,12 @@ fn read_known(
 /// Reads the package of a number, after the exports of its imports are made known.
 fn read_one(
     alloc: Global,
-    wanted: &Wanted<'_>,
-    so_far: &mut SoFar,
+    wanted: &ToRead<'_>,
+    so_far: &mut ReadState,
     number: usize,
 ) -> Result<(), AllocError>
     requires in_range { number < length (package_paths wanted.now.graph.now) }
-    requires sound { IsSound wanted.now.graph.now wanted.now.found.now }
+    requires sound { IsFaultless wanted.now.graph.now wanted.now.found.now }
     requires size { length so_far.old.places.items ≡ length (package_paths wanted.now.graph.now) }
     requires numbers { AreSomeExports wanted.now.graph.now (known_in wanted.now.found.now) so_far.old.numbers.items }
     ensures { OnOk result (ReadsOne wanted.now number so_far.old so_far.new) }
@@ -170,15 +170,15 @@ fn read_one(
 /// Reads the package of a number, if it is marked.
 fn read_if_marked(
     alloc: Global,
-    wanted: &Wanted<'_>,
-    so_far: &mut SoFar,
+    wanted: &ToRead<'_>,
+    so_far: &mut ReadState,
     number: usize,
 ) -> Result<(), AllocError>
     requires in_range { number < length (package_paths wanted.now.graph.now) }
-    requires sound { IsSound wanted.now.graph.now wanted.now.found.now }
+    requires sound { IsFaultless wanted.now.graph.now wanted.now.found.now }
     requires size { length so_far.old.places.items ≡ length (package_paths wanted.now.graph.now) }
     requires numbers { AreSomeExports wanted.now.graph.now (known_in wanted.now.found.now) so_far.old.numbers.items }
-    ensures { OnOk result (MayRead wanted.now number so_far.old so_far.new) }
+    ensures { OnOk result (ReadsIfMarked wanted.now number so_far.old so_far.new) }
 {
     if is_marked(wanted.marks, number) {
         read_one(alloc, wanted, so_far, number)
@@ -188,12 +188,16 @@ fn read_if_marked(
 }
 
 /// Reads the marked packages among these numbers, in order.
-fn read_ordered(alloc: Global, wanted: &Wanted<'_>, order: &[usize]) -> Result<SoFar, AllocError>
-    requires sound { IsSound wanted.now.graph.now wanted.now.found.now }
+fn read_ordered(
+    alloc: Global,
+    wanted: &ToRead<'_>,
+    order: &[usize],
+) -> Result<ReadState, AllocError>
+    requires sound { IsFaultless wanted.now.graph.now wanted.now.found.now }
     requires order { HoldsAllNumbers wanted.now.graph.now order.now }
-    ensures { IfOk result (IsReadSoFar wanted.now order.now) }
+    ensures { IfOk result (IsReadState wanted.now order.now) }
 {
-    let mut so_far = SoFar::new(alloc, wanted)?;
+    let mut so_far = ReadState::new(alloc, wanted)?;
     for number in order {
         read_if_marked(alloc, wanted, &mut so_far, *number)?;
     }
@@ -202,7 +206,7 @@ fn read_ordered(alloc: Global, wanted: &Wanted<'_>, order: &[usize]) -> Result<S
 
 /// The numbers from 0 to below `count`.
 fn numbers_below(alloc: Global, count: usize) -> Result<Vec<usize>, AllocError>
-    ensures { IfOk result (λ numbers. HoldsBelow (λ n. Unit {0}) count numbers.items) }
+    ensures { IfOk result (λ numbers. ListsBelow (λ n. Unit {0}) count numbers.items) }
 {
     let mut numbers = Vec::new(alloc);
     for number in 0..count {
@@ -223,23 +227,27 @@ fn reading_order(alloc: Global, graph: &Graph) -> Result<Vec<usize>, AllocError>
 }
 
 /// The marked packages, of which all are read.
-fn held_of(wanted: &Wanted<'_>, order: &[usize], so_far: SoFar) -> Result<Held, AllocError>
-    requires sound { IsSound wanted.now.graph.now wanted.now.found.now }
+fn held_of(
+    wanted: &ToRead<'_>,
+    order: &[usize],
+    so_far: ReadState,
+) -> Result<HeldPackages, AllocError>
+    requires sound { IsFaultless wanted.now.graph.now wanted.now.found.now }
     requires order { HoldsAllNumbers wanted.now.graph.now order.now }
-    requires so_far { IsReadSoFar wanted.now order.now so_far }
+    requires so_far { IsReadState wanted.now order.now so_far }
     ensures held { IfOk result (λ held. HoldsMarked wanted.now.graph.now wanted.now.found.now wanted.now.marks.now held.places.items held.bindings) }
     ensures identifiers { IfOk result (λ held. IsTrue wanted.now.identifiers →
         AreIdentifiersAmong wanted.now.graph.now (known_in wanted.now.found.now) wanted.now.marks.now held.identifiers.items) }
 {
-    let SoFar {
+    let ReadState {
         gathered,
         places,
         numbers,
     } = so_far;
     drop(numbers);
-    let Gathered { bound, identifiers } = gathered;
+    let GatheredBindings { bound, identifiers } = gathered;
     let bindings = Bindings::among(bound)?;
-    Ok(Held {
+    Ok(HeldPackages {
         places,
         bindings,
         identifiers,
@@ -254,12 +262,12 @@ pub fn read_marked(
     found: &Findings,
     marks: &[bool],
     identifiers: bool,
-) -> Result<Held, AllocError>
-    requires { IsSound graph.now found.now }
+) -> Result<HeldPackages, AllocError>
+    requires { IsFaultless graph.now found.now }
     ensures held { IfOk result (λ held. HoldsMarked graph.now found.now marks.now held.places.items held.bindings) }
     ensures identifiers { IfOk result (λ held. IsTrue identifiers → AreIdentifiersAmong graph.now (known_in found.now) marks.now held.identifiers.items) }
 {
-    let wanted = Wanted {
+    let wanted = ToRead {
         graph,
         found,
         marks,

@@ -15,7 +15,7 @@ use Rattle.workspace_check.specs.Verdicts.{Verdicts}
 use Rattle.workspace_check.proofs.Members.{cases_contains}
 use Rattle.base_edits.specs.Edits.{AreInOrder}
 use Rattle.base_edits.specs.EditSet.{FileChanges, path_by, paths_of, change_in}
-use Rattle.base_edits.specs.Fits.{IsEditSet, IsThere, Fits, Gets, new_path, path_by_change}
+use Rattle.base_edits.specs.Fits.{IsEditSet, HasSpans, Fits, MovesTo, new_path, path_by_change}
 use Rattle.base_edits.specs.Moved.{edits_by}
 use Rattle.base_edits.specs.declared.edit.Edit.{Edit}
 use Rattle.base_edits.specs.declared.change.FileChange.{FileChange}
@@ -27,7 +27,7 @@ use Rattle.refactor_rename.specs.declared.renamed.Literal.{Literal}
 use Rattle.refactor_rename.specs.declared.renamed.Renamed.{Renamed}
 use Rattle.refactor_rename.specs.FileEdits.{IsLiteralAt, AreFileEdits}
 use Rattle.refactor_rename.specs.RenameEdits.{IsSourceIn, AreEditsOf}
-use Rattle.refactor_rename.specs.Changes.{IsPathOfLiteral, IsPathOf, change_to, AddsChange, none, one, ChangesSource, IsChanged, AreSourceChanges}
+use Rattle.refactor_rename.specs.Changes.{IsPathOfLiteral, IsPathToEdit, change_to, AddsChange, none, one, ChangesSource, HasChangeOf, AreSourceChanges}
 use Rattle.refactor_rename.proofs.Sources.{source_text, one_source}
 
 -- paths in order
@@ -64,7 +64,7 @@ literal_path : (o : Option Literal) (path : List ℕ) (i : ℕ) → IsLiteralAt 
 literal_path None path i h = h
 literal_path (Some l) path i h = h.0
 
-not_edited : (f : SourceFile) (r : Renamed) → (IsPathOf r f.path → ⊥) → AreFileEdits f r []
+not_edited : (f : SourceFile) (r : Renamed) → (IsPathToEdit r f.path → ⊥) → AreFileEdits f r []
 not_edited f r other = record {
   end_by = record { in_order = tt; ends = All-nil (λ (e : Edit). e.span.end ≤ length f.cut.text) };
   each = λ e. (
@@ -80,11 +80,11 @@ not_edited f r other = record {
 pub record Changing (w : Workspace) (known : Verdicts) (r : Renamed) (left : List (List ℕ)) (cs : List FileChange) : Type 0 where
   pub in_order : IsStrictlySortedBy path_cmp (paths_of cs ++ left)
   pub each : (c : FileChange) → Contains cs c → ChangesSource w known r c
-  pub all : (f : SourceFile) → IsSourceIn w known f → Contains left f.path ⊎ IsChanged cs r f
+  pub all : (f : SourceFile) → IsSourceIn w known f → Contains left f.path ⊎ HasChangeOf cs r f
 
 module _ (w : Workspace) (known : Verdicts) (r : Renamed) where
   pub changing_first : (paths : List (List ℕ)) (cs : List FileChange) → cs ≡ [] → IsStrictlySortedBy path_cmp paths →
-      ((path : List ℕ) → IsPathOf r path → Contains paths path) → Changing w known r paths cs
+      ((path : List ℕ) → IsPathToEdit r path → Contains paths path) → Changing w known r paths cs
   changing_first paths cs e sorted all = subst (Changing w known r paths) (sym e) (record {
     in_order = sorted;
     each = λ c has. absurd (nothing_in c has);
@@ -118,7 +118,7 @@ module _ (w : Workspace) (known : Verdicts) (r : Renamed) where
     ];
   }
 
-  changed_then : (cs : List FileChange) (c : FileChange) (f : SourceFile) → IsChanged cs r f → IsChanged (cs ++ c ∷ []) r f
+  changed_then : (cs : List FileChange) (c : FileChange) (f : SourceFile) → HasChangeOf cs r f → HasChangeOf (cs ++ c ∷ []) r f
   changed_then cs c f (inl h) = inl (h.0, (Contains-append_left cs (c ∷ []) h.0 h.1.0, h.1.1))
   changed_then cs c f (inr h) = inr h
 
@@ -192,7 +192,7 @@ module _ (w : Workspace) (known : Verdicts) (r : Renamed) (cs : List FileChange)
   change_path : (c : FileChange) → (h : ChangesSource w known r c) → h.source.path ≡ c.path
   change_path c h = sym (ap (λ (x : FileChange). x.path) h.is_change)
 
-  there : (c : FileChange) → Contains cs c → IsThere w c
+  there : (c : FileChange) → Contains cs c → HasSpans w c
   there c has =
       let h = are.each c has in
       is_there w c h.source.cut.text (ap (get w) (sym (change_path c h)) ∙ source_text w known h.source h.is_source) h.edits.end_by.ends
@@ -201,19 +201,19 @@ module _ (w : Workspace) (known : Verdicts) (r : Renamed) (cs : List FileChange)
   path_kept None path h = refl
   path_kept (Some c) path h = ap (λ fate. path_by fate path) (h c refl)
 
-  same_path : (old new : List ℕ) → Gets changes w old new → old ≡ new
+  same_path : (old new : List ℕ) → MovesTo changes w old new → old ≡ new
   same_path old new g =
       same_Some old new (sym (path_kept (change_in cs old) old (λ c found. stays_put c (are.each c (change_found cs old c found).0))) ∙ g.1)
 
   fits_of : Fits changes w
   fits_of = record {
-    there = all_by (IsThere w) cs there;
+    there = all_by (HasSpans w) cs there;
     apart = λ a b p g h. same_path a p g ∙ sym (same_path b p h);
     free = λ old file has g. nothing_in file has;
     once = λ a b x y same. absurd (nothing_in a x);
   }
 
-  edits_at : (f : SourceFile) → IsSourceIn w known f → IsChanged cs r f → (o : Option FileChange) → change_in cs f.path ≡ o → AreFileEdits f r (edits_by o)
+  edits_at : (f : SourceFile) → IsSourceIn w known f → HasChangeOf cs r f → (o : Option FileChange) → change_in cs f.path ≡ o → AreFileEdits f r (edits_by o)
   edits_at f s (inl h) None e = absurd (none_changed cs f.path h.0 e h.1.0 h.1.1)
   edits_at f s (inr h) None e = h
   edits_at f s done (Some c) e =

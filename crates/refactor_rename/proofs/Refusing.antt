@@ -5,7 +5,7 @@ use Rattle.base_files.specs.declared.refusal.Refusal.{Refusal}
 use Rattle.base_files.specs.declared.refusal.Refusal.TheVariants as refusal
 use Rattle.go_scope.specs.declared.model.Position.{Position}
 use Rattle.types_declared.specs.Package.{Package, spelled}
-use Rattle.refs_binding.specs.Called.{IsMemberCalled}
+use Rattle.refs_binding.specs.DeclaredNames.{HasMemberName}
 use Rattle.refactor_rename.specs.NewName.{IsReserved}
 use Rattle.refactor_rename.specs.Naming.{RefusesFor}
 
@@ -56,12 +56,12 @@ pub member_refused : (IsAt : (rank : ℕ) → Position → Type 0) (p : Package)
     ((a b : Position) → IsAt rank a → IsAt rank b → a ≡ b) → (o : Option Position) (r : Result (Unit {0}) Refusal) →
     MatchOption o ((at : Position) → IsAt rank at → ⊥) (λ at. IsAt rank at) →
     MatchOption o (RefusesFor ⊥ ⊥ ⊥ r) (λ a. RefusesFor ⊥ ⊥ (spelled p a.file a.index ≡ name) r) →
-    RefusesFor ⊥ (⊥ × IsReserved name) (IsMemberCalled IsAt p rank name) r
+    RefusesFor ⊥ (⊥ × IsReserved name) (HasMemberName IsAt p rank name) r
 member_refused IsAt p rank name one None r none h =
-    refuses_as ⊥ ⊥ ⊥ (⊥ × IsReserved name) ⊥ (IsMemberCalled IsAt p rank name) (agree_same ⊥) (no_member name)
+    refuses_as ⊥ ⊥ ⊥ (⊥ × IsReserved name) ⊥ (HasMemberName IsAt p rank name) (agree_same ⊥) (no_member name)
     (record { there = λ n. absurd n; back = λ c. none c.at c.is_at }) r h
 member_refused IsAt p rank name one (Some a) r is h =
-    refuses_as ⊥ ⊥ ⊥ (⊥ × IsReserved name) (spelled p a.file a.index ≡ name) (IsMemberCalled IsAt p rank name) (agree_same ⊥) (no_member name)
+    refuses_as ⊥ ⊥ ⊥ (⊥ × IsReserved name) (spelled p a.file a.index ≡ name) (HasMemberName IsAt p rank name) (agree_same ⊥) (no_member name)
     (record {
       there = λ e. record { at = a; is_at = is; called = e };
       back = λ c.

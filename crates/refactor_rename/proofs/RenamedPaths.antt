@@ -6,7 +6,7 @@ use Rattle.workspace_check.proofs.Members.{nothing_in, taken_or_next, still_take
 use Rattle.refs_binding.specs.Bindings.{AddsAll}
 use Rattle.refs_binding.proofs.AddingAll.{all_as, all_then}
 use Rattle.refactor_rename.specs.declared.renamed.Renamed.{Renamed}
-use Rattle.refactor_rename.specs.Changes.{IsPathOfPlace, IsPathOfLiteral, IsPathOf}
+use Rattle.refactor_rename.specs.Changes.{IsPathOfPlace, IsPathOfLiteral, IsPathToEdit}
 
 -- one place further
 pub more_places : (xs : List Place) (k : ℕ) (p : Place) (a b c : List (List ℕ)) → k < length xs → p ≡ get_or xs k p →
@@ -25,7 +25,7 @@ more_places xs k p a b c lt is h next =
 
 -- all that were added to nothing
 pub all_paths : (r : Renamed) (a b c d : List (List ℕ)) → a ≡ [] → AddsAll a b (IsPathOfPlace r.places) → AddsAll b c (IsPathOfLiteral r.literal) →
-    ((q : List ℕ) → Contains d q ↔ Contains c q) → (q : List ℕ) → Contains d q ↔ IsPathOf r q
+    ((q : List ℕ) → Contains d q ↔ Contains c q) → (q : List ℕ) → Contains d q ↔ IsPathToEdit r q
 all_paths r a b c d empty h k same q =
     let all = all_then a b c (IsPathOfPlace r.places) (IsPathOfLiteral r.literal) h k in (
       (λ there. elim (all.only q ((same q).0 there)) [ inl old ↦ absurd (nothing_in q (subst (λ l. Contains l q) empty old)) | inr is ↦ is ]),

@@ -12,15 +12,15 @@ use Rattle.std.specs.Cmp.Lexicographic.{bytes_decides}
 use Rattle.go_scanner.proofs.FrontLemmas.{name_parts}
 use Rattle.go_scanner.proofs.IntegerLemmas.{by_test}
 use Rattle.go_scanner.proofs.TableLemmas.{each_keyword}
-use Rattle.refactor_rename.specs.NewName.{begins_with_letter, is_other_text}
+use Rattle.refactor_rename.specs.NewName.{starts_with_letter, is_other_text}
 
 -- characters that begin with a letter, each of which may stand in a name, are those of a word
-name_of : (cs : List ℕ) → begins_with_letter cs ≡ true → list_all continues_name cs ≡ true → all_scalars cs ≡ true → is_name cs ≡ true
+name_of : (cs : List ℕ) → starts_with_letter cs ≡ true → list_all continues_name cs ≡ true → all_scalars cs ≡ true → is_name cs ≡ true
 name_of [] e all sc = absurd (false≢true e)
 name_of (c ∷ cs) e all sc = and_from (is_letter c && list_all continues_name cs) (all_scalars (c ∷ cs))
     (and_from (is_letter c) (list_all continues_name cs) e (and_parts (continues_name c) (list_all continues_name cs) all).1) sc
 
-begins_name : (cs : List ℕ) → is_name cs ≡ true → begins_with_letter cs ≡ true
+begins_name : (cs : List ℕ) → is_name cs ≡ true → starts_with_letter cs ≡ true
 begins_name [] e = absurd (false≢true e)
 begins_name (c ∷ cs) e = (name_parts c cs e).0
 
@@ -29,13 +29,13 @@ continues_all [] e = refl
 continues_all (c ∷ cs) e = let parts = name_parts c cs e in
     and_from (continues_name c) (list_all continues_name cs) (or_left (is_letter c) (is_decimal_number c) parts.0) parts.1
 
-pub word_of : (bs : List ℕ) → IsUtf8 bs → begins_with_letter (chars bs) ≡ true → list_all continues_name (chars bs) ≡ true → IsWord bs
+pub word_of : (bs : List ℕ) → IsUtf8 bs → starts_with_letter (chars bs) ≡ true → list_all continues_name (chars bs) ≡ true → IsWord bs
 word_of bs u e all = (chars bs, name_of (chars bs) e all (scalars-chars bs u), sym (encodes-chars bs u))
 
 word_chars : (bs : List ℕ) → IsUtf8 bs → (w : IsWord bs) → is_name (chars bs) ≡ true
 word_chars bs u w = subst (λ cs. is_name cs ≡ true) (chars_from_encodes w.0 bs u (sym w.2)) w.1
 
-pub word_begins : (bs : List ℕ) → IsUtf8 bs → IsWord bs → begins_with_letter (chars bs) ≡ true
+pub word_begins : (bs : List ℕ) → IsUtf8 bs → IsWord bs → starts_with_letter (chars bs) ≡ true
 word_begins bs u w = begins_name (chars bs) (word_chars bs u w)
 
 pub word_continues : (bs : List ℕ) → IsUtf8 bs → IsWord bs → list_all continues_name (chars bs) ≡ true

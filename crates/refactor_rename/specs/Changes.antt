@@ -24,8 +24,8 @@ IsPathOfLiteral None path = ⊥
 IsPathOfLiteral (Some l) path = l.path ≡ path
 
 -- An identifier or a literal that gets the name lies in the file at this path.
-abbrev pub IsPathOf : Renamed → List ℕ → Type 0
-IsPathOf r path = IsPathOfPlace r.places path ⊎ IsPathOfLiteral r.literal path
+abbrev pub IsPathToEdit : Renamed → List ℕ → Type 0
+IsPathToEdit r path = IsPathOfPlace r.places path ⊎ IsPathOfLiteral r.literal path
 
 -- The change that edits the file `f` and leaves it at its path.
 abbrev pub change_to : SourceFile → List Edit → FileChange
@@ -44,11 +44,11 @@ pub record ChangesSource (w : Workspace) (known : Verdicts) (r : Renamed) (c : F
   pub is_change : c ≡ change_to source c.edits
 
 -- The list has a change of the file `f`, or nothing gets another name in it.
-abbrev pub IsChanged : List FileChange → Renamed → SourceFile → Type 0
-IsChanged changes r f = ((c : FileChange) × (Contains changes c × (c.path ≡ f.path))) ⊎ AreFileEdits f r []
+abbrev pub HasChangeOf : List FileChange → Renamed → SourceFile → Type 0
+HasChangeOf changes r f = ((c : FileChange) × (Contains changes c × (c.path ≡ f.path))) ⊎ AreFileEdits f r []
 
 -- The changes of all files in which something gets another name, sorted by path.
 pub record AreSourceChanges (w : Workspace) (known : Verdicts) (r : Renamed) (changes : List FileChange) : Type 0 where
   pub by_path : IsStrictlySortedBy path_cmp (paths_of changes)
   pub each : (c : FileChange) → Contains changes c → ChangesSource w known r c
-  pub all : (f : SourceFile) → IsSourceIn w known f → IsChanged changes r f
+  pub all : (f : SourceFile) → IsSourceIn w known f → HasChangeOf changes r f

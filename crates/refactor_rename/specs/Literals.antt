@@ -6,7 +6,7 @@ use Rattle.types_declared.specs.Laid.{literal_of}
 use Rattle.types_declared.specs.Package.{Package}
 use Rattle.refs_binding.specs.declared.declaration.Declaration.{Declaration}
 use Rattle.refs_binding.specs.declared.declaration.Declaration.TheVariants.{Predeclared, Declared, Field, Method}
-use Rattle.refs_binding.specs.Standing.{InPackage}
+use Rattle.refs_binding.specs.DeclaringPlaces.{InPackage}
 use Rattle.refactor_rename.specs.declared.renamed.Literal.{Literal}
 
 -- There is a file, and `l` is its token of this number.
@@ -15,12 +15,12 @@ IsTokenOf None token l = ⊥
 IsTokenOf (Some f) token l = (l.path ≡ f.path) × (l.token ≡ token)
 
 -- The declaration `d` is an import without a name, as in `import "shapes"`.
-abbrev pub IsUnnamed : Package → ℕ → Type 0
-IsUnnamed p d = IsImport p.layout d × (literal_of p.layout d ≡ d)
+abbrev pub IsUnnamedImport : Package → ℕ → Type 0
+IsUnnamedImport p d = IsImport p.layout d × (literal_of p.layout d ≡ d)
 
 -- The declaration `d` of the package `p` is an import without a name, and `l` is its string literal.
 abbrev pub IsLiteralIn : Package → ℕ → Literal → Type 0
-IsLiteralIn p d l = (d < p.size) × IsUnnamed p d × IsTokenOf (slice_get p.files (p.layout.place d).file) (p.layout.place d).index l
+IsLiteralIn p d l = (d < p.size) × IsUnnamedImport p d × IsTokenOf (slice_get p.files (p.layout.place d).file) (p.layout.place d).index l
 
 -- The declaration of the workspace is an import without a name, and `l` is its string literal.
 abbrev pub IsLiteralOf : (Package → Type 0) → Declaration → Literal → Type 0

@@ -6,8 +6,8 @@ use Rattle.go_scope.specs.Bindings.{IsPackageLevel, IsImport}
 use Rattle.types_declared.specs.Package.{Package}
 use Rattle.refs_binding.specs.declared.declaration.Declaration.{Declaration}
 use Rattle.refs_binding.specs.declared.declaration.Declaration.TheVariants.{Predeclared, Declared, Field, Method}
-use Rattle.refs_binding.specs.Standing.{InPackage, InOwn}
-use Rattle.refs_binding.specs.Called.{IsCalledIn, IsCalled}
+use Rattle.refs_binding.specs.DeclaringPlaces.{InPackage, InHomePackage}
+use Rattle.refs_binding.specs.DeclaredNames.{HasDeclaredNameIn, HasDeclaredName}
 use Rattle.refactor_rename.specs.NewName.{IsReserved}
 
 -- The declaration is `main` in the package block of `p`.
@@ -33,13 +33,13 @@ IsPredeclaredName (Method s) = ⊥
 
 -- The declaration cannot be renamed: it is predeclared, or `main` in a package block.
 abbrev pub IsFixed : (Package → Type 0) → Declaration → Type 0
-IsFixed IsPackage d = IsPredeclaredName d ⊎ InOwn IsPackage d (λ p. IsMainIn p d)
+IsFixed IsPackage d = IsPredeclaredName d ⊎ InHomePackage IsPackage d (λ p. IsMainIn p d)
 
 -- The name is reserved for this declaration: `init` and `main` are, for declarations of a package block and for imports.
 --
 --   func f() {}      // can't be renamed to init or main
 abbrev pub IsReservedFor : (Package → Type 0) → Declaration → List ℕ → Type 0
-IsReservedFor IsPackage d name = InOwn IsPackage d (λ p. IsTopLevelIn p d) × IsReserved name
+IsReservedFor IsPackage d name = InHomePackage IsPackage d (λ p. IsTopLevelIn p d) × IsReserved name
 
 -- The first of three reasons against a name that applies, or Ok where none does: the declaration is fixed, the name is reserved, it is
 -- called so already.
@@ -53,16 +53,16 @@ RefusesFor fixed reserved called (Err refusal) = ⊥
 
 -- The first reason against the name `name` for the declaration `d` of the package `p`, or Ok.
 abbrev pub RefusesNameIn : Package → Declaration → List ℕ → Result (Unit {0}) Refusal → Type 0
-RefusesNameIn p d name result = RefusesFor (IsMainIn p d) (IsTopLevelIn p d × IsReserved name) (IsCalledIn p d name) result
+RefusesNameIn p d name result = RefusesFor (IsMainIn p d) (IsTopLevelIn p d × IsReserved name) (HasDeclaredNameIn p d name) result
 
 -- The first reason against the name `name` for the declaration `d` of the package at this path, or Ok. Ok also where there is no such
 -- package.
 abbrev pub RefusesNameOf : (Package → Type 0) → List ℕ → Declaration → List ℕ → Result (Unit {0}) Refusal → Type 0
 RefusesNameOf IsPackage path d name result =
     RefusesFor (InPackage IsPackage path (λ p. IsMainIn p d)) (InPackage IsPackage path (λ p. IsTopLevelIn p d) × IsReserved name)
-    (InPackage IsPackage path (λ p. IsCalledIn p d name)) result
+    (InPackage IsPackage path (λ p. HasDeclaredNameIn p d name)) result
 
 -- Ok where `name` is legal for the declaration `d` and not its present name, or the first reason against it: `NotRenamable`, `BadName` or
 -- `Same`.
 abbrev pub RefusesName : (Package → Type 0) → Declaration → List ℕ → Result (Unit {0}) Refusal → Type 0
-RefusesName IsPackage d name result = RefusesFor (IsFixed IsPackage d) (IsReservedFor IsPackage d name) (IsCalled IsPackage d name) result
+RefusesName IsPackage d name result = RefusesFor (IsFixed IsPackage d) (IsReservedFor IsPackage d name) (HasDeclaredName IsPackage d name) result

@@ -16,9 +16,9 @@ abbrev pub IsReserved : List ℕ → Type 0
 IsReserved name = (name ≡ codes "init") ⊎ (name ≡ codes "main")
 
 -- Whether the first character of a text is a letter.
-abbrev pub begins_with_letter : List ℕ → Bool
-begins_with_letter [] = false
-begins_with_letter (c ∷ cs) = is_letter c
+abbrev pub starts_with_letter : List ℕ → Bool
+starts_with_letter [] = false
+starts_with_letter (c ∷ cs) = is_letter c
 
 -- whether two texts differ
 abbrev pub is_other_text : List ℕ → List ℕ → Bool

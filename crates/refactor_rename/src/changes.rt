@@ -4,9 +4,9 @@ ghost use Rattle.std.specs.List.Sorted.{IsStrictlySortedBy};
 ghost use Rattle.base_files.specs.Workspace.{path_cmp};
 ghost use Rattle.go_ast.specs.SourceFile.{SourceFile, FileParts, source_of};
 ghost use Rattle.refs_binding.specs.Places.{place_cmp};
-ghost use Rattle.refs_binding.specs.Workspaces.{IsSound, known_in};
+ghost use Rattle.refs_binding.specs.Workspaces.{IsFaultless, known_in};
 ghost use Rattle.refactor_rename.specs.RenameEdits.{IsSourceIn};
-ghost use Rattle.refactor_rename.specs.Changes.{IsPathOf, AddsChange, AreSourceChanges};
+ghost use Rattle.refactor_rename.specs.Changes.{IsPathToEdit, AddsChange, AreSourceChanges};
 
 use crate::file_edits::edits_of;
 use crate::paths::paths_of;
@@ -32,7 +32,7 @@ fn tree_in<'a>(files: &'a [FileTree], path: &Path) -> Option<&'a FileTree>
 
 /// The tree of the file at a path, if it is a Go file of the workspace.
 fn tree_of<'a>(graph: &'a Graph, found: &Findings, path: &Path) -> Option<&'a FileTree>
-    requires { IsSound graph.now found.now }
+    requires { IsFaultless graph.now found.now }
     ensures { MatchOption result ((f : SourceFile) → IsSourceIn graph.now (known_in found.now) f → f.path ≡ path.now → ⊥)
         (λ file. IsSourceIn graph.now (known_in found.now) (source_of file.now) × (file.now.path ≡ path.now)) }
 {
@@ -71,10 +71,10 @@ fn changes_in(
     paths: &[Path],
     renamed: &Renamed,
 ) -> Result<Vec<FileChange>, AllocError>
-    requires sound { IsSound graph.now found.now }
+    requires sound { IsFaultless graph.now found.now }
     requires sorted { IsStrictlySortedBy place_cmp renamed.now.places }
     requires order { IsStrictlySortedBy path_cmp paths.now }
-    requires each { (q : List ℕ) → Contains paths.now q ↔ IsPathOf renamed.now q }
+    requires each { (q : List ℕ) → Contains paths.now q ↔ IsPathToEdit renamed.now q }
     ensures { IfOk result (λ changed. AreSourceChanges graph.now (known_in found.now) renamed.now changed.items) }
 {
     let mut changed = Vec::new(alloc);
@@ -93,7 +93,7 @@ pub(crate) fn changes_of(
     found: &Findings,
     renamed: &Renamed,
 ) -> Result<Vec<FileChange>, AllocError>
-    requires sound { IsSound graph.now found.now }
+    requires sound { IsFaultless graph.now found.now }
     requires sorted { IsStrictlySortedBy place_cmp renamed.now.places }
     ensures { IfOk result (λ changed. AreSourceChanges graph.now (known_in found.now) renamed.now changed.items) }
 {

@@ -5,7 +5,7 @@ ghost use Rattle.go_scanner.specs.CutText.{tokens_in};
 ghost use Rattle.go_ast.specs.SourceFile.{source_of};
 ghost use Rattle.refs_binding.specs.Bindings.{AddsAll};
 ghost use Rattle.refs_binding.specs.Places.{place_cmp};
-ghost use Rattle.refactor_rename.specs.Replacements.{EndsImport, IsRightBehindImport, IsNameBefore};
+ghost use Rattle.refactor_rename.specs.Replacements.{EndsImport, FollowsImportWord, IsNameBefore};
 ghost use Rattle.refactor_rename.specs.FileEdits.{IsLiteralAt, ReplacesName, InsertsName, IsEditAt, EndBy, AreFileEdits};
 
 use crate::renamed::{Literal, Renamed};
@@ -55,8 +55,8 @@ fn ends_import(file: &FileTree, before: usize, offset: usize) -> bool
 }
 
 /// Whether the word `import` ends where a token of the file begins.
-fn is_behind_import(file: &FileTree, number: usize) -> bool
-    ensures { IsTrue result ↔ IsRightBehindImport (source_of file.now) number }
+fn follows_import_word(file: &FileTree, number: usize) -> bool
+    ensures { IsTrue result ↔ FollowsImportWord (source_of file.now) number }
 {
     number > 0 && ends_import(file, number - 1, file.offset(number))
 }
@@ -80,7 +80,7 @@ fn name_before(
 ) -> Result<FileText, AllocError>
     ensures { IfOk result (λ text. IsNameBefore (source_of file.now) number name.now text) }
 {
-    if is_behind_import(file, number) {
+    if follows_import_word(file, number) {
         spaced(alloc, b" ", name)
     } else {
         spaced(alloc, b"", name)

@@ -2,9 +2,9 @@
 #![tactic(auto)]
 
 mod changes;
-mod characters;
 mod file_edits;
 mod literal;
+mod name_characters;
 mod naming;
 mod new_name;
 mod paths;

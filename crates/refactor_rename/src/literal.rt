@@ -4,19 +4,19 @@ ghost use Rattle.base_files.specs.Packages.{package_paths};
 ghost use Rattle.go_ast.specs.SourceFile.{source_of};
 ghost use Rattle.types_declared.specs.Package.{Package as Checked};
 ghost use Rattle.types_declared.specs.PackageView.{package_of};
-ghost use Rattle.types_declared.specs.InterfacesView.{interface_in};
+ghost use Rattle.types_declared.specs.ExportTablesView.{export_data_in};
 ghost use Rattle.types_info.specs.PackageOf.{package_in};
 ghost use Rattle.refs_binding.specs.declared.declaration.Declaration.TheVariants.{Declared};
 ghost use Rattle.refs_binding.specs.Uses.{IsPackage};
-ghost use Rattle.refs_binding.specs.Workspaces.{IsSound, IsPackageAt, known_in};
-ghost use Rattle.refactor_rename.specs.Literals.{IsTokenOf, IsUnnamed, IsLiteralIn, IsLiteralOf, IsLiteralFound};
+ghost use Rattle.refs_binding.specs.Workspaces.{IsFaultless, IsPackageAt, known_in};
+ghost use Rattle.refactor_rename.specs.Literals.{IsTokenOf, IsUnnamedImport, IsLiteralIn, IsLiteralOf, IsLiteralFound};
 
 use crate::renamed::Literal;
 use go_ast::FileTree;
 use go_scope::table::ScopeTable;
 use refs_binding::{Declaration, laid_table, path_of, trees};
 use std::alloc::{AllocError, Global};
-use types_declared::{Interfaces, Package, is_import};
+use types_declared::{ExportTable, Package, is_import};
 use types_expr::symbol::SharedPath;
 use workspace_check::{Findings, seen};
 use workspace_graph::Graph;
@@ -24,7 +24,7 @@ use workspace_graph::Graph;
 /// Whether a declaration is an import without a name.
 fn is_unnamed(unit: Package<'_>, d: usize) -> bool
     requires { d < length unit.table.now.sites }
-    ensures { IsTrue result ↔ IsUnnamed (package_of unit.entry) d }
+    ensures { IsTrue result ↔ IsUnnamedImport (package_of unit.entry) d }
 {
     is_import(unit.table, d) && types_declared::literal_of(unit.table, d) == d
 }
@@ -59,17 +59,17 @@ fn literal_by(
     path: &SharedPath,
     files: &[FileTree],
     table: &ScopeTable<'_>,
-    interfaces: &Interfaces,
+    export_table: &ExportTable,
     d: usize,
 ) -> Result<Option<Literal>, AllocError>
-    ensures { let p = package_in path.now (map source_of files.now) table.now (interface_in interfaces.now) in
+    ensures { let p = package_in path.now (map source_of files.now) table.now (export_data_in export_table.now) in
         IfOk result (IsLiteralFound (IsLiteralIn p d)) }
 {
     let unit = Package {
         path,
         files,
         table,
-        interfaces,
+        export_table,
     };
     literal_in(unit, d)
 }
@@ -83,11 +83,11 @@ fn literal_at(
     d: usize,
 ) -> Result<Option<Literal>, AllocError>
     requires in_range { number < length (package_paths graph.now) }
-    requires sound { IsSound graph.now found.now }
+    requires sound { IsFaultless graph.now found.now }
     ensures { (p : Checked) → IsPackageAt graph.now (known_in found.now) number p → IfOk result (IsLiteralFound (IsLiteralIn p d)) }
 {
     let files = trees(graph, found, number);
-    let seen = seen(alloc, graph, number, &found.interfaces)?;
+    let seen = seen(alloc, graph, number, &found.export_table)?;
     let table = laid_table(alloc, files, &seen)?;
     let path = path_of(graph, found, number);
     literal_by(path, files, &table, &seen, d)
@@ -101,7 +101,7 @@ fn literal_under(
     path: &SharedPath,
     d: usize,
 ) -> Result<Option<Literal>, AllocError>
-    requires { IsSound graph.now found.now }
+    requires { IsFaultless graph.now found.now }
     ensures { IfOk result (IsLiteralFound (IsLiteralOf (IsPackage graph.now (known_in found.now)) (Declared path.now d))) }
 {
     match graph.number_of(path.path()) {
@@ -117,7 +117,7 @@ pub fn literal_of(
     found: &Findings,
     declaration: &Declaration,
 ) -> Result<Option<Literal>, AllocError>
-    requires { IsSound graph.now found.now }
+    requires { IsFaultless graph.now found.now }
     ensures { IfOk result (IsLiteralFound (IsLiteralOf (IsPackage graph.now (known_in found.now)) declaration.now)) }
 {
     match declaration {

@@ -4,12 +4,12 @@ ghost use Rattle.base_files.specs.Packages.{package_paths};
 ghost use Rattle.go_ast.specs.SourceFile.{source_of};
 ghost use Rattle.go_scope.specs.Bindings.{IsPackageLevel, IsImport};
 ghost use Rattle.types_info.specs.PackageOf.{package_in};
-ghost use Rattle.types_declared.specs.InterfacesView.{interface_in};
+ghost use Rattle.types_declared.specs.ExportTablesView.{export_data_in};
 ghost use Rattle.types_declared.specs.Package.{Package as Checked, spelled};
 ghost use Rattle.types_declared.specs.PackageView.{package_of};
 ghost use Rattle.refs_binding.specs.declared.declaration.Declaration.TheVariants.{Declared, Field, Method};
 ghost use Rattle.refs_binding.specs.Uses.{IsPackage};
-ghost use Rattle.refs_binding.specs.Workspaces.{IsSound, IsPackageAt, known_in};
+ghost use Rattle.refs_binding.specs.Workspaces.{IsFaultless, IsPackageAt, known_in};
 ghost use Rattle.refactor_rename.specs.NewName.{IsReserved};
 ghost use Rattle.refactor_rename.specs.Naming.{RefusesFor, RefusesNameIn, RefusesNameOf, RefusesName};
 
@@ -20,7 +20,7 @@ use go_scope::model::{Block, Position};
 use go_scope::table::ScopeTable;
 use refs_binding::{Declaration, field_places, laid_table, method_places, path_of, trees};
 use std::alloc::Global;
-use types_declared::{Index, Interfaces, Package, is_import};
+use types_declared::{ExportTable, Index, Package, is_import};
 use types_expr::symbol::{SharedPath, Symbol};
 use workspace_check::{Findings, seen};
 use workspace_graph::Graph;
@@ -164,17 +164,17 @@ fn refuse_by(
     path: &SharedPath,
     files: &[FileTree],
     table: &ScopeTable<'_>,
-    interfaces: &Interfaces,
+    export_table: &ExportTable,
     asked: &NamedDeclaration<'_, '_>,
 ) -> Result<(), Refusal>
-    ensures { let p = package_in path.now (map source_of files.now) table.now (interface_in interfaces.now) in
+    ensures { let p = package_in path.now (map source_of files.now) table.now (export_data_in export_table.now) in
         RefusesNameIn p asked.now.declaration.now asked.now.name.now result }
 {
     let unit = Package {
         path,
         files,
         table,
-        interfaces,
+        export_table,
     };
     refuse_in_unit(alloc, unit, asked.declaration, asked.name)
 }
@@ -189,11 +189,11 @@ fn refuse_in_package(
     name: &[u8],
 ) -> Result<(), Refusal>
     requires in_range { number < length (package_paths graph.now) }
-    requires sound { IsSound graph.now found.now }
+    requires sound { IsFaultless graph.now found.now }
     ensures { (p : Checked) → IsPackageAt graph.now (known_in found.now) number p → RefusesNameIn p declaration.now name.now result }
 {
     let files = trees(graph, found, number);
-    let seen = seen(alloc, graph, number, &found.interfaces)?;
+    let seen = seen(alloc, graph, number, &found.export_table)?;
     let table = laid_table(alloc, files, &seen)?;
     let path = path_of(graph, found, number);
     let asked = NamedDeclaration { declaration, name };
@@ -209,7 +209,7 @@ fn refuse_in_path(
     declaration: &Declaration,
     name: &[u8],
 ) -> Result<(), Refusal>
-    requires { IsSound graph.now found.now }
+    requires { IsFaultless graph.now found.now }
     ensures { RefusesNameOf (IsPackage graph.now (known_in found.now)) path.now declaration.now name.now result }
 {
     match graph.number_of(path.path()) {
@@ -227,7 +227,7 @@ pub fn refuse_name(
     declaration: &Declaration,
     name: &[u8],
 ) -> Result<(), Refusal>
-    requires { IsSound graph.now found.now }
+    requires { IsFaultless graph.now found.now }
     ensures { RefusesName (IsPackage graph.now (known_in found.now)) declaration.now name.now result }
 {
     match declaration {

@@ -7,14 +7,14 @@ ghost use Rattle.go_scanner.specs.Keywords.{keyword_spelling, all_keywords};
 ghost use Rattle.go_scanner.specs.Words.{IsWord};
 ghost use Rattle.go_scanner.specs.declared.piece.Class.TheVariants.{Name};
 ghost use Rattle.go_scanner.specs.Pieces.{IsPiece};
-ghost use Rattle.refactor_rename.specs.NewName.{IsNewName, IsReserved, begins_with_letter, is_other_text};
+ghost use Rattle.refactor_rename.specs.NewName.{IsNewName, IsReserved, starts_with_letter, is_other_text};
 
-use crate::characters::{continues_name, is_letter};
+use crate::name_characters::{continues_name, is_letter};
 use go_scanner::Keyword;
 
 /// Whether a text begins with a letter.
-fn begins_with_letter(name: &str) -> bool
-    ensures { result ≡ begins_with_letter (chars name.now) }
+fn starts_with_letter(name: &str) -> bool
+    ensures { result ≡ starts_with_letter (chars name.now) }
 {
     match name.chars().next() {
         None => false,
@@ -33,7 +33,7 @@ fn all_continue(name: &str) -> bool
 fn is_word(name: &str) -> bool
     ensures { IsTrue result ↔ IsWord name.now }
 {
-    begins_with_letter(name) && all_continue(name)
+    starts_with_letter(name) && all_continue(name)
 }
 
 /// Whether a text differs from a keyword.

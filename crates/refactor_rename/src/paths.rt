@@ -3,7 +3,7 @@ ghost use Rattle.std.specs.Prelude.{ℕ, ◌≡◌, ◌↔◌, List, Contains, I
 ghost use Rattle.std.specs.List.Sorted.{IsStrictlySortedBy};
 ghost use Rattle.base_files.specs.Workspace.{path_cmp};
 ghost use Rattle.refs_binding.specs.Bindings.{AddsAll};
-ghost use Rattle.refactor_rename.specs.Changes.{IsPathOfPlace, IsPathOfLiteral, IsPathOf};
+ghost use Rattle.refactor_rename.specs.Changes.{IsPathOfPlace, IsPathOfLiteral, IsPathToEdit};
 
 use crate::renamed::{Literal, Renamed};
 use base_files::{Path, Place};
@@ -60,7 +60,7 @@ fn sort(paths: &mut Vec<Path>)
 
 /// The paths of the places and of the literal, sorted, without duplicates.
 pub(crate) fn paths_of(alloc: Global, renamed: &Renamed) -> Result<Vec<Path>, AllocError>
-    ensures each { IfOk result (λ paths. (q : List ℕ) → Contains paths.items q ↔ IsPathOf renamed.now q) }
+    ensures each { IfOk result (λ paths. (q : List ℕ) → Contains paths.items q ↔ IsPathToEdit renamed.now q) }
     ensures order { IfOk result (λ paths. IsStrictlySortedBy path_cmp paths.items) }
 {
     let mut paths = Vec::new(alloc);

@@ -3,7 +3,7 @@ ghost use Rattle.std.specs.Prelude.{◌≡◌, IfOk};
 ghost use Rattle.std.specs.List.Sorted.{IsStrictlySortedBy};
 ghost use Rattle.base_edits.specs.Fits.{Fits};
 ghost use Rattle.refs_binding.specs.Places.{place_cmp};
-ghost use Rattle.refs_binding.specs.Workspaces.{IsSound, known_in};
+ghost use Rattle.refs_binding.specs.Workspaces.{IsFaultless, known_in};
 ghost use Rattle.refactor_rename.specs.RenameEdits.{IsRenamedBy, AreEditsOf, AreRenameEdits};
 
 use crate::changes::changes_of;
@@ -32,7 +32,7 @@ fn renamed_by(
     declaration: &Declaration,
     name: &[u8],
 ) -> Result<Renamed, AllocError>
-    requires { IsSound graph.now found.now }
+    requires { IsFaultless graph.now found.now }
     ensures { IfOk result (IsRenamedBy graph.now (known_in found.now) declaration.now name.now) }
 {
     Ok(Renamed {
@@ -49,7 +49,7 @@ fn edits_by(
     found: &Findings,
     renamed: &Renamed,
 ) -> Result<EditSet, AllocError>
-    requires sound { IsSound graph.now found.now }
+    requires sound { IsFaultless graph.now found.now }
     requires sorted { IsStrictlySortedBy place_cmp renamed.now.places }
     ensures edits { IfOk result (AreEditsOf graph.now (known_in found.now) renamed.now) }
     ensures fits { IfOk result (λ edits. Fits edits graph.now) }
@@ -68,7 +68,7 @@ pub fn rename_edits(
     declaration: &Declaration,
     name: &[u8],
 ) -> Result<EditSet, AllocError>
-    requires { IsSound graph.now found.now }
+    requires { IsFaultless graph.now found.now }
     ensures edits { IfOk result (AreRenameEdits graph.now (known_in found.now) declaration.now name.now) }
     ensures fits { IfOk result (λ edits. Fits edits graph.now) }
 {

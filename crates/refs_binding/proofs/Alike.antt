@@ -8,9 +8,9 @@ use Rattle.workspace_check.proofs.Alike.{package_as}
 use Rattle.workspace_check.proofs.OneVerdict.{right_alike, right_below}
 use Rattle.refs_binding.specs.declared.declaration.Declaration.{Declaration}
 use Rattle.refs_binding.specs.declared.declaration.Declaration.TheVariants.{Predeclared, Declared, Field, Method}
-use Rattle.refs_binding.specs.Binding.{by_scope, by_package, by_member, by_name, BindsByPackage}
+use Rattle.refs_binding.specs.Binding.{by_scope, by_package, by_member, by_name, BindsQualified}
 use Rattle.refs_binding.specs.Identifiers.{named_by}
-use Rattle.refs_binding.specs.Uses.{IsPackage, IsBoundTo, IsUseOf, IsAskedIn, HasDeclaration}
+use Rattle.refs_binding.specs.Uses.{IsPackage, IsBoundTo, IsUseOf, IsFilePackage, HasDeclaration}
 
 module _ (w : Workspace) (a b : Verdicts) (right : AreVerdicts w a) (also : AreVerdicts w b) where
   pub package_for : (p : Package) → IsPackage w a p → IsPackage w b p
@@ -19,7 +19,7 @@ module _ (w : Workspace) (a b : Verdicts) (right : AreVerdicts w a) (also : AreV
     is_checked = package_as w p.path a b (right_alike w p.path a b (right_below w a right p.path) (right_below w b also p.path)) p is.is_checked;
   }
 
-  behind_for : (p : Package) (u : ℕ) (d : Declaration) → BindsByPackage (IsPackage w a) p u d → BindsByPackage (IsPackage w b) p u d
+  behind_for : (p : Package) (u : ℕ) (d : Declaration) → BindsQualified (IsPackage w a) p u d → BindsQualified (IsPackage w b) p u d
   behind_for p u (Predeclared n) h = h
   behind_for p u (Declared path n) h = record {
     behind = h.behind;
@@ -47,7 +47,7 @@ module _ (w : Workspace) (a b : Verdicts) (right : AreVerdicts w a) (also : AreV
     bound = bound_for h.used_in h.user d h.bound;
   }
 
-  pub asked_for : (path : List ℕ) (p : Package) → IsAskedIn w a path p → IsAskedIn w b path p
+  pub asked_for : (path : List ℕ) (p : Package) → IsFilePackage w a path p → IsFilePackage w b path p
   asked_for path p h = record { is_package = package_for p h.is_package; of_folder = h.of_folder }
 
   pub held_for : (path : List ℕ) (offset : ℕ) (d : Declaration) → HasDeclaration w a path offset d → HasDeclaration w b path offset d

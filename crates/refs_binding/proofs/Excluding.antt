@@ -10,15 +10,15 @@ use Rattle.go_scope.proofs.Nests.{nests}
 use Rattle.go_scope.proofs.Uniqueness.{bound_once}
 use Rattle.law_tokens.proofs.Lexical.{never_bound}
 use Rattle.types_declared.specs.Package.{Package}
-use Rattle.types_check.specs.Interfaces.{IsSeen}
+use Rattle.types_check.specs.Exports.{DoesExport}
 use Rattle.types_declared.specs.Written.{BindsToken, ImportsPath}
 use Rattle.types_declared.proofs.Naming.{one_binding, one_import_path}
 use Rattle.workspace_check.specs.Verdicts.{Verdicts, IsPackageIn}
 use Rattle.workspace_check.proofs.OnePackage.{one_checked, layout_formed}
 use Rattle.refs_binding.specs.declared.declaration.Declaration.{Declaration}
 use Rattle.refs_binding.specs.declared.declaration.Declaration.TheVariants.{Predeclared, Declared, Field, Method}
-use Rattle.types_info.specs.Qualified.{IsBehindPackage}
-use Rattle.refs_binding.specs.Binding.{IsPredeclared, BindsByScope, BindsByPackage, IsExportedUse}
+use Rattle.types_info.specs.QualifiedIdentifiers.{IsQualifiedByPath}
+use Rattle.refs_binding.specs.Binding.{IsPredeclared, BindsByScope, BindsQualified, IsQualifiedUse}
 use Rattle.refs_binding.specs.Uses.{IsPackage}
 
 -- by scopes
@@ -43,14 +43,14 @@ one_by_scope p w u (Method s) e h k = absurd h
 
 -- in qualified identifiers
 
-pub exported_as : (I : Package → Type 0) (p : Package) (u : ℕ) (d : Declaration) → BindsByPackage I p u d → (path : List ℕ) ×
-    ((n : ℕ) × ((d ≡ Declared path n) × IsExportedUse I p u path n))
+pub exported_as : (I : Package → Type 0) (p : Package) (u : ℕ) (d : Declaration) → BindsQualified I p u d → (path : List ℕ) ×
+    ((n : ℕ) × ((d ≡ Declared path n) × IsQualifiedUse I p u path n))
 exported_as I p u (Predeclared n) h = absurd h
 exported_as I p u (Declared path n) h = (path, (n, (refl, h)))
 exported_as I p u (Field s) h = absurd h
 exported_as I p u (Method s) h = absurd h
 
-one_behind : (p : Package) → WellFormed p.layout → (u : ℕ) (path other : List ℕ) → IsBehindPackage p u path → IsBehindPackage p u other → path ≡ other
+one_behind : (p : Package) → WellFormed p.layout → (u : ℕ) (path other : List ℕ) → IsQualifiedByPath p u path → IsQualifiedByPath p u other → path ≡ other
 one_behind p w u path other h k =
     let file = (p.layout.place u).file in
     let at : (p.layout.place u).index ≡ suc (suc h.before) = h.behind_dot in
@@ -60,30 +60,30 @@ one_behind p w u path other h k =
     let import : k.named.import ≡ h.named.import = one_binding p w file h.before k.named.import h.named.import binds h.named.binds in
     one_import_path p h.named.import path other h.named.imports (subst (λ i. ImportsPath p i other) import k.named.imports)
 
-one_export : (w : Workspace) (known : Verdicts) (p : Package) (u : ℕ) (path : List ℕ) (d e : ℕ) → IsExportedUse (IsPackage w known) p u path d →
-    IsExportedUse (IsPackage w known) p u path e → d ≡ e
+one_export : (w : Workspace) (known : Verdicts) (p : Package) (u : ℕ) (path : List ℕ) (d e : ℕ) → IsQualifiedUse (IsPackage w known) p u path d →
+    IsQualifiedUse (IsPackage w known) p u path e → d ≡ e
 one_export w known p u path d e h k =
     let checked : IsPackageIn w known h.other.path k.other = subst (λ q. IsPackageIn w known q k.other) (k.of_path ∙ sym h.of_path) k.is_package.is_checked in
     let same : k.other ≡ h.other = one_checked w known h.other.path k.other h.other checked h.is_package.is_checked in
     let l = h.other.layout in
     let formed : WellFormed l = layout_formed w known h.other.path h.other h.is_package.is_checked in
-    let seen = subst (λ (x : Package). IsSeen x e) same k.seen in
+    let seen = subst (λ (x : Package). DoesExport x e) same k.seen in
     let named : h.other.names e ≡ p.names u = subst (λ (x : Package). x.names e ≡ p.names u) same k.named in
     one_in_block l (nests l formed) h.other.names d e h.seen.counts seen.counts (h.named ∙ sym named) (h.seen.package_level ∙ sym seen.package_level)
 
 pub one_by_package : (w : Workspace) (known : Verdicts) (p : Package) → IsPackage w known p → (u : ℕ) (d e : Declaration) →
-    BindsByPackage (IsPackage w known) p u d → BindsByPackage (IsPackage w known) p u e → d ≡ e
+    BindsQualified (IsPackage w known) p u d → BindsQualified (IsPackage w known) p u e → d ≡ e
 one_by_package w known p is u d e h k =
     let a = exported_as (IsPackage w known) p u d h in
     let b = exported_as (IsPackage w known) p u e k in
     let formed : WellFormed p.layout = layout_formed w known p.path p is.is_checked in
     let path : b.0 ≡ a.0 = one_behind p formed u b.0 a.0 b.1.1.1.behind a.1.1.1.behind in
-    let so : IsExportedUse (IsPackage w known) p u a.0 b.1.0 = subst (λ q. IsExportedUse (IsPackage w known) p u q b.1.0) path b.1.1.1 in
+    let so : IsQualifiedUse (IsPackage w known) p u a.0 b.1.0 = subst (λ q. IsQualifiedUse (IsPackage w known) p u q b.1.0) path b.1.1.1 in
     a.1.1.0 ∙ ap₂ Declared (sym path) (one_export w known p u a.0 a.1.0 b.1.0 a.1.1.1 so) ∙ sym b.1.1.0
 
 -- one way excludes the other
 
-pub not_both : (I : Package → Type 0) (p : Package) (u : ℕ) (d e : Declaration) → BindsByScope p u d → BindsByPackage I p u e → ⊥
+pub not_both : (I : Package → Type 0) (p : Package) (u : ℕ) (d e : Declaration) → BindsByScope p u d → BindsQualified I p u e → ⊥
 not_both I p u d e h k =
     let n = number_bound p u d h in
     let b = exported_as I p u e k in

@@ -5,16 +5,16 @@ use Rattle.base_files.specs.Packages.{package_paths}
 use Rattle.base_files.specs.Workspace.{Workspace}
 use Rattle.base_files.specs.declared.place.Place.{Place}
 use Rattle.types_declared.specs.Package.{Package}
-use Rattle.types_check.specs.Interfaces.{IsSeen}
+use Rattle.types_check.specs.Exports.{DoesExport}
 use Rattle.workspace_check.specs.Verdicts.{Verdicts}
 use Rattle.refs_binding.specs.declared.declaration.Declaration.{Declaration}
 use Rattle.refs_binding.specs.declared.declaration.Declaration.TheVariants.{Predeclared, Declared, Field, Method}
-use Rattle.refs_binding.specs.declared.spot.Spot.{Spot}
-use Rattle.types_info.specs.Qualified.{IsBehindPackage}
-use Rattle.refs_binding.specs.Binding.{Binds, BindsByScope, BindsByPackage, BindsByMember, BindsByName}
+use Rattle.refs_binding.specs.declared.place_key.PlaceKey.{PlaceKey}
+use Rattle.types_info.specs.QualifiedIdentifiers.{IsQualifiedByPath}
+use Rattle.refs_binding.specs.Binding.{Binds, BindsByScope, BindsQualified, BindsByMember, DeclaresMember}
 use Rattle.refs_binding.specs.Binding as binding
 use Rattle.refs_binding.specs.Steps as step
-use Rattle.refs_binding.specs.Steps.{Adds, UsesIn, BindsIn, BindsAs, IsExportedBy, IsDeclarationFound}
+use Rattle.refs_binding.specs.Steps.{AddsMisfits, UsesIn, BindsIn, QualifiesAs, IsExportedBy, IsDeclarationResult}
 use Rattle.refs_binding.specs.Uses.{IsPackage, IsBoundTo, IsUseOf}
 use Rattle.refs_binding.specs.Workspaces.{IsPackageAt, ExportsAs, IsExportedUnder, IsUseAt, BindsMember}
 use Rattle.refs_binding.proofs.Adding.{Below, adds_as}
@@ -23,8 +23,8 @@ use Rattle.refs_binding.proofs.Units.{one_package, one_at, numbered, number_with
 module _ (w : Workspace) (known : Verdicts) where
   -- behind the name of a declaration's package, by the name under which it is exported
 
-  to_package : (p : Package) (d : Declaration) (name : Option (List ℕ)) → IsExportedUnder w known d name → (u : ℕ) → BindsAs p d name u →
-      BindsByPackage (IsPackage w known) p u d
+  to_package : (p : Package) (d : Declaration) (name : Option (List ℕ)) → IsExportedUnder w known d name → (u : ℕ) → QualifiesAs p d name u →
+      BindsQualified (IsPackage w known) p u d
   to_package p d None is u h = absurd h
   to_package p (Predeclared n) (Some name) is u h = absurd h
   to_package p (Declared path n) (Some name) is u h =
@@ -33,7 +33,7 @@ module _ (w : Workspace) (known : Verdicts) where
   to_package p (Method s) (Some name) is u h = absurd h
 
   from_package : (p : Package) (d : Declaration) (name : Option (List ℕ)) → IsExportedUnder w known d name → (u : ℕ) →
-      BindsByPackage (IsPackage w known) p u d → BindsAs p d name u
+      BindsQualified (IsPackage w known) p u d → QualifiesAs p d name u
   from_package p (Predeclared n) name is u h = absurd h
   from_package p (Declared path n) None is u h = is h.other h.is_package h.of_path h.seen
   from_package p (Declared path n) (Some name) is u h =
@@ -56,9 +56,9 @@ module _ (w : Workspace) (known : Verdicts) where
   from_bound p d name is u (binding.by_name h) = step.by_name h
 
   -- what is found in all packages is what is used
-  pub all_uses : (d : Declaration) (name : Option (List ℕ)) → IsExportedUnder w known d name → (n : ℕ) (a b : List Spot) → n ≡ length (package_paths w) →
-      Adds a b (Below (IsUseAt w known d name) n) →
-      Adds a b (IsUseOf w known d)
+  pub all_uses : (d : Declaration) (name : Option (List ℕ)) → IsExportedUnder w known d name → (n : ℕ) (a b : List PlaceKey) → n ≡ length (package_paths w) →
+      AddsMisfits a b (Below (IsUseAt w known d name) n) →
+      AddsMisfits a b (IsUseOf w known d)
   all_uses d name is n a b e h =
       adds_as a b (Below (IsUseAt w known d name) n) (IsUseOf w known d)
       (λ place q. let x = q.2 in
@@ -78,16 +78,16 @@ module _ (w : Workspace) (known : Verdicts) where
 
   -- what a package exports under a name
 
-  pub number_exported : (path name : List ℕ) (p : Package) → IsPackage w known p → p.path ≡ path → (d : ℕ) → IsSeen p d → p.names d ≡ name →
+  pub number_exported : (path name : List ℕ) (p : Package) → IsPackage w known p → p.path ≡ path → (d : ℕ) → DoesExport p d → p.names d ≡ name →
       (other : List ℕ) → other ≡ path → ExportsAs w known path name (Declared other d)
   number_exported path name p is e d seen named other same = (same, (p, (is, (e, (seen, named)))))
 
-  pub none_exported : (path name : List ℕ) (p : Package) → IsPackage w known p → p.path ≡ path → ((d : ℕ) → IsSeen p d → p.names d ≡ name → ⊥) →
+  pub none_exported : (path name : List ℕ) (p : Package) → IsPackage w known p → p.path ≡ path → ((d : ℕ) → DoesExport p d → p.names d ≡ name → ⊥) →
       (d : Declaration) → ExportsAs w known path name d → ⊥
   none_exported path name p is e none (Predeclared n) h = h
   none_exported path name p is e none (Declared other d) h =
       let same : h.1.0 ≡ p = one_package w known h.1.0 p h.1.1.0 is (h.1.1.1.0 ∙ sym e) in
-      none d (subst (λ (q : Package). IsSeen q d) same h.1.1.1.1.0) (ap (λ (q : Package). q.names d) (sym same) ∙ h.1.1.1.1.1)
+      none d (subst (λ (q : Package). DoesExport q d) same h.1.1.1.1.0) (ap (λ (q : Package). q.names d) (sym same) ∙ h.1.1.1.1.1)
   none_exported path name p is e none (Field s) h = h
   none_exported path name p is e none (Method s) h = h
 
@@ -100,17 +100,17 @@ module _ (w : Workspace) (known : Verdicts) where
   -- the name under which a declaration is exported
   pub name_exported : (path : List ℕ) (d : ℕ) (p : Package) → IsPackage w known p → p.path ≡ path → (name : Option (List ℕ)) → IsExportedBy p d name →
       IsExportedUnder w known (Declared path d) name
-  name_exported path d p is e None none = λ q is_q e_q seen. none (subst (λ (x : Package). IsSeen x d) (one_package w known q p is_q is (e_q ∙ sym e)) seen)
+  name_exported path d p is e None none = λ q is_q e_q seen. none (subst (λ (x : Package). DoesExport x d) (one_package w known q p is_q is (e_q ∙ sym e)) seen)
   name_exported path d p is e (Some name) h = (p, (is, (e, h)))
 
   -- what an identifier behind the name of a package is bound to
 
-  pub by_path : (p : Package) (u : ℕ) (path : List ℕ) → IsBehindPackage p u path → ((other : List ℕ) → IsBehindPackage p u other → other ≡ path) →
+  pub by_path : (p : Package) (u : ℕ) (path : List ℕ) → IsQualifiedByPath p u path → ((other : List ℕ) → IsQualifiedByPath p u other → other ≡ path) →
       (o : Option Declaration) →
-      IsDeclarationFound (ExportsAs w known path (p.names u)) o → IsDeclarationFound (BindsByPackage (IsPackage w known) p u) o
+      IsDeclarationResult (ExportsAs w known path (p.names u)) o → IsDeclarationResult (BindsQualified (IsPackage w known) p u) o
   by_path p u path behind only None h = none
     where
-      none : (d : Declaration) → BindsByPackage (IsPackage w known) p u d → ⊥
+      none : (d : Declaration) → BindsQualified (IsPackage w known) p u d → ⊥
       none (Predeclared n) k = k
       none (Declared other n) k =
           let e : other ≡ path = only other k.behind in
@@ -120,7 +120,7 @@ module _ (w : Workspace) (known : Verdicts) where
   by_path p u path behind only (Some (Predeclared n)) h = h
   by_path p u path behind only (Some (Declared other n)) h =
       record {
-        behind = subst (IsBehindPackage p u) (sym h.0) behind;
+        behind = subst (IsQualifiedByPath p u) (sym h.0) behind;
         other = h.1.0;
         is_package = h.1.1.0;
         of_path = h.1.1.1.0 ∙ sym h.0;
@@ -131,7 +131,7 @@ module _ (w : Workspace) (known : Verdicts) where
   by_path p u path behind only (Some (Field s)) h = h
   by_path p u path behind only (Some (Method s)) h = h
 
-  pub behind_none : (p : Package) (u : ℕ) → ((path : List ℕ) → IsBehindPackage p u path → ⊥) → (d : Declaration) → BindsByPackage (IsPackage w known) p u d → ⊥
+  pub behind_none : (p : Package) (u : ℕ) → ((path : List ℕ) → IsQualifiedByPath p u path → ⊥) → (d : Declaration) → BindsQualified (IsPackage w known) p u d → ⊥
   behind_none p u none (Predeclared n) k = k
   behind_none p u none (Declared other n) k = none other k.behind
   behind_none p u none (Field s) k = k
@@ -140,7 +140,7 @@ module _ (w : Workspace) (known : Verdicts) where
 -- all kinds
 
 pub bound_to_none : (P : Package → Type 0) (p : Package) (u : ℕ) → ((d : Declaration) → BindsByScope p u d → ⊥) →
-    ((d : Declaration) → BindsByPackage P p u d → ⊥) → ((d : Declaration) → BindsMember p u d → ⊥) →
+    ((d : Declaration) → BindsQualified P p u d → ⊥) → ((d : Declaration) → BindsMember p u d → ⊥) →
     (d : Declaration) → Binds P p u d → ⊥
 bound_to_none P p u a b c d (binding.by_scope h) = a d h
 bound_to_none P p u a b c d (binding.by_package h) = b d h
@@ -158,12 +158,12 @@ pub use_from : (w : Workspace) (known : Verdicts) (d : Declaration) (name : Opti
 use_from w known d name n p is place q = subst (λ (x : Package). UsesIn x (BindsIn x d name) place) (one_at w known n q.used_in p q.is_package is) q.is_use
 
 pub named_or_none : (p : Package) (u : ℕ) → ((d : Declaration) → BindsByMember p u d → ⊥) → (o : Option Declaration) →
-    IsDeclarationFound (BindsByName p u) o → IsDeclarationFound (BindsMember p u) o
+    IsDeclarationResult (DeclaresMember p u) o → IsDeclarationResult (BindsMember p u) o
 named_or_none p u none None h = λ d k. elim k [ inl m ↦ none d m | inr n ↦ h d n ]
 named_or_none p u none (Some d) h = inr h
 
 pub last_kind : (P : Package → Type 0) (p : Package) (u : ℕ) → ((d : Declaration) → BindsByScope p u d → ⊥) →
-    ((d : Declaration) → BindsByPackage P p u d → ⊥) → (o : Option Declaration) →
-    IsDeclarationFound (BindsMember p u) o → IsDeclarationFound (Binds P p u) o
+    ((d : Declaration) → BindsQualified P p u d → ⊥) → (o : Option Declaration) →
+    IsDeclarationResult (BindsMember p u) o → IsDeclarationResult (Binds P p u) o
 last_kind P p u a b None h = bound_to_none P p u a b h
 last_kind P p u a b (Some d) h = bound_as_member P p u d h

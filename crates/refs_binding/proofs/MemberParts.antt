@@ -18,23 +18,23 @@ use Rattle.types_expr.specs.World.{Member, a_method, member_by}
 use Rattle.types_expr.specs.World as plain
 use Rattle.types_expr.specs.WorldView.{definition_or_none, imported_at}
 use Rattle.types_stmt.specs.Declarations.{check_file}
-use Rattle.types_declared.specs.declared.unit.Package.{Package as PackageUnit}
-use Rattle.types_declared.specs.declared.interfaces.Interfaces.{Interfaces}
-use Rattle.types_declared.specs.InterfacesView.{interface_in}
-use Rattle.types_declared.specs.Package.{Package, Interface, symbol_in, spelled, spelled_at}
+use Rattle.types_declared.specs.declared.index.Package.{Package as PackageUnit}
+use Rattle.types_declared.specs.declared.export_tables.ExportTable.{ExportTable}
+use Rattle.types_declared.specs.ExportTablesView.{export_data_in}
+use Rattle.types_declared.specs.Package.{Package, ExportData, symbol_in, spelled, spelled_at}
 use Rattle.types_declared.specs.PackageView.{package_of}
 use Rattle.types_declared.specs.Definitions.{IsDefinition, AreDefinitions}
 use Rattle.types_info.specs.MemberUses.{AreUsesIn, AreMemberUses, uses_in}
 use Rattle.types_info.specs.Worlds.{IsWorldOf, is_init}
-use Rattle.types_info.specs.Uniqueness.{IsOneWorld}
-use Rattle.types_info.proofs.BoundLists.{slice_get_some}
+use Rattle.types_info.specs.Uniqueness.{HasOneWorld}
+use Rattle.types_info.proofs.MeaningLists.{slice_get_some}
 use Rattle.types_info.proofs.OneWorld.{one_definitions}
 use Rattle.types_info.proofs.WorldParts.{is_other}
 use Rattle.refs_binding.specs.declared.declaration.Declaration.{Declaration}
 use Rattle.refs_binding.specs.declared.declaration.Declaration.TheVariants.{Declared, Method}
-use Rattle.refs_binding.specs.Binding.{declaration_of, IsMemberAt}
-use Rattle.refs_binding.specs.Members.{KnowsOwn, definitions_by, definitions_seen, member_at, uses_or_none, IsMemberIn}
-use Rattle.refs_binding.specs.Steps.{IsDeclarationFound}
+use Rattle.refs_binding.specs.Binding.{declaration_of, UsesMemberAt}
+use Rattle.refs_binding.specs.Members.{AreOwnDefinitions, definitions_by, definitions_seen, member_at, uses_or_none, IsMemberIn}
+use Rattle.refs_binding.specs.Steps.{IsDeclarationResult}
 
 -- a method is declared so, whether or not it has a signature
 pub method_declared : (s : Symbol) (on_pointer : Bool) (signature : Option Signature) → declaration_of (a_method s on_pointer signature) ≡ Method s
@@ -62,22 +62,22 @@ by_other path own imported s n =
     (is_other path s.package n (same_path path s.package) refl)
 
 -- those of a package, by what it sees
-pub known_definitions : (p : Package) (own : List Definition) (seen : Interfaces) → KnowsOwn p own → p.interface_of ≡ interface_in seen →
+pub known_definitions : (p : Package) (own : List Definition) (seen : ExportTable) → AreOwnDefinitions p own → p.export_data_of ≡ export_data_in seen →
     AreDefinitions p (definitions_by p.path own seen.definitions)
 known_definitions p own seen h sees = record {
   own = λ rank d at. subst (IsDefinition p rank) (sym (by_own p.path own seen.definitions (symbol_in p rank) refl)) (h.each rank d at);
   beyond = λ rank none. by_own p.path own seen.definitions (symbol_in p rank) refl ∙ h.beyond rank none;
   imported = λ path rank other. by_other p.path own seen.definitions (record { «package» = path; rank = rank }) (λ e. other (sym e)) ∙
-      ap (λ (f : List ℕ → Interface). (f path).definition rank) (sym sees);
+      ap (λ (f : List ℕ → ExportData). (f path).definition rank) (sym sees);
 }
 
-pub seen_definitions : (unit : PackageUnit) (own : List Definition) → KnowsOwn (package_of unit) own →
+pub seen_definitions : (unit : PackageUnit) (own : List Definition) → AreOwnDefinitions (package_of unit) own →
     AreDefinitions (package_of unit) (definitions_seen unit own)
-seen_definitions unit own h = known_definitions (package_of unit) own unit.interfaces.now h refl
+seen_definitions unit own h = known_definitions (package_of unit) own unit.export_table.now h refl
 
 -- the member uses of a file are one list
 
-pub one_list : (p : Package) → IsOneWorld p → (file : ℕ) (us vs : List MemberUse) → AreUsesIn p file us → AreUsesIn p file vs → us ≡ vs
+pub one_list : (p : Package) → HasOneWorld p → (file : ℕ) (us vs : List MemberUse) → AreUsesIn p file us → AreUsesIn p file vs → us ≡ vs
 one_list p one file us vs a b =
     let sources = same_Some a.source b.source (sym a.in_file ∙ b.in_file) in
     let worlds : a.world ≡ b.world = one file b.source a.world b.world (subst (λ s. IsWorldOf p file s a.world) sources a.judged_by) b.judged_by in
@@ -98,8 +98,8 @@ some_member None d e = absurd (none-some d e)
 some_member (Some m) d e = (m, (refl, same_Some (declaration_of m) d e))
 
 -- the member at a token, by the member uses of its file
-module _ (p : Package) (formed : WellFormed p.layout) (one : IsOneWorld p) (ds : Symbol → plain.Definition) (are : AreDefinitions p ds) where
-  pub member_in : (file : ℕ) (us : List MemberUse) → AreUsesIn p file us → (token : ℕ) (d : Declaration) → IsMemberAt p file token d →
+module _ (p : Package) (formed : WellFormed p.layout) (one : HasOneWorld p) (ds : Symbol → plain.Definition) (are : AreDefinitions p ds) where
+  pub member_in : (file : ℕ) (us : List MemberUse) → AreUsesIn p file us → (token : ℕ) (d : Declaration) → UsesMemberAt p file token d →
       IsMemberIn ds p file us token d
   member_in file us judged token d m = record {
     found = m.found;
@@ -112,7 +112,7 @@ module _ (p : Package) (formed : WellFormed p.layout) (one : IsOneWorld p) (ds :
   }
 
   pub member_from : (file : ℕ) (us : List MemberUse) → AreUsesIn p file us → (token : ℕ) (d : Declaration) → IsMemberIn ds p file us token d →
-      IsMemberAt p file token d
+      UsesMemberAt p file token d
   member_from file us judged token d m =
       let found = some_member (member_by ds p.path (spelled p file m.found.place) m.found.before) d m.is_member in
       record {
@@ -144,22 +144,22 @@ has_uses p members h file us a =
     omega (arith, within, size, same)
 
 -- the member that was found at a token is the one
-pub found_member : (p : Package) (formed : WellFormed p.layout) (one : IsOneWorld p) (ds : Symbol → plain.Definition) (are : AreDefinitions p ds)
+pub found_member : (p : Package) (formed : WellFormed p.layout) (one : HasOneWorld p) (ds : Symbol → plain.Definition) (are : AreDefinitions p ds)
     (members : List (Vec FoundUse)) →
     AreMemberUses p (map uses_in members) → (file token : ℕ) (us : List FoundUse) → us ≡ uses_or_none (slice_get members file) → (o : Option Declaration) →
-    IsDeclarationFound (IsMemberIn ds p file (map use_of us) token) o → IsDeclarationFound (IsMemberAt p file token) o
+    IsDeclarationResult (IsMemberIn ds p file (map use_of us) token) o → IsDeclarationResult (UsesMemberAt p file token) o
 found_member p formed one ds are members all file token us e o h = by_list (slice_get members file) refl
   where
-    none : (o : Option Declaration) → slice_get members file ≡ None → IsDeclarationFound (IsMemberIn ds p file [] token) o →
-        IsDeclarationFound (IsMemberAt p file token) o
+    none : (o : Option Declaration) → slice_get members file ≡ None → IsDeclarationResult (IsMemberIn ds p file [] token) o →
+        IsDeclarationResult (UsesMemberAt p file token) o
     none None past k = λ d m. let v = slice_get_some members file (has_uses p members all file m.uses m.judged) in absurd (none-some v.0 (sym past ∙ v.1))
     none (Some d) past k = let lt : k.is_use.0 < 0 = k.is_use.1 in absurd (omega arith)
 
-    some : (o : Option Declaration) (v : Vec FoundUse) → slice_get members file ≡ Some v → IsDeclarationFound (IsMemberIn ds p file (uses_in v) token) o →
-        IsDeclarationFound (IsMemberAt p file token) o
+    some : (o : Option Declaration) (v : Vec FoundUse) → slice_get members file ≡ Some v → IsDeclarationResult (IsMemberIn ds p file (uses_in v) token) o →
+        IsDeclarationResult (UsesMemberAt p file token) o
     some None v at k = λ d m. k d (member_in p formed one ds are file (uses_in v) (file_uses p members all file v at) token d m)
     some (Some d) v at k = member_from p formed one ds are file (uses_in v) (file_uses p members all file v at) token d k
 
-    by_list : (x : Option (Vec FoundUse)) → slice_get members file ≡ x → IsDeclarationFound (IsMemberAt p file token) o
-    by_list None at = none o at (subst (λ l. IsDeclarationFound (IsMemberIn ds p file (map use_of l) token) o) (e ∙ ap uses_or_none at) h)
-    by_list (Some v) at = some o v at (subst (λ l. IsDeclarationFound (IsMemberIn ds p file (map use_of l) token) o) (e ∙ ap uses_or_none at) h)
+    by_list : (x : Option (Vec FoundUse)) → slice_get members file ≡ x → IsDeclarationResult (UsesMemberAt p file token) o
+    by_list None at = none o at (subst (λ l. IsDeclarationResult (IsMemberIn ds p file (map use_of l) token) o) (e ∙ ap uses_or_none at) h)
+    by_list (Some v) at = some o v at (subst (λ l. IsDeclarationResult (IsMemberIn ds p file (map use_of l) token) o) (e ∙ ap uses_or_none at) h)

@@ -14,13 +14,13 @@ use Rattle.types_expr.specs.World as plain
 use Rattle.types_declared.specs.Package.{Package}
 use Rattle.types_declared.specs.Definitions.{AreDefinitions}
 use Rattle.types_info.specs.MemberUses.{AreMemberUses, uses_in}
-use Rattle.types_info.specs.Uniqueness.{IsOneWorld}
-use Rattle.types_info.proofs.BoundLists.{slice_get_some}
+use Rattle.types_info.specs.Uniqueness.{HasOneWorld}
+use Rattle.types_info.proofs.MeaningLists.{slice_get_some}
 use Rattle.refs_binding.specs.declared.declaration.Declaration.{Declaration}
-use Rattle.refs_binding.specs.declared.spot.Spot.{Spot}
-use Rattle.refs_binding.specs.Binding.{IsMemberAt, BindsByMember}
+use Rattle.refs_binding.specs.declared.place_key.PlaceKey.{PlaceKey}
+use Rattle.refs_binding.specs.Binding.{UsesMemberAt, BindsByMember}
 use Rattle.refs_binding.specs.Members.{member_at, IsMemberIf, IsMemberIn, IsMemberUseOf, IsMemberUseAt, IsMemberUseAmong}
-use Rattle.refs_binding.specs.Steps.{Adds, UsesIn, AtToken, IsDeclarationFound}
+use Rattle.refs_binding.specs.Steps.{AddsMisfits, UsesIn, AtToken, IsDeclarationResult}
 use Rattle.refs_binding.proofs.Adding.{Below, adds_as, adds_none, call_adds}
 use Rattle.refs_binding.proofs.MemberParts.{member_in, member_from, file_uses, has_uses}
 
@@ -31,7 +31,7 @@ rank_of xs x h = (h.0, slice_get-get_or xs h.0 x h.1 ∙ ap Some h.2)
 
 pub at_token : (ds : Symbol → plain.Definition) (p : Package) (file token : ℕ) (x : MemberUse) → x.place ≡ token → (o : Option Declaration) →
     o ≡ member_at ds p file x.place x.before →
-    IsDeclarationFound (IsMemberIf ds p file token x) o
+    IsDeclarationResult (IsMemberIf ds p file token x) o
 at_token ds p file token x at None e = λ d h. none-some d (e ∙ h.1)
 at_token ds p file token x at (Some d) e = (at, sym e)
 
@@ -68,17 +68,17 @@ one_among ds p file token uses k x d at is = record {
 
 -- one member use
 
-pub use_added : {E : Type 0} (ds : Symbol → plain.Definition) (p : Package) (file : ℕ) (d : Declaration) (x : MemberUse) (a b : List Spot)
+pub use_added : {E : Type 0} (ds : Symbol → plain.Definition) (p : Package) (file : ℕ) (d : Declaration) (x : MemberUse) (a b : List PlaceKey)
     (r : Result (Unit {0}) E) →
-    member_at ds p file x.place x.before ≡ Some d → OnOk r (Adds a b (AtToken p (record { file = file; index = x.place }))) →
-    OnOk r (Adds a b (IsMemberUseOf ds p file d x))
+    member_at ds p file x.place x.before ≡ Some d → OnOk r (AddsMisfits a b (AtToken p (record { file = file; index = x.place }))) →
+    OnOk r (AddsMisfits a b (IsMemberUseOf ds p file d x))
 use_added ds p file d x a b r is h =
     call_adds a b (AtToken p (record { file = file; index = x.place })) (IsMemberUseOf ds p file d x) r (λ place t. record { at = t; is_member = is })
     (λ place m. m.at) h
 
-pub use_skipped : (ds : Symbol → plain.Definition) (p : Package) (file : ℕ) (d : Declaration) (x : MemberUse) (a : List Spot) →
+pub use_skipped : (ds : Symbol → plain.Definition) (p : Package) (file : ℕ) (d : Declaration) (x : MemberUse) (a : List PlaceKey) →
     (member_at ds p file x.place x.before ≡ Some d → ⊥) →
-    Adds a a (IsMemberUseOf ds p file d x)
+    AddsMisfits a a (IsMemberUseOf ds p file d x)
 use_skipped ds p file d x a none = adds_none a (IsMemberUseOf ds p file d x) (λ place m. none m.is_member)
 
 -- the member uses of a file
@@ -86,16 +86,16 @@ use_skipped ds p file d x a none = adds_none a (IsMemberUseOf ds p file d x) (λ
 pub use_at : (xs : List FoundUse) (k : ℕ) (x : FoundUse) → k < length xs → x ≡ get_or xs k x → slice_get (map use_of xs) k ≡ Some (use_of x)
 use_at xs k x lt e = slice_get-map use_of xs k ∙ ap (option_map use_of) (slice_get_read xs (length xs) k x refl lt e)
 
-pub one_ranked : (ds : Symbol → plain.Definition) (p : Package) (file : ℕ) (d : Declaration) (uses : List MemberUse) (k : ℕ) (x : MemberUse) (a b : List Spot) →
-    slice_get uses k ≡ Some x → Adds a b (IsMemberUseOf ds p file d x) → Adds a b (IsMemberUseAt ds p file d uses k)
+pub one_ranked : (ds : Symbol → plain.Definition) (p : Package) (file : ℕ) (d : Declaration) (uses : List MemberUse) (k : ℕ) (x : MemberUse) (a b : List PlaceKey) →
+    slice_get uses k ≡ Some x → AddsMisfits a b (IsMemberUseOf ds p file d x) → AddsMisfits a b (IsMemberUseAt ds p file d uses k)
 one_ranked ds p file d uses k x a b at h =
     adds_as a b (IsMemberUseOf ds p file d x) (IsMemberUseAt ds p file d uses k)
     (λ place m. record { found = x; has_rank = at; is_use = m })
     (λ place m. subst (λ y. IsMemberUseOf ds p file d y place) (same_Some m.found x (sym m.has_rank ∙ at)) m.is_use) h
 
-pub all_ranked : (ds : Symbol → plain.Definition) (p : Package) (file : ℕ) (d : Declaration) (uses : List MemberUse) (n : ℕ) (a b : List Spot) →
+pub all_ranked : (ds : Symbol → plain.Definition) (p : Package) (file : ℕ) (d : Declaration) (uses : List MemberUse) (n : ℕ) (a b : List PlaceKey) →
     n ≡ length uses →
-    Adds a b (Below (IsMemberUseAt ds p file d uses) n) → Adds a b (IsMemberUseAmong ds p file d uses)
+    AddsMisfits a b (Below (IsMemberUseAt ds p file d uses) n) → AddsMisfits a b (IsMemberUseAmong ds p file d uses)
 all_ranked ds p file d uses n a b e h =
     adds_as a b (Below (IsMemberUseAt ds p file d uses) n) (IsMemberUseAmong ds p file d uses)
     (λ place q. (q.0, q.2))
@@ -109,8 +109,8 @@ pub record IsFileUse (ds : Symbol → plain.Definition) (p : Package) (d : Decla
   pub is_use : IsMemberUseAmong ds p file d (uses_in uses) place
 
 pub one_file : (ds : Symbol → plain.Definition) (p : Package) (d : Declaration) (members : List (Vec FoundUse)) (file : ℕ) (v : Vec FoundUse)
-    (a b : List Spot) →
-    slice_get members file ≡ Some v → Adds a b (IsMemberUseAmong ds p file d (uses_in v)) → Adds a b (IsFileUse ds p d members file)
+    (a b : List PlaceKey) →
+    slice_get members file ≡ Some v → AddsMisfits a b (IsMemberUseAmong ds p file d (uses_in v)) → AddsMisfits a b (IsFileUse ds p d members file)
 one_file ds p d members file v a b at h =
     adds_as a b (IsMemberUseAmong ds p file d (uses_in v)) (IsFileUse ds p d members file)
     (λ place m. record { uses = v; has_rank = at; is_use = m })
@@ -118,7 +118,7 @@ one_file ds p d members file v a b at h =
 
 -- what is found in all files is what is bound
 
-module _ (p : Package) (formed : WellFormed p.layout) (one : IsOneWorld p) (ds : Symbol → plain.Definition) (are : AreDefinitions p ds)
+module _ (p : Package) (formed : WellFormed p.layout) (one : HasOneWorld p) (ds : Symbol → plain.Definition) (are : AreDefinitions p ds)
     (members : List (Vec FoundUse)) (all : AreMemberUses p (map uses_in members))
     (d : Declaration) (place : Place) where
   pub to_bound : (file : ℕ) → IsFileUse ds p d members file place → UsesIn p (λ u. BindsByMember p u d) place
@@ -137,7 +137,7 @@ module _ (p : Package) (formed : WellFormed p.layout) (one : IsOneWorld p) (ds :
       } in
       let member = member_from p formed one ds are file (uses_in h.uses) (file_uses p members all file h.uses h.has_rank) x.found.place d in_list in
       let s = at.1.1 in
-      (at.0, (at.1.0, subst (λ f. IsMemberAt p f (p.layout.place at.0).index d) (sym s.1) (subst (λ t. IsMemberAt p file t d) (sym s.2) member)))
+      (at.0, (at.1.0, subst (λ f. UsesMemberAt p f (p.layout.place at.0).index d) (sym s.1) (subst (λ t. UsesMemberAt p file t d) (sym s.2) member)))
 
   pub from_bound : UsesIn p (λ u. BindsByMember p u d) place → (file : ℕ) × ((file < length members) × IsFileUse ds p d members file place)
   from_bound h =
@@ -165,10 +165,10 @@ module _ (p : Package) (formed : WellFormed p.layout) (one : IsOneWorld p) (ds :
         ),
       )
 
-pub all_members : (p : Package) (formed : WellFormed p.layout) (one : IsOneWorld p) (ds : Symbol → plain.Definition) (are : AreDefinitions p ds)
+pub all_members : (p : Package) (formed : WellFormed p.layout) (one : HasOneWorld p) (ds : Symbol → plain.Definition) (are : AreDefinitions p ds)
     (members : List (Vec FoundUse)) →
-    AreMemberUses p (map uses_in members) → (d : Declaration) (n : ℕ) (a b : List Spot) → n ≡ length members → Adds a b (Below (IsFileUse ds p d members) n) →
-    Adds a b (UsesIn p (λ u. BindsByMember p u d))
+    AreMemberUses p (map uses_in members) → (d : Declaration) (n : ℕ) (a b : List PlaceKey) → n ≡ length members → AddsMisfits a b (Below (IsFileUse ds p d members) n) →
+    AddsMisfits a b (UsesIn p (λ u. BindsByMember p u d))
 all_members p formed one ds are members all d n a b e h =
     adds_as a b (Below (IsFileUse ds p d members) n) (UsesIn p (λ u. BindsByMember p u d))
     (λ place q. to_bound p formed one ds are members all d place q.0 q.2)

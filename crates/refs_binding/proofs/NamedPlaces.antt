@@ -8,17 +8,17 @@ use Rattle.std.proofs.lemmas.Option.{same_Some, slice_get_within}
 use Rattle.base_files.specs.declared.place.Place.{Place}
 use Rattle.go_scope.specs.declared.model.Position.{Position}
 use Rattle.go_scope.specs.Bindings.{IsIdentifier, is_implied}
-use Rattle.go_scope.specs.Table.{StandsAt}
+use Rattle.go_scope.specs.Table.{LiesAt}
 use Rattle.types_declared.specs.Package.{Package, PlacedFunction, package_functions, function_place}
 use Rattle.types_declared.specs.Definitions.{PlacedField, package_fields}
 use Rattle.types_members.specs.MembersView.{CountsAsField, CountsAsMethod}
-use Rattle.types_declared.specs.Spread.{IsMarked}
+use Rattle.types_declared.specs.Reachability.{HasMark}
 use Rattle.types_expr.specs.declared.symbol.Symbol.{Symbol}
 use Rattle.refs_binding.specs.declared.declaration.Declaration.{Declaration}
 use Rattle.refs_binding.specs.declared.declaration.Declaration.TheVariants.{Predeclared, Declared, Field, Method}
-use Rattle.refs_binding.specs.Binding.{field_place, IsFieldAt, IsMethodAt, IsNameOf, BindsByName}
-use Rattle.refs_binding.specs.declared.spot.Spot.{Spot}
-use Rattle.refs_binding.specs.Steps.{Adds, UsesIn, AtFound, ArePlaces, NamesField, NamesMethod, IsDeclarationFound}
+use Rattle.refs_binding.specs.Binding.{field_place, IsFieldAt, IsMethodAt, IsNameOf, DeclaresMember}
+use Rattle.refs_binding.specs.declared.place_key.PlaceKey.{PlaceKey}
+use Rattle.refs_binding.specs.Steps.{AddsMisfits, UsesIn, AtFound, ArePlaces, DeclaresField, DeclaresMethod, IsDeclarationResult}
 use Rattle.refs_binding.proofs.Adding.{call_adds}
 
 -- the places of the ranks below a number
@@ -97,7 +97,7 @@ position_is : (at : Position) (file index : ℕ) → file ≡ at.file → index 
 position_is at file index e f = ap (λ x. record { file = x; index = at.index }) (sym e) ∙ ap (λ x. record { file = file; index = x }) (sym f)
 
 -- where an identifier stands is one place
-pub stands_once : (p : Package) (u : ℕ) (at : Position) → StandsAt p.layout at u → at ≡ p.layout.place u
+pub stands_once : (p : Package) (u : ℕ) (at : Position) → LiesAt p.layout at u → at ≡ p.layout.place u
 stands_once p u at s = position_is at (p.layout.place u).file (p.layout.place u).index s.1 s.2
 
 pub named_by_rank : (IsAt : (rank : ℕ) → Position → Type 0) (p : Package) (u rank : ℕ) (places : List (Option Position)) → ArePlaces IsAt places →
@@ -131,7 +131,7 @@ pub name_to_found : (IsAt : (rank : ℕ) → Position → Type 0) → ((rank : �
     (p : Package) (rank : ℕ) (o : Option Position) →
     MatchOption o ((at : Position) → IsAt rank at → ⊥) (λ at. IsAt rank at) → (place : Place) → UsesIn p (λ u. IsNameOf IsAt p u rank) place → AtFound p o place
 name_to_found IsAt one p rank None is place h = is h.1.1.at h.1.1.is_at
-name_to_found IsAt one p rank (Some at) is place h = (h.0, (h.1.0, subst (λ x. StandsAt p.layout x h.0) (one rank h.1.1.at at h.1.1.is_at is) h.1.1.stands))
+name_to_found IsAt one p rank (Some at) is place h = (h.0, (h.1.0, subst (λ x. LiesAt p.layout x h.0) (one rank h.1.1.at at h.1.1.is_at is) h.1.1.stands))
 
 -- a place that was found, told otherwise
 pub found_place : (K : Position → Type 0) (o u : Option Position) → o ≡ u → MatchOption u ((at : Position) → K at → ⊥) (λ at. K at) →
@@ -151,7 +151,7 @@ module _ (IsAt : (rank : ℕ) → Position → Type 0) (one : (rank : ℕ) (a b 
 
 pub no_field_name : (p : Package) (u : ℕ) (at : Position) (places seen : List (Option Position)) → at ≡ p.layout.place u → seen ≡ places →
     ArePlaces (IsFieldAt p) places →
-    ((rank : ℕ) → slice_index_or seen rank None ≡ Some at → ⊥) → (d : Declaration) → NamesField p u d → ⊥
+    ((rank : ℕ) → slice_index_or seen rank None ≡ Some at → ⊥) → (d : Declaration) → DeclaresField p u d → ⊥
 no_field_name p u at places seen here same are none (Predeclared n) h = h
 no_field_name p u at places seen here same are none (Declared path n) h = h
 no_field_name p u at places seen here same are none (Field s) h = no_rank (IsFieldAt p) (one_field_place p) p u at places seen here same are none s.rank h.1
@@ -159,13 +159,13 @@ no_field_name p u at places seen here same are none (Method s) h = h
 
 pub field_name : (p : Package) (u : ℕ) (at : Position) (rank : ℕ) (places seen : List (Option Position)) → at ≡ p.layout.place u → seen ≡ places →
     ArePlaces (IsFieldAt p) places → IsIdentifier p.layout u →
-    slice_index_or seen rank None ≡ Some at → (s : Symbol) → (s.package ≡ p.path) × (s.rank ≡ rank) → NamesField p u (Field s)
+    slice_index_or seen rank None ≡ Some at → (s : Symbol) → (s.package ≡ p.path) × (s.rank ≡ rank) → DeclaresField p u (Field s)
 field_name p u at rank places seen here same are stands e s is =
     (is.0, subst (IsNameOf (IsFieldAt p) p u) (sym is.1) (a_rank (IsFieldAt p) (one_field_place p) p u at places seen here same are stands rank e))
 
 pub no_method_name : (p : Package) (u : ℕ) (at : Position) (places seen : List (Option Position)) → at ≡ p.layout.place u → seen ≡ places →
     ArePlaces (IsMethodAt p) places →
-    ((rank : ℕ) → slice_index_or seen rank None ≡ Some at → ⊥) → (d : Declaration) → NamesMethod p u d → ⊥
+    ((rank : ℕ) → slice_index_or seen rank None ≡ Some at → ⊥) → (d : Declaration) → DeclaresMethod p u d → ⊥
 no_method_name p u at places seen here same are none (Predeclared n) h = h
 no_method_name p u at places seen here same are none (Declared path n) h = h
 no_method_name p u at places seen here same are none (Field s) h = h
@@ -173,38 +173,38 @@ no_method_name p u at places seen here same are none (Method s) h = no_rank (IsM
 
 pub method_name : (p : Package) (u : ℕ) (at : Position) (rank : ℕ) (places seen : List (Option Position)) → at ≡ p.layout.place u → seen ≡ places →
     ArePlaces (IsMethodAt p) places → IsIdentifier p.layout u →
-    slice_index_or seen rank None ≡ Some at → (s : Symbol) → (s.package ≡ p.path) × (s.rank ≡ rank) → NamesMethod p u (Method s)
+    slice_index_or seen rank None ≡ Some at → (s : Symbol) → (s.package ≡ p.path) × (s.rank ≡ rank) → DeclaresMethod p u (Method s)
 method_name p u at rank places seen here same are stands e s is =
     (is.0, subst (IsNameOf (IsMethodAt p) p u) (sym is.1) (a_rank (IsMethodAt p) (one_method_place p) p u at places seen here same are stands rank e))
 
 -- neither a field nor a method
 
-pub no_name : (p : Package) (u : ℕ) → ((d : Declaration) → NamesField p u d → ⊥) → ((d : Declaration) → NamesMethod p u d → ⊥) → (d : Declaration) →
-    BindsByName p u d → ⊥
+pub no_name : (p : Package) (u : ℕ) → ((d : Declaration) → DeclaresField p u d → ⊥) → ((d : Declaration) → DeclaresMethod p u d → ⊥) → (d : Declaration) →
+    DeclaresMember p u d → ⊥
 no_name p u fields methods (Predeclared n) h = h
 no_name p u fields methods (Declared path n) h = h
 no_name p u fields methods (Field s) h = fields (Field s) h
 no_name p u fields methods (Method s) h = methods (Method s) h
 
-pub as_field : (p : Package) (u : ℕ) (d : Declaration) → NamesField p u d → BindsByName p u d
+pub as_field : (p : Package) (u : ℕ) (d : Declaration) → DeclaresField p u d → DeclaresMember p u d
 as_field p u (Predeclared n) h = h
 as_field p u (Declared path n) h = h
 as_field p u (Field s) h = h
 as_field p u (Method s) h = absurd h
 
-pub as_method : (p : Package) (u : ℕ) (d : Declaration) → NamesMethod p u d → BindsByName p u d
+pub as_method : (p : Package) (u : ℕ) (d : Declaration) → DeclaresMethod p u d → DeclaresMember p u d
 as_method p u (Predeclared n) h = h
 as_method p u (Declared path n) h = h
 as_method p u (Field s) h = absurd h
 as_method p u (Method s) h = h
 
-pub found_name : (p : Package) (u : ℕ) (o : Option Declaration) → ((d : Declaration) → NamesField p u d → ⊥) → IsDeclarationFound (NamesMethod p u) o →
-    IsDeclarationFound (BindsByName p u) o
+pub found_name : (p : Package) (u : ℕ) (o : Option Declaration) → ((d : Declaration) → DeclaresField p u d → ⊥) → IsDeclarationResult (DeclaresMethod p u) o →
+    IsDeclarationResult (DeclaresMember p u) o
 found_name p u None fields h = no_name p u fields h
 found_name p u (Some d) fields h = as_method p u d h
 
 -- An identifier in no file is no declaring identifier.
-pub unnamed : (p : Package) (u : ℕ) → is_implied (p.layout.role u) ≡ true → (d : Declaration) → BindsByName p u d → ⊥
+pub unnamed : (p : Package) (u : ℕ) → is_implied (p.layout.role u) ≡ true → (d : Declaration) → DeclaresMember p u d → ⊥
 unnamed p u implied (Predeclared n) h = h
 unnamed p u implied (Declared path n) h = h
 unnamed p u implied (Field s) h = true≢false (sym implied ∙ h.1.stands.0)
@@ -214,8 +214,8 @@ unnamed p u implied (Method s) h = true≢false (sym implied ∙ h.1.stands.0)
 pub named_added : {E : Type 0} (IsAt : (rank : ℕ) → Position → Type 0) → ((rank : ℕ) (a b : Position) → IsAt rank a → IsAt rank b → a ≡ b) →
     (p : Package) (rank : ℕ) (K : ℕ → Type 0) →
     ((u : ℕ) → IsNameOf IsAt p u rank → K u) → ((u : ℕ) → K u → IsNameOf IsAt p u rank) → (places seen : List (Option Position)) → seen ≡ places →
-    ArePlaces IsAt places → (a b : List Spot) (r : Result (Unit {0}) E) →
-    OnOk r (Adds a b (AtFound p (slice_index_or seen rank None))) → OnOk r (Adds a b (UsesIn p K))
+    ArePlaces IsAt places → (a b : List PlaceKey) (r : Result (Unit {0}) E) →
+    OnOk r (AddsMisfits a b (AtFound p (slice_index_or seen rank None))) → OnOk r (AddsMisfits a b (UsesIn p K))
 named_added IsAt one p rank K to from places seen same are a b r h =
     let o = slice_index_or seen rank None in
     let is : MatchOption o ((at : Position) → IsAt rank at → ⊥) (λ at. IsAt rank at) =
@@ -225,5 +225,5 @@ named_added IsAt one p rank K to from places seen same are a b r h =
     (λ place q. name_to_found IsAt one p rank o is place (q.0, (q.1.0, from q.0 q.1.1))) h
 
 -- the mark that is read is that of the rank
-pub mark_is : (marks : List Bool) (rank : ℕ) (m : Bool) (P : Type 0) → rank < length marks → m ≡ get_or marks rank m → IsMarked marks rank ↔ P → (m ≡ true) ↔ P
+pub mark_is : (marks : List Bool) (rank : ℕ) (m : Bool) (P : Type 0) → rank < length marks → m ≡ get_or marks rank m → HasMark marks rank ↔ P → (m ≡ true) ↔ P
 mark_is marks rank m P lt e h = let same : m ≡ get_or marks rank false = get_or_read marks rank m lt e false in ((λ t. h.0 (sym same ∙ t)), (λ k. same ∙ h.1 k))

@@ -4,27 +4,27 @@ use Rattle.std.specs.Prelude.{Some, Contains, slice_get}
 use Rattle.std.proofs.lemmas.Option.{same_Some}
 use Rattle.base_files.specs.Packages.{package_paths}
 use Rattle.base_files.specs.Workspace.{Workspace}
-use Rattle.types_info.proofs.BoundLists.{slice_get_some}
-use Rattle.workspace_graph.proofs.Asked.{at_contains}
+use Rattle.types_info.proofs.MeaningLists.{slice_get_some}
+use Rattle.workspace_graph.proofs.ByPath.{at_contains}
 use Rattle.types_declared.specs.Package.{Package}
 use Rattle.workspace_check.specs.declared.findings.Findings.{Findings}
 use Rattle.workspace_check.specs.Verdicts.{Verdicts, IsPackageIn}
-use Rattle.workspace_check.specs.Told.{known_by}
+use Rattle.workspace_check.specs.KnownFindings.{verdicts_by}
 use Rattle.workspace_check.proofs.OneVerdict.{right_below, verdict_by, without_faults}
 use Rattle.refs_binding.specs.Uses.{IsPackage}
-use Rattle.refs_binding.specs.Workspaces.{IsSound, IsPackageAt, known_in}
+use Rattle.refs_binding.specs.Workspaces.{IsFaultless, IsPackageAt, known_in}
 use Rattle.refs_binding.proofs.Units.{no_fault_in, one_package}
-use Rattle.refs_binding.specs.Standing.{InPackage}
+use Rattle.refs_binding.specs.DeclaringPlaces.{InPackage}
 
 -- each number is that of a checked package
-pub package_there : (w : Workspace) (found : Findings) → IsSound w found → (n : ℕ) → n < length (package_paths w) → (p : Package) ×
+pub package_there : (w : Workspace) (found : Findings) → IsFaultless w found → (n : ℕ) → n < length (package_paths w) → (p : Package) ×
     (IsPackageAt w (known_in found) n p)
 package_there w found h n lt =
-    let known = known_by found.interfaces in
+    let known = verdicts_by found.export_table in
     let x = slice_get_some (package_paths w) n lt in
     let path = x.0 in
     let by = verdict_by w path known (known path) (right_below w known h.findings.right path) (h.findings.right path (at_contains w n path x.1)) in
-    let has = by.has_interface (without_faults w known path (known path) by (no_fault_in w found h n path x.1) (known path).faulty refl) in
+    let has = by.has_export_data (without_faults w known path (known path) by (no_fault_in w found h n path x.1) (known path).faulty refl) in
     let e : has.checked.path ≡ path = ap (λ (p : Package). p.path) has.is_package.is_package.is_package in (
       has.checked,
       record {

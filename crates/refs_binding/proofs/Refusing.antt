@@ -8,8 +8,8 @@ use Rattle.base_files.specs.declared.refusal.Refusal.TheVariants as refusal
 use Rattle.workspace_check.specs.declared.findings.Findings.{Findings}
 use Rattle.workspace_check.specs.Found.{AreFindings}
 use Rattle.workspace_check.specs.FaultLists.{ListsFaults}
-use Rattle.refs_binding.specs.Uses.{IsFile, TellsUses, TellsUsesAt}
-use Rattle.refs_binding.specs.Workspaces.{RefusesFirst, RefusesFaults, TellsUsesIn}
+use Rattle.refs_binding.specs.Uses.{IsFile, AnswersUses, AnswersUsesAt}
+use Rattle.refs_binding.specs.Workspaces.{RefusesFirst, RefusesFaults, AnswersUsesIn}
 use Rattle.refs_binding.proofs.Units.{sound_by_list}
 
 -- where something was found, the first fault of the list, if there is one
@@ -46,7 +46,7 @@ first_refused w found are (Err r) h = refusal_first w found r h
 
 -- the first fault is why there are no uses
 pub faults_refused : (w : Workspace) (found : Findings) (path : List ℕ) (offset : ℕ) (r : Refusal) → RefusesFaults w found (Err r) →
-    TellsUsesIn w path offset (Err r)
+    AnswersUsesIn w path offset (Err r)
 faults_refused w found path offset refusal.Memory h = h
 faults_refused w found path offset refusal.BadCommand h = absurd h
 faults_refused w found path offset refusal.BadPath h = absurd h
@@ -74,8 +74,8 @@ faults_refused w found path offset refusal.BodyShort h = absurd h
 
 -- a workspace without faults
 
-refusal_told : (w : Workspace) (path : List ℕ) (offset : ℕ) → ListsFaults w [] → (r : Refusal) → TellsUsesAt w path offset (Err r) →
-    TellsUsesIn w path offset (Err r)
+refusal_told : (w : Workspace) (path : List ℕ) (offset : ℕ) → ListsFaults w [] → (r : Refusal) → AnswersUsesAt w path offset (Err r) →
+    AnswersUsesIn w path offset (Err r)
 refusal_told w path offset list refusal.Memory h = h
 refusal_told w path offset list refusal.BadCommand h = absurd h
 refusal_told w path offset list refusal.BadPath h = absurd h
@@ -101,15 +101,15 @@ refusal_told w path offset list refusal.Already h = absurd h
 refusal_told w path offset list refusal.NoJob h = absurd h
 refusal_told w path offset list refusal.BodyShort h = absurd h
 
-pub uses_told : (w : Workspace) (path : List ℕ) (offset : ℕ) → ListsFaults w [] → (r : Result (List Place) Refusal) → TellsUsesAt w path offset r →
-    TellsUsesIn w path offset r
+pub uses_told : (w : Workspace) (path : List ℕ) (offset : ℕ) → ListsFaults w [] → (r : Result (List Place) Refusal) → AnswersUsesAt w path offset r →
+    AnswersUsesIn w path offset r
 uses_told w path offset list (Ok places) h = (list, h)
 uses_told w path offset list (Err r) h = refusal_told w path offset list r h
 
 -- a file of the workspace
 
-refusal_of_file : (w : Workspace) (path : List ℕ) (offset : ℕ) → IsFile w path → (r : Refusal) → TellsUsesIn w path offset (Err r) →
-    TellsUses w path offset (Err r)
+refusal_of_file : (w : Workspace) (path : List ℕ) (offset : ℕ) → IsFile w path → (r : Refusal) → AnswersUsesIn w path offset (Err r) →
+    AnswersUses w path offset (Err r)
 refusal_of_file w path offset is refusal.Memory h = h
 refusal_of_file w path offset is refusal.BadCommand h = absurd h
 refusal_of_file w path offset is refusal.BadPath h = absurd h
@@ -135,7 +135,7 @@ refusal_of_file w path offset is refusal.Already h = absurd h
 refusal_of_file w path offset is refusal.NoJob h = absurd h
 refusal_of_file w path offset is refusal.BodyShort h = absurd h
 
-pub uses_of_file : (w : Workspace) (path : List ℕ) (offset : ℕ) → IsFile w path → (r : Result (List Place) Refusal) → TellsUsesIn w path offset r →
-    TellsUses w path offset r
+pub uses_of_file : (w : Workspace) (path : List ℕ) (offset : ℕ) → IsFile w path → (r : Result (List Place) Refusal) → AnswersUsesIn w path offset r →
+    AnswersUses w path offset r
 uses_of_file w path offset is (Ok places) h = (is, h.0, h.1)
 uses_of_file w path offset is (Err r) h = refusal_of_file w path offset is r h

@@ -6,11 +6,11 @@ use Rattle.base_files.specs.Workspace.{Workspace}
 use Rattle.go_ast.specs.SourceFile.{FileParts, source_of, spelling_of}
 use Rattle.go_scope.specs.declared.model.Role.TheVariants.{NotLexical}
 use Rattle.go_scope.specs.declared.model.Purpose.TheVariants.{Selected}
-use Rattle.go_scope.specs.Site.{Site, Source, found_site}
+use Rattle.go_scope.specs.Site.{Site, Source, or_blank}
 use Rattle.go_scope.specs.FileSites.{SpelledFile, universe, universe_site, file_sites, files_sites, package_sites}
-use Rattle.go_scope.specs.Named.{is_unnamed_import, named_where, named_sites, named}
-use Rattle.go_scope.specs.Parsed.{spelled_file}
-use Rattle.go_scope.specs.Scoped.{ScopedPackage, scoped}
+use Rattle.go_scope.specs.Named.{is_unnamed_import, named_where, named_sites, with_names}
+use Rattle.go_scope.specs.SpelledFiles.{spelled_file}
+use Rattle.go_scope.specs.Packages.{ScopedPackage, scoped}
 use Rattle.go_scope.proofs.PackageRegions.{each_at}
 use Rattle.go_scope.proofs.Regions.{Each, each_append, each_map}
 use Rattle.types_declared.specs.Package.{Package, spelled_at, spelled}
@@ -61,8 +61,8 @@ where_plain true (Some name) x e = let z : ⊥ = cc in absurd z
 where_plain true None x e = refl
 where_plain false name x e = refl
 
-selected_plain : (names : ℕ → Option (List ℕ)) (xs : List Site) (u : ℕ) → (found_site (slice_get (named_sites names xs) u)).role ≡ NotLexical Selected →
-    found_site (slice_get (named_sites names xs) u) ≡ found_site (slice_get xs u)
+selected_plain : (names : ℕ → Option (List ℕ)) (xs : List Site) (u : ℕ) → (or_blank (slice_get (named_sites names xs) u)).role ≡ NotLexical Selected →
+    or_blank (slice_get (named_sites names xs) u) ≡ or_blank (slice_get xs u)
 unfolding named_sites
 selected_plain names [] u e = refl
 selected_plain names (x ∷ xs) zero e = where_plain (is_unnamed_import x.role) (names 0) x e
@@ -92,12 +92,12 @@ selected_spelled w known p c h u =
     let own = h.is_package in
     let names = own.is_laid.names in
     let sites = package_sites (map spelled_file files) in
-    let laid : ScopedPackage = named names (scoped files) in
-    let is : c ≡ package_in p (map source_of files) laid h.interface_of =
-    own.is_package ∙ ap (λ t. package_in p (map source_of files) t h.interface_of) own.is_laid.is_named in
+    let laid : ScopedPackage = with_names names (scoped files) in
+    let is : c ≡ package_in p (map source_of files) laid h.export_data_of =
+    own.is_package ∙ ap (λ t. package_in p (map source_of files) t h.export_data_of) own.is_laid.is_named in
     subst (λ d. IsSpelled d u) (sym is) (λ role.
     let same = selected_plain names sites u role in
-    let plain : (found_site (slice_get sites u)).role ≡ NotLexical Selected = ap (λ (x : Site). x.role) (sym same) ∙ role in
+    let plain : (or_blank (slice_get sites u)).role ≡ NotLexical Selected = ap (λ (x : Site). x.role) (sym same) ∙ role in
     subst (λ (x : Site). x.name ≡ spelled_at (slice_get (map source_of files) x.place.file) x.place.index) (sym same)
-    (site_spelled files (found_site (slice_get sites u))
+    (site_spelled files (or_blank (slice_get sites u))
     (each_at (IsSpelledIf (map spelled_file files)) (λ e. let z : ⊥ = cc in absurd z) sites (package_spelled (map spelled_file files)) u plain)))

@@ -4,42 +4,42 @@ use Rattle.std.specs.Prelude.{Option, Some, None, Contains, map, slice_get}
 use Rattle.std.specs.List.Sorted.{IsStrictlySortedBy}
 use Rattle.std.proofs.lemmas.Bool.{cases_lt}
 use Rattle.std.proofs.lemmas.Option.{same_Some, slice_get_within, slice_get_read}
-use Rattle.types_info.proofs.BoundLists.{slice_get_some}
+use Rattle.types_info.proofs.MeaningLists.{slice_get_some}
 use Rattle.base_files.specs.Packages.{package_paths, package_files}
 use Rattle.base_files.specs.Workspace.{Workspace}
 use Rattle.go_ast.specs.SourceFile.{FileParts, source_of}
-use Rattle.go_scope.specs.Scoped.{ScopedPackage, scoped}
+use Rattle.go_scope.specs.Packages.{ScopedPackage, scoped}
 use Rattle.types_declared.specs.PackageNames.{IsLaidOver}
 use Rattle.workspace_graph.specs.FaultyFiles.{FaultyParts}
 use Rattle.workspace_graph.specs.Graphs.{OfPackage}
 use Rattle.workspace_graph.specs.Parsed.{AreParsed, none, tree, fault}
-use Rattle.workspace_graph.proofs.Asked.{number, at_contains}
+use Rattle.workspace_graph.proofs.ByPath.{number, at_contains}
 use Rattle.types_expr.specs.declared.world.Definition.{Definition}
 use Rattle.types_expr.specs.WorldView.{definition_or_none, definitions_at, ranked}
 use Rattle.types_declared.specs.Package.{Package, symbol_in}
 use Rattle.types_info.specs.PackageOf.{package_in}
 use Rattle.types_declared.specs.Definitions.{IsDefinition}
-use Rattle.types_check.specs.Interfaces.{IsInterface}
-use Rattle.types_declared.specs.InterfacesView.{name_in, interface_in}
+use Rattle.types_check.specs.Exports.{IsExportData}
+use Rattle.types_declared.specs.ExportTablesView.{name_in, export_data_in}
 use Rattle.types_info.specs.MemberUses.{AreMemberUses, uses_in}
-use Rattle.types_info.specs.Qualified.{AreQualified}
-use Rattle.types_declared.specs.declared.interfaces.Interfaces.{Interfaces}
+use Rattle.types_info.specs.QualifiedIdentifiers.{AreQualified}
+use Rattle.types_declared.specs.declared.export_tables.ExportTable.{ExportTable}
 use Rattle.workspace_check.specs.declared.fault.FileFault.{FileFault}
 use Rattle.workspace_check.specs.declared.finding.Finding.{Finding}
 use Rattle.workspace_check.specs.declared.findings.Findings.{Findings}
 use Rattle.workspace_check.specs.Faults.{placed, fault_cmp}
 use Rattle.workspace_check.specs.FaultLists.{AreListed, ListsFaults}
 use Rattle.workspace_check.specs.Found.{AreFindings}
-use Rattle.workspace_check.specs.Told.{IsFinding, known_by}
+use Rattle.workspace_check.specs.KnownFindings.{IsFinding, verdicts_by}
 use Rattle.workspace_check.specs.Verdicts.{Verdicts, AreSeen, IsPackageIn, IsFaultBy}
 use Rattle.workspace_check.proofs.Alike.{fault_as}
 use Rattle.workspace_check.proofs.Members.{empty_by, nothing_in, first_in, later_in}
 use Rattle.workspace_check.proofs.OnePackage.{one_checked}
 use Rattle.workspace_check.proofs.OneVerdict.{right_alike, right_below, verdict_by, without_faults}
-use Rattle.refs_binding.specs.Members.{KnowsOwn, definitions_or_none}
+use Rattle.refs_binding.specs.Members.{AreOwnDefinitions, definitions_or_none}
 use Rattle.refs_binding.specs.Uses.{IsPackage}
 use Rattle.refs_binding.specs.Packages.{IsSeenBy, IsTableAs}
-use Rattle.refs_binding.specs.Workspaces.{IsSound, IsPackageAt}
+use Rattle.refs_binding.specs.Workspaces.{IsFaultless, IsPackageAt}
 
 empty_in_order : IsStrictlySortedBy fault_cmp []
 unfolding IsStrictlySortedBy
@@ -75,22 +75,22 @@ all_read w known p ts fs sound parsed = subst (AreParsed (package_files w p) ts)
 
 pub finding_at : (w : Workspace) (found : Findings) → AreFindings w found → (n : ℕ) (p : List ℕ) (f : Finding) → slice_get (package_paths w) n ≡ Some p →
     n < length found.packages.items → f ≡ get_or found.packages.items n f →
-    IsFinding w (known_by found.interfaces) p f
+    IsFinding w (verdicts_by found.export_table) p f
 finding_at w found h n p f at lt is = h.each n p f at (slice_get_read found.packages.items (length found.packages.items) n f refl lt is)
 
-pub no_fault_in : (w : Workspace) (found : Findings) → IsSound w found → (n : ℕ) (p : List ℕ) → slice_get (package_paths w) n ≡ Some p → (f : FileFault) →
-    IsFaultBy w (known_by found.interfaces) p f → ⊥
+pub no_fault_in : (w : Workspace) (found : Findings) → IsFaultless w found → (n : ℕ) (p : List ℕ) → slice_get (package_paths w) n ≡ Some p → (f : FileFault) →
+    IsFaultBy w (verdicts_by found.export_table) p f → ⊥
 no_fault_in w found h n p at f is =
     let lt : n < length found.packages.items = subst (λ m. n < m) (sym h.findings.size) (slice_get_within (package_paths w) n p at) in
     let x = slice_get_some found.packages.items n lt in
-    none_listed (IsFaultBy w (known_by found.interfaces) p) x.0.faults.items (h.findings.each n p x.0 at x.1).listed (h.sound n x.0 x.1) f is
+    none_listed (IsFaultBy w (verdicts_by found.export_table) p) x.0.faults.items (h.findings.each n p x.0 at x.1).listed (h.sound n x.0 x.1) f is
 
 -- where the list of faults is empty, nothing found has a fault
-pub sound_by_list : (w : Workspace) (found : Findings) → AreFindings w found → ListsFaults w [] → IsSound w found
+pub sound_by_list : (w : Workspace) (found : Findings) → AreFindings w found → ListsFaults w [] → IsFaultless w found
 sound_by_list w found h list = record {
   findings = h;
   sound = λ n f at.
-      let known = known_by found.interfaces in
+      let known = verdicts_by found.export_table in
       let p = slice_get_some (package_paths w) n (subst (λ m. n < m) h.size (slice_get_within found.packages.items n f at)) in
       let finding = h.each n p.0 f p.1 at in
       empty_by f.faults.items (λ x is.
@@ -101,9 +101,9 @@ sound_by_list w found h list = record {
 }
 
 -- where nothing found has a fault, the list is empty
-pub list_of_sound : (w : Workspace) (found : Findings) → IsSound w found → ListsFaults w []
+pub list_of_sound : (w : Workspace) (found : Findings) → IsFaultless w found → ListsFaults w []
 list_of_sound w found h = record {
-  known = known_by found.interfaces;
+  known = verdicts_by found.export_table;
   right = h.findings.right;
   listed = record {
     in_order = empty_in_order;
@@ -129,10 +129,10 @@ sound_next xs k n x f lt is empty h below at = elim (cases_lt n k) [
 
 -- the package of a number
 
-pub package_at : (w : Workspace) (known : Verdicts) (n : ℕ) (path : List ℕ) (ts : List FileParts) (seen : Interfaces) (name_of : List ℕ → Option (List ℕ))
+pub package_at : (w : Workspace) (known : Verdicts) (n : ℕ) (path : List ℕ) (ts : List FileParts) (seen : ExportTable) (name_of : List ℕ → Option (List ℕ))
     (laid : ScopedPackage) → slice_get (package_paths w) n ≡ Some path →
-    AreParsed (package_files w path) ts [] → AreSeen w known path name_of (interface_in seen) → IsLaidOver (map source_of ts) name_of (scoped ts) laid →
-    IsPackageAt w known n (package_in path (map source_of ts) laid (interface_in seen))
+    AreParsed (package_files w path) ts [] → AreSeen w known path name_of (export_data_in seen) → IsLaidOver (map source_of ts) name_of (scoped ts) laid →
+    IsPackageAt w known n (package_in path (map source_of ts) laid (export_data_in seen))
 package_at w known n path ts seen name_of laid at parsed are is = record {
   has_number = at;
   is_package = record {
@@ -141,7 +141,7 @@ package_at w known n path ts seen name_of laid at parsed are is = record {
       files = ts;
       parsed = parsed;
       name_of = name_of;
-      interface_of = interface_in seen;
+      export_data_of = export_data_in seen;
       are_seen = are;
       is_package =
           record { laid = laid; is_laid = is; is_package = refl };
@@ -149,24 +149,24 @@ package_at w known n path ts seen name_of laid at parsed are is = record {
   };
 }
 
-pub unit_at : (w : Workspace) (known : Verdicts) (n : ℕ) (path : List ℕ) (ts : List FileParts) (seen : Interfaces) (laid : ScopedPackage) →
+pub unit_at : (w : Workspace) (known : Verdicts) (n : ℕ) (path : List ℕ) (ts : List FileParts) (seen : ExportTable) (laid : ScopedPackage) →
     n < length (package_paths w) → OfPackage w n (λ p. path ≡ p) →
-    OfPackage w n (λ p. AreParsed (package_files w p) ts []) → OfPackage w n (λ p. AreSeen w known p (name_in seen) (interface_in seen)) →
+    OfPackage w n (λ p. AreParsed (package_files w p) ts []) → OfPackage w n (λ p. AreSeen w known p (name_in seen) (export_data_in seen)) →
     IsLaidOver (map source_of ts) (name_in seen) (scoped ts) laid →
-    IsPackageAt w known n (package_in path (map source_of ts) laid (interface_in seen))
+    IsPackageAt w known n (package_in path (map source_of ts) laid (export_data_in seen))
 unit_at w known n path ts seen laid lt of_path parsed are is =
     let x = slice_get_some (package_paths w) n lt in
     let e = sym (of_path x.0 x.1) in
     package_at w known n path ts seen (name_in seen) laid (x.1 ∙ ap Some e) (subst (λ q. AreParsed (package_files w q) ts []) e (parsed x.0 x.1))
-    (subst (λ q. AreSeen w known q (name_in seen) (interface_in seen)) e (are x.0 x.1)) is
+    (subst (λ q. AreSeen w known q (name_in seen) (export_data_in seen)) e (are x.0 x.1)) is
 
 -- its table has its files
-pub table_at : (w : Workspace) (known : Verdicts) (n : ℕ) (ts : List FileParts) (seen : Interfaces) (laid : ScopedPackage) →
+pub table_at : (w : Workspace) (known : Verdicts) (n : ℕ) (ts : List FileParts) (seen : ExportTable) (laid : ScopedPackage) →
     OfPackage w n (λ p. AreParsed (package_files w p) ts []) → IsSeenBy w known n seen → IsLaidOver (map source_of ts) (name_in seen) (scoped ts) laid →
     IsTableAs w known n laid seen
 table_at w known n ts seen laid parsed are is = λ path at.
     let files : ts ≡ laid.files = ap (λ (p : ScopedPackage). p.files) (sym is.is_named) in
-    subst (λ fs. IsPackageAt w known n (package_in path (map source_of fs) laid (interface_in seen))) files
+    subst (λ fs. IsPackageAt w known n (package_in path (map source_of fs) laid (export_data_in seen))) files
     (package_at w known n path ts seen (name_in seen) laid at (parsed path at) (are path at) is)
 
 -- a package is checked as one thing
@@ -190,10 +190,10 @@ own_rank : (o : Option (List Definition)) (rank : ℕ) → slice_get (definition
 own_rank None rank = refl
 own_rank (Some ds) rank = refl
 
-pub own_known : (all : Interfaces) (p : Package) (own : List Definition) → IsInterface p (interface_in all p.path) →
-    own ≡ definitions_or_none (definitions_at all.definitions p.path) → KnowsOwn p own
+pub own_known : (all : ExportTable) (p : Package) (own : List Definition) → IsExportData p (export_data_in all p.path) →
+    own ≡ definitions_or_none (definitions_at all.definitions p.path) → AreOwnDefinitions p own
 own_known all p own is e =
-    let at : (rank : ℕ) → (interface_in all p.path).definition rank ≡ definition_or_none (symbol_in p rank) (slice_get own rank) = λ rank.
+    let at : (rank : ℕ) → (export_data_in all p.path).definition rank ≡ definition_or_none (symbol_in p rank) (slice_get own rank) = λ rank.
     ap (definition_or_none (symbol_in p rank)) (sym (own_rank (definitions_at all.definitions p.path) rank) ∙ ap (λ l. slice_get l rank) (sym e))
     in
     record {
@@ -203,36 +203,36 @@ own_known all p own is e =
 
 -- what others see of a package without faults
 
-pub interface_at : (w : Workspace) (found : Findings) → IsSound w found → (n : ℕ) (p : Package) → IsPackageAt w (known_by found.interfaces) n p →
-    IsInterface p (interface_in found.interfaces p.path)
-interface_at w found h n p is =
-    let known = known_by found.interfaces in
+pub export_data_at : (w : Workspace) (found : Findings) → IsFaultless w found → (n : ℕ) (p : Package) → IsPackageAt w (verdicts_by found.export_table) n p →
+    IsExportData p (export_data_in found.export_table p.path)
+export_data_at w found h n p is =
+    let known = verdicts_by found.export_table in
     let by = verdict_by w p.path known (known p.path) (right_below w known h.findings.right p.path) (h.findings.right p.path is.is_package.of_workspace) in
-    let has = by.has_interface (without_faults w known p.path (known p.path) by (no_fault_in w found h n p.path is.has_number) (known p.path).faulty refl) in
-    subst (λ c. IsInterface c (interface_in found.interfaces p.path)) (one_checked w known p.path has.checked p has.is_package is.is_package.is_checked)
-    has.is_interface
+    let has = by.has_export_data (without_faults w known p.path (known p.path) by (no_fault_in w found h n p.path is.has_number) (known p.path).faulty refl) in
+    subst (λ c. IsExportData c (export_data_in found.export_table p.path)) (one_checked w known p.path has.checked p has.is_package is.is_package.is_checked)
+    has.is_export_data
 
 -- its uses of members
-pub members_at : (w : Workspace) (found : Findings) → IsSound w found → (n : ℕ) (f : Finding) → slice_get found.packages.items n ≡ Some f → (p : Package) →
-    IsPackageAt w (known_by found.interfaces) n p →
+pub members_at : (w : Workspace) (found : Findings) → IsFaultless w found → (n : ℕ) (f : Finding) → slice_get found.packages.items n ≡ Some f → (p : Package) →
+    IsPackageAt w (verdicts_by found.export_table) n p →
     AreMemberUses p (map uses_in f.members.items)
 members_at w found h n f at p is =
-    let known = known_by found.interfaces in
+    let known = verdicts_by found.export_table in
     let uses = (h.findings.each n p.path f is.has_number at).members (h.sound n f at) in
     subst (λ c. AreMemberUses c (map uses_in f.members.items)) (one_checked w known p.path uses.checked p uses.is_package is.is_package.is_checked)
     uses.are_uses
 
 -- its qualified identifiers
-pub qualified_at : (w : Workspace) (found : Findings) → IsSound w found → (n : ℕ) (f : Finding) → slice_get found.packages.items n ≡ Some f →
-    (p : Package) → IsPackageAt w (known_by found.interfaces) n p → AreQualified p f.qualified.items
+pub qualified_at : (w : Workspace) (found : Findings) → IsFaultless w found → (n : ℕ) (f : Finding) → slice_get found.packages.items n ≡ Some f →
+    (p : Package) → IsPackageAt w (verdicts_by found.export_table) n p → AreQualified p f.qualified.items
 qualified_at w found h n f at p is =
-    let known = known_by found.interfaces in
+    let known = verdicts_by found.export_table in
     let has = (h.findings.each n p.path f is.has_number at).qualified (h.sound n f at) in
     subst (λ c. AreQualified c f.qualified.items) (one_checked w known p.path has.checked p has.is_package is.is_package.is_checked) has.are_qualified
 
 -- the package of a number
-pub package_there : (w : Workspace) (found : Findings) → IsSound w found → (n : ℕ) → n < length (package_paths w) →
-    (p : Package) × IsPackageAt w (known_by found.interfaces) n p
+pub package_there : (w : Workspace) (found : Findings) → IsFaultless w found → (n : ℕ) → n < length (package_paths w) →
+    (p : Package) × IsPackageAt w (verdicts_by found.export_table) n p
 package_there w found h n lt =
     let path = slice_get_some (package_paths w) n lt in
     let f = slice_get_some found.packages.items n (subst (λ m. n < m) (sym h.findings.size) lt) in
@@ -243,7 +243,7 @@ package_there w found h n lt =
         has_number = path.1 ∙ ap Some (sym same);
         is_package = record {
           of_workspace = subst (Contains (package_paths w)) (sym same) (at_contains w n path.0 path.1);
-          is_checked = subst (λ q. IsPackageIn w (known_by found.interfaces) q has.checked) (sym same) has.is_package;
+          is_checked = subst (λ q. IsPackageIn w (verdicts_by found.export_table) q has.checked) (sym same) has.is_package;
         };
       },
     )

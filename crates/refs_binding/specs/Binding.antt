@@ -4,15 +4,15 @@ use Rattle.std.specs.Prelude.{ℕ, ◌≡◌, ◌<◌, List, length, Contains, S
 use Rattle.go_scope.specs.declared.model.Position.{Position}
 use Rattle.go_scope.specs.Bindings.{IsBoundTo}
 use Rattle.go_scope.specs.FileSites.{universe}
-use Rattle.go_scope.specs.Table.{StandsAt}
+use Rattle.go_scope.specs.Table.{LiesAt}
 use Rattle.types_expr.specs.Judge.{MemberUse}
 use Rattle.types_expr.specs.World.{Member, AField, AMethod, ABrokenMethod}
 use Rattle.types_declared.specs.Package.{Package, function_place}
-use Rattle.types_check.specs.Interfaces.{IsSeen}
+use Rattle.types_check.specs.Exports.{DoesExport}
 use Rattle.types_declared.specs.Definitions.{PlacedField}
 use Rattle.types_members.specs.MembersView.{CountsAsField, CountsAsMethod}
 use Rattle.types_info.specs.MemberUses.{AreUsesIn}
-use Rattle.types_info.specs.Qualified.{IsBehindPackage}
+use Rattle.types_info.specs.QualifiedIdentifiers.{IsQualifiedByPath}
 use Rattle.refs_binding.specs.declared.declaration.Declaration.{Declaration}
 use Rattle.refs_binding.specs.declared.declaration.Declaration.TheVariants.{Predeclared, Declared, Field, Method}
 
@@ -36,20 +36,20 @@ BindsByScope p u (Method s) = ⊥
 --
 --   import "fmt"
 --   func main() { fmt.Println() }
-pub record IsExportedUse (IsPackage : Package → Type 0) (p : Package) (u : ℕ) (path : List ℕ) (d : ℕ) : Type 0 where
-  pub behind : IsBehindPackage p u path
+pub record IsQualifiedUse (IsPackage : Package → Type 0) (p : Package) (u : ℕ) (path : List ℕ) (d : ℕ) : Type 0 where
+  pub behind : IsQualifiedByPath p u path
   pub other : Package
   pub is_package : IsPackage other
   pub of_path : other.path ≡ path
-  pub seen : IsSeen other d
+  pub seen : DoesExport other d
   pub named : other.names d ≡ p.names u
 
 -- `u` is `N` in a qualified identifier `q.N` and bound to the declaration that the package of `q` exports under the name `N`.
-abbrev pub BindsByPackage : (IsPackage : Package → Type 0) → Package → ℕ → Declaration → Type 0
-BindsByPackage IsPackage p u (Predeclared d) = ⊥
-BindsByPackage IsPackage p u (Declared path d) = IsExportedUse IsPackage p u path d
-BindsByPackage IsPackage p u (Field s) = ⊥
-BindsByPackage IsPackage p u (Method s) = ⊥
+abbrev pub BindsQualified : (IsPackage : Package → Type 0) → Package → ℕ → Declaration → Type 0
+BindsQualified IsPackage p u (Predeclared d) = ⊥
+BindsQualified IsPackage p u (Declared path d) = IsQualifiedUse IsPackage p u path d
+BindsQualified IsPackage p u (Field s) = ⊥
+BindsQualified IsPackage p u (Method s) = ⊥
 
 -- As a member
 
@@ -65,7 +65,7 @@ declaration_of (ABrokenMethod s) = Method s
 --   type T struct { X int }
 --   var t = T{X: 1}
 --   var x = t.X
-pub record IsMemberAt (p : Package) (file token : ℕ) (d : Declaration) : Type 0 where
+pub record UsesMemberAt (p : Package) (file token : ℕ) (d : Declaration) : Type 0 where
   pub uses : List MemberUse
   pub judged : AreUsesIn p file uses
   pub found : MemberUse
@@ -77,7 +77,7 @@ pub record IsMemberAt (p : Package) (file token : ℕ) (d : Declaration) : Type 
 
 -- `u` is a selector or a composite literal key that names the member `d`.
 abbrev pub BindsByMember : Package → ℕ → Declaration → Type 0
-BindsByMember p u d = IsMemberAt p (p.layout.place u).file (p.layout.place u).index d
+BindsByMember p u d = UsesMemberAt p (p.layout.place u).file (p.layout.place u).index d
 
 -- As the name by which a member is declared
 
@@ -99,18 +99,18 @@ pub record IsMethodAt (p : Package) (rank : ℕ) (at : Position) : Type 0 where
 pub record IsNameOf (IsAt : (rank : ℕ) → Position → Type 0) (p : Package) (u : ℕ) (rank : ℕ) : Type 0 where
   pub at : Position
   pub is_at : IsAt rank at
-  pub stands : StandsAt p.layout at u
+  pub stands : LiesAt p.layout at u
 
 -- `u` is the declaring identifier of this field or method of the package.
-abbrev pub BindsByName : Package → ℕ → Declaration → Type 0
-BindsByName p u (Predeclared d) = ⊥
-BindsByName p u (Declared path d) = ⊥
-BindsByName p u (Field s) = (s.package ≡ p.path) × IsNameOf (IsFieldAt p) p u s.rank
-BindsByName p u (Method s) = (s.package ≡ p.path) × IsNameOf (IsMethodAt p) p u s.rank
+abbrev pub DeclaresMember : Package → ℕ → Declaration → Type 0
+DeclaresMember p u (Predeclared d) = ⊥
+DeclaresMember p u (Declared path d) = ⊥
+DeclaresMember p u (Field s) = (s.package ≡ p.path) × IsNameOf (IsFieldAt p) p u s.rank
+DeclaresMember p u (Method s) = (s.package ≡ p.path) × IsNameOf (IsMethodAt p) p u s.rank
 
 -- The identifier `u` of the package `p` is bound to the declaration. `IsPackage`: the packages of the workspace, as they are checked.
 pub data Binds (IsPackage : Package → Type 0) (p : Package) (u : ℕ) (d : Declaration) : Type 0 where
   by_scope : BindsByScope p u d → Binds IsPackage p u d
-  by_package : BindsByPackage IsPackage p u d → Binds IsPackage p u d
+  by_package : BindsQualified IsPackage p u d → Binds IsPackage p u d
   by_member : BindsByMember p u d → Binds IsPackage p u d
-  by_name : BindsByName p u d → Binds IsPackage p u d
+  by_name : DeclaresMember p u d → Binds IsPackage p u d

@@ -7,7 +7,7 @@ use Rattle.std.specs.Ordering.{nat_cmp}
 use Rattle.base_files.specs.Packages.{package_paths}
 use Rattle.base_files.specs.Workspace.{Workspace}
 use Rattle.types_declared.specs.Package.{Package}
-use Rattle.types_check.specs.Interfaces.{IsSeen}
+use Rattle.types_check.specs.Exports.{DoesExport}
 use Rattle.workspace_check.specs.Verdicts.{Verdicts}
 use Rattle.refs_binding.specs.Workspaces.{IsPackageAt}
 use Rattle.refs_binding.specs.Packages.{HoldsOfEach}
@@ -19,21 +19,21 @@ number_named numbers name = get_by (λ key. slice_cmp nat_cmp name key.items) nu
 -- The package exports `d` under this name, and `d` is below `n`.
 pub record IsExportedBelow (p : Package) (n : ℕ) (name : List ℕ) (d : ℕ) : Type 0 where
   pub below : d < n
-  pub seen : IsSeen p d
+  pub seen : DoesExport p d
   pub named : p.names d ≡ name
 
 -- `numbers` has for each name a declaration below `n` that the package exports under it, or `None` if there is none.
-abbrev pub AreNumbersBelow : Package → ℕ → (List ℕ → Option ℕ) → Type 0
-AreNumbersBelow p n numbers = (name : List ℕ) → MatchOption (numbers name) ((d : ℕ) → IsExportedBelow p n name d → ⊥) (λ d. IsExportedBelow p n name d)
+abbrev pub ExportNamesBelow : Package → ℕ → (List ℕ → Option ℕ) → Type 0
+ExportNamesBelow p n numbers = (name : List ℕ) → MatchOption (numbers name) ((d : ℕ) → IsExportedBelow p n name d → ⊥) (λ d. IsExportedBelow p n name d)
 
 -- `numbers` has for each name the declaration that the package exports under it, or `None` if there is none.
-abbrev pub AreNumbers : Package → (List ℕ → Option ℕ) → Type 0
-AreNumbers p numbers = (name : List ℕ) → MatchOption (numbers name) ((d : ℕ) → IsSeen p d → p.names d ≡ name → ⊥) (λ d. IsSeen p d × (p.names d ≡ name))
+abbrev pub AreExportsByName : Package → (List ℕ → Option ℕ) → Type 0
+AreExportsByName p numbers = (name : List ℕ) → MatchOption (numbers name) ((d : ℕ) → DoesExport p d → p.names d ≡ name → ⊥) (λ d. DoesExport p d × (p.names d ≡ name))
 
 -- `numbers` has for each name the declaration that the package of the number `n` exports under it.
-abbrev pub AreNumbersAt : Workspace → Verdicts → ℕ → BTreeMap (Vec ℕ) ℕ → Type 0
-AreNumbersAt w known n numbers = (p : Package) × (IsPackageAt w known n p × AreNumbers p (number_named numbers))
+abbrev pub AreExportsByNameAt : Workspace → Verdicts → ℕ → BTreeMap (Vec ℕ) ℕ → Type 0
+AreExportsByNameAt w known n numbers = (p : Package) × (IsPackageAt w known n p × AreExportsByName p (number_named numbers))
 
 -- `list` has for each package, by number, the declarations that it exports, by name.
 abbrev pub AreExports : Workspace → Verdicts → List (BTreeMap (Vec ℕ) ℕ) → Type 0
-AreExports w known list = HoldsOfEach (AreNumbersAt w known) (length (package_paths w)) list
+AreExports w known list = HoldsOfEach (AreExportsByNameAt w known) (length (package_paths w)) list

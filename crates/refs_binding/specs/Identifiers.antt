@@ -8,12 +8,12 @@ use Rattle.go_scope.specs.declared.model.Role.{Role}
 use Rattle.go_scope.specs.declared.model.Role.TheVariants.{NotLexical}
 use Rattle.go_scope.specs.declared.model.Purpose.TheVariants.{ImportPath}
 use Rattle.go_scope.specs.Bindings.{Layout, IsIdentifier}
-use Rattle.law_tokens.specs.Bytes.{TokenHolds}
+use Rattle.law_tokens.specs.Bytes.{TokenCovers}
 use Rattle.types_declared.specs.Package.{Package}
 
 -- `u` is the number of an identifier or of an import's path literal in a file of the package.
-abbrev pub Stands : Package → ℕ → Type 0
-Stands p u = (u < p.size) × IsIdentifier p.layout u
+abbrev pub IsInFiles : Package → ℕ → Type 0
+IsInFiles p u = (u < p.size) × IsIdentifier p.layout u
 
 -- The file of an identifier.
 abbrev pub file_of : Package → ℕ → Option SourceFile
@@ -31,11 +31,11 @@ NameBegins (Some f) token path offset = IsName (slice_get (tokens_in f.cut) toke
 
 -- The identifier `u` begins at this path and byte offset. It is no import's path literal.
 abbrev pub BeginsAt : Package → List ℕ → ℕ → ℕ → Type 0
-BeginsAt p path offset u = Stands p u × NameBegins (file_of p u) (p.layout.place u).index path offset
+BeginsAt p path offset u = IsInFiles p u × NameBegins (file_of p u) (p.layout.place u).index path offset
 
 -- The token of `u`, an identifier or an import's path literal, holds the byte at this path and offset.
 abbrev pub HoldsByte : Package → List ℕ → ℕ → ℕ → Type 0
-HoldsByte p path offset u = Stands p u × TokenHolds (file_of p u) (p.layout.place u).index path offset
+HoldsByte p path offset u = IsInFiles p u × TokenCovers (file_of p u) (p.layout.place u).index path offset
 
 -- The role is that of the path literal of an import that has a name.
 abbrev pub is_named_literal : Role → Bool

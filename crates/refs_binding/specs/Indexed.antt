@@ -6,20 +6,20 @@ use Rattle.types_declared.specs.PackageView.{package_of, IsIndexOf}
 use Rattle.types_info.specs.MemberUses.{AreMemberUses, uses_in}
 use Rattle.refs_binding.specs.declared.indexed.Numbered.{Numbered}
 use Rattle.refs_binding.specs.declared.indexed.Indexed.{Indexed}
-use Rattle.refs_binding.specs.Members.{KnowsOwn}
-use Rattle.refs_binding.specs.Workspaces.{IsSound, known_in, IsPackageAt}
+use Rattle.refs_binding.specs.Members.{AreOwnDefinitions}
+use Rattle.refs_binding.specs.Workspaces.{IsFaultless, known_in, IsPackageAt}
 
 -- The number is that of a package of a workspace without faults.
 pub record IsNumbered (at : Numbered) : Type 0 where
   pub in_range : at.number < length (package_paths at.graph.now)
-  pub sound : IsSound at.graph.now at.found.now
+  pub sound : IsFaultless at.graph.now at.found.now
 
 -- `p` is the package of the number.
-abbrev pub IsUnitAt : Numbered → Package → Type 0
-IsUnitAt at p = IsPackageAt at.graph.now (known_in at.found.now) at.number p
+abbrev pub IsPackageNumbered : Numbered → Package → Type 0
+IsPackageNumbered at p = IsPackageAt at.graph.now (known_in at.found.now) at.number p
 
 -- The index, the type definitions and the uses of members are those of the package.
 pub record IsIndexed (of : Indexed) : Type 0 where
   pub index : IsIndexOf (package_of of.unit) of.index.now
-  pub own : KnowsOwn (package_of of.unit) of.own.now
+  pub own : AreOwnDefinitions (package_of of.unit) of.own.now
   pub members : AreMemberUses (package_of of.unit) (map uses_in of.members.now)

@@ -10,5 +10,5 @@ pub mod Packages
 pub mod Exports
 pub mod Bindings
 pub mod Indexed
-pub mod Standing
-pub mod Called
+pub mod DeclaringPlaces
+pub mod DeclaredNames

@@ -11,7 +11,7 @@ use Rattle.types_expr.specs.Types.{PlainType, same_path}
 use Rattle.types_expr.specs.World.{member_by}
 use Rattle.types_expr.specs.World as plain
 use Rattle.types_expr.specs.WorldView.{definition_or_none, no_definition, imported_at}
-use Rattle.types_declared.specs.declared.unit.Package.{Package as PackageUnit}
+use Rattle.types_declared.specs.declared.index.Package.{Package as PackageUnit}
 use Rattle.types_declared.specs.Package.{Package, PlacedType, package_types, symbol_in, spelled}
 use Rattle.types_declared.specs.Definitions.{IsDefinition}
 use Rattle.refs_binding.specs.declared.declaration.Declaration.{Declaration}
@@ -20,7 +20,7 @@ use Rattle.refs_binding.specs.Binding.{declaration_of}
 use Rattle.refs_binding.specs.Steps.{AtToken}
 
 -- `own` has the package's own type definitions, by rank.
-pub record KnowsOwn (p : Package) (own : List Definition) : Type 0 where
+pub record AreOwnDefinitions (p : Package) (own : List Definition) : Type 0 where
   pub each : (rank : ℕ) (d : PlacedType) → slice_get (package_types p) rank ≡ Some d →
       IsDefinition p rank (definition_or_none (symbol_in p rank) (slice_get own rank))
   pub beyond : (rank : ℕ) → slice_get (package_types p) rank ≡ None →
@@ -41,7 +41,7 @@ definitions_known types = definitions_by types.path.now types.own.now types.impo
 
 -- The type definition of a symbol, as a package sees it.
 abbrev pub definitions_seen : PackageUnit → List Definition → Symbol → plain.Definition
-definitions_seen unit own = definitions_by unit.path.now own unit.interfaces.now.definitions
+definitions_seen unit own = definitions_by unit.path.now own unit.export_table.now.definitions
 
 -- The declaration of the member of the type `t` under the name that the token spells, if there is one.
 abbrev pub member_at : (Symbol → plain.Definition) → Package → (file token : ℕ) → PlainType → Option Declaration

@@ -4,14 +4,14 @@ use Rattle.base_files.specs.Packages.{package_paths}
 use Rattle.base_files.specs.Workspace.{Workspace}
 use Rattle.go_ast.specs.SourceFile.{source_of}
 use Rattle.workspace_graph.specs.Graphs.{OfPackage}
-use Rattle.go_scope.specs.Scoped.{ScopedPackage}
+use Rattle.go_scope.specs.Packages.{ScopedPackage}
 use Rattle.types_info.specs.PackageOf.{package_in}
-use Rattle.types_declared.specs.InterfacesView.{name_in, interface_in}
-use Rattle.types_declared.specs.declared.interfaces.Interfaces.{Interfaces}
+use Rattle.types_declared.specs.ExportTablesView.{name_in, export_data_in}
+use Rattle.types_declared.specs.declared.export_tables.ExportTable.{ExportTable}
 use Rattle.workspace_check.specs.declared.findings.Findings.{Findings}
 use Rattle.workspace_check.specs.Verdicts.{Verdicts, AreSeen}
 use Rattle.refs_binding.specs.declared.packages.Packages.{Packages}
-use Rattle.refs_binding.specs.Workspaces.{IsSound, known_in, IsPackageAt}
+use Rattle.refs_binding.specs.Workspaces.{IsFaultless, known_in, IsPackageAt}
 
 -- The list has `count` elements, and `P` relates each index to its element.
 pub record HoldsOfEach {X : Type 0} (P : ℕ → X → Type 0) (count : ℕ) (list : List X) : Type 0 where
@@ -19,26 +19,26 @@ pub record HoldsOfEach {X : Type 0} (P : ℕ → X → Type 0) (count : ℕ) (li
   pub each : (n : ℕ) (x : X) → slice_get list n ≡ Some x → P n x
 
 -- `seen` is the export data that the package of this number sees of others.
-abbrev pub IsSeenBy : Workspace → Verdicts → ℕ → Interfaces → Type 0
-IsSeenBy w known n seen = OfPackage w n (λ p. AreSeen w known p (name_in seen) (interface_in seen))
+abbrev pub IsSeenBy : Workspace → Verdicts → ℕ → ExportTable → Type 0
+IsSeenBy w known n seen = OfPackage w n (λ p. AreSeen w known p (name_in seen) (export_data_in seen))
 
 -- `all` has for each package, by number, the export data that it sees of others.
-abbrev pub AreAllSeen : Workspace → Verdicts → List Interfaces → Type 0
+abbrev pub AreAllSeen : Workspace → Verdicts → List ExportTable → Type 0
 AreAllSeen w known all = HoldsOfEach (IsSeenBy w known) (length (package_paths w)) all
 
 -- `table` is the table of the package of this number, which sees `seen` of others. In the table an import without a name declares the name
 -- of the imported package.
-abbrev pub IsTableAs : Workspace → Verdicts → ℕ → ScopedPackage → Interfaces → Type 0
+abbrev pub IsTableAs : Workspace → Verdicts → ℕ → ScopedPackage → ExportTable → Type 0
 IsTableAs w known n table seen =
-    OfPackage w n (λ path. IsPackageAt w known n (package_in path (map source_of table.files) table (interface_in seen)))
+    OfPackage w n (λ path. IsPackageAt w known n (package_in path (map source_of table.files) table (export_data_in seen)))
 
 -- `table` is the table of the package of this number, by what each package sees.
-abbrev pub IsTableOf : Workspace → Verdicts → List Interfaces → ℕ → ScopedPackage → Type 0
-IsTableOf w known all n table = (seen : Interfaces) → slice_get all n ≡ Some seen → IsTableAs w known n table seen
+abbrev pub IsTableOf : Workspace → Verdicts → List ExportTable → ℕ → ScopedPackage → Type 0
+IsTableOf w known all n table = (seen : ExportTable) → slice_get all n ≡ Some seen → IsTableAs w known n table seen
 
 -- A workspace without faults, what each of its packages sees of others, and the table of each.
-pub record AreRead (w : Workspace) (found : Findings) (all : List Interfaces) (list : List ScopedPackage) : Type 0 where
-  pub sound : IsSound w found
+pub record AreRead (w : Workspace) (found : Findings) (all : List ExportTable) (list : List ScopedPackage) : Type 0 where
+  pub sound : IsFaultless w found
   pub seen : AreAllSeen w (known_in found) all
   pub tables : HoldsOfEach (IsTableOf w (known_in found) all) (length (package_paths w)) list
 

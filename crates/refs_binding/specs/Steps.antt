@@ -3,25 +3,25 @@ use Rattle.std.specs.Prelude.{ℕ, ◌≡◌, ◌⊎◌, ◌↔◌, List, Contai
 use Rattle.base_files.specs.declared.place.Place.{Place}
 use Rattle.go_scope.specs.declared.model.Position.{Position}
 use Rattle.go_scope.specs.Bindings.{IsBoundTo}
-use Rattle.go_scope.specs.Table.{StandsAt}
+use Rattle.go_scope.specs.Table.{LiesAt}
 use Rattle.types_declared.specs.Package.{Package}
-use Rattle.types_check.specs.Interfaces.{IsSeen}
+use Rattle.types_check.specs.Exports.{DoesExport}
 use Rattle.refs_binding.specs.declared.declaration.Declaration.{Declaration}
 use Rattle.refs_binding.specs.declared.declaration.Declaration.TheVariants.{Predeclared, Declared, Field, Method}
-use Rattle.refs_binding.specs.declared.spot.Spot.{Spot}
-use Rattle.types_info.specs.Qualified.{IsBehindPackage}
-use Rattle.refs_binding.specs.Binding.{BindsByScope, BindsByMember, BindsByName, IsNameOf, IsFieldAt, IsMethodAt}
+use Rattle.refs_binding.specs.declared.place_key.PlaceKey.{PlaceKey}
+use Rattle.types_info.specs.QualifiedIdentifiers.{IsQualifiedByPath}
+use Rattle.refs_binding.specs.Binding.{BindsByScope, BindsByMember, DeclaresMember, IsNameOf, IsFieldAt, IsMethodAt}
 use Rattle.refs_binding.specs.Identifiers.{BeginsAt}
 
--- The place of a `Spot`.
-abbrev pub place_of : Spot → Place
+-- The place of a `PlaceKey`.
+abbrev pub place_of : PlaceKey → Place
 place_of s = record { path = s.path; offset = s.offset }
 
 -- `new` holds the places of `old` and those that satisfy `P`, and no others.
-pub record Adds (old new : List Spot) (P : Place → Type 0) : Type 0 where
-  pub keeps : (s : Spot) → Contains old s → Contains new s
-  pub holds : (s : Spot) → P (place_of s) → Contains new s
-  pub only : (s : Spot) → Contains new s → Contains old s ⊎ P (place_of s)
+pub record AddsMisfits (old new : List PlaceKey) (P : Place → Type 0) : Type 0 where
+  pub keeps : (s : PlaceKey) → Contains old s → Contains new s
+  pub holds : (s : PlaceKey) → P (place_of s) → Contains new s
+  pub only : (s : PlaceKey) → Contains new s → Contains old s ⊎ P (place_of s)
 
 -- An identifier that satisfies `K` begins at the place.
 abbrev pub UsesIn : Package → (ℕ → Type 0) → Place → Type 0
@@ -29,7 +29,7 @@ UsesIn p K place = (u : ℕ) × (BeginsAt p place.path place.offset u × K u)
 
 -- The identifier at this position begins at the place.
 abbrev pub AtToken : Package → Position → Place → Type 0
-AtToken p at = UsesIn p (StandsAt p.layout at)
+AtToken p at = UsesIn p (LiesAt p.layout at)
 
 -- The identifier at the position that was found begins at the place. False if none was found.
 abbrev pub AtFound : Package → Option Position → Place → Type 0
@@ -37,8 +37,8 @@ AtFound p None place = ⊥
 AtFound p (Some at) place = AtToken p at place
 
 -- The declaration that was found satisfies `K`; if none was found, no declaration does.
-abbrev pub IsDeclarationFound : (Declaration → Type 0) → Option Declaration → Type 0
-IsDeclarationFound K found = MatchOption found ((d : Declaration) → K d → ⊥) (λ d. K d)
+abbrev pub IsDeclarationResult : (Declaration → Type 0) → Option Declaration → Type 0
+IsDeclarationResult K found = MatchOption found ((d : Declaration) → K d → ⊥) (λ d. K d)
 
 -- The number of a declaration in the table of a package, or `None` if the package's scopes bind no identifier to it.
 abbrev pub IsNumberOf : Package → Declaration → Option ℕ → Type 0
@@ -47,37 +47,37 @@ IsNumberOf p d number =
 
 -- The name under which the package exports its declaration `d`, or `None` if it does not.
 abbrev pub IsExportedBy : Package → ℕ → Option (List ℕ) → Type 0
-IsExportedBy p d name = MatchOption name (IsSeen p d → ⊥) (λ n. IsSeen p d × (p.names d ≡ n))
+IsExportedBy p d name = MatchOption name (DoesExport p d → ⊥) (λ n. DoesExport p d × (p.names d ≡ n))
 
 -- `u` is `N` in a qualified identifier `q.N`, where `q` names the package of the declaration, which exports it under the name `N`.
-abbrev pub BindsAs : Package → Declaration → Option (List ℕ) → ℕ → Type 0
-BindsAs p d None u = ⊥
-BindsAs p (Predeclared n) (Some name) u = ⊥
-BindsAs p (Declared path n) (Some name) u = IsBehindPackage p u path × (p.names u ≡ name)
-BindsAs p (Field s) (Some name) u = ⊥
-BindsAs p (Method s) (Some name) u = ⊥
+abbrev pub QualifiesAs : Package → Declaration → Option (List ℕ) → ℕ → Type 0
+QualifiesAs p d None u = ⊥
+QualifiesAs p (Predeclared n) (Some name) u = ⊥
+QualifiesAs p (Declared path n) (Some name) u = IsQualifiedByPath p u path × (p.names u ≡ name)
+QualifiesAs p (Field s) (Some name) u = ⊥
+QualifiesAs p (Method s) (Some name) u = ⊥
 
 -- The position of the name of the member of each rank, or `None` if no such member counts.
 abbrev pub ArePlaces : ((rank : ℕ) → Position → Type 0) → List (Option Position) → Type 0
 ArePlaces IsAt places = (rank : ℕ) → MatchOption (slice_index_or places rank None) ((at : Position) → IsAt rank at → ⊥) (λ at. IsAt rank at)
 
 -- `u` is the declaring identifier of a field of the package.
-abbrev pub NamesField : Package → ℕ → Declaration → Type 0
-NamesField p u (Predeclared n) = ⊥
-NamesField p u (Declared path n) = ⊥
-NamesField p u (Field s) = (s.package ≡ p.path) × IsNameOf (IsFieldAt p) p u s.rank
-NamesField p u (Method s) = ⊥
+abbrev pub DeclaresField : Package → ℕ → Declaration → Type 0
+DeclaresField p u (Predeclared n) = ⊥
+DeclaresField p u (Declared path n) = ⊥
+DeclaresField p u (Field s) = (s.package ≡ p.path) × IsNameOf (IsFieldAt p) p u s.rank
+DeclaresField p u (Method s) = ⊥
 
 -- `u` is the declaring identifier of a method of the package.
-abbrev pub NamesMethod : Package → ℕ → Declaration → Type 0
-NamesMethod p u (Predeclared n) = ⊥
-NamesMethod p u (Declared path n) = ⊥
-NamesMethod p u (Field s) = ⊥
-NamesMethod p u (Method s) = (s.package ≡ p.path) × IsNameOf (IsMethodAt p) p u s.rank
+abbrev pub DeclaresMethod : Package → ℕ → Declaration → Type 0
+DeclaresMethod p u (Predeclared n) = ⊥
+DeclaresMethod p u (Declared path n) = ⊥
+DeclaresMethod p u (Field s) = ⊥
+DeclaresMethod p u (Method s) = (s.package ≡ p.path) × IsNameOf (IsMethodAt p) p u s.rank
 
 -- `u` is bound to the declaration `d`, as far as one package shows it. `name` is the name under which `d` is exported, if it is.
 pub data BindsIn (p : Package) (d : Declaration) (name : Option (List ℕ)) (u : ℕ) : Type 0 where
   by_scope : BindsByScope p u d → BindsIn p d name u
-  by_package : BindsAs p d name u → BindsIn p d name u
+  by_package : QualifiesAs p d name u → BindsIn p d name u
   by_member : BindsByMember p u d → BindsIn p d name u
-  by_name : BindsByName p u d → BindsIn p d name u
+  by_name : DeclaresMember p u d → BindsIn p d name u

@@ -28,8 +28,8 @@ abbrev pub IsBoundTo : Workspace → Verdicts → Package → ℕ → Declaratio
 IsBoundTo w known p u d = Binds (IsPackage w known) p u d
 
 -- The identifier that `u` stands for is bound to the declaration. The path literal of an import with a name stands for that name.
-abbrev pub IsNamedTo : Workspace → Verdicts → Package → ℕ → Declaration → Type 0
-IsNamedTo w known p u d = IsBoundTo w known p (named_by p.layout u) d
+abbrev pub BindsThroughLiteral : Workspace → Verdicts → Package → ℕ → Declaration → Type 0
+BindsThroughLiteral w known p u d = IsBoundTo w known p (named_by p.layout u) d
 
 -- An identifier of some package begins at the place and is bound to the declaration. It is no import's path literal.
 pub record IsUseOf (w : Workspace) (known : Verdicts) (d : Declaration) (place : Place) : Type 0 where
@@ -40,17 +40,17 @@ pub record IsUseOf (w : Workspace) (known : Verdicts) (d : Declaration) (place :
   pub bound : IsBoundTo w known used_in user d
 
 -- `p` is the package of the folder of a file, as it is checked.
-pub record IsAskedIn (w : Workspace) (known : Verdicts) (path : List ℕ) (p : Package) : Type 0 where
+pub record IsFilePackage (w : Workspace) (known : Verdicts) (path : List ℕ) (p : Package) : Type 0 where
   pub is_package : IsPackage w known p
   pub of_folder : p.path ≡ folder path
 
 -- The identifier or path literal at the byte is bound to the declaration.
 pub record HasDeclaration (w : Workspace) (known : Verdicts) (path : List ℕ) (offset : ℕ) (d : Declaration) : Type 0 where
   pub asked_in : Package
-  pub is_asked : IsAskedIn w known path asked_in
+  pub is_asked : IsFilePackage w known path asked_in
   pub number : ℕ
   pub at : HoldsByte asked_in path offset number
-  pub bound : IsNamedTo w known asked_in number d
+  pub bound : BindsThroughLiteral w known asked_in number d
 
 -- `places` are the places of all identifiers that are bound to the declaration of the identifier at the byte, sorted and without
 -- duplicates.
@@ -66,17 +66,17 @@ pub record ListsUses (w : Workspace) (path : List ℕ) (offset : ℕ) (places : 
 pub record HasNoIdentifier (w : Workspace) (path : List ℕ) (offset : ℕ) : Type 0 where
   pub known : Verdicts
   pub right : AreVerdicts w known
-  pub none : (p : Package) → IsAskedIn w known path p → (u : ℕ) → HoldsByte p path offset u → ⊥
+  pub none : (p : Package) → IsFilePackage w known path p → (u : ℕ) → HoldsByte p path offset u → ⊥
 
 -- The identifier at the byte is bound to no declaration.
 pub record HasNoDeclaration (w : Workspace) (path : List ℕ) (offset : ℕ) : Type 0 where
   pub known : Verdicts
   pub right : AreVerdicts w known
   pub asked_in : Package
-  pub is_asked : IsAskedIn w known path asked_in
+  pub is_asked : IsFilePackage w known path asked_in
   pub number : ℕ
   pub at : HoldsByte asked_in path offset number
-  pub unbound : (d : Declaration) → IsNamedTo w known asked_in number d → ⊥
+  pub unbound : (d : Declaration) → BindsThroughLiteral w known asked_in number d → ⊥
 
 -- `path` is a legal path of a file, and the workspace has a file there.
 abbrev pub IsFile : Workspace → List ℕ → Type 0
@@ -88,21 +88,21 @@ pub record HasFirstFault (w : Workspace) (place : Place) (kind : FaultKind) : Ty
   pub listed : ListsFaults w (record { place = place; kind = kind } ∷ others)
 
 -- The answer for a byte of a file of a workspace without faults: the uses of the identifier there, or a refusal.
-abbrev pub TellsUsesAt : Workspace → List ℕ → ℕ → Result (List Place) Refusal → Type 0
-TellsUsesAt w path offset (Ok places) = ListsUses w path offset places
-TellsUsesAt w path offset (Err NoIdentifier) = HasNoIdentifier w path offset
-TellsUsesAt w path offset (Err NotRenamable) = HasNoDeclaration w path offset
-TellsUsesAt w path offset (Err Memory) = ⊤
-TellsUsesAt w path offset (Err refusal) = ⊥
+abbrev pub AnswersUsesAt : Workspace → List ℕ → ℕ → Result (List Place) Refusal → Type 0
+AnswersUsesAt w path offset (Ok places) = ListsUses w path offset places
+AnswersUsesAt w path offset (Err NoIdentifier) = HasNoIdentifier w path offset
+AnswersUsesAt w path offset (Err NotRenamable) = HasNoDeclaration w path offset
+AnswersUsesAt w path offset (Err Memory) = ⊤
+AnswersUsesAt w path offset (Err refusal) = ⊥
 
 -- The answer of `uses`: the places of all identifiers bound to the declaration of the identifier at the byte, or a refusal. The refusals
 -- are checked in this order: no legal path, no such file, the first fault, no identifier at the byte, no declaration.
-abbrev pub TellsUses : Workspace → List ℕ → ℕ → Result (List Place) Refusal → Type 0
-TellsUses w path offset (Ok places) = IsFile w path × ListsFaults w [] × ListsUses w path offset places
-TellsUses w path offset (Err BadPath) = ¬ (IsPath 2 path)
-TellsUses w path offset (Err NoFile) = IsPath 2 path × (files.get w path ≡ None)
-TellsUses w path offset (Err (Faulty place kind)) = IsFile w path × HasFirstFault w place kind
-TellsUses w path offset (Err NoIdentifier) = IsFile w path × ListsFaults w [] × HasNoIdentifier w path offset
-TellsUses w path offset (Err NotRenamable) = IsFile w path × ListsFaults w [] × HasNoDeclaration w path offset
-TellsUses w path offset (Err Memory) = ⊤
-TellsUses w path offset (Err refusal) = ⊥
+abbrev pub AnswersUses : Workspace → List ℕ → ℕ → Result (List Place) Refusal → Type 0
+AnswersUses w path offset (Ok places) = IsFile w path × ListsFaults w [] × ListsUses w path offset places
+AnswersUses w path offset (Err BadPath) = ¬ (IsPath 2 path)
+AnswersUses w path offset (Err NoFile) = IsPath 2 path × (files.get w path ≡ None)
+AnswersUses w path offset (Err (Faulty place kind)) = IsFile w path × HasFirstFault w place kind
+AnswersUses w path offset (Err NoIdentifier) = IsFile w path × ListsFaults w [] × HasNoIdentifier w path offset
+AnswersUses w path offset (Err NotRenamable) = IsFile w path × ListsFaults w [] × HasNoDeclaration w path offset
+AnswersUses w path offset (Err Memory) = ⊤
+AnswersUses w path offset (Err refusal) = ⊥

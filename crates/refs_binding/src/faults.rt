@@ -24,7 +24,7 @@ fn refuse_first(alloc: Global, graph: &Graph, found: &Findings) -> Result<(), Re
 }
 
 /// Whether none of the findings has a fault.
-fn are_sound(packages: &[SharedFinding]) -> bool
+fn are_faultless(packages: &[SharedFinding]) -> bool
     ensures { IsTrue result → (n : ℕ) (f : Found) → slice_get packages.now n ≡ Some f → f.faults.items ≡ [] }
 {
     for finding in packages {
@@ -40,7 +40,7 @@ pub fn refuse_faults(alloc: Global, graph: &Graph, found: &Findings) -> Result<(
     requires { AreFindings graph.now found.now }
     ensures { RefusesFaults graph.now found.now result }
 {
-    if are_sound(&found.packages) {
+    if are_faultless(&found.packages) {
         Ok(())
     } else {
         refuse_first(alloc, graph, found)

@@ -5,9 +5,9 @@ ghost use Rattle.go_scanner.specs.CutText.{tokens_in};
 ghost use Rattle.go_ast.specs.SourceFile.{source_of};
 ghost use Rattle.types_declared.specs.PackageView.{package_of, IsIndexOf};
 ghost use Rattle.refs_binding.specs.Identifiers.{IsName, BeginsAt, NameBegins};
-ghost use Rattle.refs_binding.specs.Steps.{Adds, AtToken};
+ghost use Rattle.refs_binding.specs.Steps.{AddsMisfits, AtToken};
 
-use crate::spot::Spot;
+use crate::place_key::PlaceKey;
 use go_ast::FileTree;
 use go_scanner::{Class, Piece};
 use go_scope::model::Position;
@@ -42,20 +42,24 @@ pub fn is_name(file: &FileTree, token: usize) -> bool
 }
 
 /// Adds the place of a token of a file, if the token is an identifier.
-fn add_name(found: &mut Vec<Spot>, file: &FileTree, token: usize) -> Result<(), AllocError>
-    ensures { OnOk result (Adds found.old.items found.new.items (λ place. NameBegins (Some (source_of file.now)) token place.path place.offset)) }
+fn add_name(found: &mut Vec<PlaceKey>, file: &FileTree, token: usize) -> Result<(), AllocError>
+    ensures { OnOk result (AddsMisfits found.old.items found.new.items (λ place. NameBegins (Some (source_of file.now)) token place.path place.offset)) }
 {
     if is_name(file, token) {
         let path = file.path().clone()?;
         let offset = file.offset(token);
-        found.push(Spot { path, offset })?;
+        found.push(PlaceKey { path, offset })?;
     }
     Ok(())
 }
 
 /// Adds the place of the token at a position, if the token is an identifier.
-pub fn add_place(found: &mut Vec<Spot>, files: &[FileTree], at: Position) -> Result<(), AllocError>
-    ensures { OnOk result (Adds found.old.items found.new.items (λ place. NameBegins (slice_get (map source_of files.now) at.file) at.index place.path place.offset)) }
+pub fn add_place(
+    found: &mut Vec<PlaceKey>,
+    files: &[FileTree],
+    at: Position,
+) -> Result<(), AllocError>
+    ensures { OnOk result (AddsMisfits found.old.items found.new.items (λ place. NameBegins (slice_get (map source_of files.now) at.file) at.index place.path place.offset)) }
 {
     if at.file < files.len() {
         add_name(found, &files[at.file], at.index)
@@ -65,9 +69,13 @@ pub fn add_place(found: &mut Vec<Spot>, files: &[FileTree], at: Position) -> Res
 }
 
 /// Adds the place of the identifier `u`. Adds nothing for an import's path literal or a predeclared name.
-pub fn add_identifier(found: &mut Vec<Spot>, unit: Package<'_>, u: usize) -> Result<(), AllocError>
+pub fn add_identifier(
+    found: &mut Vec<PlaceKey>,
+    unit: Package<'_>,
+    u: usize,
+) -> Result<(), AllocError>
     requires { u < length unit.table.now.sites }
-    ensures { OnOk result (Adds found.old.items found.new.items (λ place. BeginsAt (package_of unit.entry) place.path place.offset u)) }
+    ensures { OnOk result (AddsMisfits found.old.items found.new.items (λ place. BeginsAt (package_of unit.entry) place.path place.offset u)) }
 {
     if unit.table.role(u).is_implied() {
         return Ok(());
@@ -77,13 +85,13 @@ pub fn add_identifier(found: &mut Vec<Spot>, unit: Package<'_>, u: usize) -> Res
 
 /// Adds the place of the token at a position, if the package has an identifier there.
 pub fn add_token(
-    found: &mut Vec<Spot>,
+    found: &mut Vec<PlaceKey>,
     unit: Package<'_>,
     index: &Index<'_>,
     at: Position,
 ) -> Result<(), AllocError>
     requires { IsIndexOf (package_of unit) index.now }
-    ensures { OnOk result (Adds found.old.items found.new.items (AtToken (package_of unit.entry) at)) }
+    ensures { OnOk result (AddsMisfits found.old.items found.new.items (AtToken (package_of unit.entry) at)) }
 {
     match index.identifiers.get(at) {
         None => Ok(()),

@@ -2,11 +2,11 @@
 ghost use Rattle.types_declared.specs.PackageView.{package_of, IsIndexOf};
 ghost use Rattle.refs_binding.specs.Packages.{IsTableAs};
 ghost use Rattle.refs_binding.specs.Workspaces.{known_in};
-ghost use Rattle.refs_binding.specs.Indexed.{IsNumbered, IsUnitAt, IsIndexed};
+ghost use Rattle.refs_binding.specs.Indexed.{IsNumbered, IsPackageNumbered, IsIndexed};
 
 use crate::reading::{members_of, own_of, path_of};
 use go_scope::table::ScopeTable;
-use types_declared::{Index, Interfaces, Package};
+use types_declared::{ExportTable, Index, Package};
 use types_expr::found::MemberUse;
 use types_expr::world::Definition;
 use workspace_check::Findings;
@@ -30,10 +30,14 @@ pub struct Indexed<'a> {
 }
 
 /// Returns the package of a number, made of its table and of what it sees of others.
-pub fn unit_of<'a>(at: Numbered<'a>, seen: &'a Interfaces, table: &'a ScopeTable<'a>) -> Package<'a>
+pub fn unit_of<'a>(
+    at: Numbered<'a>,
+    seen: &'a ExportTable,
+    table: &'a ScopeTable<'a>,
+) -> Package<'a>
     requires numbered { IsNumbered at }
     requires table { IsTableAs at.graph.now (known_in at.found.now) at.number table.now seen.now }
-    ensures { IsUnitAt at.entry (package_of result) }
+    ensures { IsPackageNumbered at.entry (package_of result) }
 {
     let path = path_of(at.graph, at.found, at.number);
     let files = table.files();
@@ -41,16 +45,16 @@ pub fn unit_of<'a>(at: Numbered<'a>, seen: &'a Interfaces, table: &'a ScopeTable
         path,
         files,
         table,
-        interfaces: seen,
+        export_table: seen,
     }
 }
 
 /// Returns the package of a number with its index, type definitions and uses of members.
 pub fn known_of<'a>(at: Numbered<'a>, unit: Package<'a>, index: &'a Index<'a>) -> Indexed<'a>
     requires numbered { IsNumbered at }
-    requires unit { IsUnitAt at (package_of unit) }
+    requires unit { IsPackageNumbered at (package_of unit) }
     requires index { IsIndexOf (package_of unit) index.now }
-    ensures unit { IsUnitAt at.entry (package_of result.unit) }
+    ensures unit { IsPackageNumbered at.entry (package_of result.unit) }
     ensures indexed { IsIndexed result }
 {
     let own = own_of(at.graph, at.found, at.number);

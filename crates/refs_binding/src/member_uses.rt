@@ -53,7 +53,7 @@ pub fn member<'w>(
     let types = KnownTypes {
         path: unit.path,
         own,
-        imported: unit.interfaces.definitions(),
+        imported: unit.export_table.definitions(),
     };
     known_member(types, names, before)
 }

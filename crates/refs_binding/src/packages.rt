@@ -3,12 +3,12 @@ ghost use Rattle.std.specs.Prelude.{◌≡◌, ◌<◌, length, IfOk};
 ghost use Rattle.base_files.specs.Packages.{package_paths};
 ghost use Rattle.types_declared.specs.PackageView.{package_of};
 ghost use Rattle.refs_binding.specs.Packages.{AreAllSeen, ArePackages, HoldsOfEach, IsSeenBy, IsTableAs, IsTableOf};
-ghost use Rattle.refs_binding.specs.Workspaces.{IsSound, known_in, IsPackageAt};
+ghost use Rattle.refs_binding.specs.Workspaces.{IsFaultless, known_in, IsPackageAt};
 
 use crate::reading::{laid_table, path_of, trees};
 use go_scope::table::ScopeTable;
 use std::alloc::{AllocError, Global};
-use types_declared::{Interfaces, Package};
+use types_declared::{ExportTable, Package};
 use workspace_check::{Findings, seen};
 use workspace_graph::Graph;
 
@@ -17,13 +17,13 @@ pub fn all_seen(
     alloc: Global,
     graph: &Graph,
     found: &Findings,
-) -> Result<Vec<Interfaces>, AllocError>
-    requires { IsSound graph.now found.now }
+) -> Result<Vec<ExportTable>, AllocError>
+    requires { IsFaultless graph.now found.now }
     ensures { IfOk result (λ all. AreAllSeen graph.now (known_in found.now) all.items) }
 {
     let mut all = Vec::new(alloc);
     for number in 0..graph.len() {
-        all.push(seen(alloc, graph, number, &found.interfaces)?)?;
+        all.push(seen(alloc, graph, number, &found.export_table)?)?;
     }
     Ok(all)
 }
@@ -33,11 +33,11 @@ pub fn read_table<'a>(
     alloc: Global,
     graph: &'a Graph,
     found: &Findings,
-    seen: &'a Interfaces,
+    seen: &'a ExportTable,
     number: usize,
 ) -> Result<ScopeTable<'a>, AllocError>
     requires in_range { number < length (package_paths graph.now) }
-    requires sound { IsSound graph.now found.now }
+    requires sound { IsFaultless graph.now found.now }
     requires seen { IsSeenBy graph.now (known_in found.now) number seen.now }
     ensures { IfOk result (λ table. IsTableAs graph.now (known_in found.now) number table seen.now) }
 {
@@ -50,11 +50,11 @@ fn table_of<'a>(
     alloc: Global,
     graph: &'a Graph,
     found: &Findings,
-    all: &'a [Interfaces],
+    all: &'a [ExportTable],
     number: usize,
 ) -> Result<ScopeTable<'a>, AllocError>
     requires in_range { number < length (package_paths graph.now) }
-    requires sound { IsSound graph.now found.now }
+    requires sound { IsFaultless graph.now found.now }
     requires seen { AreAllSeen graph.now (known_in found.now) all.now }
     ensures { IfOk result (IsTableOf graph.now (known_in found.now) all.now number) }
 {
@@ -66,9 +66,9 @@ fn all_tables<'a>(
     alloc: Global,
     graph: &'a Graph,
     found: &Findings,
-    all: &'a [Interfaces],
+    all: &'a [ExportTable],
 ) -> Result<Vec<ScopeTable<'a>>, AllocError>
-    requires sound { IsSound graph.now found.now }
+    requires sound { IsFaultless graph.now found.now }
     requires seen { AreAllSeen graph.now (known_in found.now) all.now }
     ensures { IfOk result (λ tables. HoldsOfEach (IsTableOf graph.now (known_in found.now) all.now) (length (package_paths graph.now)) tables.items) }
 {
@@ -85,7 +85,7 @@ fn all_tables<'a>(
 pub struct Packages<'a> {
     pub graph: &'a Graph,
     pub found: &'a Findings,
-    pub seen: &'a [Interfaces],
+    pub seen: &'a [ExportTable],
     pub tables: Vec<ScopeTable<'a>>,
 }
 
@@ -95,9 +95,9 @@ impl<'a> Packages<'a> {
         alloc: Global,
         graph: &'a Graph,
         found: &'a Findings,
-        seen: &'a [Interfaces],
+        seen: &'a [ExportTable],
     ) -> Result<Packages<'a>, AllocError>
-        requires sound { IsSound graph.now found.now }
+        requires sound { IsFaultless graph.now found.now }
         requires seen { AreAllSeen graph.now (known_in found.now) seen.now }
         ensures workspace { IfOk result (λ packages. packages.graph.now ≡ graph.now) }
         ensures found { IfOk result (λ packages. packages.found.now ≡ found.now) }
@@ -120,12 +120,12 @@ impl<'a> Packages<'a> {
     {
         let path = path_of(self.graph, self.found, number);
         let table = &self.tables[number];
-        let interfaces = &self.seen[number];
+        let export_table = &self.seen[number];
         Package {
             path,
             files: table.files(),
             table,
-            interfaces,
+            export_table,
         }
     }
 }

@@ -4,21 +4,21 @@ ghost use Rattle.base_files.specs.Packages.{package_paths, package_files};
 ghost use Rattle.workspace_graph.specs.Graphs.{OfPackage};
 ghost use Rattle.workspace_graph.specs.Parsed.{AreParsed};
 ghost use Rattle.go_ast.specs.SourceFile.{source_of};
-ghost use Rattle.go_scope.specs.Scoped.{scoped};
+ghost use Rattle.go_scope.specs.Packages.{scoped};
 ghost use Rattle.types_declared.specs.PackageNames.{IsLaidOver};
 ghost use Rattle.types_expr.specs.WorldView.{definitions_at};
-ghost use Rattle.types_declared.specs.InterfacesView.{name_in};
+ghost use Rattle.types_declared.specs.ExportTablesView.{name_in};
 ghost use Rattle.types_info.specs.MemberUses.{AreMemberUses, uses_in};
 ghost use Rattle.types_declared.specs.Package.{Package as Checked};
-ghost use Rattle.types_info.specs.Qualified.{AreQualified};
-ghost use Rattle.refs_binding.specs.Members.{KnowsOwn, definitions_or_none};
-ghost use Rattle.refs_binding.specs.Workspaces.{IsSound, known_in, IsPackageAt};
+ghost use Rattle.types_info.specs.QualifiedIdentifiers.{AreQualified};
+ghost use Rattle.refs_binding.specs.Members.{AreOwnDefinitions, definitions_or_none};
+ghost use Rattle.refs_binding.specs.Workspaces.{IsFaultless, known_in, IsPackageAt};
 
 use go_ast::FileTree;
 use go_scope::declare::declare;
 use go_scope::table::ScopeTable;
 use std::alloc::{AllocError, Global};
-use types_declared::{Interfaces, lay_names};
+use types_declared::{ExportTable, lay_names};
 use types_expr::found::MemberUse;
 use types_expr::symbol::SharedPath;
 use types_expr::world::{Definition, Definitions};
@@ -29,7 +29,7 @@ use workspace_graph::Graph;
 /// The trees of the files of the package of a number.
 pub fn trees<'a>(graph: &'a Graph, found: &Findings, number: usize) -> &'a [FileTree]
     requires in_range { number < length (package_paths graph.now) }
-    requires sound { IsSound graph.now found.now }
+    requires sound { IsFaultless graph.now found.now }
     ensures { OfPackage graph.now number (λ p. AreParsed (package_files graph.now p) result.now []) }
 {
     &graph.package(number).trees
@@ -38,7 +38,7 @@ pub fn trees<'a>(graph: &'a Graph, found: &Findings, number: usize) -> &'a [File
 /// The path of the package of a number.
 pub fn path_of<'a>(graph: &Graph, found: &'a Findings, number: usize) -> &'a SharedPath
     requires in_range { number < length (package_paths graph.now) }
-    requires sound { IsSound graph.now found.now }
+    requires sound { IsFaultless graph.now found.now }
     ensures { OfPackage graph.now number (λ p. result.now ≡ p) }
 {
     &found.packages[number].get().path
@@ -48,7 +48,7 @@ pub fn path_of<'a>(graph: &Graph, found: &'a Findings, number: usize) -> &'a Sha
 pub fn laid_table<'a>(
     alloc: Global,
     files: &'a [FileTree],
-    seen: &'a Interfaces,
+    seen: &'a ExportTable,
 ) -> Result<ScopeTable<'a>, AllocError>
     ensures { IfOk result (λ laid. IsLaidOver (map source_of files.now) (name_in seen.now) (scoped files.now) laid) }
 {
@@ -69,17 +69,17 @@ fn definitions_of<'a>(all: &'a Definitions, path: &[u8]) -> &'a [Definition]
 /// The type definitions of the package of a number.
 pub fn own_of<'a>(graph: &Graph, found: &'a Findings, number: usize) -> &'a [Definition]
     requires in_range { number < length (package_paths graph.now) }
-    requires sound { IsSound graph.now found.now }
-    ensures { (p : Checked) → IsPackageAt graph.now (known_in found.now) number p → KnowsOwn p result.now }
+    requires sound { IsFaultless graph.now found.now }
+    ensures { (p : Checked) → IsPackageAt graph.now (known_in found.now) number p → AreOwnDefinitions p result.now }
 {
     let path = path_of(graph, found, number).path();
-    definitions_of(found.interfaces.definitions(), path)
+    definitions_of(found.export_table.definitions(), path)
 }
 
 /// The uses of members in the package of a number, in one list for each file.
 pub fn members_of<'a>(graph: &Graph, found: &'a Findings, number: usize) -> &'a [Vec<MemberUse>]
     requires in_range { number < length (package_paths graph.now) }
-    requires sound { IsSound graph.now found.now }
+    requires sound { IsFaultless graph.now found.now }
     ensures { (p : Checked) → IsPackageAt graph.now (known_in found.now) number p → AreMemberUses p (map uses_in result.now) }
 {
     &found.packages[number].get().members
@@ -88,7 +88,7 @@ pub fn members_of<'a>(graph: &Graph, found: &'a Findings, number: usize) -> &'a 
 /// The qualified identifiers of the package of a number, listed by the path of the package that each one names.
 pub fn qualified_of<'a>(graph: &Graph, found: &'a Findings, number: usize) -> &'a [Qualified]
     requires in_range { number < length (package_paths graph.now) }
-    requires sound { IsSound graph.now found.now }
+    requires sound { IsFaultless graph.now found.now }
     ensures { (p : Checked) → IsPackageAt graph.now (known_in found.now) number p → AreQualified p result.now }
 {
     &found.packages[number].get().qualified

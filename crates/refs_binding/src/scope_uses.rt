@@ -3,7 +3,7 @@ ghost use Rattle.std.specs.Prelude.{ℕ, ◌<◌, Some, length, IfOk};
 ghost use Rattle.go_scope.specs.Bindings.{IsBoundTo};
 ghost use Rattle.types_declared.specs.PackageView.{package_of};
 ghost use Rattle.refs_binding.specs.Binding.{BindsByScope};
-ghost use Rattle.refs_binding.specs.Steps.{IsDeclarationFound};
+ghost use Rattle.refs_binding.specs.Steps.{IsDeclarationResult};
 
 use crate::declaration::Declaration;
 use std::alloc::AllocError;
@@ -27,7 +27,7 @@ fn numbered(unit: Package<'_>, d: usize) -> Result<Declaration, AllocError>
 /// Returns the declaration that the scopes of a package bind an identifier to, if there is one.
 pub fn declaration_in_scope(unit: Package<'_>, u: usize) -> Result<Option<Declaration>, AllocError>
     requires { u < length unit.table.now.sites }
-    ensures { IfOk result (IsDeclarationFound (BindsByScope (package_of unit.entry) u)) }
+    ensures { IfOk result (IsDeclarationResult (BindsByScope (package_of unit.entry) u)) }
 {
     match unit.table.binding(u) {
         None => Ok(None),

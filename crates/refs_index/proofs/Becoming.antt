@@ -6,9 +6,9 @@ use Rattle.base_files.specs.declared.place.Place.{Place}
 use Rattle.types_declared.specs.Package.{Package}
 use Rattle.refs_binding.specs.declared.declaration.Declaration.{Declaration}
 use Rattle.refs_binding.specs.declared.declaration.Declaration.TheVariants.{Predeclared}
-use Rattle.refs_binding.specs.Standing.{IsDeclaredAt}
+use Rattle.refs_binding.specs.DeclaringPlaces.{IsDeclaredAt}
 use Rattle.refs_index.specs.Corresponding.{Corresponds, predeclared, stands}
-use Rattle.refs_index.specs.Sound.{SoundView, packages_of}
+use Rattle.refs_index.specs.FaultlessViews.{FaultlessView, view_packages}
 use Rattle.refs_index.specs.Becoming.{IsSamePredeclared, Becomes}
 use Rattle.refs_places.proofs.Declared.{one_place}
 
@@ -26,27 +26,27 @@ module _ (B A : Package → Type 0) (moved : Place → Place) where
   pub same_names : (d e : Declaration) → IsSamePredeclared d e → Corresponds B A moved d e
   same_names d e h = subst (λ x. Corresponds B A moved x e) (sym h.one) (subst (λ y. Corresponds B A moved (Predeclared h.number) y) (sym h.other) predeclared)
 
-module _ (before then : SoundView) (moved : Place → Place) (d e : Declaration) (r : Bool) (same : IsTrue r ↔ IsSamePredeclared d e) where
+module _ (before then : FaultlessView) (moved : Place → Place) (d e : Declaration) (r : Bool) (same : IsTrue r ↔ IsSamePredeclared d e) where
   pub are_same : r ≡ true → IsTrue true ↔ Becomes before then moved d e
-  are_same answer = ((λ t. same_names (packages_of before) (packages_of then) moved d e (same.0 answer)), (λ b. refl))
+  are_same answer = ((λ t. same_names (view_packages before) (view_packages then) moved d e (same.0 answer)), (λ b. refl))
 
-  both_stand : r ≡ false → Becomes before then moved d e → StandBoth (packages_of before) (packages_of then) moved d e
-  both_stand denied b = elim (by_cases (packages_of before) (packages_of then) moved d e b) [
+  both_stand : r ≡ false → Becomes before then moved d e → StandBoth (view_packages before) (view_packages then) moved d e
+  both_stand denied b = elim (by_cases (view_packages before) (view_packages then) moved d e b) [
     | inl names ↦ absurd (false≢true (sym denied ∙ same.1 names))
     | inr places ↦ places
   ]
 
-  pub old_nowhere : r ≡ false → ((place : Place) → IsDeclaredAt (packages_of before) d place → ⊥) → IsTrue false ↔ Becomes before then moved d e
+  pub old_nowhere : r ≡ false → ((place : Place) → IsDeclaredAt (view_packages before) d place → ⊥) → IsTrue false ↔ Becomes before then moved d e
   old_nowhere denied none = ((λ t. absurd (false≢true t)), (λ b. let s = both_stand denied b in absurd (none s.place s.old)))
 
-  pub new_nowhere : r ≡ false → ((place : Place) → IsDeclaredAt (packages_of then) e place → ⊥) → IsTrue false ↔ Becomes before then moved d e
+  pub new_nowhere : r ≡ false → ((place : Place) → IsDeclaredAt (view_packages then) e place → ⊥) → IsTrue false ↔ Becomes before then moved d e
   new_nowhere denied none = ((λ t. absurd (false≢true t)), (λ b. let s = both_stand denied b in absurd (none (moved s.place) s.new)))
 
-  pub by_places : r ≡ false → (old new : Place) → IsDeclaredAt (packages_of before) d old → IsDeclaredAt (packages_of then) e new → (answer : Bool) →
+  pub by_places : r ≡ false → (old new : Place) → IsDeclaredAt (view_packages before) d old → IsDeclaredAt (view_packages then) e new → (answer : Bool) →
       IsTrue answer ↔ (moved old ≡ new) →
       IsTrue answer ↔ Becomes before then moved d e
   by_places denied old new h k answer is = (
-    (λ t. stands old h (subst (IsDeclaredAt (packages_of then) e) (sym (is.0 t)) k)),
+    (λ t. stands old h (subst (IsDeclaredAt (view_packages then) e) (sym (is.0 t)) k)),
     (λ b. let s = both_stand denied b in
         is.1 (ap moved (one_place before.workspace before.known d old s.place h s.old) ∙ one_place then.workspace then.known e (moved s.place) new s.new k)),
   )

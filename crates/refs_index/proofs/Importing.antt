@@ -3,11 +3,11 @@ use Rattle.std.proofs.Common.{ℕ, ◌<◌, List, length, get_or, sym, subst}
 use Rattle.std.proofs.lemmas.List.{get_or_read}
 use Rattle.std.proofs.lemmas.List.Elements.{Contains-get_or}
 use Rattle.base_files.specs.Workspace.{Workspace}
-use Rattle.workspace_graph.specs.Graphs.{HoldsPackages}
+use Rattle.workspace_graph.specs.Graphs.{ListsPackages}
 use Rattle.workspace_graph.specs.Packages.{PackageImports}
 use Rattle.refs_index.specs.KnownExports.{IsImportedAmong}
 
-module _ (w : Workspace) (IsOf : ℕ → Type 0) (path : List ℕ) (importers : List ℕ) (holds : HoldsPackages w (λ q. PackageImports w q path) importers) where
+module _ (w : Workspace) (IsOf : ℕ → Type 0) (path : List ℕ) (importers : List ℕ) (holds : ListsPackages w (λ q. PackageImports w q path) importers) where
   pub imported_by : (k : ℕ) → k < length importers → IsOf (get_or importers k 0) → IsImportedAmong w IsOf path
   imported_by k lt is =
       let n = get_or importers k 0 in

@@ -4,7 +4,7 @@ use Rattle.base_files.specs.declared.place.Place.{Place}
 use Rattle.refs_binding.specs.declared.declaration.Declaration.{Declaration}
 use Rattle.refs_binding.specs.declared.declaration.Declaration.TheVariants.{Predeclared}
 use Rattle.refs_index.specs.Corresponding.{Corresponds}
-use Rattle.refs_index.specs.Sound.{SoundView, packages_of}
+use Rattle.refs_index.specs.FaultlessViews.{FaultlessView, view_packages}
 
 -- `d` and `e` are one predeclared name.
 pub record IsSamePredeclared (d e : Declaration) : Type 0 where
@@ -13,5 +13,5 @@ pub record IsSamePredeclared (d e : Declaration) : Type 0 where
   pub other : e ≡ Predeclared number
 
 -- `d` of the workspace before a change corresponds to `e` of the workspace after it.
-abbrev pub Becomes : SoundView → SoundView → (Place → Place) → Declaration → Declaration → Type 0
-Becomes before then moved d e = Corresponds (packages_of before) (packages_of then) moved d e
+abbrev pub Becomes : FaultlessView → FaultlessView → (Place → Place) → Declaration → Declaration → Type 0
+Becomes before then moved d e = Corresponds (view_packages before) (view_packages then) moved d e

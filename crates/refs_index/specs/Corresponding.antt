@@ -4,7 +4,7 @@ use Rattle.base_files.specs.declared.place.Place.{Place}
 use Rattle.types_declared.specs.Package.{Package}
 use Rattle.refs_binding.specs.declared.declaration.Declaration.{Declaration}
 use Rattle.refs_binding.specs.declared.declaration.Declaration.TheVariants.{Predeclared}
-use Rattle.refs_binding.specs.Standing.{IsDeclaredAt}
+use Rattle.refs_binding.specs.DeclaringPlaces.{IsDeclaredAt}
 
 -- `d` of the packages before a change corresponds to `e` of those after it. Both are one predeclared name, or `e` is declared where the
 -- change moves the place of `d`.

@@ -1,6 +1,6 @@
 -- The definitions of this crate.
 pub mod KnownExports
 pub mod Corresponding
-pub mod Sound
-pub mod Held
+pub mod FaultlessViews
+pub mod WorkspaceIndex
 pub mod Becoming

@@ -7,51 +7,51 @@ ghost use Rattle.base_files.specs.Workspace.{Workspace};
 ghost use Rattle.workspace_graph.specs.Search.{IsMarked};
 ghost use Rattle.types_declared.specs.PackageView.{package_of, IsIndexOf};
 ghost use Rattle.workspace_check.specs.Verdicts.{Verdicts};
-ghost use Rattle.refs_binding.specs.declared.bound_spot.BoundSpot.{BoundSpot as Bound};
+ghost use Rattle.refs_binding.specs.declared.bound_identifier.BoundIdentifier.{BoundIdentifier as Bound};
 ghost use Rattle.refs_binding.specs.declared.declaration.Declaration.{Declaration as Declared};
-ghost use Rattle.refs_binding.specs.Bindings.{AddsAll, IsBoundAt, IsBoundAmong, IsBound, AreBindings, AreBindingsAmong, place_at};
+ghost use Rattle.refs_binding.specs.Bindings.{AddsAll, IsBoundAt, IsBoundAmong, IsBound, AreBindings, AreBindingsAmong, bound_place};
 ghost use Rattle.refs_index.specs.KnownExports.{KnowsExports};
 ghost use Rattle.refs_binding.specs.Packages.{IsTableAs};
 ghost use Rattle.refs_binding.specs.Places.{place_cmp};
 ghost use Rattle.refs_binding.specs.Uses.{IsUseOf};
 ghost use Rattle.refs_binding.specs.Workspaces.{known_in, IsPackageAt};
 
-use crate::bound_unit::bind_unit;
+use crate::bound_unit::bind_package;
 use crate::known_exports::KnownExports;
 use base_files::Place;
 use go_scope::table::ScopeTable;
 use refs_binding::bindings::find;
 use refs_binding::indexed::{Numbered, known_of, unit_of};
-use refs_binding::{BoundSpot, Declaration};
+use refs_binding::{BoundIdentifier, Declaration};
 use std::alloc::{AllocError, Global};
 use std::marker::Model;
-use types_declared::{Index, Interfaces, Package};
+use types_declared::{ExportTable, Index, Package};
 
 /// The bound identifiers of a workspace or of some of its packages, sorted by place, each with its declaration.
 #[derive(Drop)]
 pub struct Bindings {
-    bound: Vec<BoundSpot>,
+    bound: Vec<BoundIdentifier>,
 }
 
 impl Model for Bindings {
     ghost use Rattle.std.specs.Prelude.{List};
     ghost use Rattle.std.specs.List.Sorted.{IsSortedBy};
     ghost use Rattle.std.specs.Ordering.{is_lt};
-    ghost use Rattle.refs_binding.specs.declared.bound_spot.BoundSpot.{BoundSpot};
-    ghost use Rattle.refs_binding.specs.Bindings.{place_at};
+    ghost use Rattle.refs_binding.specs.declared.bound_identifier.BoundIdentifier.{BoundIdentifier};
+    ghost use Rattle.refs_binding.specs.Bindings.{bound_place};
     ghost use Rattle.refs_binding.specs.Places.{place_cmp};
 
-    ghost Value = { List BoundSpot };
+    ghost Value = { List BoundIdentifier };
 
     ghost view = { λ a. a.bound.items };
 
-    ghost invariant = { λ a. IsSortedBy (λ b c. is_lt (place_cmp (place_at b) (place_at c))) a.bound.items };
+    ghost invariant = { λ a. IsSortedBy (λ b c. is_lt (place_cmp (bound_place b) (bound_place c))) a.bound.items };
 }
 
 /// Adds the bound identifiers of the package of a number, by its index, in no order.
 fn bind_indexed(
     alloc: Global,
-    bound: &mut Vec<BoundSpot>,
+    bound: &mut Vec<BoundIdentifier>,
     exports: &KnownExports<'_>,
     unit: Package<'_>,
     index: &Index<'_>,
@@ -68,19 +68,22 @@ fn bind_indexed(
         number,
     };
     let of = known_of(at, unit, index);
-    bind_unit(alloc, bound, exports, &of)
+    bind_package(alloc, bound, exports, &of)
 }
 
 /// Sorts bound identifiers by place. Before, they are in few sorted runs, nearly in order: a stable sort makes use of that.
-fn sort_runs(bound: &mut Vec<BoundSpot>) -> Result<(), AllocError>
-    ensures order { OnOk result (IsSortedBy (λ a b. is_lt (place_cmp (place_at a) (place_at b))) bound.new.items) }
+fn sort_runs(bound: &mut Vec<BoundIdentifier>) -> Result<(), AllocError>
+    ensures order { OnOk result (IsSortedBy (λ a b. is_lt (place_cmp (bound_place a) (bound_place b))) bound.new.items) }
     ensures same { (b : Bound) → Contains bound.new.items b ↔ Contains bound.old.items b }
 {
     bound.sort_by(|a, b| a.spot.cmp(&b.spot))
 }
 
 /// Sorts the bound identifiers of one package by place and adds them, so that each package adds about one sorted run.
-fn add_in_order(bound: &mut Vec<BoundSpot>, own: Vec<BoundSpot>) -> Result<(), AllocError>
+fn add_in_order(
+    bound: &mut Vec<BoundIdentifier>,
+    own: Vec<BoundIdentifier>,
+) -> Result<(), AllocError>
     ensures { OnOk result (AddsAll bound.old.items bound.new.items (Contains own.items)) }
 {
     let mut own = own;
@@ -92,7 +95,7 @@ fn add_in_order(bound: &mut Vec<BoundSpot>, own: Vec<BoundSpot>) -> Result<(), A
 /// Adds the bound identifiers of the package of a number, by its index, sorted by place.
 pub fn bind_numbered(
     alloc: Global,
-    bound: &mut Vec<BoundSpot>,
+    bound: &mut Vec<BoundIdentifier>,
     exports: &KnownExports<'_>,
     unit: Package<'_>,
     index: &Index<'_>,
@@ -111,9 +114,9 @@ pub fn bind_numbered(
 /// Adds the bound identifiers of the package of a number, by its table and by what it sees of others.
 pub fn bind_laid(
     alloc: Global,
-    bound: &mut Vec<BoundSpot>,
+    bound: &mut Vec<BoundIdentifier>,
     exports: &KnownExports<'_>,
-    seen: &Interfaces,
+    seen: &ExportTable,
     table: &ScopeTable<'_>,
     number: usize,
 ) -> Result<(), AllocError>
@@ -134,7 +137,7 @@ pub fn bind_laid(
 
 impl Bindings {
     /// Sorts the bound identifiers of a workspace by place.
-    pub fn of(bound: Vec<BoundSpot>) -> Result<Bindings, AllocError>
+    pub fn of(bound: Vec<BoundIdentifier>) -> Result<Bindings, AllocError>
         ensures { IfOk result (λ all. (w : Workspace) → (known : Verdicts) → AddsAll [] bound.items (IsBound w known) → AreBindings w known all) }
     {
         let mut bound = bound;
@@ -143,7 +146,7 @@ impl Bindings {
     }
 
     /// Sorts the bound identifiers of marked packages by place.
-    pub fn among(bound: Vec<BoundSpot>) -> Result<Bindings, AllocError>
+    pub fn among(bound: Vec<BoundIdentifier>) -> Result<Bindings, AllocError>
         ensures { IfOk result (λ all. (w : Workspace) → (known : Verdicts) → (marks : List Bool) → AddsAll [] bound.items (IsBoundAmong w known (IsMarked marks)) → AreBindingsAmong w known (IsMarked marks) all) }
     {
         let mut bound = bound;
@@ -152,7 +155,7 @@ impl Bindings {
     }
 
     /// The bound identifiers, sorted by place.
-    pub fn as_slice(&self) -> &[BoundSpot]
+    pub fn as_slice(&self) -> &[BoundIdentifier]
         ensures { result.now ≡ self.now }
     {
         self.bound.as_slice()

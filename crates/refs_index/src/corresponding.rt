@@ -2,11 +2,11 @@
 ghost use Rattle.std.specs.Prelude.{◌≡◌, ◌↔◌, IsTrue, IfOk};
 ghost use Rattle.base_edits.specs.Moved.{moved};
 ghost use Rattle.refs_binding.specs.declared.declaration.Declaration.TheVariants.{Declared, Field, Method};
-ghost use Rattle.refs_index.specs.Held.{IsHeld};
-ghost use Rattle.refs_index.specs.Sound.{view_in};
+ghost use Rattle.refs_index.specs.WorkspaceIndex.{HasWorkspaceIndex};
+ghost use Rattle.refs_index.specs.FaultlessViews.{view_in};
 ghost use Rattle.refs_index.specs.Becoming.{IsSamePredeclared, Becomes};
 
-use crate::held::SoundWorkspace;
+use crate::faultless_workspace::FaultlessWorkspace;
 use base_edits::Moves;
 use base_files::Place;
 use refs_binding::Declaration;
@@ -80,13 +80,13 @@ pub fn goes_to(moves: &Moves<'_>, old: &Place, new: &Place) -> Result<bool, Allo
 /// change moves the place of `d`.
 pub fn corresponds(
     moves: &Moves<'_>,
-    before: &SoundWorkspace<'_>,
-    then: &SoundWorkspace<'_>,
+    before: &FaultlessWorkspace<'_>,
+    then: &FaultlessWorkspace<'_>,
     d: &Declaration,
     e: &Declaration,
 ) -> Result<bool, AllocError>
-    requires before { IsHeld before.now }
-    requires then { IsHeld then.now }
+    requires before { HasWorkspaceIndex before.now }
+    requires then { HasWorkspaceIndex then.now }
     ensures { IfOk result (λ yes. IsTrue yes ↔ Becomes (view_in before.now) (view_in then.now) (moved moves.now) d.now e.now) }
 {
     if are_predeclared(d, e) {

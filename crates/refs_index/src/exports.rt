@@ -1,10 +1,10 @@
 //! Finds the declarations that packages export, by package number and by name.
 ghost use Rattle.std.specs.Prelude.{◌≡◌, ◌<◌, length, IfOk};
 ghost use Rattle.base_files.specs.Packages.{package_paths};
-ghost use Rattle.refs_binding.specs.Exports.{number_named, AreNumbersAt, AreExports};
+ghost use Rattle.refs_binding.specs.Exports.{number_named, AreExportsByNameAt, AreExports};
 ghost use Rattle.refs_binding.specs.Packages.{ArePackages};
-ghost use Rattle.refs_binding.specs.Steps.{IsDeclarationFound};
-ghost use Rattle.refs_binding.specs.Workspaces.{IsSound, known_in, ExportsAs};
+ghost use Rattle.refs_binding.specs.Steps.{IsDeclarationResult};
+ghost use Rattle.refs_binding.specs.Workspaces.{IsFaultless, known_in, ExportsAs};
 
 use refs_binding::exports::{numbers, numbers_by};
 use refs_binding::{Declaration, Packages, laid_table, path_of, trees};
@@ -21,7 +21,7 @@ pub fn numbers_of(
 ) -> Result<BTreeMap<Vec<u8>, usize>, AllocError>
     requires in_range { number < length (package_paths packages.now.graph.now) }
     requires read { ArePackages packages.now }
-    ensures { IfOk result (AreNumbersAt packages.now.graph.now (known_in packages.now.found.now) number) }
+    ensures { IfOk result (AreExportsByNameAt packages.now.graph.now (known_in packages.now.found.now) number) }
 {
     let unit = packages.unit(number);
     numbers(alloc, unit)
@@ -35,11 +35,11 @@ pub fn numbers_at(
     number: usize,
 ) -> Result<BTreeMap<Vec<u8>, usize>, AllocError>
     requires in_range { number < length (package_paths graph.now) }
-    requires sound { IsSound graph.now found.now }
-    ensures { IfOk result (AreNumbersAt graph.now (known_in found.now) number) }
+    requires sound { IsFaultless graph.now found.now }
+    ensures { IfOk result (AreExportsByNameAt graph.now (known_in found.now) number) }
 {
     let files = trees(graph, found, number);
-    let seen = seen(alloc, graph, number, &found.interfaces)?;
+    let seen = seen(alloc, graph, number, &found.export_table)?;
     let table = laid_table(alloc, files, &seen)?;
     let path = path_of(graph, found, number);
     numbers_by(alloc, path, files, &table, &seen)
@@ -75,9 +75,9 @@ pub fn exported(
     path: &[u8],
     name: &[u8],
 ) -> Result<Option<Declaration>, AllocError>
-    requires sound { IsSound graph.now found.now }
+    requires sound { IsFaultless graph.now found.now }
     requires exports { AreExports graph.now (known_in found.now) exports.now }
-    ensures { IfOk result (IsDeclarationFound (ExportsAs graph.now (known_in found.now) path.now name.now)) }
+    ensures { IfOk result (IsDeclarationResult (ExportsAs graph.now (known_in found.now) path.now name.now)) }
 {
     match graph.number_of(path) {
         None => Ok(None),

@@ -3,11 +3,11 @@ ghost use Rattle.std.specs.Prelude.{◌<◌, ◌↔◌, length, IsTrue, IfOk, If
 ghost use Rattle.base_files.specs.Packages.{package_paths};
 ghost use Rattle.workspace_graph.specs.Graphs.{OfPackage};
 ghost use Rattle.workspace_graph.specs.Search.{IsMarked};
-ghost use Rattle.refs_binding.specs.Exports.{AreNumbersAt};
+ghost use Rattle.refs_binding.specs.Exports.{AreExportsByNameAt};
 ghost use Rattle.refs_index.specs.KnownExports.{AreSomeExports, IsImportedAmong, KnowsExports};
 ghost use Rattle.refs_binding.specs.Packages.{ArePackages};
-ghost use Rattle.refs_binding.specs.Steps.{IsDeclarationFound};
-ghost use Rattle.refs_binding.specs.Workspaces.{IsSound, known_in, ExportsAs, IsExportedNumber};
+ghost use Rattle.refs_binding.specs.Steps.{IsDeclarationResult};
+ghost use Rattle.refs_binding.specs.Workspaces.{IsFaultless, known_in, ExportsAs, IsExportedNumber};
 
 use crate::exports::{named, numbers_at, numbers_of};
 use refs_binding::{Declaration, Packages, path_of};
@@ -38,8 +38,8 @@ fn imported_numbers(
     number: usize,
 ) -> Result<Option<BTreeMap<Vec<u8>, usize>>, AllocError>
     requires in_range { number < length (package_paths graph.now) }
-    requires sound { IsSound graph.now found.now }
-    ensures { IfOk result (λ numbers. IfSome numbers (AreNumbersAt graph.now (known_in found.now) number)) }
+    requires sound { IsFaultless graph.now found.now }
+    ensures { IfOk result (λ numbers. IfSome numbers (AreExportsByNameAt graph.now (known_in found.now) number)) }
 {
     if is_imported(graph, marks, number) {
         Ok(Some(numbers_at(alloc, graph, found, number)?))
@@ -55,7 +55,7 @@ pub fn imported_exports(
     found: &Findings,
     marks: &[bool],
 ) -> Result<Vec<Option<BTreeMap<Vec<u8>, usize>>>, AllocError>
-    requires { IsSound graph.now found.now }
+    requires { IsFaultless graph.now found.now }
     ensures { IfOk result (λ all. AreSomeExports graph.now (known_in found.now) all.items) }
 {
     let mut all = Vec::new(alloc);
@@ -112,7 +112,7 @@ impl KnownExports<'_> {
         name: &[u8],
     ) -> Result<Option<Declaration>, AllocError>
         requires { KnowsExports self.now }
-        ensures { IfOk result (IsDeclarationFound (ExportsAs self.now.graph.now (known_in self.now.found.now) path.now name.now)) }
+        ensures { IfOk result (IsDeclarationResult (ExportsAs self.now.graph.now (known_in self.now.found.now) path.now name.now)) }
     {
         match self.graph.number_of(path) {
             None => Ok(None),

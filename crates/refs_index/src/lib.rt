@@ -3,16 +3,16 @@
 #![tactic(auto)]
 
 mod bindings;
-mod bound_spot;
+mod bound_identifier;
 mod bound_unit;
 mod corresponding;
 pub mod exports;
-mod held;
-mod holding;
+mod faultless_workspace;
+mod indexing;
 mod known_exports;
-mod sound_workspace;
+mod workspace_queries;
 
 pub use bindings::{Bindings, bind_laid, bind_numbered};
 pub use corresponding::{are_predeclared, corresponds, goes_to, is_same};
-pub use held::SoundWorkspace;
+pub use faultless_workspace::FaultlessWorkspace;
 pub use known_exports::{KnownExports, all_exports, imported_exports};

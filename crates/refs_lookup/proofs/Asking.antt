@@ -12,26 +12,26 @@ use Rattle.base_files.specs.declared.refusal.Refusal.TheVariants as refusal
 use Rattle.types_declared.specs.Package.{Package}
 use Rattle.workspace_check.specs.Verdicts.{Verdicts, AreVerdicts}
 use Rattle.refs_binding.specs.declared.declaration.Declaration.{Declaration}
-use Rattle.refs_binding.specs.declared.spot.Spot.{Spot}
+use Rattle.refs_binding.specs.declared.place_key.PlaceKey.{PlaceKey}
 use Rattle.refs_binding.specs.Identifiers.{HoldsByte}
 use Rattle.refs_binding.specs.Places.{place_cmp}
-use Rattle.refs_binding.specs.Steps.{Adds, place_of}
-use Rattle.refs_binding.specs.Uses.{IsAskedIn, IsUseOf, ListsUses, TellsUsesAt, HasDeclaration}
+use Rattle.refs_binding.specs.Steps.{AddsMisfits, place_of}
+use Rattle.refs_binding.specs.Uses.{IsFilePackage, IsUseOf, ListsUses, AnswersUsesAt, HasDeclaration}
 use Rattle.refs_binding.specs.Workspaces.{IsPackageAt, FindsDeclaration, FindsDeclarationIn, FindsDeclarationAt, ListsFound}
 use Rattle.refs_binding.proofs.Units.{one_package}
 
 -- the package of a folder is asked
 pub asked : (w : Workspace) (known : Verdicts) (n : ℕ) (p : Package) (path : List ℕ) → IsPackageAt w known n p →
-    slice_get (package_paths w) n ≡ Some (folder path) → IsAskedIn w known path p
+    slice_get (package_paths w) n ≡ Some (folder path) → IsFilePackage w known path p
 asked w known n p path is at = record { is_package = is.is_package; of_folder = same_Some p.path (folder path) (sym is.has_number ∙ at) }
 
 -- a folder that is that of no package
 pub no_folder : (w : Workspace) (known : Verdicts) (path : List ℕ) → (Contains (package_paths w) (folder path) → ⊥) → (p : Package) →
-    IsAskedIn w known path p → ⊥
+    IsFilePackage w known path p → ⊥
 no_folder w known path none p is = none (subst (Contains (package_paths w)) is.of_folder is.is_package.of_workspace)
 
-module _ (w : Workspace) (known : Verdicts) (path : List ℕ) (offset : ℕ) (p : Package) (is : IsAskedIn w known path p) where
-  one_asked : (q : Package) → IsAskedIn w known path q → q ≡ p
+module _ (w : Workspace) (known : Verdicts) (path : List ℕ) (offset : ℕ) (p : Package) (is : IsFilePackage w known path p) where
+  one_asked : (q : Package) → IsFilePackage w known path q → q ≡ p
   one_asked q h = one_package w known q p h.is_package is.is_package (h.of_folder ∙ sym is.of_folder)
 
   pub refused : (r : Refusal) → FindsDeclarationIn w known p path offset (Err r) → FindsDeclaration w known path offset (Err r)
@@ -131,7 +131,7 @@ module _ (w : Workspace) (known : Verdicts) (n : ℕ) (path : List ℕ) (offset 
 -- why there are no uses
 
 pub tells_refusal : (w : Workspace) (known : Verdicts) → AreVerdicts w known → (path : List ℕ) (offset : ℕ) (r : Refusal) →
-    FindsDeclaration w known path offset (Err r) → TellsUsesAt w path offset (Err r)
+    FindsDeclaration w known path offset (Err r) → AnswersUsesAt w path offset (Err r)
 tells_refusal w known right path offset refusal.Memory h = h
 tells_refusal w known right path offset refusal.BadCommand h = absurd h
 tells_refusal w known right path offset refusal.BadPath h = absurd h
@@ -166,13 +166,13 @@ pub lists_uses : (w : Workspace) (known : Verdicts) → AreVerdicts w known → 
 lists_uses w known right path offset d places is h =
     record { known = known; right = right; declaration = d; is_asked = is; in_order = h.in_order; each = h.each }
 
-abbrev spot_at : Place → Spot
+abbrev spot_at : Place → PlaceKey
 spot_at place = record { path = place.path; offset = place.offset }
 
 -- the list of the places that were found
-pub lists_found : (w : Workspace) (known : Verdicts) (d : Declaration) (places : List Place) (old found : List Spot) → old ≡ [] →
+pub lists_found : (w : Workspace) (known : Verdicts) (d : Declaration) (places : List Place) (old found : List PlaceKey) → old ≡ [] →
     IsStrictlySortedBy place_cmp places →
-    ((s : Spot) → Contains places (place_of s) ↔ Contains found s) → Adds old found (IsUseOf w known d) → ListsFound w known d places
+    ((s : PlaceKey) → Contains places (place_of s) ↔ Contains found s) → AddsMisfits old found (IsUseOf w known d) → ListsFound w known d places
 lists_found w known d places old found e up held added = record {
   in_order = up;
   each = λ place. (
@@ -188,7 +188,7 @@ lists_found w known d places old found e up held added = record {
 }
 
 -- The uses of the identifier at a byte, from the package of its file's folder.
-pub tells_uses : (w : Workspace) (known : Verdicts) → AreVerdicts w known → (path : List ℕ) (offset : ℕ) (p : Package) → IsAskedIn w known path p →
+pub tells_uses : (w : Workspace) (known : Verdicts) → AreVerdicts w known → (path : List ℕ) (offset : ℕ) (p : Package) → IsFilePackage w known path p →
     (d : Declaration) (places : List Place) → FindsDeclarationIn w known p path offset (Ok d) → ListsFound w known d places →
     ListsUses w path offset places
 tells_uses w known right path offset p is d places h = lists_uses w known right path offset d places (found w known path offset p is (Ok d) h)

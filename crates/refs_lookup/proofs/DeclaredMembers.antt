@@ -4,10 +4,10 @@ use Rattle.std.specs.Prelude.{Some, slice_get}
 use Rattle.base_files.specs.Workspace.{Workspace}
 use Rattle.base_files.specs.declared.fault_kind.FaultKind.TheVariants as kind
 use Rattle.types_declared.specs.declared.fault.Fault.{Fault}
-use Rattle.go_scope.specs.Table.{StandsAt}
+use Rattle.go_scope.specs.Table.{LiesAt}
 use Rattle.types_declared.specs.Definitions.{PlacedField, package_fields, IsFieldOf, IsMethodOf}
 use Rattle.types_declared.specs.Package.{Package, PlacedFunction, function_place, symbol_in, spelled}
-use Rattle.types_members.specs.Members.{IsMemberFault}
+use Rattle.types_members.specs.MemberFaults.{IsMemberFault}
 use Rattle.workspace_check.specs.FaultLists.{ListsFaults}
 use Rattle.workspace_check.specs.Verdicts.{Verdicts, AreVerdicts}
 use Rattle.refs_binding.specs.declared.declaration.Declaration.{Declaration}
@@ -21,7 +21,7 @@ module _ (w : Workspace) (sound : ListsFaults w []) (known : Verdicts) (right : 
   no_member_fault f h =
       no_fault_later w sound known right p is f (inr ((λ g inner. no_fault_later w sound known right p is g (inl inner)), inl h))
 
-  pub field_bound : (rank : ℕ) (f : PlacedField) → slice_get (package_fields p) rank ≡ Some f → (u : ℕ) → StandsAt p.layout (field_place f) u →
+  pub field_bound : (rank : ℕ) (f : PlacedField) → slice_get (package_fields p) rank ≡ Some f → (u : ℕ) → LiesAt p.layout (field_place f) u →
       ((d : Declaration) → IsBoundTo w known p u d → ⊥) → ⊥
   field_bound rank f has u stands unbound =
       let own : IsFieldOf p f.definition (spelled p f.file f.name) rank f = record { has_rank = has; of_struct = refl; named = refl } in
@@ -48,7 +48,7 @@ module _ (w : Workspace) (sound : ListsFaults w []) (known : Verdicts) (right : 
       }))
 
   pub method_bound : (definition rank : ℕ) (name : List ℕ) (f : PlacedFunction) → IsMethodOf p definition name rank f → (u : ℕ) →
-      StandsAt p.layout (function_place f) u → ((d : Declaration) → IsBoundTo w known p u d → ⊥) → ⊥
+      LiesAt p.layout (function_place f) u → ((d : Declaration) → IsBoundTo w known p u d → ⊥) → ⊥
   method_bound definition rank name f own u stands unbound =
       no_member_fault (record { file = f.file; token = f.function.name; kind = kind.Repeated })
       (inr (inl (record {

@@ -13,9 +13,9 @@ use Rattle.go_ast.specs.Kinds.{kinds_of}
 use Rattle.go_ast.specs.SourceFile.{FileParts}
 use Rattle.go_scope.specs.declared.model.Position.{Position}
 use Rattle.go_scope.specs.Bindings.{Layout, IsIdentifier}
-use Rattle.go_scope.specs.Parsed.{spelled_file}
-use Rattle.go_scope.specs.Scoped.{scoped, layout_in}
-use Rattle.go_scope.specs.Table.{StandsAt}
+use Rattle.go_scope.specs.SpelledFiles.{spelled_file}
+use Rattle.go_scope.specs.Packages.{scoped, layout_in}
+use Rattle.go_scope.specs.Table.{LiesAt}
 use Rattle.types_declared.specs.Laid.{is_exported}
 use Rattle.types_resolve.specs.Scoping.{IsQualified, qualified_fault}
 use Rattle.law_tokens.specs.Order.{ComesBefore, StandInOrder}
@@ -25,17 +25,17 @@ use Rattle.law_tokens.proofs.HeldBytes.{numbered_files}
 use Rattle.law_tokens.proofs.Ordered.{package_ordered, named_ordered}
 use Rattle.law_tokens.proofs.OwnPaths.{package_sources}
 use Rattle.law_tokens.proofs.Roles.{of_kind}
-use Rattle.types_declared.specs.Package.{Package, Interface, Export, laid_of}
+use Rattle.types_declared.specs.Package.{Package, ExportData, Export, laid_of}
 use Rattle.types_check.specs.Check.{exports_in}
-use Rattle.types_check.specs.Interfaces.{IsSeen, IsExported}
+use Rattle.types_check.specs.Exports.{DoesExport, IsExported}
 use Rattle.workspace_check.specs.FaultLists.{ListsFaults}
 use Rattle.workspace_check.specs.Verdicts.{Verdicts, AreVerdicts, IsSeenAs, seen, unseen, IsPackageIn}
 use Rattle.workspace_check.proofs.Closed.{to_package}
 use Rattle.workspace_check.proofs.OneList.{checked_package}
 use Rattle.refs_binding.specs.declared.declaration.Declaration.TheVariants.{Declared}
-use Rattle.types_info.specs.Qualified.{IsBehindPackage}
-use Rattle.refs_binding.specs.Binding.{by_package, IsExportedUse}
-use Rattle.refs_binding.specs.Identifiers.{Stands}
+use Rattle.types_info.specs.QualifiedIdentifiers.{IsQualifiedByPath}
+use Rattle.refs_binding.specs.Binding.{by_package, IsQualifiedUse}
+use Rattle.refs_binding.specs.Identifiers.{IsInFiles}
 use Rattle.refs_binding.specs.Uses.{IsPackage, IsBoundTo}
 use Rattle.refs_lookup.proofs.OnePlace.{names_of, laid_of as table_of, same_layout, same_size}
 use Rattle.refs_lookup.proofs.Faultless.{no_fault_later}
@@ -55,7 +55,7 @@ module _ (w : Workspace) (known : Verdicts) (path : List ℕ) (p : Package) (h :
       (subst (λ n. StandInOrder (layout_in table) n) (sym (same_size w known path p h)) laid)
 
   -- no identifier is a dot
-  no_dot_at : (at : Position) (x : ℕ) → x < p.size → StandsAt p.layout at x → (t : FileParts) → slice_get h.files at.file ≡ Some t →
+  no_dot_at : (at : Position) (x : ℕ) → x < p.size → LiesAt p.layout at x → (t : FileParts) → slice_get h.files at.file ≡ Some t →
       IsOfKind t.cut at.index kind.Dot → ⊥
   no_dot_at at x lt stands t is dot =
       let k = marked_kind at.index (kinds_of t.cut) (marks_at w known path p h at x lt stands t is) in
@@ -66,8 +66,8 @@ module _ (w : Workspace) (known : Verdicts) (path : List ℕ) (p : Package) (h :
 
 -- of identifiers round a dot the one has the next number
 module _ (w : Workspace) (known : Verdicts) (path : List ℕ) (p : Package) (h : IsPackageIn w known path p) (u v before : ℕ)
-    (stands : Stands p u) (lt : v < p.size) (at : (p.layout.place u).index ≡ suc (suc before))
-    (there : StandsAt p.layout (record { file = (p.layout.place u).file; index = before }) v) (t : FileParts)
+    (stands : IsInFiles p u) (lt : v < p.size) (at : (p.layout.place u).index ≡ suc (suc before))
+    (there : LiesAt p.layout (record { file = (p.layout.place u).file; index = before }) v) (t : FileParts)
     (is : slice_get h.files (p.layout.place u).file ≡ Some t) (dot : IsOfKind t.cut (suc before) kind.Dot) where
   not_before : ComesBefore (p.layout.place u) (p.layout.place v) → ⊥
   not_before c =
@@ -115,7 +115,7 @@ module _ (w : Workspace) (known : Verdicts) (path : List ℕ) (p : Package) (h :
   ]
 
 module _ (w : Workspace) (known : Verdicts) (path : List ℕ) (p : Package) (h : IsPackageIn w known path p) where
-  qualified : (u : ℕ) → Stands p u → (q : List ℕ) (b : IsBehindPackage p u q) → IsQualified (laid_of p) b.named.binds.identifier u b.named.import
+  qualified : (u : ℕ) → IsInFiles p u → (q : List ℕ) (b : IsQualifiedByPath p u q) → IsQualified (laid_of p) b.named.binds.identifier u b.named.import
   qualified u stands q b =
       let t = file_at w known path p h (p.layout.place u) u stands.0 (stands.1, refl, refl) in
       let dot = (told_at w known path p h (p.layout.place u) u stands.0 (stands.1, refl, refl) t.0 t.1).selected.0 b.selected in
@@ -142,7 +142,7 @@ no_such false y e = (fault.Unexported, refl)
 no_such true true e = absurd (true≢false e)
 no_such true false e = (fault.Undeclared, refl)
 
-export_found : (c : Package) (name : List ℕ) (o : Option Export) → IsExported c name o → is_some o ≡ true → (d : ℕ) × (IsSeen c d × (c.names d ≡ name))
+export_found : (c : Package) (name : List ℕ) (o : Option Export) → IsExported c name o → is_some o ≡ true → (d : ℕ) × (DoesExport c d × (c.names d ≡ name))
 export_found c name None h e = absurd (true≢false (sym e))
 export_found c name (Some x) h e = (h.declaration, (h.by_declaration.seen, h.named))
 
@@ -152,16 +152,16 @@ record Exporter (w : Workspace) (known : Verdicts) (q name : List ℕ) : Type 0 
   is_package : IsPackage w known other
   of_path : other.path ≡ q
   declaration : ℕ
-  is_seen : IsSeen other declaration
+  is_seen : DoesExport other declaration
   named : other.names declaration ≡ name
 
-exporting : (w : Workspace) (sound : ListsFaults w []) (r q name : List ℕ) (n : Option (List ℕ)) (i : Interface) → IsSeenAs w sound.known r q n i →
+exporting : (w : Workspace) (sound : ListsFaults w []) (r q name : List ℕ) (n : Option (List ℕ)) (i : ExportData) → IsSeenAs w sound.known r q n i →
     is_some (i.exported name) ≡ true → Exporter w sound.known q name
 exporting w sound r q name _ _ (seen on sees) e =
     let has = to_package w r q on.imported in
     let x = checked_package w sound q has in
     let path : x.checked.path ≡ q = ap (λ (c : Package). c.path) x.is_package.is_package.is_package in
-    let d = export_found x.checked name ((sound.known q).interface.exported name) (x.is_interface.exported name) e in
+    let d = export_found x.checked name ((sound.known q).export_data.exported name) (x.is_export_data.exported name) e in
     record {
       other = x.checked;
       is_package = record {
@@ -176,7 +176,7 @@ exporting w sound r q name _ _ (seen on sees) e =
 exporting w sound r q name _ _ (unseen none) e = absurd (true≢false (sym e))
 
 module _ (w : Workspace) (sound : ListsFaults w []) (known : Verdicts) (right : AreVerdicts w known) (p : Package) (is : IsPackage w known p) (u : ℕ)
-    (stands : Stands p u) (q : List ℕ) (b : IsBehindPackage p u q) where
+    (stands : IsInFiles p u) (q : List ℕ) (b : IsQualifiedByPath p u q) where
   no_fault_at : (k : FaultKind) → qualified_fault (is_exported (p.names u)) (exports_in p q (p.names u)) ≡ Some k → ⊥
   no_fault_at k e =
       no_fault_later w sound known right p is (record { file = (p.layout.place u).file; token = (p.layout.place u).index; kind = k })
@@ -205,10 +205,10 @@ module _ (w : Workspace) (sound : ListsFaults w []) (known : Verdicts) (right : 
   bound_behind =
       let own = package_for w known sound.known right sound.right p is in
       let h = own.is_checked in
-      let interfaces = ap (λ (x : Package). x.interface_of) h.is_package.is_package in
-      let test : is_some ((h.interface_of q).exported (p.names u)) ≡ true =
-      subst (λ (i : List ℕ → Interface). is_some ((i q).exported (p.names u)) ≡ true) interfaces is_found in
-      let x = exporting w sound p.path q (p.names u) (h.name_of q) (h.interface_of q) (h.are_seen q) test in
-      let use_of : IsExportedUse (IsPackage w sound.known) p u q x.declaration =
+      let export_table = ap (λ (x : Package). x.export_data_of) h.is_package.is_package in
+      let test : is_some ((h.export_data_of q).exported (p.names u)) ≡ true =
+      subst (λ (i : List ℕ → ExportData). is_some ((i q).exported (p.names u)) ≡ true) export_table is_found in
+      let x = exporting w sound p.path q (p.names u) (h.name_of q) (h.export_data_of q) (h.are_seen q) test in
+      let use_of : IsQualifiedUse (IsPackage w sound.known) p u q x.declaration =
       record { behind = b; other = x.other; is_package = x.is_package; of_path = x.of_path; seen = x.is_seen; named = x.named } in
       (x.declaration, bound_for w sound.known known sound.right right p u (Declared q x.declaration) (by_package use_of))

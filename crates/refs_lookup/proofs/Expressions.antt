@@ -18,11 +18,11 @@ use Rattle.types_expr.specs.Types.{PlainType, BasicType, Underlying, SliceOf, St
 use Rattle.types_expr.specs.Types.{BuiltinName, Package, Results, Broken}
 use Rattle.types_expr.specs.World.{World, Locals, name_meaning, meaning_of_bound, underlying}
 use Rattle.types_expr.specs.Operations.{operate, converts, prefixed, element_of_kind}
-use Rattle.types_expr.specs.Judge.{Judged, Argued, Seen, none_seen, means, wrong, means_or_wrong, value_or_wrong, followed, as_value, value_kind}
+use Rattle.types_expr.specs.Judge.{Judged, ListValue, Seen, none_seen, means, wrong, means_or_wrong, value_or_wrong, followed, as_value, value_kind}
 use Rattle.types_expr.specs.Judge.{member_meaning, select_member, select, misfits, all_misfits, all_whole, is_whole, result_meaning, unless_faults}
 use Rattle.types_expr.specs.Judge.{wrong_if_whole, call_function, convert_one, convert, append_to, append_first, append, len_fits, all_printed, call_when}
 use Rattle.types_expr.specs.Judge.{call_builtin, call_of, bad_index, element_meaning, indexed, index_of, operation_on, operation, prefix_of, address_of}
-use Rattle.types_expr.specs.Judge.{judge_type, element_key, seen_after, literal_ends, literal_meaning, value_at, index_rule, call_rule, judge, judge_operands}
+use Rattle.types_expr.specs.Judge.{judge_type, element_key, seen_after, literal_result, literal_meaning, value_at, index_rule, call_rule, judge, judge_operands}
 use Rattle.types_expr.specs.Judge.{judge_links, judge_arguments, judge_literal, judge_elements}
 use Rattle.refs_lookup.proofs.Picked.{IsPackage, MayUse, Picked, stops, passes, closes, leaves, selects, keys, Passes, pass_append, pass_none, pass_before}
 use Rattle.refs_lookup.proofs.Picked.{IsNoValue, Fits, Ends, Walks, walk_passes, walk_append, walk_before, walk_closed, walk_same}
@@ -90,7 +90,7 @@ unfolding unless_faults
 faults_uses [] true m = refl
 faults_uses fs b m = refl
 
-function_uses : (w : World) (start : ℕ) (s : Signature) (vs : List Argued) → UsesNone (call_function w start s vs)
+function_uses : (w : World) (start : ℕ) (s : Signature) (vs : List ListValue) → UsesNone (call_function w start s vs)
 unfolding call_function
 function_uses w start s vs =
     if_uses (length vs == length s.parameters) (unless_faults (misfits w vs s.parameters) (all_whole vs) (result_meaning s.results))
@@ -101,30 +101,30 @@ one_uses : (w : World) (start : ℕ) (t : PlainType) (k : Option Kind) → UsesN
 one_uses w start t None = refl
 one_uses w start t (Some k) = if_uses (converts w k t) (means (Value (Typed t) false)) (wrong start) refl refl
 
-convert_uses : (w : World) (start : ℕ) (t : PlainType) (vs : List Argued) → UsesNone (convert w start t vs)
+convert_uses : (w : World) (start : ℕ) (t : PlainType) (vs : List ListValue) → UsesNone (convert w start t vs)
 unfolding convert
 convert_uses w start t [] = whole_uses (all_whole []) start
 convert_uses w start t (v ∷ []) = one_uses w start t v.kind
 convert_uses w start t (v ∷ (x ∷ xs)) = whole_uses (all_whole (v ∷ (x ∷ xs))) start
 
-to_uses : (w : World) (start : ℕ) (k : Kind) (t : Option PlainType) (vs : List Argued) → UsesNone (append_to w start k t vs)
+to_uses : (w : World) (start : ℕ) (k : Kind) (t : Option PlainType) (vs : List ListValue) → UsesNone (append_to w start k t vs)
 to_uses w start k None vs = whole_uses (all_whole vs) start
 to_uses w start k (Some t) vs = faults_uses (all_misfits w vs t) (all_whole vs) (Value k false)
 
-first_uses : (w : World) (start : ℕ) (k : Option Kind) (vs : List Argued) → UsesNone (append_first w start k vs)
+first_uses : (w : World) (start : ℕ) (k : Option Kind) (vs : List ListValue) → UsesNone (append_first w start k vs)
 first_uses w start None vs = refl
 first_uses w start (Some k) vs = to_uses w start k (element_of_kind w k) vs
 
-append_uses : (w : World) (start : ℕ) (vs : List Argued) → UsesNone (append w start vs)
+append_uses : (w : World) (start : ℕ) (vs : List ListValue) → UsesNone (append w start vs)
 unfolding append
 append_uses w start [] = refl
 append_uses w start (v ∷ vs) = first_uses w start v.kind vs
 
-when_uses : (fine : Bool) (vs : List Argued) (start : ℕ) (m : Meaning) → UsesNone (call_when fine vs start m)
+when_uses : (fine : Bool) (vs : List ListValue) (start : ℕ) (m : Meaning) → UsesNone (call_when fine vs start m)
 when_uses fine vs start m =
     if_uses (all_whole vs) (if fine then means m else wrong start) (means Broken) (if_uses fine (means m) (wrong start) refl refl) refl
 
-builtin_uses : (w : World) (start : ℕ) (b : Builtin) (vs : List Argued) → UsesNone (call_builtin w start b vs)
+builtin_uses : (w : World) (start : ℕ) (b : Builtin) (vs : List ListValue) → UsesNone (call_builtin w start b vs)
 unfolding call_builtin
 builtin_uses w start builtin.Append vs = append_uses w start vs
 builtin_uses w start builtin.Len vs = when_uses (len_fits w vs) vs start (Value (Typed (BasicType basic.Int)) false)
@@ -132,7 +132,7 @@ builtin_uses w start builtin.Panic vs = when_uses (length vs == 1) vs start (Res
 builtin_uses w start builtin.Print vs = when_uses (all_printed w vs) vs start (Results [])
 builtin_uses w start builtin.Println vs = when_uses (all_printed w vs) vs start (Results [])
 
-call_uses : (w : World) (start place : ℕ) (vs : List Argued) (m : Meaning) → UsesNone (call_of w start place vs m)
+call_uses : (w : World) (start place : ℕ) (vs : List ListValue) (m : Meaning) → UsesNone (call_of w start place vs m)
 unfolding call_of
 call_uses w start place vs (Function s) = function_uses w start s vs
 call_uses w start place vs (TypeName t) = convert_uses w start t vs
@@ -141,7 +141,7 @@ call_uses w start place vs (Value k a) = whole_uses (all_whole vs) start
 call_uses w start place vs Broken = refl
 call_uses w start place vs m = refl
 
-ends_uses : (start : ℕ) (t : PlainType) (u : Underlying) (whole unkeyed : Bool) → UsesNone (literal_ends start t u whole unkeyed)
+ends_uses : (start : ℕ) (t : PlainType) (u : Underlying) (whole unkeyed : Bool) → UsesNone (literal_result start t u whole unkeyed)
 ends_uses start t (Struct s) true true = refl
 ends_uses start t (Struct s) true false = refl
 ends_uses start t (SliceOf e) true unkeyed = refl

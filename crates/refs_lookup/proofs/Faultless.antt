@@ -5,7 +5,7 @@ use Rattle.std.proofs.lemmas.Bool.{cases_Bool}
 use Rattle.base_files.specs.Packages.{package_paths}
 use Rattle.base_files.specs.Workspace.{Workspace}
 use Rattle.types_declared.specs.declared.fault.Fault.{Fault}
-use Rattle.types_declared.specs.Stage.{HasNone, FirstOf}
+use Rattle.types_declared.specs.Stage.{HasNoFault, FirstOf}
 use Rattle.go_ast.specs.SourceFile.{SourceFile, source_of}
 use Rattle.workspace_graph.specs.Packages.{PackageImports, IsInClosure}
 use Rattle.types_declared.specs.declared.states.ImportState.{ImportState}
@@ -13,7 +13,7 @@ use Rattle.types_declared.specs.declared.states.ImportState.TheVariants as impor
 use Rattle.types_resolve.specs.Stages.{IsOuterFault}
 use Rattle.types_declared.specs.Package.{Package}
 use Rattle.types_check.specs.Check.{IsLaterFault}
-use Rattle.types_info.proofs.BoundLists.{slice_get_some}
+use Rattle.types_info.proofs.MeaningLists.{slice_get_some}
 use Rattle.workspace_check.specs.Faults.{placed_in}
 use Rattle.workspace_check.specs.FaultLists.{ListsFaults}
 use Rattle.workspace_check.specs.Verdicts.{Verdicts, AreVerdicts, AreStates, IsStateOf, is_missing, is_on_cycle, is_faulty, is_good, IsPackageIn, IsInnerFault}
@@ -95,7 +95,7 @@ module _ (w : Workspace) (sound : ListsFaults w []) (p : Package) (has : Contain
       (λ decided.
       let state = state_in w sound.known p.path decided in
       let are = are_states w sound.known p.path decided in
-      let sound_outside : HasNone (IsOuterFault state sources) = λ g o. no_read_fault state are g (in_outer state sources g o) (inl o) in
+      let sound_outside : HasNoFault (IsOuterFault state sources) = λ g o. no_read_fault state are g (in_outer state sources g o) (inl o) in
       no_read_fault state are f within (inr (sound_outside, record { checked = p; is_package = is; is_fault = later })))
 
 -- A package has no later fault by any right verdicts.

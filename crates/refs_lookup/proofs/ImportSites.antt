@@ -10,14 +10,14 @@ use Rattle.go_scope.specs.declared.model.Role.TheVariants.{NotLexical}
 use Rattle.go_scope.specs.Bindings.{block_of, is_implied}
 use Rattle.go_scope.specs.FileSites.{SpelledFile, file_sites, files_sites, universe_site}
 use Rattle.go_scope.specs.Named.{named_sites}
-use Rattle.go_scope.specs.Site.{Site, Source, found_site}
+use Rattle.go_scope.specs.Site.{Site, Source, or_blank}
 use Rattle.law_tokens.specs.Tokens.{identifiers_among}
 use Rattle.law_tokens.proofs.Covering.{file_pairs}
 use Rattle.law_tokens.proofs.FileIdentifiers.{AreIdentifiers, files_identify, paired_files, role_in, identifier_in}
 use Rattle.law_tokens.proofs.Ordered.{identifier_stays}
 
 abbrev pub file_in : List Site → ℕ → ℕ
-file_in xs u = (found_site (slice_get xs u)).place.file
+file_in xs u = (or_blank (slice_get xs u)).place.file
 
 abbrev pub IsLiteral : Role → Type 0
 IsLiteral r = r ≡ NotLexical purpose.ImportPath

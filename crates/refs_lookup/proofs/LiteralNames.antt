@@ -7,15 +7,15 @@ use Rattle.go_scope.specs.declared.model.Role.{Role}
 use Rattle.go_scope.specs.declared.model.Role.TheVariants.{NotLexical}
 use Rattle.go_scope.specs.Bindings.{Layout, IsIdentifier, is_implied}
 use Rattle.go_scope.specs.FileSites.{SpelledFile, file_sites, files_sites, universe, universe_site, package_sites}
-use Rattle.go_scope.specs.Parsed.{spelled_file}
-use Rattle.go_scope.specs.Scoped.{scoped, layout_in}
+use Rattle.go_scope.specs.SpelledFiles.{spelled_file}
+use Rattle.go_scope.specs.Packages.{scoped, layout_in}
 use Rattle.go_scope.specs.Site.{Site}
 use Rattle.law_tokens.proofs.FileIdentifiers.{AreIdentifiers, files_identify, role_in, identifier_in}
 use Rattle.law_tokens.proofs.Ordered.{identifier_stays}
 use Rattle.law_tokens.proofs.Roles.{role_keeps}
 use Rattle.types_declared.specs.Package.{Package}
 use Rattle.workspace_check.specs.Verdicts.{Verdicts, IsPackageIn}
-use Rattle.refs_binding.specs.Identifiers.{Stands, is_named_literal, named_by}
+use Rattle.refs_binding.specs.Identifiers.{IsInFiles, is_named_literal, named_by}
 use Rattle.refs_lookup.proofs.OnePlace.{names_of, laid_of, same_layout}
 
 -- the literal of an import that has a name is not the first identifier of a file
@@ -83,13 +83,13 @@ module _ (w : Workspace) (known : Verdicts) (path : List ℕ) (p : Package) (h :
       let there : IsIdentifier (layout_in (laid_of w known path p h)) (suc u) = identifier_stays names sites (suc u) ∙ next in
       subst (λ (l : Layout). IsIdentifier l (suc u)) (sym layout) there
 
-  stands_by : (u : ℕ) → Stands p u → (b : Bool) → is_named_literal (p.layout.role u) ≡ b → Stands p (if b then u - 1 else u)
+  stands_by : (u : ℕ) → IsInFiles p u → (b : Bool) → is_named_literal (p.layout.role u) ≡ b → IsInFiles p (if b then u - 1 else u)
   stands_by u stands true e =
       let v = name_before u (literal_role (p.layout.role u) e) in
       let next : suc v.0 ≡ u = v.1.0 in
       let lt : u < p.size = stands.0 in
-      subst (Stands p) (let same : v.0 ≡ u - 1 = omega arith in same) ((omega arith), v.1.1)
+      subst (IsInFiles p) (let same : v.0 ≡ u - 1 = omega arith in same) ((omega arith), v.1.1)
   stands_by u stands false e = stands
 
-  pub name_stands : (u : ℕ) → Stands p u → Stands p (named_by p.layout u)
+  pub name_stands : (u : ℕ) → IsInFiles p u → IsInFiles p (named_by p.layout u)
   name_stands u stands = stands_by u stands (is_named_literal (p.layout.role u)) refl

@@ -14,7 +14,7 @@ use Rattle.types_declared.specs.Files.{group_items}
 use Rattle.types_declared.specs.Definitions.{PlacedField, body_fields, fields_from}
 use Rattle.types_declared.specs.Package.{PlacedType, PlacedFunction, placed_type, decl_types, decl_functions, types_in, functions_in, declared_types}
 use Rattle.types_declared.specs.Package.{declared_functions, function_place}
-use Rattle.types_info.specs.Uniqueness.{AreInOrder}
+use Rattle.types_info.specs.Uniqueness.{TokensRise}
 use Rattle.types_info.proofs.DeclKinds.{decls_rise}
 use Rattle.refs_binding.specs.Binding.{field_place}
 use Rattle.refs_lookup.proofs.Apart.{Disjoint, disjoint_none, disjoint_append, disjoint_got, Apart, apart_append, one_rank, RiseIn, rise_down, rise_up}
@@ -194,7 +194,7 @@ fields_in definition rank files = fields_from definition (flat_map types_in (enu
 abbrev functions_from : (rank : ℕ) → List SourceFile → List PlacedFunction
 functions_from rank files = flat_map functions_in (enumerate_from rank files)
 
-fields_apart : (definition rank : ℕ) (files : List SourceFile) → AreInOrder files →
+fields_apart : (definition rank : ℕ) (files : List SourceFile) → TokensRise files →
     Apart field_place (fields_in definition rank files) × FromFile field_place rank (fields_in definition rank files)
 fields_apart definition rank [] h = (tt, tt)
 fields_apart definition rank (s ∷ files) h =
@@ -212,7 +212,7 @@ fields_apart definition rank (s ∷ files) h =
       subst (FromFile field_place rank) (sym j.1) (file_first field_place rank own more here rest.1),
     )
 
-functions_apart : (rank : ℕ) (files : List SourceFile) → AreInOrder files →
+functions_apart : (rank : ℕ) (files : List SourceFile) → TokensRise files →
     Apart function_place (functions_from rank files) × FromFile function_place rank (functions_from rank files)
 functions_apart rank [] h = (tt, tt)
 functions_apart rank (s ∷ files) h =
@@ -227,7 +227,7 @@ functions_apart rank (s ∷ files) h =
       file_first function_place rank own more here rest.1,
     )
 
-files_disjoint : (definition rank : ℕ) (files : List SourceFile) → AreInOrder files →
+files_disjoint : (definition rank : ℕ) (files : List SourceFile) → TokensRise files →
     Disjoint field_place function_place (fields_in definition rank files) (functions_from rank files)
 files_disjoint definition rank [] h = tt
 files_disjoint definition rank (s ∷ files) h =
@@ -240,7 +240,7 @@ files_disjoint definition rank (s ∷ files) h =
     let others = functions_from (rank + 1) files in
     let named = rise_in_file field_place rank t.0 fs t.1.0 (decls_fields_rise definition rank s.tree.decls t.0 t.1.0 t.1.1) in
     let called = rise_in_file function_place rank t.0 ms t.1.0 (decls_functions_rise rank s.tree.decls t.0 t.1.0 t.1.1) in
-    let tail : AreInOrder files = λ k x e. h (suc k) x e in
+    let tail : TokensRise files = λ k x e. h (suc k) x e in
     subst (λ l. Disjoint field_place function_place l (ms ++ others)) (sym j.1)
     (disjoint_append field_place function_place fs more ms others (decls_disjoint definition rank s.tree.decls t.0 t.1.0 t.1.1)
     (file_before field_place function_place rank fs others named (functions_apart (rank + 1) files tail).1)
@@ -248,15 +248,15 @@ files_disjoint definition rank (s ∷ files) h =
 
 -- so by ranks
 
-pub one_field : (files : List SourceFile) → AreInOrder files → (k j : ℕ) (f g : PlacedField) → slice_get (fields_from 0 (declared_types files)) k ≡ Some f →
+pub one_field : (files : List SourceFile) → TokensRise files → (k j : ℕ) (f g : PlacedField) → slice_get (fields_from 0 (declared_types files)) k ≡ Some f →
     slice_get (fields_from 0 (declared_types files)) j ≡ Some g → field_place f ≡ field_place g → k ≡ j
 one_field files h k j f g at by e = one_rank field_place (fields_in 0 0 files) (fields_apart 0 0 files h).0 k j f g at by e
 
-pub one_function : (files : List SourceFile) → AreInOrder files → (k j : ℕ) (f g : PlacedFunction) → slice_get (declared_functions files) k ≡ Some f →
+pub one_function : (files : List SourceFile) → TokensRise files → (k j : ℕ) (f g : PlacedFunction) → slice_get (declared_functions files) k ≡ Some f →
     slice_get (declared_functions files) j ≡ Some g → function_place f ≡ function_place g → k ≡ j
 one_function files h k j f g at by e = one_rank function_place (functions_from 0 files) (functions_apart 0 files h).0 k j f g at by e
 
-pub no_field_and_function : (files : List SourceFile) → AreInOrder files → (k j : ℕ) (f : PlacedField) (g : PlacedFunction) →
+pub no_field_and_function : (files : List SourceFile) → TokensRise files → (k j : ℕ) (f : PlacedField) (g : PlacedFunction) →
     slice_get (fields_from 0 (declared_types files)) k ≡ Some f → slice_get (declared_functions files) j ≡ Some g → field_place f ≡ function_place g → ⊥
 no_field_and_function files h k j f g at by e =
     disjoint_got field_place function_place (fields_in 0 0 files) (functions_from 0 files) (files_disjoint 0 0 files h) k j f g at by e

@@ -17,14 +17,14 @@ use Rattle.go_scope.specs.declared.model.Role.TheVariants.{NotLexical}
 use Rattle.go_scope.specs.Bindings.{Layout, IsIdentifier, IsImport, MayDeclare, Counts, IsBoundTo, use_bound, own, block_of, is_implied}
 use Rattle.go_scope.specs.FileSites.{universe, package_sites}
 use Rattle.go_scope.specs.Named.{named_sites}
-use Rattle.go_scope.specs.Parsed.{spelled_file}
-use Rattle.go_scope.specs.Scoped.{scoped, layout_in}
-use Rattle.go_scope.specs.Site.{found_site}
+use Rattle.go_scope.specs.SpelledFiles.{spelled_file}
+use Rattle.go_scope.specs.Packages.{scoped, layout_in}
+use Rattle.go_scope.specs.Site.{or_blank}
 use Rattle.go_scope.proofs.NamedSites.{place_stays}
 use Rattle.go_scope.proofs.PackageRegions.{may_at}
 use Rattle.types_declared.specs.Files.{HasLiteral}
 use Rattle.types_declared.specs.Laid.{is_literal, literal_of}
-use Rattle.law_tokens.specs.Covered.{IsPlaceOfOne, HasOneAt}
+use Rattle.law_tokens.specs.Covered.{IsIdentifierPlace, HasIdentifierAt}
 use Rattle.law_tokens.specs.Tokens.{identifiers_among}
 use Rattle.law_tokens.proofs.FileIdentifiers.{role_in}
 use Rattle.law_tokens.proofs.OwnPaths.{package_sources, part_at}
@@ -35,7 +35,7 @@ use Rattle.types_declared.specs.Written as written
 use Rattle.workspace_check.specs.Verdicts.{Verdicts, IsPackageIn}
 use Rattle.workspace_check.proofs.Importing.{literal_path}
 use Rattle.workspace_check.proofs.PackageFiles.{entry_at}
-use Rattle.types_info.specs.Qualified.{NamesPackage}
+use Rattle.types_info.specs.QualifiedIdentifiers.{NamesPackage}
 use Rattle.refs_lookup.proofs.OnePlace.{names_of, laid_of, same_layout, same_size, same_files}
 use Rattle.refs_lookup.proofs.HeaderStrings.{is_import_literal}
 use Rattle.refs_lookup.proofs.ImportSites.{literal_within, literal_file, import_identifies}
@@ -54,7 +54,7 @@ module _ (w : Workspace) (known : Verdicts) (path : List ℕ) (p : Package) (h :
   pub role_at : (u : ℕ) → p.layout.role u ≡ role_in (named_sites (names_of w known path p h) (scoped h.files).sites) u
   role_at u = ap (λ (l : Layout). l.role u) (same_layout w known path p h)
 
-  place_at : (u : ℕ) → p.layout.place u ≡ (found_site (slice_get (scoped h.files).sites u)).place
+  place_at : (u : ℕ) → p.layout.place u ≡ (or_blank (slice_get (scoped h.files).sites u)).place
   place_at u = ap (λ (l : Layout). l.place u) (same_layout w known path p h) ∙ place_stays (names_of w known path p h) (scoped h.files).sites u
 
   behind_name : (d : ℕ) → p.layout.role (suc d) ≡ NotLexical purpose.ImportPath → IsLiteralIn (p.layout.place d).file (suc d)
@@ -98,15 +98,15 @@ module _ (w : Workspace) (known : Verdicts) (path : List ℕ) (p : Package) (h :
   literal_at d i lt = by_test d i lt (is_literal (p.layout.role (d + 1))) refl
 
   -- by its token
-  token_of : (n : ℕ) → n < p.size → IsIdentifier p.layout n → IsPlaceOfOne h.files (p.layout.place n)
+  token_of : (n : ℕ) → n < p.size → IsIdentifier p.layout n → IsIdentifierPlace h.files (p.layout.place n)
   token_of n lt i =
       let names = names_of w known path p h in
       let layout = same_layout w known path p h in
-      let here : HasOneAt p.layout p.size (p.layout.place n) = (n, (lt, (i, refl, refl))) in
-      let sized : HasOneAt p.layout (length (laid_of w known path p h).sites) (p.layout.place n) =
-      subst (λ size. HasOneAt p.layout size (p.layout.place n)) (same_size w known path p h) here in
-      let laid : HasOneAt (layout_in (laid_of w known path p h)) (length (laid_of w known path p h).sites) (p.layout.place n) =
-      subst (λ l. HasOneAt l (length (laid_of w known path p h).sites) (p.layout.place n)) layout sized in
+      let here : HasIdentifierAt p.layout p.size (p.layout.place n) = (n, (lt, (i, refl, refl))) in
+      let sized : HasIdentifierAt p.layout (length (laid_of w known path p h).sites) (p.layout.place n) =
+      subst (λ size. HasIdentifierAt p.layout size (p.layout.place n)) (same_size w known path p h) here in
+      let laid : HasIdentifierAt (layout_in (laid_of w known path p h)) (length (laid_of w known path p h).sites) (p.layout.place n) =
+      subst (λ l. HasIdentifierAt l (length (laid_of w known path p h).sites) (p.layout.place n)) layout sized in
       one_has_place h.files (package_sources w path h.files h.parsed) (p.layout.place n) ((named_has_one names (scoped h.files) (p.layout.place n)).1 laid)
 
   imported : (d : ℕ) (q : List ℕ) → d < p.size → written.ImportsPath p d q → PackageImports w path q

@@ -9,12 +9,12 @@ use Rattle.go_ast.specs.Tree.{FuncDecl}
 use Rattle.go_scope.specs.declared.model.Position.{Position}
 use Rattle.go_scope.specs.declared.model.Purpose.TheVariants as purpose
 use Rattle.go_scope.specs.declared.model.Role.TheVariants.{NotLexical}
-use Rattle.go_scope.specs.Table.{StandsAt}
-use Rattle.law_tokens.specs.MemberNames.{in_group, field_names, body_members, method_name, decl_members, member_names}
+use Rattle.go_scope.specs.Table.{LiesAt}
+use Rattle.law_tokens.specs.MemberNames.{in_group, field_name_tokens, body_members, method_name, decl_members, member_names}
 use Rattle.law_tokens.proofs.Lexical.{never_bound}
 use Rattle.law_tokens.proofs.Members.{named_member_stands}
 use Rattle.law_tokens.proofs.OwnPaths.{package_sources, part_at}
-use Rattle.types_declared.specs.Files.{Ranked, ranked, group_items}
+use Rattle.types_declared.specs.Files.{RankedSource, ranked_files, group_items}
 use Rattle.types_declared.specs.Definitions.{PlacedField, body_fields, fields_from, package_fields}
 use Rattle.types_declared.specs.Package.{Package, PlacedType, PlacedFunction, placed_type, decl_types, decl_functions, types_in, functions_in, package_types}
 use Rattle.types_declared.specs.Package.{package_functions, function_place}
@@ -22,7 +22,7 @@ use Rattle.types_info.proofs.DeclKinds.{Holds, holds_got, holds_append, holds_fl
 use Rattle.workspace_check.specs.Verdicts.{Verdicts, IsPackageIn}
 use Rattle.refs_binding.specs.declared.declaration.Declaration.{Declaration}
 use Rattle.refs_binding.specs.declared.declaration.Declaration.TheVariants.{Predeclared, Declared, Field, Method}
-use Rattle.refs_binding.specs.Binding.{BindsByScope, BindsByPackage, BindsByName, IsNameOf, IsFieldAt, IsMethodAt, field_place}
+use Rattle.refs_binding.specs.Binding.{BindsByScope, BindsQualified, DeclaresMember, IsNameOf, IsFieldAt, IsMethodAt, field_place}
 use Rattle.refs_binding.proofs.Excluding.{number_bound, exported_as}
 use Rattle.refs_lookup.proofs.OnePlace.{names_of, same_layout, same_size, same_files}
 
@@ -53,8 +53,8 @@ body_field definition file (Struct k o fs c) f h =
           x.0.value.type_use;
     }) x.0.value.names f x.1.1 in (
       ap (λ (z : PlacedField). z.file) n.1.1,
-      held_flat (λ (i : Item FieldTree). field_names i.value) fs x.0 f.name x.1.0
-          (subst (λ q. Holds (field_names x.0.value) q) (ap (λ (z : PlacedField). z.name) n.1.1)
+      held_flat (λ (i : Item FieldTree). field_name_tokens i.value) fs x.0 f.name x.1.0
+          (subst (λ q. Holds (field_name_tokens x.0.value) q) (ap (λ (z : PlacedField). z.name) n.1.1)
           (held_map (λ (i : Item ℕ). i.value) x.0.value.names n.0 n.1.0)),
     )
 
@@ -96,7 +96,7 @@ method_members file (FuncDecl k x s) f r h e = elim h [
   | inr z ↦ absurd z
 ]
 
-in_tree : (files : List SourceFile) (r : Ranked) (decl : DeclTree) (at : Position) → Holds (ranked files) r → Holds r.1.tree.decls decl → r.0 ≡ at.file →
+in_tree : (files : List SourceFile) (r : RankedSource) (decl : DeclTree) (at : Position) → Holds (ranked_files files) r → Holds r.1.tree.decls decl → r.0 ≡ at.file →
     Holds (decl_members decl) at.index →
     IsMemberIn files at
 in_tree files r decl at hr hd e m =
@@ -111,7 +111,7 @@ in_tree files r decl at hr hd e m =
 field_in_tree : (p : Package) (rank : ℕ) (f : PlacedField) → slice_get (package_fields p) rank ≡ Some f → IsMemberIn p.files (field_place f)
 field_in_tree p rank f is =
     let d = type_of_field 0 (package_types p) f (holds_got (package_fields p) rank f is) in
-    let r = holds_flat types_in (ranked p.files) d.0 d.1.0 in
+    let r = holds_flat types_in (ranked_files p.files) d.0 d.1.0 in
     let decl = holds_flat (decl_types r.0.0) r.0.1.tree.decls d.0 r.1.1 in
     let m = type_members r.0.0 decl.0 d.0 f.name decl.1.1 d.1.1.1 in
     in_tree p.files r.0 decl.0 (field_place f) r.1.0 decl.1.0 (m.0 ∙ d.1.1.0) m.1
@@ -119,7 +119,7 @@ field_in_tree p rank f is =
 method_in_tree : (p : Package) (rank : ℕ) (f : PlacedFunction) (x : ReceiverTree) → slice_get (package_functions p) rank ≡ Some f →
     f.function.receiver ≡ Some x → IsMemberIn p.files (function_place f)
 method_in_tree p rank f x is e =
-    let r = holds_flat functions_in (ranked p.files) f (holds_got (package_functions p) rank f is) in
+    let r = holds_flat functions_in (ranked_files p.files) f (holds_got (package_functions p) rank f is) in
     let decl = holds_flat (decl_functions r.0.0) r.0.1.tree.decls f r.1.1 in
     let m = method_members r.0.0 decl.0 f x decl.1.1 e in
     in_tree p.files r.0 decl.0 (function_place f) r.1.0 decl.1.0 m.0 m.1
@@ -128,14 +128,14 @@ method_in_tree p rank f x is e =
 
 role_of : (w : Workspace) (known : Verdicts) (path : List ℕ) (p : Package) → IsPackageIn w known path p → (at : Position) → IsMemberIn p.files at →
     (u : ℕ) → u < p.size →
-    StandsAt p.layout at u → p.layout.role u ≡ NotLexical purpose.Member
+    LiesAt p.layout at u → p.layout.role u ≡ NotLexical purpose.Member
 role_of w known path p h at m u lt stands =
     let t = part_at h.files at.file m.source (subst (λ fs. slice_get fs at.file ≡ Some m.source) (same_files w known path p h) m.of_rank) in
     let layout = same_layout w known path p h in
     let member : Contains (member_names (source_of t.0).tree) at.index =
     subst (λ (s : SourceFile). Contains (member_names s.tree) at.index) (sym t.1.1) m.member in
     let role = named_member_stands (names_of w known path p h) h.files (package_sources w path h.files h.parsed) at t.0 t.1.0 member u
-    (subst (λ n. u < n) (same_size w known path p h) lt) (subst (λ l. StandsAt l at u) layout stands) in
+    (subst (λ n. u < n) (same_size w known path p h) lt) (subst (λ l. LiesAt l at u) layout stands) in
     subst (λ l. l.role u ≡ NotLexical purpose.Member) (sym layout) role
 
 field_member : (w : Workspace) (known : Verdicts) (path : List ℕ) (p : Package) → IsPackageIn w known path p → (u rank : ℕ) → u < p.size →
@@ -156,7 +156,7 @@ method_member w known path p h u rank lt n =
     role_of w known path p h n.at (subst (λ a. IsMemberIn p.files a) n.is_at.named_at there) u lt n.stands
 
 pub name_member : (w : Workspace) (known : Verdicts) (path : List ℕ) (p : Package) → IsPackageIn w known path p → (u : ℕ) (d : Declaration) → u < p.size →
-    BindsByName p u d →
+    DeclaresMember p u d →
     p.layout.role u ≡ NotLexical purpose.Member
 name_member w known path p h u (Predeclared n) lt b = absurd b
 name_member w known path p h u (Declared q n) lt b = absurd b
@@ -166,14 +166,14 @@ name_member w known path p h u (Method s) lt b = method_member w known path p h 
 -- so this way excludes two others
 
 pub name_not_scope : (w : Workspace) (known : Verdicts) (path : List ℕ) (p : Package) → IsPackageIn w known path p → (u : ℕ) (d e : Declaration) → u < p.size →
-    BindsByName p u d → BindsByScope p u e → ⊥
+    DeclaresMember p u d → BindsByScope p u e → ⊥
 name_not_scope w known path p h u d e lt b k =
     let n = number_bound p u e k in
     never_bound p.layout p.names u n.0 purpose.Member (name_member w known path p h u d lt b) n.1
 
 pub name_not_package : (w : Workspace) (known : Verdicts) (path : List ℕ) (p : Package) → IsPackageIn w known path p →
     (I : Package → Type 0) (u : ℕ) (d e : Declaration) → u < p.size →
-    BindsByName p u d → BindsByPackage I p u e → ⊥
+    DeclaresMember p u d → BindsQualified I p u e → ⊥
 name_not_package w known path p h I u d e lt b k =
     let n = exported_as I p u e k in
     let same : NotLexical purpose.Member ≡ NotLexical purpose.Selected = sym (name_member w known path p h u d lt b) ∙ n.1.1.1.behind.selected in

@@ -7,8 +7,8 @@ use Rattle.workspace_check.specs.Verdicts.{Verdicts}
 use Rattle.workspace_check.proofs.OnePackage.{layout_formed, files_in_order}
 use Rattle.refs_binding.specs.declared.declaration.Declaration.{Declaration}
 use Rattle.refs_binding.specs.Binding.{by_scope, by_package, by_member, by_name}
-use Rattle.refs_binding.specs.Identifiers.{Stands, BeginsAt, named_by}
-use Rattle.refs_binding.specs.Uses.{IsPackage, IsBoundTo, IsNamedTo, IsUseOf, HasDeclaration}
+use Rattle.refs_binding.specs.Identifiers.{IsInFiles, BeginsAt, named_by}
+use Rattle.refs_binding.specs.Uses.{IsPackage, IsBoundTo, BindsThroughLiteral, IsUseOf, HasDeclaration}
 use Rattle.refs_binding.proofs.Excluding.{one_by_scope, one_by_package, not_both}
 use Rattle.refs_lookup.proofs.NamedMembers.{name_not_scope, name_not_package}
 use Rattle.refs_lookup.proofs.OnePlace.{one_begins, one_asked}
@@ -19,7 +19,7 @@ use Rattle.refs_lookup.proofs.LiteralNames.{name_stands}
 use Rattle.refs_lookup.proofs.BoundNamedMembers.{one_by_name}
 use Rattle.refs_lookup.proofs.BoundUsedMembers.{member_not_package}
 
-module _ (w : Workspace) (known : Verdicts) (p : Package) (is : IsPackage w known p) (u : ℕ) (stands : Stands p u) where
+module _ (w : Workspace) (known : Verdicts) (p : Package) (is : IsPackage w known p) (u : ℕ) (stands : IsInFiles p u) where
   pub one_declaration : (d e : Declaration) → IsBoundTo w known p u d → IsBoundTo w known p u e → d ≡ e
   one_declaration d e (by_scope a) (by_scope b) = one_by_scope p (layout_formed w known p.path p is.is_checked) u d e a b
   one_declaration d e (by_scope a) (by_package b) = absurd (not_both (IsPackage w known) p u d e a b)
@@ -62,7 +62,7 @@ pub one_held : (w : Workspace) (known : Verdicts) (path : List ℕ) (offset : �
 one_held w known path offset d e a b =
     let p = a.asked_in in
     let same = one_asked w known path offset b.asked_in p b.number a.number b.is_asked a.is_asked b.at a.at in
-    let bound : IsNamedTo w known p b.number e = subst (λ (x : Package). IsNamedTo w known x b.number e) same.0 b.bound in
+    let bound : BindsThroughLiteral w known p b.number e = subst (λ (x : Package). BindsThroughLiteral w known x b.number e) same.0 b.bound in
     one_declaration w known p a.is_asked.is_package (named_by p.layout a.number)
     (name_stands w known p.path p a.is_asked.is_package.is_checked a.number a.at.0) d e a.bound
-    (subst (λ v. IsNamedTo w known p v e) same.1 bound)
+    (subst (λ v. BindsThroughLiteral w known p v e) same.1 bound)

@@ -15,7 +15,7 @@ use Rattle.workspace_check.specs.Verdicts.{Verdicts, AreVerdicts}
 use Rattle.workspace_check.proofs.Members.{one_sorted}
 use Rattle.workspace_check.proofs.OneList.{one_whole_list}
 use Rattle.refs_binding.specs.Identifiers.{HoldsByte}
-use Rattle.refs_binding.specs.Uses.{IsNamedTo, IsUseOf, IsAskedIn, ListsUses, HasNoIdentifier, HasNoDeclaration, IsFile, HasFirstFault, TellsUses}
+use Rattle.refs_binding.specs.Uses.{BindsThroughLiteral, IsUseOf, IsFilePackage, ListsUses, HasNoIdentifier, HasNoDeclaration, IsFile, HasFirstFault, AnswersUses}
 use Rattle.refs_lookup.proofs.OnePlace.{one_asked}
 use Rattle.refs_binding.proofs.PlaceOrder.{place_cmp_total}
 use Rattle.refs_binding.proofs.Alike.{use_for, asked_for, held_for}
@@ -32,7 +32,7 @@ module _ (w : Workspace) (path : List ℕ) (offset : ℕ) where
       (λ place c. (h.each place).1
       (subst (λ d. IsUseOf w h.known d place) (sym same) (use_for w k.known h.known k.right h.right k.declaration place ((k.each place).0 c))))
 
-  nothing_held : (known : Verdicts) → AreVerdicts w known → (p : Package) (u : ℕ) → IsAskedIn w known path p → HoldsByte p path offset u →
+  nothing_held : (known : Verdicts) → AreVerdicts w known → (p : Package) (u : ℕ) → IsFilePackage w known path p → HoldsByte p path offset u →
       HasNoIdentifier w path offset → ⊥
   nothing_held known right p u is at n = n.none p (asked_for w known n.known right n.right path p is) u at
 
@@ -40,9 +40,9 @@ module _ (w : Workspace) (path : List ℕ) (offset : ℕ) where
   nothing_bound xs h n =
       let x = held_for w h.known n.known h.right n.right path offset h.declaration h.is_asked in
       let same = one_asked w n.known path offset x.asked_in n.asked_in x.number n.number x.is_asked n.is_asked x.at n.at in
-      let bound : IsNamedTo w n.known n.asked_in x.number h.declaration =
-      subst (λ (p : Package). IsNamedTo w n.known p x.number h.declaration) same.0 x.bound in
-      n.unbound h.declaration (subst (λ u. IsNamedTo w n.known n.asked_in u h.declaration) same.1 bound)
+      let bound : BindsThroughLiteral w n.known n.asked_in x.number h.declaration =
+      subst (λ (p : Package). BindsThroughLiteral w n.known p x.number h.declaration) same.0 x.bound in
+      n.unbound h.declaration (subst (λ u. BindsThroughLiteral w n.known n.asked_in u h.declaration) same.1 bound)
 
 -- An answer other than running out of memory.
 data Told (w : Workspace) (path : List ℕ) (offset : ℕ) : Result (List Place) Refusal → Type 0 where
@@ -53,7 +53,7 @@ data Told (w : Workspace) (path : List ℕ) (offset : ℕ) : Result (List Place)
   unheld : IsFile w path → ListsFaults w [] → HasNoIdentifier w path offset → Told w path offset (Err refusal.NoIdentifier)
   unbound : IsFile w path → ListsFaults w [] → HasNoDeclaration w path offset → Told w path offset (Err refusal.NotRenamable)
 
-told : (w : Workspace) (path : List ℕ) (offset : ℕ) (r : Result (List Place) Refusal) → TellsUses w path offset r → (r ≡ Err refusal.Memory → ⊥) →
+told : (w : Workspace) (path : List ℕ) (offset : ℕ) (r : Result (List Place) Refusal) → AnswersUses w path offset r → (r ≡ Err refusal.Memory → ⊥) →
     Told w path offset r
 told w path offset (Ok xs) h other = lists h.0 h.1 h.2
 told w path offset (Err refusal.Memory) h other = absurd (other refl)
@@ -124,6 +124,6 @@ module _ (w : Workspace) (path : List ℕ) (offset : ℕ) where
   one_told _ _ (unbound f c n) (unheld f' c' n') = absurd (nothing_held w path offset n.known n.right n.asked_in n.number n.is_asked n.at n')
   one_told _ _ (unbound f c n) (unbound f' c' n') = refl
 
-  pub one_answer : (r s : Result (List Place) Refusal) → TellsUses w path offset r → TellsUses w path offset s → (r ≡ Err refusal.Memory → ⊥) →
+  pub one_answer : (r s : Result (List Place) Refusal) → AnswersUses w path offset r → AnswersUses w path offset s → (r ≡ Err refusal.Memory → ⊥) →
       (s ≡ Err refusal.Memory → ⊥) → r ≡ s
   one_answer r s h k fine also = one_told r s (told w path offset r h fine) (told w path offset s k also)

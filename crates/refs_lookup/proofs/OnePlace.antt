@@ -4,8 +4,8 @@ use Rattle.std.specs.Prelude.{Option, map, slice_get}
 use Rattle.base_files.specs.Workspace.{Workspace}
 use Rattle.go_ast.specs.SourceFile.{SourceFile, source_of}
 use Rattle.go_scope.specs.Bindings.{Layout, IsIdentifier}
-use Rattle.go_scope.specs.Named.{named}
-use Rattle.go_scope.specs.Scoped.{ScopedPackage, scoped, layout_in}
+use Rattle.go_scope.specs.Named.{with_names}
+use Rattle.go_scope.specs.Packages.{ScopedPackage, scoped, layout_in}
 use Rattle.law_tokens.specs.Bytes as bytes
 use Rattle.law_tokens.proofs.HeldBytes.{one_named_begins}
 use Rattle.law_tokens.proofs.OwnPaths.{own_paths, package_sources, package_byte}
@@ -13,7 +13,7 @@ use Rattle.types_declared.specs.Package.{Package}
 use Rattle.workspace_check.specs.Verdicts.{Verdicts, IsPackageIn}
 use Rattle.workspace_check.proofs.OnePackage.{one_checked}
 use Rattle.refs_binding.specs.Identifiers.{NameBegins, BeginsAt, HoldsByte}
-use Rattle.refs_binding.specs.Uses.{IsAskedIn}
+use Rattle.refs_binding.specs.Uses.{IsFilePackage}
 use Rattle.refs_binding.proofs.Files.{place_of_name}
 
 -- what a package is made of
@@ -22,7 +22,7 @@ abbrev pub names_of : (w : Workspace) (known : Verdicts) (path : List ℕ) (p : 
 names_of w known path p h = h.is_package.is_laid.names
 
 abbrev pub laid_of : (w : Workspace) (known : Verdicts) (path : List ℕ) (p : Package) → IsPackageIn w known path p → ScopedPackage
-laid_of w known path p h = named (names_of w known path p h) (scoped h.files)
+laid_of w known path p h = with_names (names_of w known path p h) (scoped h.files)
 
 pub same_layout : (w : Workspace) (known : Verdicts) (path : List ℕ) (p : Package) (h : IsPackageIn w known path p) →
     p.layout ≡ layout_in (laid_of w known path p h)
@@ -62,10 +62,10 @@ one_begins w known path p h file offset u v a b =
 
 holds_laid : (w : Workspace) (known : Verdicts) (path : List ℕ) (p : Package) (h : IsPackageIn w known path p) (file : List ℕ) (offset u : ℕ) →
     HoldsByte p file offset u →
-    bytes.HoldsByte (map source_of h.files) (layout_in (laid_of w known path p h)) file offset u
+    bytes.CoversByte (map source_of h.files) (layout_in (laid_of w known path p h)) file offset u
 holds_laid w known path p h file offset u a =
-    subst (λ l. bytes.HoldsByte (map source_of h.files) l file offset u) (same_layout w known path p h)
-    (subst (λ fs. bytes.HoldsByte fs p.layout file offset u) (same_files w known path p h) (a.0.1, a.1))
+    subst (λ l. bytes.CoversByte (map source_of h.files) l file offset u) (same_layout w known path p h)
+    (subst (λ fs. bytes.CoversByte fs p.layout file offset u) (same_files w known path p h) (a.0.1, a.1))
 
 pub one_holds : (w : Workspace) (known : Verdicts) (path : List ℕ) (p : Package) → IsPackageIn w known path p → (file : List ℕ) (offset u v : ℕ) →
     HoldsByte p file offset u → HoldsByte p file offset v → u ≡ v
@@ -76,8 +76,8 @@ one_holds w known path p h file offset u v a b =
 
 -- one identifier of one package is asked for
 
-pub one_asked : (w : Workspace) (known : Verdicts) (path : List ℕ) (offset : ℕ) (p q : Package) (u v : ℕ) → IsAskedIn w known path p →
-    IsAskedIn w known path q →
+pub one_asked : (w : Workspace) (known : Verdicts) (path : List ℕ) (offset : ℕ) (p q : Package) (u v : ℕ) → IsFilePackage w known path p →
+    IsFilePackage w known path q →
     HoldsByte p path offset u → HoldsByte q path offset v → (p ≡ q) × (u ≡ v)
 one_asked w known path offset p q u v a b h k =
     let checked : IsPackageIn w known p.path q = subst (λ r. IsPackageIn w known r q) (b.of_folder ∙ sym a.of_folder) b.is_package.is_checked in

@@ -10,10 +10,10 @@ use Rattle.workspace_graph.specs.Packages.{IsInClosure, itself}
 use Rattle.types_expr.specs.declared.symbol.Symbol.{Symbol}
 use Rattle.types_expr.specs.Types.{PlainType}
 use Rattle.types_expr.specs.World.{Member, AField, Field, Method, Definition, is_seen, seen_field, seen_method, field_of, method_of, a_method, first_member}
-use Rattle.types_expr.specs.World.{struct_behind, owner, member_by}
+use Rattle.types_expr.specs.World.{field_owner, owner, member_by}
 use Rattle.types_expr.specs.WorldView.{no_definition}
-use Rattle.types_declared.specs.Definitions.{IsDefinition, IsField, IsMethod, AreDefinitions}
-use Rattle.types_declared.specs.Package.{Package, Interface, PlacedType, package_types, symbol_in}
+use Rattle.types_declared.specs.Definitions.{IsDefinition, IsFoundField, IsFoundMethod, AreDefinitions}
+use Rattle.types_declared.specs.Package.{Package, ExportData, PlacedType, package_types, symbol_in}
 use Rattle.types_members.specs.MembersView.{CountsAsField, CountsAsMethod}
 use Rattle.workspace_check.specs.Verdicts.{Verdicts, AreVerdicts, IsSeenAs, seen, unseen, IsPackageIn}
 use Rattle.workspace_check.proofs.Closed.{to_package}
@@ -36,21 +36,21 @@ record IsOwn (Counts : Package → ℕ → Type 0) (c : Package) (s : Symbol) : 
   is_own : s ≡ symbol_in c s.rank
 
 module _ (c : Package) (definition : ℕ → Definition) (are : AreOwn c definition) (rank : ℕ) (name : List ℕ) where
-  field_by : (f : Field) → IsField c rank name (Some f) → IsOwn CountsAsField c f.symbol
+  field_by : (f : Field) → IsFoundField c rank name (Some f) → IsOwn CountsAsField c f.symbol
   field_by f h = record { counts = record { definition = rank; name = name; field = h.0; counting = h.1.0 }; is_own = h.1.2 }
 
-  method_by : (m : Method) → IsMethod c rank name (Some m) → IsOwn CountsAsMethod c m.symbol
-  method_by m h = record { counts = record { definition = rank; name = name; method = h.0; counting = h.1 }; is_own = h.4 }
+  signed_method : (m : Method) → IsFoundMethod c rank name (Some m) → IsOwn CountsAsMethod c m.symbol
+  signed_method m h = record { counts = record { definition = rank; name = name; method = h.0; counting = h.1 }; is_own = h.4 }
 
   own_field : (o : Option PlacedType) → slice_get (package_types c) rank ≡ o → (f : Field) → (definition rank).field name ≡ Some f →
       IsOwn CountsAsField c f.symbol
   own_field None at f is = absurd (none-some f (sym (ap (λ (d : Definition). d.field name) (are.beyond rank at)) ∙ is))
-  own_field (Some d) at f is = field_by f (subst (IsField c rank name) is ((are.own rank d at).fields name))
+  own_field (Some d) at f is = field_by f (subst (IsFoundField c rank name) is ((are.own rank d at).fields name))
 
   own_method : (o : Option PlacedType) → slice_get (package_types c) rank ≡ o → (m : Method) → (definition rank).method name ≡ Some m →
       IsOwn CountsAsMethod c m.symbol
   own_method None at m is = absurd (none-some m (sym (ap (λ (d : Definition). d.method name) (are.beyond rank at)) ∙ is))
-  own_method (Some d) at m is = method_by m (subst (IsMethod c rank name) is ((are.own rank d at).methods name))
+  own_method (Some d) at m is = signed_method m (subst (IsFoundMethod c rank name) is ((are.own rank d at).methods name))
 
 -- a package of the closure has the member of that symbol
 pub record HasOwner (w : Workspace) (known : Verdicts) (p : List ℕ) (Counts : Package → ℕ → Type 0) (s : Symbol) : Type 0 where
@@ -72,15 +72,15 @@ module _ (w : Workspace) (known : Verdicts) (right : AreVerdicts w known) (p : P
   own_table = record { own = are.own; beyond = are.beyond }
 
   -- by what p sees of another package
-  seen_table : (q : List ℕ) (n : Option (List ℕ)) (i : Interface) → IsSeenAs w known p.path q n i → (rank : ℕ) (Counts : Package → ℕ → Type 0) (s : Symbol) →
+  seen_table : (q : List ℕ) (n : Option (List ℕ)) (i : ExportData) → IsSeenAs w known p.path q n i → (rank : ℕ) (Counts : Package → ℕ → Type 0) (s : Symbol) →
       ((c : Package) → AreOwn c i.definition → IsOwn Counts c s) → (i.definition rank ≡ no_definition (record { «package» = q; rank = rank }) → ⊥) →
       HasOwner w known p.path Counts s
   seen_table q _ _ (seen on sees) rank Counts s own some =
       let has = to_package w p.path q on.imported in
       let by = verdict_by w q known (known q) (right_below w known right q) (right q has) in
-      let x = by.has_interface sees in
+      let x = by.has_export_data sees in
       let path : x.checked.path ≡ q = ap (λ (c : Package). c.path) x.is_package.is_package.is_package in
-      let h = own x.checked (record { own = x.is_interface.definitions; beyond = x.is_interface.beyond }) in
+      let h = own x.checked (record { own = x.is_export_data.definitions; beyond = x.is_export_data.beyond }) in
       record {
         inside = x.checked;
         is_package = record {
@@ -94,11 +94,11 @@ module _ (w : Workspace) (known : Verdicts) (right : AreVerdicts w known) (p : P
   seen_table q _ _ (unseen none) rank Counts s own some = absurd (some refl)
 
   -- what p sees of the package of that path
-  sees : (q : List ℕ) → (n : Option (List ℕ)) × IsSeenAs w known p.path q n (p.interface_of q)
+  sees : (q : List ℕ) → (n : Option (List ℕ)) × IsSeenAs w known p.path q n (p.export_data_of q)
   sees q =
       let h = is.is_checked in
-      let interfaces : h.interface_of ≡ p.interface_of = sym (ap (λ (x : Package). x.interface_of) h.is_package.is_package) in
-      (h.name_of q, subst (λ (i : List ℕ → Interface). IsSeenAs w known p.path q (h.name_of q) (i q)) interfaces (h.are_seen q))
+      let export_table : h.export_data_of ≡ p.export_data_of = sym (ap (λ (x : Package). x.export_data_of) h.is_package.is_package) in
+      (h.name_of q, subst (λ (i : List ℕ → ExportData). IsSeenAs w known p.path q (h.name_of q) (i q)) export_table (h.are_seen q))
 
   module _ (s : Symbol) (name : List ℕ) where
     own_symbol : s.package ≡ p.path → s ≡ symbol_in p s.rank
@@ -113,7 +113,7 @@ module _ (w : Workspace) (known : Verdicts) (right : AreVerdicts w known) (p : P
           (subst (λ x. (definitions x).field name ≡ Some f) at e)))
       | inr other ↦ (
           let away : s.package ≡ p.path → ⊥ = λ x. true≢false (sym ((bytes_decides s.package p.path).1 x) ∙ other) in
-          let i = p.interface_of s.package in
+          let i = p.export_data_of s.package in
           let there : (i.definition s.rank).field name ≡ Some f = subst (λ (d : Definition). d.field name ≡ Some f) (are.imported s.package s.rank away) e in
           let v = sees s.package in
           seen_table s.package v.0 i v.1 s.rank CountsAsField f.symbol
@@ -130,7 +130,7 @@ module _ (w : Workspace) (known : Verdicts) (right : AreVerdicts w known) (p : P
           (subst (λ x. (definitions x).method name ≡ Some m) at e)))
       | inr other ↦ (
           let away : s.package ≡ p.path → ⊥ = λ x. true≢false (sym ((bytes_decides s.package p.path).1 x) ∙ other) in
-          let i = p.interface_of s.package in
+          let i = p.export_data_of s.package in
           let there : (i.definition s.rank).method name ≡ Some m = subst (λ (d : Definition). d.method name ≡ Some m) (are.imported s.package s.rank away) e in
           let v = sees s.package in
           seen_table s.package v.0 i v.1 s.rank CountsAsMethod m.symbol
@@ -185,6 +185,6 @@ module _ (w : Workspace) (known : Verdicts) (right : AreVerdicts w known) (p : P
   pub member_owned : (name : List ℕ) (t : PlainType) (found : Member) → member_by definitions p.path name t ≡ Some found → IsOwned (declaration_of found)
   unfolding member_by
   member_owned name t found e =
-      let struct = struct_behind (λ s. (definitions s).underlying) t in
+      let struct = field_owner (λ s. (definitions s).underlying) t in
       first_owned (field_of definitions p.path name struct) (method_of definitions p.path name (owner t)) (field_found name struct)
       (method_found name (owner t)) found e

@@ -4,11 +4,11 @@ use Rattle.std.specs.Prelude.{Contains}
 use Rattle.base_files.specs.Packages.{package_paths}
 use Rattle.base_files.specs.Workspace.{Workspace}
 use Rattle.workspace_graph.specs.Packages.{PackageImports, IsInClosure, itself, through}
-use Rattle.workspace_graph.proofs.Asked.{has_file}
+use Rattle.workspace_graph.proofs.ByPath.{has_file}
 use Rattle.workspace_check.specs.Closures.{HasSameClosure}
 use Rattle.workspace_check.proofs.Closed.{in_closure_then}
 use Rattle.workspace_check.proofs.PackageFiles.{package_file}
-use Rattle.refs_lookup.specs.Reached.{IsReached, start, imported, KeepsReached}
+use Rattle.refs_lookup.specs.Reached.{IsReached, start, imported, HasSameReached}
 
 -- Each path of the closure is reached, and each reached path of a package is in the closure.
 
@@ -27,7 +27,7 @@ closed w p a (imported {r = r} c i) has = in_closure_then w p r a c (through i (
 next : (w : Workspace) (p a m : List ℕ) → IsReached w p a → PackageImports w a m → IsReached w p m
 next w p a m r i = imported (closed w p a r (has_file w a i.entry i.of_package)) i
 
-module _ (w x : Workspace) (p : List ℕ) (keeps : KeepsReached w x p) where
+module _ (w x : Workspace) (p : List ℕ) (keeps : HasSameReached w x p) where
   package_there : (a : List ℕ) → IsReached w p a → Contains (package_paths w) a → Contains (package_paths x) a
   package_there a r has = let e = package_file w a has in has_file x a e.0 ((keeps a r e.0).0 e.1)
 

@@ -7,11 +7,11 @@ use Rattle.base_files.specs.Workspace.{Workspace}
 use Rattle.base_files.specs.declared.place.Place.{Place}
 use Rattle.go_ast.specs.SourceFile.{SourceFile, offset_of, spelling_of}
 use Rattle.workspace_graph.specs.Packages.{IsInClosure, itself}
-use Rattle.types_info.proofs.BoundLists.{slice_get_some}
+use Rattle.types_info.proofs.MeaningLists.{slice_get_some}
 use Rattle.go_scope.specs.declared.model.Position.{Position}
 use Rattle.go_scope.specs.Bindings.{Counts, IsPackageLevel, block_of}
 use Rattle.go_scope.specs.FileSites.{files_sites, universe, package_sites}
-use Rattle.go_scope.specs.Parsed.{spelled_file}
+use Rattle.go_scope.specs.SpelledFiles.{spelled_file}
 use Rattle.types_declared.specs.Laid.{literal_of}
 use Rattle.types_declared.specs.Package.{Package, function_place}
 use Rattle.workspace_check.specs.Closures.{HasSameClosure}
@@ -22,13 +22,13 @@ use Rattle.workspace_check.proofs.MemberFiles.{field_file, function_file}
 use Rattle.workspace_check.proofs.PackageFiles.{package_file, some_tree}
 use Rattle.refs_binding.specs.declared.declaration.Declaration.{Declaration}
 use Rattle.refs_binding.specs.declared.declaration.Declaration.TheVariants.{Predeclared, Declared, Field, Method}
-use Rattle.refs_binding.specs.Binding.{IsPredeclared, BindsByScope, BindsByPackage, BindsByMember, BindsByName, by_scope, by_package, by_member, by_name}
-use Rattle.refs_binding.specs.Binding.{IsExportedUse, field_place}
+use Rattle.refs_binding.specs.Binding.{IsPredeclared, BindsByScope, BindsQualified, BindsByMember, DeclaresMember, by_scope, by_package, by_member, by_name}
+use Rattle.refs_binding.specs.Binding.{IsQualifiedUse, field_place}
 use Rattle.refs_binding.specs.Uses.{IsPackage, IsBoundTo}
 use Rattle.refs_lookup.proofs.OnePlace.{names_of}
 use Rattle.refs_binding.proofs.Folders.{file_in_folder}
-use Rattle.refs_binding.specs.Standing.{InPackage, TokenBegins, TokenAt, IsPositionOf, StandsIn, IsDeclaredAt}
-use Rattle.refs_lookup.specs.Within.{StandsWithin, IsDeclaredWithin, predeclared, stands}
+use Rattle.refs_binding.specs.DeclaringPlaces.{InPackage, TokenBegins, TokenAt, IsPositionOf, DeclaresAt, IsDeclaredAt}
+use Rattle.refs_lookup.specs.Within.{DeclaresWithin, IsDeclaredWithin, predeclared, stands}
 use Rattle.refs_lookup.proofs.Bindings.{behind_closed}
 use Rattle.refs_lookup.proofs.ImportSites.{predeclared_block}
 use Rattle.refs_lookup.proofs.NamedImports.{role_at, counted}
@@ -77,7 +77,7 @@ module _ (w : Workspace) (known : Verdicts) (p : List ℕ) (c : Package) (is : I
       stands b.place (record { declared = declared b.place b.begins; in_closure = subst (IsInClosure w p) (sym b.in_folder) closed })
 
   inside : (path : List ℕ) (d : Declaration) → c.path ≡ path → (at : Position) → IsPositionOf c d at → (place : Place) → TokenAt c at place →
-      InPackage (IsPackage w known) path (λ q. StandsIn q d place)
+      InPackage (IsPackage w known) path (λ q. DeclaresAt q d place)
   inside path d e at position place begins =
       record { inside = c; is_package = is; of_path = e; holds = record { at = at; is_at = position; begins = begins } }
 
@@ -101,7 +101,7 @@ module _ (w : Workspace) (known : Verdicts) (right : AreVerdicts w known) (p : P
   by_scope_within u (Field s) h = absurd h
   by_scope_within u (Method s) h = absurd h
 
-  export_within : (u : ℕ) (path : List ℕ) (n : ℕ) → IsExportedUse (IsPackage w known) p u path n → Within (Declared path n)
+  export_within : (u : ℕ) (path : List ℕ) (n : ℕ) → IsQualifiedUse (IsPackage w known) p u path n → Within (Declared path n)
   export_within u path n h =
       let has : Contains (package_paths w) path = subst (Contains (package_paths w)) h.of_path h.is_package.of_workspace in
       let closed : IsInClosure w p.path h.other.path =
@@ -109,7 +109,7 @@ module _ (w : Workspace) (known : Verdicts) (right : AreVerdicts w known) (p : P
       scope_within w known p.path h.other h.is_package closed path n h.of_path (not_predeclared w known h.other h.is_package n h.seen.package_level)
       h.seen.counts
 
-  by_package_within : (u : ℕ) (d : Declaration) → BindsByPackage (IsPackage w known) p u d → Within d
+  by_package_within : (u : ℕ) (d : Declaration) → BindsQualified (IsPackage w known) p u d → Within d
   by_package_within u (Predeclared n) h = absurd h
   by_package_within u (Declared path n) h = export_within u path n h
   by_package_within u (Field s) h = absurd h
@@ -118,7 +118,7 @@ module _ (w : Workspace) (known : Verdicts) (right : AreVerdicts w known) (p : P
   named_file : (u : ℕ) (at : Position) → (p.layout.place u).file ≡ at.file → at.file < length p.files
   named_file u at e = subst (λ k. k < length p.files) e (identifier_file w known p is u)
 
-  by_name_within : (u : ℕ) (d : Declaration) → BindsByName p u d → Within d
+  by_name_within : (u : ℕ) (d : Declaration) → DeclaresMember p u d → Within d
   by_name_within u (Predeclared n) h = absurd h
   by_name_within u (Declared path n) h = absurd h
   by_name_within u (Field s) h =
@@ -166,8 +166,8 @@ token_file (Some f) token place h = (f, (refl, h.0))
 
 module _ (w x : Workspace) (before after : Verdicts) (right : AreVerdicts w before) (also : AreVerdicts x after) (p : List ℕ)
     (same : HasSameClosure w x p) (place : Place) (closed : IsInClosure w p (folder place.path)) where
-  package_stands : (path : List ℕ) (d : Declaration) → InPackage (IsPackage w before) path (λ q. StandsIn q d place) →
-      InPackage (IsPackage x after) path (λ q. StandsIn q d place)
+  package_stands : (path : List ℕ) (d : Declaration) → InPackage (IsPackage w before) path (λ q. DeclaresAt q d place) →
+      InPackage (IsPackage x after) path (λ q. DeclaresAt q d place)
   package_stands path d h =
       let c = h.inside in
       let f = token_file (slice_get c.files h.holds.at.file) h.holds.at.index place h.holds.begins in
@@ -182,7 +182,7 @@ module _ (w x : Workspace) (before after : Verdicts) (right : AreVerdicts w befo
   declared_stays (Method s) h = package_stands s.package (Method s) h
 
 pub within_stays : (w x : Workspace) (before after : Verdicts) → AreVerdicts w before → AreVerdicts x after → (p : List ℕ) → HasSameClosure w x p →
-    (d : Declaration) (place : Place) → StandsWithin w before p d place → StandsWithin x after p d place
+    (d : Declaration) (place : Place) → DeclaresWithin w before p d place → DeclaresWithin x after p d place
 within_stays w x before after right also p same d place h = record {
   declared = declared_stays w x before after right also p same place h.in_closure d h.declared;
   in_closure = closed_there w x p same (folder place.path) h.in_closure;

@@ -17,11 +17,11 @@ use Rattle.types_expr.specs.Types.{Meaning, Value, Results, Broken}
 use Rattle.types_expr.specs.World.{World, Locals}
 use Rattle.types_expr.specs.Judge.{MemberUse, TypeJudged, judge, judge_value, judge_type, as_value, followed}
 use Rattle.types_stmt.specs.Checked.{Checked, check_items, check_group}
-use Rattle.types_stmt.specs.Sides.{Target, Lefts, values_of, judge_each, rights, assignable, judge_operand, assigned_one, assigned, no_name, declares, renewed}
+use Rattle.types_stmt.specs.Sides.{Target, Lefts, values_of, judge_each, rhs, assignable, judge_operand, assigned_one, assigned, no_name, declares, reassigned}
 use Rattle.types_stmt.specs.Sides.{defined_one, defined}
-use Rattle.types_stmt.specs.Simple.{check_condition, check_step, check_update, check_alone, check_assign, check_define, check_simple, check_optional}
-use Rattle.types_stmt.specs.Simple.{check_optional_condition, check_written, check_unwritten, check_local_of, check_local}
-use Rattle.types_stmt.specs.Statements.{check_return, check_init, check_header, check_statement, check_block, check_statements, check_if, check_else}
+use Rattle.types_stmt.specs.Simple.{check_condition, check_step, check_update, check_expr_statement, check_assign, check_define, check_simple, check_optional_simple}
+use Rattle.types_stmt.specs.Simple.{check_optional_condition, check_typed_local, check_untyped_local, check_local_of, check_local}
+use Rattle.types_stmt.specs.Statements.{check_return, check_init, check_for_header, check_statement, check_block, check_statements, check_if, check_else}
 use Rattle.types_stmt.specs.Headers.{judge_results, check_optional_receiver, check_receiver, check_param, check_signature, check_function}
 use Rattle.types_stmt.specs.Declarations.{check_global, check_type, check_decl, check_decls, check_file}
 use Rattle.refs_lookup.proofs.Picked.{Passes, pass_append, pass_none, pass_behind, pass_before, walk_passes}
@@ -57,8 +57,8 @@ unfolding all_tokens
 one_pass w us i p =
     pass_behind w us (item_tokens kind.Comma expr_tokens i) [] (pass_behind w us (expr_tokens i.value) (sign_if kind.Comma i.separator) p)
 
-rights_pass : (w : World) (ls : Locals) (es : List (Item ExprTree)) → Passes w (rights w ls es).uses (exprs_tokens es)
-unfolding rights
+rights_pass : (w : World) (ls : Locals) (es : List (Item ExprTree)) → Passes w (rhs w ls es).uses (exprs_tokens es)
+unfolding rhs
 rights_pass w ls [] = each_pass w ls []
 rights_pass w ls (i ∷ []) =
     one_pass w ((judge w ls i.value).uses ++ (values_of (place_of i.value) (judge w ls i.value).meaning).uses) i
@@ -100,7 +100,7 @@ unnamed_pass w ls e =
 defined_pass : (w : World) (ls : Locals) (e : ExprTree) → Passes w (defined_one w ls e).uses (expr_tokens e)
 unfolding defined_one
 defined_pass w ls (Blank p) = pass_none w (expr_tokens (Blank p))
-defined_pass w ls (Name p) = lefts_if w (declares w p) _ (renewed w ls p) (expr_tokens (Name p)) (pass_none w (expr_tokens (Name p))) (value_pass w ls (Name p))
+defined_pass w ls (Name p) = lefts_if w (declares w p) _ (reassigned w ls p) (expr_tokens (Name p)) (pass_none w (expr_tokens (Name p))) (value_pass w ls (Name p))
 defined_pass w ls e = unnamed_pass w ls e
 
 lefts_pass : (w : World) (es : List (Item ExprTree)) (f : ExprTree → Lefts) → ((e : ExprTree) → Passes w (f e).uses (expr_tokens e)) →
@@ -163,7 +163,7 @@ unfolding check_condition
 condition_grows w s e ts h = pass_append w s.uses (judge_value w s.locals e).uses ts (expr_tokens e) h (value_pass w s.locals e)
 
 simple_grows : (w : World) (s : Checked) (x : SimpleTree) → Grows w s (check_simple w s x) (simple_tokens x)
-unfolding check_simple check_step check_update check_alone check_assign check_define simple_tokens
+unfolding check_simple check_step check_update check_expr_statement check_assign check_define simple_tokens
 simple_grows w s (Alone e) = λ ts h. pass_append w s.uses (judge w s.locals e).uses ts (expr_tokens e) h (expr_pass w s.locals e)
 simple_grows w s (Step e op p) = λ ts h.
     pass_append w s.uses (judge_operand w s.locals e).uses ts (expr_tokens e ++ (sign (step_kind op) p ∷ [])) h
@@ -174,15 +174,15 @@ simple_grows w s (Update x op p y) = λ ts h.
     (pass_append w (judge_operand w s.locals x).uses (judge_value w s.locals y).uses (expr_tokens x) (sign (update_kind op) p ∷ expr_tokens y)
     (operand_pass w s.locals x) (pass_before w (judge_value w s.locals y).uses (sign (update_kind op) p ∷ []) (expr_tokens y) (value_pass w s.locals y)))
 simple_grows w s (Assign xs p ys) = λ ts h.
-    pass_append w s.uses ((assigned w s.locals xs).uses ++ (rights w s.locals ys).uses) ts (exprs_tokens xs ++ (sign kind.Assign p ∷ exprs_tokens ys)) h
-    (pass_append w (assigned w s.locals xs).uses (rights w s.locals ys).uses (exprs_tokens xs) (sign kind.Assign p ∷ exprs_tokens ys)
-    (all_assigned w s.locals xs) (pass_before w (rights w s.locals ys).uses (sign kind.Assign p ∷ []) (exprs_tokens ys) (rights_pass w s.locals ys)))
+    pass_append w s.uses ((assigned w s.locals xs).uses ++ (rhs w s.locals ys).uses) ts (exprs_tokens xs ++ (sign kind.Assign p ∷ exprs_tokens ys)) h
+    (pass_append w (assigned w s.locals xs).uses (rhs w s.locals ys).uses (exprs_tokens xs) (sign kind.Assign p ∷ exprs_tokens ys)
+    (all_assigned w s.locals xs) (pass_before w (rhs w s.locals ys).uses (sign kind.Assign p ∷ []) (exprs_tokens ys) (rights_pass w s.locals ys)))
 simple_grows w s (Define xs p ys) = λ ts h.
-    pass_append w s.uses ((defined w s.locals xs).uses ++ (rights w s.locals ys).uses) ts (exprs_tokens xs ++ (sign kind.Define p ∷ exprs_tokens ys)) h
-    (pass_append w (defined w s.locals xs).uses (rights w s.locals ys).uses (exprs_tokens xs) (sign kind.Define p ∷ exprs_tokens ys)
-    (all_defined w s.locals xs) (pass_before w (rights w s.locals ys).uses (sign kind.Define p ∷ []) (exprs_tokens ys) (rights_pass w s.locals ys)))
+    pass_append w s.uses ((defined w s.locals xs).uses ++ (rhs w s.locals ys).uses) ts (exprs_tokens xs ++ (sign kind.Define p ∷ exprs_tokens ys)) h
+    (pass_append w (defined w s.locals xs).uses (rhs w s.locals ys).uses (exprs_tokens xs) (sign kind.Define p ∷ exprs_tokens ys)
+    (all_defined w s.locals xs) (pass_before w (rhs w s.locals ys).uses (sign kind.Define p ∷ []) (exprs_tokens ys) (rights_pass w s.locals ys)))
 
-optional_grows : (w : World) (s : Checked) (x : Option SimpleTree) → Grows w s (check_optional w s x) (tokens_if simple_tokens x)
+optional_grows : (w : World) (s : Checked) (x : Option SimpleTree) → Grows w s (check_optional_simple w s x) (tokens_if simple_tokens x)
 optional_grows w s None = grows_none w s []
 optional_grows w s (Some x) = simple_grows w s x
 
@@ -191,20 +191,20 @@ optional_condition_grows w s None = grows_none w s []
 optional_condition_grows w s (Some e) = condition_grows w s e
 
 written_grows : (w : World) (s : Checked) (names : List (Item IdentTree)) (t : TypeJudged) (v : Option (ℕ × List (Item ExprTree))) →
-    Grows w s (check_written w s names t v) (tokens_if (value_tokens expr_tokens) v)
-unfolding check_written
+    Grows w s (check_typed_local w s names t v) (tokens_if (value_tokens expr_tokens) v)
+unfolding check_typed_local
 written_grows w s names t None = λ ts h. pass_append w s.uses [] ts [] h (pass_none w [])
 written_grows w s names t (Some v) = λ ts h.
-    pass_append w s.uses (rights w s.locals v.1).uses ts (value_tokens expr_tokens v) h
-    (pass_before w (rights w s.locals v.1).uses (sign kind.Assign v.0 ∷ []) (exprs_tokens v.1) (rights_pass w s.locals v.1))
+    pass_append w s.uses (rhs w s.locals v.1).uses ts (value_tokens expr_tokens v) h
+    (pass_before w (rhs w s.locals v.1).uses (sign kind.Assign v.0 ∷ []) (exprs_tokens v.1) (rights_pass w s.locals v.1))
 
 unwritten_grows : (w : World) (s : Checked) (names : List (Item IdentTree)) (v : Option (ℕ × List (Item ExprTree))) →
-    Grows w s (check_unwritten w s names v) (tokens_if (value_tokens expr_tokens) v)
-unfolding check_unwritten
+    Grows w s (check_untyped_local w s names v) (tokens_if (value_tokens expr_tokens) v)
+unfolding check_untyped_local
 unwritten_grows w s names None = λ ts h. pass_append w s.uses [] ts [] h (pass_none w [])
 unwritten_grows w s names (Some v) = λ ts h.
-    pass_append w s.uses (rights w s.locals v.1).uses ts (value_tokens expr_tokens v) h
-    (pass_before w (rights w s.locals v.1).uses (sign kind.Assign v.0 ∷ []) (exprs_tokens v.1) (rights_pass w s.locals v.1))
+    pass_append w s.uses (rhs w s.locals v.1).uses ts (value_tokens expr_tokens v) h
+    (pass_before w (rhs w s.locals v.1).uses (sign kind.Assign v.0 ∷ []) (exprs_tokens v.1) (rights_pass w s.locals v.1))
 
 local_of_grows : (w : World) (s : Checked) (names : List (Item IdentTree)) (t : Option TypeTree) (v : Option (ℕ × List (Item ExprTree))) →
     Grows w s (check_local_of w s names t v) (tokens_if (value_tokens expr_tokens) v)
@@ -223,16 +223,16 @@ init_grows : (w : World) (s : Checked) (i : Option InitTree) → Grows w s (chec
 unfolding init_tokens
 init_grows w s None = grows_none w s []
 init_grows w s (Some i) =
-    grows_before w s (check_optional w s i.simple) (tokens_if simple_tokens i.simple) (sign kind.Semicolon i.semicolon ∷ []) (optional_grows w s i.simple)
+    grows_before w s (check_optional_simple w s i.simple) (tokens_if simple_tokens i.simple) (sign kind.Semicolon i.semicolon ∷ []) (optional_grows w s i.simple)
 
-header_grows : (w : World) (s : Checked) (f : ForTree) → Grows w s (check_header w s f) (for_tokens f)
-unfolding check_header for_tokens
+header_grows : (w : World) (s : Checked) (f : ForTree) → Grows w s (check_for_header w s f) (for_tokens f)
+unfolding check_for_header for_tokens
 header_grows w s forever = grows_none w s []
 header_grows w s (while e) = condition_grows w s e
 header_grows w s (clauses init p condition q post) =
-    let a = check_optional w s init in
+    let a = check_optional_simple w s init in
     let b = check_optional_condition w a condition in
-    let c = check_optional w b post in
+    let c = check_optional_simple w b post in
     grows_then w s a c (tokens_if simple_tokens init)
     (sign kind.Semicolon p ∷ (tokens_if expr_tokens condition ++ (sign kind.Semicolon q ∷ tokens_if simple_tokens post))) (optional_grows w s init)
     (grows_behind w a c (sign kind.Semicolon p) (tokens_if expr_tokens condition ++ (sign kind.Semicolon q ∷ tokens_if simple_tokens post))
@@ -242,7 +242,7 @@ header_grows w s (clauses init p condition q post) =
 return_grows : (w : World) (s : Checked) (place : ℕ) (results : List Target) (es : List (Item ExprTree)) →
     Grows w s (check_return w s place results es) (exprs_tokens es)
 unfolding check_return
-return_grows w s place results es = λ ts h. pass_append w s.uses (rights w s.locals es).uses ts (exprs_tokens es) h (rights_pass w s.locals es)
+return_grows w s place results es = λ ts h. pass_append w s.uses (rhs w s.locals es).uses ts (exprs_tokens es) h (rights_pass w s.locals es)
 
 mutual
   unfolding check_statement check_block check_statements check_if check_else statement_tokens block_tokens statements_tokens if_tokens else_tokens
@@ -256,7 +256,7 @@ mutual
   statement_grows w results s (Inner b) = block_grows w results s b
   statement_grows w results s (If i) = if_grows w results s i
   statement_grows w results s (For p f b) =
-      let a = check_header w s f in
+      let a = check_for_header w s f in
       let c = check_block w results a b in
       grows_behind w s c (sign kind.For p) (for_tokens f ++ block_tokens b)
       (grows_then w s a c (for_tokens f) (block_tokens b) (header_grows w s f) (block_grows w results a b))

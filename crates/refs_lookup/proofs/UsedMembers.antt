@@ -7,7 +7,7 @@ use Rattle.go_ast.specs.SourceFile.{SourceFile, FileParts, IsSourceFile, source_
 use Rattle.go_scope.specs.declared.model.Purpose.TheVariants as purpose
 use Rattle.go_scope.specs.declared.model.Role.TheVariants.{NotLexical}
 use Rattle.go_scope.specs.Bindings.{IsIdentifier}
-use Rattle.law_tokens.specs.Roles.{IsToldByTokens}
+use Rattle.law_tokens.specs.Roles.{FitsTokens}
 use Rattle.law_tokens.proofs.HeldBytes.{source_file_at}
 use Rattle.law_tokens.proofs.Lexical.{never_bound}
 use Rattle.law_tokens.proofs.OwnPaths.{package_sources, part_at}
@@ -15,17 +15,17 @@ use Rattle.law_tokens.proofs.Roles.{named_role_told}
 use Rattle.types_expr.specs.Judge.{MemberUse}
 use Rattle.types_expr.specs.World.{World}
 use Rattle.types_stmt.specs.Declarations.{check_file}
-use Rattle.refs_lookup.specs.Places.{StandsAtLink, as_key, as_selected}
+use Rattle.refs_lookup.specs.Places.{IsMemberToken, as_key, as_selected}
 use Rattle.refs_lookup.proofs.LinkPlaces.{one_at_token, stands_at_link}
 use Rattle.types_declared.specs.Package.{Package}
-use Rattle.types_info.specs.Uniqueness.{IsOneWorld}
+use Rattle.types_info.specs.Uniqueness.{HasOneWorld}
 use Rattle.types_info.specs.Worlds.{IsWorldOf, is_init}
-use Rattle.types_info.proofs.OneWorld.{one_world}
+use Rattle.types_info.proofs.OneWorld.{has_one_world}
 use Rattle.workspace_check.specs.Verdicts.{Verdicts, IsPackageIn}
 use Rattle.workspace_check.proofs.OnePackage.{layout_formed, files_in_order}
 use Rattle.refs_binding.specs.declared.declaration.Declaration.{Declaration}
-use Rattle.refs_binding.specs.Binding.{BindsByScope, BindsByMember, BindsByName, IsMemberAt, declaration_of}
-use Rattle.refs_binding.specs.Identifiers.{Stands}
+use Rattle.refs_binding.specs.Binding.{BindsByScope, BindsByMember, DeclaresMember, UsesMemberAt, declaration_of}
+use Rattle.refs_binding.specs.Identifiers.{IsInFiles}
 use Rattle.refs_binding.proofs.Excluding.{number_bound}
 use Rattle.refs_binding.proofs.MemberParts.{one_list}
 use Rattle.refs_lookup.proofs.NamedMembers.{name_member}
@@ -41,12 +41,12 @@ module _ (w : Workspace) (known : Verdicts) (path : List ℕ) (p : Package) (h :
       let t = part_of file s is in
       subst IsSourceFile t.1.1 (source_file_at h.files (package_sources w path h.files h.parsed) file t.0 t.1.0)
 
-  is_one_world : IsOneWorld p
-  is_one_world = one_world p (layout_formed w known path p h) (files_in_order w known path p h)
+  is_one_world : HasOneWorld p
+  is_one_world = has_one_world p (layout_formed w known path p h) (files_in_order w known path p h)
 
   -- one use, and so one member
 
-  pub one_member : (file token : ℕ) (d e : Declaration) → IsMemberAt p file token d → IsMemberAt p file token e → d ≡ e
+  pub one_member : (file token : ℕ) (d e : Declaration) → UsesMemberAt p file token d → UsesMemberAt p file token e → d ≡ e
   one_member file token d e a b =
       let s = a.judged.source in
       let lists : b.uses ≡ a.uses = one_list p is_one_world file b.uses a.uses b.judged a.judged in
@@ -64,11 +64,11 @@ module _ (w : Workspace) (known : Verdicts) (path : List ℕ) (p : Package) (h :
 
   -- what the tokens tell of an identifier
 
-  told : (u : ℕ) → Stands p u → (t : FileParts) → slice_get h.files (p.layout.place u).file ≡ Some t →
-      IsToldByTokens t.cut (p.layout.place u).index (p.layout.role u)
+  told : (u : ℕ) → IsInFiles p u → (t : FileParts) → slice_get h.files (p.layout.place u).file ≡ Some t →
+      FitsTokens t.cut (p.layout.place u).index (p.layout.role u)
   told u stands t =
       let layout = same_layout w known path p h in
-      subst (λ l. slice_get h.files (l.place u).file ≡ Some t → IsToldByTokens t.cut (l.place u).index (l.role u)) (sym layout)
+      subst (λ l. slice_get h.files (l.place u).file ≡ Some t → FitsTokens t.cut (l.place u).index (l.role u)) (sym layout)
       (named_role_told (names_of w known path p h) h.files (package_sources w path h.files h.parsed) u
       (subst (λ n. u < n) (same_size w known path p h) stands.0) (subst (λ l. IsIdentifier l u) layout stands.1) t)
 
@@ -76,22 +76,22 @@ module _ (w : Workspace) (known : Verdicts) (path : List ℕ) (p : Package) (h :
   abbrev HasLinkRole : ℕ → Type 0
   HasLinkRole u = (p.layout.role u ≡ NotLexical purpose.Key) ⊎ (p.layout.role u ≡ NotLexical purpose.Selected)
 
-  by_link : (v : World) (u : ℕ) → Stands p u → (t : FileParts) → slice_get h.files (p.layout.place u).file ≡ Some t →
-      StandsAtLink v t.cut (p.layout.place u).index → HasLinkRole u
+  by_link : (v : World) (u : ℕ) → IsInFiles p u → (t : FileParts) → slice_get h.files (p.layout.place u).file ≡ Some t →
+      IsMemberToken v t.cut (p.layout.place u).index → HasLinkRole u
   by_link v u stands t is (as_key colon) = inl ((told u stands t is).key.1 colon)
   by_link v u stands t is (as_selected dot other) = inr ((told u stands t is).selected.1 dot)
 
-  pub link_role : (u : ℕ) (d : Declaration) → Stands p u → BindsByMember p u d → HasLinkRole u
+  pub link_role : (u : ℕ) (d : Declaration) → IsInFiles p u → BindsByMember p u d → HasLinkRole u
   link_role u d stands a =
       let s = a.judged.source in
       let t = part_of (p.layout.place u).file s a.judged.in_file in
       let own : Contains (check_file a.judged.world (is_init s) s.tree).uses a.found = subst (λ us. Contains us a.found) a.judged.found a.is_use in
       let link = stands_at_link a.judged.world (is_init s) s (is_source (p.layout.place u).file s a.judged.in_file) a.found own in
       by_link a.judged.world u stands t.0 t.1.0
-      (subst (λ n. StandsAtLink a.judged.world t.0.cut n) a.at
-      (subst (λ (z : SourceFile). StandsAtLink a.judged.world z.cut a.found.place) (sym t.1.1) link))
+      (subst (λ n. IsMemberToken a.judged.world t.0.cut n) a.at
+      (subst (λ (z : SourceFile). IsMemberToken a.judged.world z.cut a.found.place) (sym t.1.1) link))
 
-  pub member_not_scope : (u : ℕ) (d e : Declaration) → Stands p u → BindsByMember p u d → BindsByScope p u e → ⊥
+  pub member_not_scope : (u : ℕ) (d e : Declaration) → IsInFiles p u → BindsByMember p u d → BindsByScope p u e → ⊥
   member_not_scope u d e stands a k =
       let n = number_bound p u e k in
       elim (link_role u d stands a) [
@@ -99,7 +99,7 @@ module _ (w : Workspace) (known : Verdicts) (path : List ℕ) (p : Package) (h :
         | inr selected ↦ never_bound p.layout p.names u n.0 purpose.Selected selected n.1
       ]
 
-  pub member_not_name : (u : ℕ) (d e : Declaration) → Stands p u → BindsByMember p u d → BindsByName p u e → ⊥
+  pub member_not_name : (u : ℕ) (d e : Declaration) → IsInFiles p u → BindsByMember p u d → DeclaresMember p u e → ⊥
   member_not_name u d e stands a k =
       let name = name_member w known path p h u e stands.0 k in
       elim (link_role u d stands a) [

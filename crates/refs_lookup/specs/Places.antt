@@ -5,18 +5,18 @@ use Rattle.go_ast.specs.declared.syntax.Kind.{Kind}
 use Rattle.go_ast.specs.declared.syntax.Kind.TheVariants.{Colon}
 use Rattle.types_expr.specs.Types.{Package}
 use Rattle.types_expr.specs.World.{World, Means}
-use Rattle.law_tokens.specs.Roles.{IsOfKind, IsBehindDot}
-use Rattle.law_tokens.specs.Tokens.{is_name}
+use Rattle.law_tokens.specs.Roles.{IsOfKind, FollowsDot}
+use Rattle.law_tokens.specs.Tokens.{is_ident}
 
 -- The token is an identifier or `_` that is bound to a package, and no dot is before it.
 pub record IsPackageName (w : World) (c : CutText) (token : ℕ) : Type 0 where
   pub kind : Kind
   pub of_kind : IsOfKind c token kind
-  pub named : is_name kind ≡ true
-  pub undotted : IsBehindDot c token → ⊥
+  pub named : is_ident kind ≡ true
+  pub undotted : FollowsDot c token → ⊥
   pub names : w.bound token ≡ Means Package
 
 -- A colon follows the token, or a dot precedes it that does not come after the name of a package.
-pub data StandsAtLink (w : World) (c : CutText) (place : ℕ) : Type 0 where
-  as_key : IsOfKind c (suc place) Colon → StandsAtLink w c place
-  as_selected : IsBehindDot c place → ((token : ℕ) → suc (suc token) ≡ place → IsPackageName w c token → ⊥) → StandsAtLink w c place
+pub data IsMemberToken (w : World) (c : CutText) (place : ℕ) : Type 0 where
+  as_key : IsOfKind c (suc place) Colon → IsMemberToken w c place
+  as_selected : FollowsDot c place → ((token : ℕ) → suc (suc token) ≡ place → IsPackageName w c token → ⊥) → IsMemberToken w c place

@@ -10,5 +10,5 @@ pub data IsReached (w : Workspace) (p : List ℕ) : List ℕ → Type 0 where
   imported : {r q : List ℕ} → IsInClosure w p r → PackageImports w r q → IsReached w p q
 
 -- Each path reached from `p` in `w` has the same files in both workspaces.
-abbrev pub KeepsReached : Workspace → Workspace → List ℕ → Type 0
-KeepsReached w x p = (q : List ℕ) → IsReached w p q → (file : List ℕ × List ℕ) → Contains (package_files w q) file ↔ Contains (package_files x q) file
+abbrev pub HasSameReached : Workspace → Workspace → List ℕ → Type 0
+HasSameReached w x p = (q : List ℕ) → IsReached w p q → (file : List ℕ × List ℕ) → Contains (package_files w q) file ↔ Contains (package_files x q) file

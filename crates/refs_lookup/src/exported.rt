@@ -1,6 +1,6 @@
 //! Finds the declaration that a package exports under a name.
 ghost use Rattle.std.specs.Prelude.{ℕ, ◌≡◌, ◌<◌, ◌↔◌, Some, length, IsTrue, MatchOption};
-ghost use Rattle.types_check.specs.Interfaces.{IsSeen};
+ghost use Rattle.types_check.specs.Exports.{DoesExport};
 ghost use Rattle.types_declared.specs.PackageView.{package_of};
 
 use types_check::is_seen;
@@ -18,7 +18,7 @@ pub fn has_name(unit: Package<'_>, u: usize, name: &[u8]) -> bool
 fn is_exported_as(unit: Package<'_>, d: usize, name: &[u8]) -> bool
     requires { d < length unit.table.now.sites }
     ensures { let p = package_of unit.entry in
-        IsTrue result ↔ (IsSeen p d × (p.names d ≡ name.now)) }
+        IsTrue result ↔ (DoesExport p d × (p.names d ≡ name.now)) }
 {
     has_name(unit, d, name) && is_seen(unit, d)
 }
@@ -26,7 +26,7 @@ fn is_exported_as(unit: Package<'_>, d: usize, name: &[u8]) -> bool
 /// Returns the number of the declaration that a package exports under a name.
 pub fn exported_as(unit: Package<'_>, name: &[u8]) -> Option<usize>
     ensures { let p = package_of unit.entry in
-        MatchOption result ((d : ℕ) → IsSeen p d → p.names d ≡ name.now → ⊥) (λ d. IsSeen p d × (p.names d ≡ name.now)) }
+        MatchOption result ((d : ℕ) → DoesExport p d → p.names d ≡ name.now → ⊥) (λ d. DoesExport p d × (p.names d ≡ name.now)) }
 {
     for d in 0..unit.table.len() {
         if is_exported_as(unit, d, name) {

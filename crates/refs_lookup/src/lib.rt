@@ -2,15 +2,15 @@
 //! package determines its bindings.
 #![tactic(auto)]
 
-mod asked;
+pub mod closure_laws;
+mod declaration_at_byte;
 mod exported;
-mod holding;
+mod identifier_at_byte;
 pub mod laws;
+pub mod member_tokens;
 mod own_name;
-pub mod steady;
 pub mod unique;
 mod used_member;
-pub mod walk;
 
-pub use asked::{declaration_at, declaration_in_unit};
+pub use declaration_at_byte::{declaration_at, declaration_in_package};
 pub use exported::has_name;

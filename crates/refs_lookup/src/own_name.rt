@@ -2,8 +2,8 @@
 ghost use Rattle.std.specs.Prelude.{ℕ, ◌≡◌, ◌<◌, ◌↔◌, Some, None, length, slice_index_or, IsTrue, IfOk, MatchOption};
 ghost use Rattle.go_scope.specs.Bindings.{IsIdentifier};
 ghost use Rattle.types_declared.specs.PackageView.{package_of, IsIndexOf};
-ghost use Rattle.refs_binding.specs.Binding.{BindsByName};
-ghost use Rattle.refs_binding.specs.Steps.{IsDeclarationFound, NamesField, NamesMethod};
+ghost use Rattle.refs_binding.specs.Binding.{DeclaresMember};
+ghost use Rattle.refs_binding.specs.Steps.{IsDeclarationResult, DeclaresField, DeclaresMethod};
 
 use go_scope::model::Position;
 use refs_binding::own_names::{place_of, symbol};
@@ -43,7 +43,7 @@ fn own_field(
     requires index { IsIndexOf (package_of unit) index.now }
     requires in_range { u < length unit.table.now.sites }
     requires stands { IsIdentifier (package_of unit).layout u }
-    ensures { IfOk result (IsDeclarationFound (NamesField (package_of unit.entry) u)) }
+    ensures { IfOk result (IsDeclarationResult (DeclaresField (package_of unit.entry) u)) }
 {
     let places = field_places(alloc, unit, index)?;
     match rank_at(&places, unit.table.place(u)) {
@@ -62,7 +62,7 @@ fn own_method(
     requires index { IsIndexOf (package_of unit) index.now }
     requires in_range { u < length unit.table.now.sites }
     requires stands { IsIdentifier (package_of unit).layout u }
-    ensures { IfOk result (IsDeclarationFound (NamesMethod (package_of unit.entry) u)) }
+    ensures { IfOk result (IsDeclarationResult (DeclaresMethod (package_of unit.entry) u)) }
 {
     let places = method_places(alloc, unit, index)?;
     match rank_at(&places, unit.table.place(u)) {
@@ -80,7 +80,7 @@ pub fn declaration_by_name(
 ) -> Result<Option<Declaration>, AllocError>
     requires index { IsIndexOf (package_of unit) index.now }
     requires in_range { u < length unit.table.now.sites }
-    ensures { IfOk result (IsDeclarationFound (BindsByName (package_of unit.entry) u)) }
+    ensures { IfOk result (IsDeclarationResult (DeclaresMember (package_of unit.entry) u)) }
 {
     if unit.table.role(u).is_implied() {
         return Ok(None);

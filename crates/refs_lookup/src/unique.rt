@@ -5,33 +5,33 @@ ghost use Rattle.base_files.specs.declared.place.Place.{Place};
 ghost use Rattle.base_files.specs.declared.refusal.Refusal.{Refusal};
 ghost use Rattle.base_files.specs.declared.refusal.Refusal.TheVariants.{Memory};
 ghost use Rattle.go_scope.specs.Bindings.{MayDeclare, is_use};
-ghost use Rattle.go_scope.specs.Table.{StandsAt};
+ghost use Rattle.go_scope.specs.Table.{LiesAt};
 ghost use Rattle.types_declared.specs.Definitions.{PlacedField, package_fields, IsMethodOf};
 ghost use Rattle.types_declared.specs.Package.{Package, PlacedFunction, function_place};
 ghost use Rattle.workspace_check.specs.FaultLists.{ListsFaults};
 ghost use Rattle.workspace_check.specs.Verdicts.{Verdicts, AreVerdicts};
 ghost use Rattle.refs_binding.specs.declared.declaration.Declaration.{Declaration};
 ghost use Rattle.refs_binding.specs.declared.declaration.Declaration.TheVariants.{Declared};
-ghost use Rattle.types_info.specs.Qualified.{IsBehindPackage};
-ghost use Rattle.refs_binding.specs.Binding.{BindsByPackage, BindsByMember, BindsByName, field_place};
-ghost use Rattle.refs_binding.specs.Identifiers.{Stands};
-ghost use Rattle.refs_binding.specs.Uses.{IsPackage, IsBoundTo, IsUseOf, HasDeclaration, ListsUses, TellsUses};
+ghost use Rattle.types_info.specs.QualifiedIdentifiers.{IsQualifiedByPath};
+ghost use Rattle.refs_binding.specs.Binding.{BindsQualified, BindsByMember, DeclaresMember, field_place};
+ghost use Rattle.refs_binding.specs.Identifiers.{IsInFiles};
+ghost use Rattle.refs_binding.specs.Uses.{IsPackage, IsBoundTo, IsUseOf, HasDeclaration, ListsUses, AnswersUses};
 
 /// A use of a member is not `N` in a qualified identifier `q.N`.
 pub fn used_members_exclude_packages()
-    ensures { (w : Workspace) → (known : Verdicts) → (p : Package) → IsPackage w known p → (u : ℕ) → (d e : Declaration) → Stands p u →
-        BindsByMember p u d → BindsByPackage (IsPackage w known) p u e → ⊥ }
+    ensures { (w : Workspace) → (known : Verdicts) → (p : Package) → IsPackage w known p → (u : ℕ) → (d e : Declaration) → IsInFiles p u →
+        BindsByMember p u d → BindsQualified (IsPackage w known) p u e → ⊥ }
 {}
 
 /// An identifier is the declaring identifier of at most one field or method.
 pub fn one_declaration_by_name()
     ensures { (w : Workspace) → (known : Verdicts) → (p : Package) → IsPackage w known p → (u : ℕ) → (d e : Declaration) →
-        BindsByName p u d → BindsByName p u e → d ≡ e }
+        DeclaresMember p u d → DeclaresMember p u e → d ≡ e }
 {}
 
 /// An identifier is bound to at most one declaration.
 pub fn one_declaration()
-    ensures { (w : Workspace) → (known : Verdicts) → (p : Package) → IsPackage w known p → (u : ℕ) → Stands p u → (d e : Declaration) →
+    ensures { (w : Workspace) → (known : Verdicts) → (p : Package) → IsPackage w known p → (u : ℕ) → IsInFiles p u → (d e : Declaration) →
         IsBoundTo w known p u d → IsBoundTo w known p u e → d ≡ e }
 {}
 
@@ -47,27 +47,27 @@ pub fn uses_are_unique()
     ensures lists { (w : Workspace) → (path : List ℕ) → (offset : ℕ) → (places others : List Place) →
         ListsUses w path offset places → ListsUses w path offset others → places ≡ others }
     ensures answers { (w : Workspace) → (path : List ℕ) → (offset : ℕ) → (r s : Result (List Place) Refusal) →
-        TellsUses w path offset r → TellsUses w path offset s → (r ≡ Err Memory → ⊥) → (s ≡ Err Memory → ⊥) → r ≡ s }
+        AnswersUses w path offset r → AnswersUses w path offset s → (r ≡ Err Memory → ⊥) → (s ≡ Err Memory → ⊥) → r ≡ s }
 {}
 
 /// In a workspace without faults, each identifier that may declare or is a lexical use is bound to some declaration.
 pub fn lexical_names_are_bound()
-    ensures { (w : Workspace) → ListsFaults w [] → (known : Verdicts) → AreVerdicts w known → (p : Package) → IsPackage w known p → (u : ℕ) → Stands p u →
+    ensures { (w : Workspace) → ListsFaults w [] → (known : Verdicts) → AreVerdicts w known → (p : Package) → IsPackage w known p → (u : ℕ) → IsInFiles p u →
         MayDeclare p.layout u ⊎ (is_use (p.layout.role u) ≡ true) → ((d : Declaration) → IsBoundTo w known p u d → ⊥) → ⊥ }
 {}
 
 /// In a workspace without faults, the declaring identifier of each field, and of each method of a type definition of the package, is bound.
 pub fn declared_members_are_bound()
     ensures fields { (w : Workspace) → ListsFaults w [] → (known : Verdicts) → AreVerdicts w known → (p : Package) → IsPackage w known p →
-        (rank : ℕ) → (f : PlacedField) → slice_get (package_fields p) rank ≡ Some f → (u : ℕ) → StandsAt p.layout (field_place f) u →
+        (rank : ℕ) → (f : PlacedField) → slice_get (package_fields p) rank ≡ Some f → (u : ℕ) → LiesAt p.layout (field_place f) u →
         ((d : Declaration) → IsBoundTo w known p u d → ⊥) → ⊥ }
     ensures methods { (w : Workspace) → ListsFaults w [] → (known : Verdicts) → AreVerdicts w known → (p : Package) → IsPackage w known p →
         (definition rank : ℕ) → (name : List ℕ) → (f : PlacedFunction) → IsMethodOf p definition name rank f →
-        (u : ℕ) → StandsAt p.layout (function_place f) u → ((d : Declaration) → IsBoundTo w known p u d → ⊥) → ⊥ }
+        (u : ℕ) → LiesAt p.layout (function_place f) u → ((d : Declaration) → IsBoundTo w known p u d → ⊥) → ⊥ }
 {}
 
 /// In a workspace without faults, `N` in a qualified identifier `q.N` is bound to a declaration of the package that `q` names.
 pub fn names_behind_packages_are_bound()
-    ensures { (w : Workspace) → ListsFaults w [] → (known : Verdicts) → AreVerdicts w known → (p : Package) → IsPackage w known p → (u : ℕ) → Stands p u →
-        (path : List ℕ) → IsBehindPackage p u path → (d : ℕ) × IsBoundTo w known p u (Declared path d) }
+    ensures { (w : Workspace) → ListsFaults w [] → (known : Verdicts) → AreVerdicts w known → (p : Package) → IsPackage w known p → (u : ℕ) → IsInFiles p u →
+        (path : List ℕ) → IsQualifiedByPath p u path → (d : ℕ) × IsBoundTo w known p u (Declared path d) }
 {}

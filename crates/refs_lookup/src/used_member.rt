@@ -4,15 +4,15 @@ ghost use Rattle.types_expr.specs.Found.{use_of};
 ghost use Rattle.types_info.specs.MemberUses.{AreMemberUses, uses_in};
 ghost use Rattle.types_declared.specs.PackageView.{package_of};
 ghost use Rattle.refs_binding.specs.Binding.{BindsByMember};
-ghost use Rattle.refs_binding.specs.Steps.{IsDeclarationFound};
-ghost use Rattle.refs_binding.specs.Members.{definitions_seen, uses_or_none, IsMemberIf, IsMemberIn, KnowsOwn};
+ghost use Rattle.refs_binding.specs.Steps.{IsDeclarationResult};
+ghost use Rattle.refs_binding.specs.Members.{definitions_seen, uses_or_none, IsMemberIf, IsMemberIn, AreOwnDefinitions};
 
 use refs_binding::{Declaration, member_declaration};
 use std::alloc::AllocError;
 use types_declared::Package;
 use types_expr::found::MemberUse;
 use types_expr::world::Definition;
-use types_info::one_world;
+use types_info::has_one_world;
 
 /// Returns the declaration of a use of a member, if the use is at this token.
 fn declaration_if(
@@ -22,7 +22,7 @@ fn declaration_if(
     found: &MemberUse,
     token: usize,
 ) -> Result<Option<Declaration>, AllocError>
-    ensures { IfOk result (IsDeclarationFound (IsMemberIf (definitions_seen unit.entry own.now) (package_of unit.entry) file token (use_of found.now))) }
+    ensures { IfOk result (IsDeclarationResult (IsMemberIf (definitions_seen unit.entry own.now) (package_of unit.entry) file token (use_of found.now))) }
 {
     if found.place == token {
         member_declaration(unit, own, file, found)
@@ -39,7 +39,7 @@ fn declaration_among(
     uses: &[MemberUse],
     token: usize,
 ) -> Result<Option<Declaration>, AllocError>
-    ensures { IfOk result (IsDeclarationFound (IsMemberIn (definitions_seen unit.entry own.now) (package_of unit.entry) file (map use_of uses.now) token)) }
+    ensures { IfOk result (IsDeclarationResult (IsMemberIn (definitions_seen unit.entry own.now) (package_of unit.entry) file (map use_of uses.now) token)) }
 {
     for k in 0..uses.len() {
         match declaration_if(unit, own, file, &uses[k], token)? {
@@ -67,13 +67,13 @@ pub fn declaration_by_member(
     members: &[Vec<MemberUse>],
     u: usize,
 ) -> Result<Option<Declaration>, AllocError>
-    requires own { KnowsOwn (package_of unit) own.now }
+    requires own { AreOwnDefinitions (package_of unit) own.now }
     requires members { AreMemberUses (package_of unit) (map uses_in members.now) }
     requires in_range { u < length unit.table.now.sites }
-    ensures { IfOk result (IsDeclarationFound (BindsByMember (package_of unit.entry) u)) }
+    ensures { IfOk result (IsDeclarationResult (BindsByMember (package_of unit.entry) u)) }
 {
     unit.table.is_well_formed();
-    one_world(unit);
+    has_one_world(unit);
     let at = unit.table.place(u);
     declaration_among(unit, own, at.file, uses_of(members, at.file), at.index)
 }

@@ -23,12 +23,12 @@ use Rattle.refs_binding.specs.Steps.{ArePlaces}
 use Rattle.refs_binding.specs.Uses.{IsPackage}
 use Rattle.refs_binding.proofs.NamedPlaces.{one_field_place, one_method_place}
 use Rattle.refs_binding.proofs.Units.{one_package}
-use Rattle.refs_binding.specs.Standing.{InPackage, TokenAt, IsScopeAt, IsPositionOf, StandsIn, IsDeclaredAt}
+use Rattle.refs_binding.specs.DeclaringPlaces.{InPackage, TokenAt, IsScopeAt, IsPositionOf, DeclaresAt, IsDeclaredAt}
 use Rattle.refs_binding.proofs.PackageNumbers.{in_package, of_package}
 use Rattle.base_edits.proofs.Ending.{pushed_get}
 use Rattle.refs_places.specs.declared.declared_places.DeclaredPlaces.{DeclaredPlaces}
-use Rattle.refs_places.specs.DeclaredPlaces.{IsFound, IsFoundIn, BeginsIn, ArePlacesOf, StandsBy}
-use Rattle.refs_places.specs.DeclaredPlaces.{AreRanked, AreDeclaredIn, AreDeclaredAt, AreDeclaredBelow, AreDeclared, IsPlaceIn}
+use Rattle.refs_places.specs.DeclaredPlaces.{IsChoice, IsChoiceIn, TokenBeginsAt, ArePlacesOf, IsPlacedBy}
+use Rattle.refs_places.specs.DeclaredPlaces.{AreRanked, AreDeclaredIn, AreDeclaredAt, AreDeclaredBelow, AreAllPlaces, IsPlaceIn}
 use Rattle.refs_places.proofs.Found.{found_in_as, found_copied}
 use Rattle.refs_places.proofs.Starts.{token_once}
 
@@ -65,7 +65,7 @@ one_scope_place p d a b h k = sym h.stands ∙ k.stands
 -- places of positions, as the list grows
 pub record ArePlacesBelow (files : List SourceFile) (positions : List (Option Position)) (count : ℕ) (places : List (Option Place)) : Type 0 where
   pub size : length places ≡ count
-  pub each : (k : ℕ) → k < count → IsFound (BeginsIn files (slice_index_or positions k None)) (slice_index_or places k None)
+  pub each : (k : ℕ) → k < count → IsChoice (TokenBeginsAt files (slice_index_or positions k None)) (slice_index_or places k None)
 
 pub no_places : (files : List SourceFile) (positions : List (Option Position)) (places : List (Option Place)) → places ≡ [] →
     ArePlacesBelow files positions 0 places
@@ -73,18 +73,18 @@ no_places files positions places e = record { size = ap length e; each = λ k lt
 
 pub next_place : (files : List SourceFile) (positions : List (Option Position)) (count : ℕ) (old new : List (Option Place)) (at : Option Position)
     (o : Option Place) → at ≡ get_or positions count None →
-    new ≡ old ++ (o ∷ []) → IsFound (BeginsIn files at) o → ArePlacesBelow files positions count old → ArePlacesBelow files positions (count + 1) new
+    new ≡ old ++ (o ∷ []) → IsChoice (TokenBeginsAt files at) o → ArePlacesBelow files positions count old → ArePlacesBelow files positions (count + 1) new
 next_place files positions count old new at o is grown found h = record {
   size = ap length grown ∙ length_push old o ∙ ap (λ n. n + 1) h.size;
   each = λ k lt. elim (cases_lt k count) [
     | inl below ↦ (
         let same : get_or new k None ≡ get_or old k None = ap (λ xs. get_or xs k None) grown ∙ get_or_append_left old (o ∷ []) None k (omega (arith, h.size)) in
-        subst (IsFound (BeginsIn files (slice_index_or positions k None))) (sym same) (h.each k below))
+        subst (IsChoice (TokenBeginsAt files (slice_index_or positions k None))) (sym same) (h.each k below))
     | inr ge ↦ (
         let last : k ≡ count = omega arith in
         let same : get_or new count None ≡ o = ap (λ xs. get_or xs count None) grown ∙ get_or_push old o None count h.size in
-        subst (λ n. IsFound (BeginsIn files (slice_index_or positions n None)) (slice_index_or new n None)) (sym last)
-        (subst (IsFound (BeginsIn files (slice_index_or positions count None))) (sym same) (subst (λ x. IsFound (BeginsIn files x) o) is found)))
+        subst (λ n. IsChoice (TokenBeginsAt files (slice_index_or positions n None)) (slice_index_or new n None)) (sym last)
+        (subst (IsChoice (TokenBeginsAt files (slice_index_or positions count None))) (sym same) (subst (λ x. IsChoice (TokenBeginsAt files x) o) is found)))
   ];
 }
 
@@ -98,14 +98,14 @@ all_places files positions count places le ge h = record {
     | inr past ↦ (
         let none : get_or positions k None ≡ None = get_or_past positions k None (omega arith) in
         let nothing : get_or places k None ≡ None = get_or_past places k None (let size = h.size in omega arith) in
-        subst (IsFound (BeginsIn files (slice_index_or positions k None))) (sym nothing) (λ place b. subst (λ x. BeginsIn files x place) none b))
+        subst (IsChoice (TokenBeginsAt files (slice_index_or positions k None))) (sym nothing) (λ place b. subst (λ x. TokenBeginsAt files x place) none b))
   ];
 }
 
 -- what has a rank stands at the place of its position
 pub ranked_as : (IsAt : (rank : ℕ) → Position → Type 0) (p : Package) → ((rank : ℕ) (a b : Position) → IsAt rank a → IsAt rank b → a ≡ b) →
     (rank : ℕ) (at : Option Position) (o : Option Place) →
-    IsFound (IsAt rank) at → IsFound (BeginsIn p.files at) o → IsFound (StandsBy (IsAt rank) p) o
+    IsChoice (IsAt rank) at → IsChoice (TokenBeginsAt p.files at) o → IsChoice (IsPlacedBy (IsAt rank) p) o
 ranked_as IsAt p one rank None None none h = λ place s. none s.at s.is_at
 ranked_as IsAt p one rank None (Some place) none h = absurd h
 ranked_as IsAt p one rank (Some at) None is h = λ place s. h place (subst (λ x. TokenAt p x place) (one rank s.at at s.is_at is) s.begins)
@@ -117,8 +117,8 @@ pub ranked : (IsAt : (rank : ℕ) → Position → Type 0) (p : Package) (files 
     ArePlacesOf files listed places → AreRanked IsAt p places
 ranked IsAt p files positions listed places one e same are of = λ rank.
     ranked_as IsAt p one rank (slice_index_or positions rank None) (slice_index_or places rank None) (are rank)
-    (subst (λ fs. IsFound (BeginsIn fs (slice_index_or positions rank None)) (slice_index_or places rank None)) (sym e)
-    (subst (λ l. IsFound (BeginsIn files (slice_index_or l rank None)) (slice_index_or places rank None)) same (of.each rank)))
+    (subst (λ fs. IsChoice (TokenBeginsAt fs (slice_index_or positions rank None)) (slice_index_or places rank None)) (sym e)
+    (subst (λ l. IsChoice (TokenBeginsAt files (slice_index_or l rank None)) (slice_index_or places rank None)) same (of.each rank)))
 
 -- the places of one more package
 pub more_packages : (w : Workspace) (known : Verdicts) (n : ℕ) (old new : List DeclaredPlaces) (places : DeclaredPlaces) → AreDeclaredAt w known n places →
@@ -136,30 +136,30 @@ pub no_packages : (w : Workspace) (known : Verdicts) (all : List DeclaredPlaces)
 no_packages w known all e = record { size = ap length e; each = λ n places has. absurd (none-some places (sym (ap (λ l. slice_get l n) e) ∙ has)) }
 
 -- where a declaration of a package stands
-pub stands_in : (p : Package) (d : Declaration) (place : Place) → StandsBy (IsPositionOf p d) p place → StandsIn p d place
+pub stands_in : (p : Package) (d : Declaration) (place : Place) → IsPlacedBy (IsPositionOf p d) p place → DeclaresAt p d place
 stands_in p d place s = record { at = s.at; is_at = s.is_at; begins = s.begins }
 
-pub stands_by : (p : Package) (d : Declaration) (place : Place) → StandsIn p d place → StandsBy (IsPositionOf p d) p place
+pub stands_by : (p : Package) (d : Declaration) (place : Place) → DeclaresAt p d place → IsPlacedBy (IsPositionOf p d) p place
 stands_by p d place s = record { at = s.at; is_at = s.is_at; begins = s.begins }
 
 pub place_in : (p : Package) (d : Declaration) (o : Option (Bor Place)) (x : Option Place) → option_copied o ≡ x →
-    IsFound (StandsBy (IsPositionOf p d) p) x → IsPlaceIn p d o
-place_in p d o x e h = found_in_as (StandsBy (IsPositionOf p d) p) (StandsIn p d) o (stands_in p d) (stands_by p d)
-    (found_copied (StandsBy (IsPositionOf p d) p) o x e h)
+    IsChoice (IsPlacedBy (IsPositionOf p d) p) x → IsPlaceIn p d o
+place_in p d o x e h = found_in_as (IsPlacedBy (IsPositionOf p d) p) (DeclaresAt p d) o (stands_in p d) (stands_by p d)
+    (found_copied (IsPlacedBy (IsPositionOf p d) p) o x e h)
 
 -- the same in the package of a path
 pub place_under : (w : Workspace) (known : Verdicts) (n : ℕ) (path : List ℕ) (d : Declaration) (all : List DeclaredPlaces) (places : DeclaredPlaces)
-    (o : Option (Bor Place)) → AreDeclared w known all →
+    (o : Option (Bor Place)) → AreAllPlaces w known all →
     slice_get (package_paths w) n ≡ Some path → slice_get all n ≡ Some places → ((p : Package) → AreDeclaredIn p places → IsPlaceIn p d o) →
-    IsFoundIn (λ (place : Place). InPackage (IsPackage w known) path (λ p. StandsIn p d place)) o
+    IsChoiceIn (λ (place : Place). InPackage (IsPackage w known) path (λ p. DeclaresAt p d place)) o
 place_under w known n path d all places o are at has told =
     let here = are.each n places has in
     let p = here.inside in
-    found_in_as (StandsIn p d) (λ (place : Place). InPackage (IsPackage w known) path (λ q. StandsIn q d place)) o
-    (λ place s. in_package w known n p path (λ q. StandsIn q d place) here.is_package at s)
-    (λ place h. of_package w known n p path (λ q. StandsIn q d place) here.is_package at h) (told p here.declared)
+    found_in_as (DeclaresAt p d) (λ (place : Place). InPackage (IsPackage w known) path (λ q. DeclaresAt q d place)) o
+    (λ place s. in_package w known n p path (λ q. DeclaresAt q d place) here.is_package at s)
+    (λ place h. of_package w known n p path (λ q. DeclaresAt q d place) here.is_package at h) (told p here.declared)
 
-pub no_places_there : (w : Workspace) (known : Verdicts) (n : ℕ) (path : List ℕ) (all : List DeclaredPlaces) → AreDeclared w known all →
+pub no_places_there : (w : Workspace) (known : Verdicts) (n : ℕ) (path : List ℕ) (all : List DeclaredPlaces) → AreAllPlaces w known all →
     slice_get (package_paths w) n ≡ Some path → length all ≤ n → ⊥
 no_places_there w known n path all are at le = let lt = slice_get_within (package_paths w) n path at in let size = are.size in absurd (omega arith)
 
@@ -170,15 +170,15 @@ one_position p (Declared path n) a b h k = one_scope_place p n a b h k
 one_position p (Field s) a b h k = one_field_place p s.rank a b h k
 one_position p (Method s) a b h k = one_method_place p s.rank a b h k
 
-one_in : (p : Package) (d : Declaration) (a b : Place) → StandsIn p d a → StandsIn p d b → a ≡ b
+one_in : (p : Package) (d : Declaration) (a b : Place) → DeclaresAt p d a → DeclaresAt p d b → a ≡ b
 one_in p d a b h k = token_once (slice_get p.files k.at.file) k.at.index a b
     (subst (λ x. TokenAt p x a) (one_position p d h.at k.at h.is_at k.is_at) h.begins) k.begins
 
-one_under : (w : Workspace) (known : Verdicts) (path : List ℕ) (d : Declaration) (a b : Place) → InPackage (IsPackage w known) path (λ p. StandsIn p d a) →
-    InPackage (IsPackage w known) path (λ p. StandsIn p d b) → a ≡ b
+one_under : (w : Workspace) (known : Verdicts) (path : List ℕ) (d : Declaration) (a b : Place) → InPackage (IsPackage w known) path (λ p. DeclaresAt p d a) →
+    InPackage (IsPackage w known) path (λ p. DeclaresAt p d b) → a ≡ b
 one_under w known path d a b h k =
     let same : h.inside ≡ k.inside = one_package w known h.inside k.inside h.is_package k.is_package (h.of_path ∙ sym k.of_path) in
-    one_in k.inside d a b (subst (λ p. StandsIn p d a) same h.holds) k.holds
+    one_in k.inside d a b (subst (λ p. DeclaresAt p d a) same h.holds) k.holds
 
 pub one_place : (w : Workspace) (known : Verdicts) (d : Declaration) (a b : Place) → IsDeclaredAt (IsPackage w known) d a →
     IsDeclaredAt (IsPackage w known) d b → a ≡ b

@@ -4,20 +4,20 @@ use Rattle.std.specs.Prelude.{Option, Some, None}
 use Rattle.std.specs.Borrow.{Bor}
 use Rattle.std.specs.Option.{option_copied}
 use Rattle.std.proofs.lemmas.Bool.{cases_lt, false≢true}
-use Rattle.refs_places.specs.DeclaredPlaces.{IsFound, IsFoundIn}
+use Rattle.refs_places.specs.DeclaredPlaces.{IsChoice, IsChoiceIn}
 
-pub found_as : {X : Type 0} (P Q : X → Type 0) (o : Option X) → ((x : X) → P x → Q x) → ((x : X) → Q x → P x) → IsFound P o → IsFound Q o
+pub found_as : {X : Type 0} (P Q : X → Type 0) (o : Option X) → ((x : X) → P x → Q x) → ((x : X) → Q x → P x) → IsChoice P o → IsChoice Q o
 found_as P Q None to from h = λ x q. h x (from x q)
 found_as P Q (Some x) to from h = to x h
 
-pub found_in_as : {X : Type 0} (P Q : X → Type 0) (o : Option (Bor X)) → ((x : X) → P x → Q x) → ((x : X) → Q x → P x) → IsFoundIn P o → IsFoundIn Q o
+pub found_in_as : {X : Type 0} (P Q : X → Type 0) (o : Option (Bor X)) → ((x : X) → P x → Q x) → ((x : X) → Q x → P x) → IsChoiceIn P o → IsChoiceIn Q o
 found_in_as P Q None to from h = λ x q. h x (from x q)
 found_in_as P Q (Some x) to from h = to x.now h
 
 -- A borrowed result is right if its copy is.
-pub found_copied : {X : Type 0} (P : X → Type 0) (o : Option (Bor X)) (x : Option X) → option_copied o ≡ x → IsFound P x → IsFoundIn P o
-found_copied P None x e h = subst (IsFound P) (sym e) h
-found_copied P (Some b) x e h = subst (IsFound P) (sym e) h
+pub found_copied : {X : Type 0} (P : X → Type 0) (o : Option (Bor X)) (x : Option X) → option_copied o ≡ x → IsChoice P x → IsChoiceIn P o
+found_copied P None x e h = subst (IsChoice P) (sym e) h
+found_copied P (Some b) x e h = subst (IsChoice P) (sym e) h
 
 -- a place beyond a list
 pub beyond : (i n : ℕ) → (i < n → false ≡ true) → n ≤ i

@@ -12,7 +12,7 @@ use Rattle.refs_binding.specs.Identifiers.{BeginsAt}
 use Rattle.refs_binding.specs.Workspaces.{IsPackageAt}
 use Rattle.refs_binding.proofs.Units.{numbered, number_within, one_at}
 use Rattle.refs_places.specs.Identified.{IsIdentifierAt}
-use Rattle.refs_places.specs.Identified.{BeginsInNumber}
+use Rattle.refs_places.specs.Identified.{BeginsInPackageAt}
 
 -- one thing is pushed
 pub all_one : {X : Type 0} (a b : List X) (x : X) (P : X → Type 0) → b ≡ a ++ (x ∷ []) → P x → ((y : X) → P y → x ≡ y) → AddsAll a b P
@@ -40,18 +40,18 @@ abbrev pub BeginsIn : Package → Place → Type 0
 BeginsIn p place = (u : ℕ) × BeginsAt p place.path place.offset u
 
 pub of_number : (w : Workspace) (known : Verdicts) (n : ℕ) (p : Package) (place : Place) → IsPackageAt w known n p → BeginsIn p place →
-    BeginsInNumber w known n place
+    BeginsInPackageAt w known n place
 of_number w known n p place is h = record { used_in = p; is_package = is; user = h.0; begins = h.1 }
 
-pub in_number : (w : Workspace) (known : Verdicts) (n : ℕ) (p : Package) (place : Place) → IsPackageAt w known n p → BeginsInNumber w known n place →
+pub in_number : (w : Workspace) (known : Verdicts) (n : ℕ) (p : Package) (place : Place) → IsPackageAt w known n p → BeginsInPackageAt w known n place →
     BeginsIn p place
 in_number w known n p place is h = subst (λ q. BeginsIn q place) (one_at w known n h.used_in p h.is_package is) (h.user, h.begins)
 
-pub somewhere : (w : Workspace) (known : Verdicts) (n : ℕ) (place : Place) → BeginsInNumber w known n place → IsIdentifierAt w known place
+pub somewhere : (w : Workspace) (known : Verdicts) (n : ℕ) (place : Place) → BeginsInPackageAt w known n place → IsIdentifierAt w known place
 somewhere w known n place h = record { used_in = h.used_in; is_package = h.is_package.is_package; user = h.user; begins = h.begins }
 
 pub numbered_so : (w : Workspace) (known : Verdicts) (place : Place) → IsIdentifierAt w known place →
-    (n : ℕ) × (n < length (package_paths w)) × BeginsInNumber w known n place
+    (n : ℕ) × (n < length (package_paths w)) × BeginsInPackageAt w known n place
 numbered_so w known place h =
     let k = numbered w known h.used_in h.is_package in
     (k.0, number_within w known k.0 h.used_in k.1, record { used_in = h.used_in; is_package = k.1; user = h.user; begins = h.begins })

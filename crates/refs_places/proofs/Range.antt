@@ -11,21 +11,21 @@ use Rattle.std.specs.Cmp.{tied_itself}
 use Rattle.std.proofs.lemmas.Bool.{cases_lt, cases_Bool, true≢false, false≢true}
 use Rattle.std.proofs.lemmas.List.{get_or-take, get_or-drop, get_or_default}
 use Rattle.base_files.specs.declared.place.Place.{Place}
-use Rattle.refs_binding.specs.declared.bound_spot.BoundSpot.{BoundSpot}
-use Rattle.refs_binding.specs.Bindings.{place_at}
+use Rattle.refs_binding.specs.declared.bound_identifier.BoundIdentifier.{BoundIdentifier}
+use Rattle.refs_binding.specs.Bindings.{bound_place}
 use Rattle.refs_binding.specs.Places.{place_cmp}
 use Rattle.refs_binding.proofs.BindingOrder.{compared, rises}
 use Rattle.refs_binding.proofs.PlaceOrder.{place_cmp_total, place_cmp_exact}
 use Rattle.base_edits.proofs.Ending.{element}
 
-abbrev pub before : Place → BoundSpot → Bool
-before place b = is_lt (place_cmp (place_at b) place)
+abbrev pub before : Place → BoundIdentifier → Bool
+before place b = is_lt (place_cmp (bound_place b) place)
 
-abbrev pub not_behind : Place → BoundSpot → Bool
-not_behind place b = not (is_gt (place_cmp (place_at b) place))
+abbrev pub not_behind : Place → BoundIdentifier → Bool
+not_behind place b = not (is_gt (place_cmp (bound_place b) place))
 
-abbrev InOrder : List BoundSpot → Type 0
-InOrder bs = IsSortedBy (λ a b. is_lt (place_cmp (place_at a) (place_at b))) bs
+abbrev InOrder : List BoundIdentifier → Type 0
+InOrder bs = IsSortedBy (λ a b. is_lt (place_cmp (bound_place a) (bound_place b))) bs
 
 least : (o : Ordering) → is_lt o ≡ true → ordering_index o ≡ 0
 least Less e = refl
@@ -47,20 +47,20 @@ is_low Less h = refl
 is_low Equal h = refl
 is_low Greater h = absurd (omega arith)
 
-pub parted_before : (bs : List BoundSpot) (place : Place) → InOrder bs → IsPartitionedBy (before place) bs
+pub parted_before : (bs : List BoundIdentifier) (place : Place) → InOrder bs → IsPartitionedBy (before place) bs
 parted_before bs place sorted i j d le lt e =
     let up = rises bs place sorted i j d le lt in
     let zero_at = least (compared place (get_or bs j d)) e in
     is_least (compared place (get_or bs i d)) (omega arith)
 
-pub parted_behind : (bs : List BoundSpot) (place : Place) → InOrder bs → IsPartitionedBy (not_behind place) bs
+pub parted_behind : (bs : List BoundIdentifier) (place : Place) → InOrder bs → IsPartitionedBy (not_behind place) bs
 parted_behind bs place sorted i j d le lt e =
     let up = rises bs place sorted i j d le lt in
     let one_at = low (compared place (get_or bs j d)) e in
     is_low (compared place (get_or bs i d)) (omega arith)
 
 -- If the test is true just below an index, it is true of all below it.
-pub tells_before : (p : BoundSpot → Bool) (bs : List BoundSpot) (n : ℕ) (b : BoundSpot) → IsPartitionedBy p bs → n ≤ length bs → (n ≡ 0 → ⊥) →
+pub tells_before : (p : BoundIdentifier → Bool) (bs : List BoundIdentifier) (n : ℕ) (b : BoundIdentifier) → IsPartitionedBy p bs → n ≤ length bs → (n ≡ 0 → ⊥) →
     b ≡ get_or bs (n - 1) b → p b ≡ true → AllWithin (λ x. p x ≡ true) bs 0 n
 tells_before p bs n b parted le some is holds k d from lt =
     let last : n - 1 < length bs = omega arith in
@@ -68,7 +68,7 @@ tells_before p bs n b parted le some is holds k d from lt =
     parted k (n - 1) d (omega arith) last (subst (λ x. p x ≡ true) (sym at) holds)
 
 -- If the test is false at an index, it is false of all from it on.
-pub tells_behind : (p : BoundSpot → Bool) (bs : List BoundSpot) (n : ℕ) (b : BoundSpot) → IsPartitionedBy p bs → n < length bs →
+pub tells_behind : (p : BoundIdentifier → Bool) (bs : List BoundIdentifier) (n : ℕ) (b : BoundIdentifier) → IsPartitionedBy p bs → n < length bs →
     b ≡ get_or bs n b → p b ≡ false → AllWithin (λ x. p x ≡ false) bs n (length bs)
 tells_behind p bs n b parted inside is fails k d from lt =
     let at : get_or bs n d ≡ b = get_or_default bs n d b inside ∙ sym is in
@@ -78,7 +78,7 @@ tells_behind p bs n b parted inside is fails k d from lt =
     ]
 
 -- where those at the place begin and end
-pub record IsRange (bs : List BoundSpot) (place : Place) (first end : ℕ) : Type 0 where
+pub record IsRange (bs : List BoundIdentifier) (place : Place) (first end : ℕ) : Type 0 where
   pub starts : IsPartitionPoint (λ b. before place b ≡ true) (λ b. before place b ≡ false) bs first
   pub ends : IsPartitionPoint (λ b. not_behind place b ≡ true) (λ b. not_behind place b ≡ false) bs end
   pub within : end ≤ length bs
@@ -88,7 +88,7 @@ both Less e f = true≢false f
 both Equal e f = false≢true e
 both Greater e f = false≢true e
 
-pub rising : (bs : List BoundSpot) (place : Place) (first end : ℕ) → first ≤ length bs → IsRange bs place first end → first ≤ end
+pub rising : (bs : List BoundIdentifier) (place : Place) (first end : ℕ) → first ≤ length bs → IsRange bs place first end → first ≤ end
 rising bs place first end le h = elim (cases_lt end first) [
   | inl lt ↦ (
       let d = element bs end (omega arith) in
@@ -101,20 +101,20 @@ exactly Less e f = absurd (true≢false e)
 exactly Equal e f = refl
 exactly Greater e f = absurd (false≢true f)
 
-itself_before : (place : Place) (b : BoundSpot) → place_at b ≡ place → before place b ≡ true → ⊥
+itself_before : (place : Place) (b : BoundIdentifier) → bound_place b ≡ place → before place b ≡ true → ⊥
 itself_before place b same e = true≢false (sym e ∙ ap is_lt (ap (λ x. place_cmp x place) same ∙ tied_itself place_cmp_total place))
 
-itself_behind : (place : Place) (b : BoundSpot) → place_at b ≡ place → not_behind place b ≡ false → ⊥
+itself_behind : (place : Place) (b : BoundIdentifier) → bound_place b ≡ place → not_behind place b ≡ false → ⊥
 itself_behind place b same e = true≢false (ap not (sym (ap is_gt (ap (λ x. place_cmp x place) same ∙ tied_itself place_cmp_total place))) ∙ e)
 
-in_range : (bs : List BoundSpot) (first end k : ℕ) (b : BoundSpot) → k < end - first → get_or (slice_range bs first end) k b ≡ get_or bs (first + k) b
+in_range : (bs : List BoundIdentifier) (first end k : ℕ) (b : BoundIdentifier) → k < end - first → get_or (slice_range bs first end) k b ≡ get_or bs (first + k) b
 in_range bs first end k b lt = get_or-take (end - first) (drop first bs) k b lt ∙ get_or-drop first bs k b
 
-size_of : (bs : List BoundSpot) (first end : ℕ) → first ≤ end → end ≤ length bs → length (slice_range bs first end) ≡ end - first
+size_of : (bs : List BoundIdentifier) (first end : ℕ) → first ≤ end → end ≤ length bs → length (slice_range bs first end) ≡ end - first
 size_of bs first end le within = grind (arith, length-take, length-drop)
 
-pub range_holds : (bs found : List BoundSpot) (place : Place) (first end : ℕ) → first ≤ end → found ≡ slice_range bs first end → IsRange bs place first end →
-    (b : BoundSpot) → Contains found b ↔ (Contains bs b × (place_at b ≡ place))
+pub range_holds : (bs found : List BoundIdentifier) (place : Place) (first end : ℕ) → first ≤ end → found ≡ slice_range bs first end → IsRange bs place first end →
+    (b : BoundIdentifier) → Contains found b ↔ (Contains bs b × (bound_place b ≡ place))
 range_holds bs found place first end le e h b =
     let size : length (slice_range bs first end) ≡ end - first = size_of bs first end le h.within in
     let within = h.within in (
@@ -124,7 +124,7 @@ range_holds bs found place first end le e h b =
           let at : get_or bs k b ≡ b = sym (in_range bs first end has.0 b lt) ∙ has.2 in
           let not_less : before place b ≡ false = subst (λ x. before place x ≡ false) at (h.starts.1 k b (omega arith) (omega arith)) in
           let not_greater : not_behind place b ≡ true = subst (λ x. not_behind place x ≡ true) at (h.ends.0 k b (omega arith) (omega arith)) in
-          ((k, omega arith, at), place_cmp_exact (place_at b) place (exactly (compared place b) not_less not_greater))),
+          ((k, omega arith, at), place_cmp_exact (bound_place b) place (exactly (compared place b) not_less not_greater))),
       (λ c. let has = c.0 in
           let from : first ≤ has.0 = elim (cases_lt has.0 first) [
             | inl lt ↦ absurd (itself_before place b c.1 (subst (λ x. before place x ≡ true) has.2 (h.starts.0 has.0 b (omega arith) lt)))

@@ -12,8 +12,8 @@ use Rattle.types_declared.specs.Package.{Package}
 use Rattle.refs_binding.specs.Identifiers.{IsName, NameBegins, BeginsAt, file_of}
 use Rattle.refs_binding.proofs.Files.{no_file}
 use Rattle.refs_binding.proofs.PlaceOrder.{place_is}
-use Rattle.refs_binding.specs.Standing.{TokenBegins}
-use Rattle.refs_places.specs.DeclaredPlaces.{IsFound}
+use Rattle.refs_binding.specs.DeclaringPlaces.{TokenBegins}
+use Rattle.refs_places.specs.DeclaredPlaces.{IsChoice}
 use Rattle.refs_places.proofs.Found.{found_as}
 
 -- tokens
@@ -35,17 +35,17 @@ pub no_name : (files : List FileParts) (k token : ℕ) → length files ≤ k �
 no_name files k token le place h = subst (λ o. NameBegins o token place.path place.offset) (no_file files k le) h
 
 pub name_at : (files : List FileParts) (k token : ℕ) (f : FileParts) (o : Option Place) → k < length files → f ≡ get_or files k f →
-    IsFound (λ (place : Place). NameBegins (Some (source_of f)) token place.path place.offset) o →
-    IsFound (λ (place : Place). NameBegins (slice_get (map source_of files) k) token place.path place.offset) o
-name_at files k token f o lt is h = subst (λ s. IsFound (λ (place : Place). NameBegins s token place.path place.offset) o) (sym (file_at files k f lt is)) h
+    IsChoice (λ (place : Place). NameBegins (Some (source_of f)) token place.path place.offset) o →
+    IsChoice (λ (place : Place). NameBegins (slice_get (map source_of files) k) token place.path place.offset) o
+name_at files k token f o lt is h = subst (λ s. IsChoice (λ (place : Place). NameBegins s token place.path place.offset) o) (sym (file_at files k f lt is)) h
 
 -- identifiers
 pub not_implied : (p : Package) (u : ℕ) → is_implied (p.layout.role u) ≡ true → (place : Place) → BeginsAt p place.path place.offset u → ⊥
 not_implied p u implied place h = true≢false (sym implied ∙ h.0.1)
 
 pub begins_as : (p : Package) (u : ℕ) (at : Position) (o : Option Place) → u < p.size → is_implied (p.layout.role u) ≡ false → at ≡ p.layout.place u →
-    IsFound (λ (place : Place). NameBegins (slice_get p.files at.file) at.index place.path place.offset) o →
-    IsFound (λ (place : Place). BeginsAt p place.path place.offset u) o
+    IsChoice (λ (place : Place). NameBegins (slice_get p.files at.file) at.index place.path place.offset) o →
+    IsChoice (λ (place : Place). BeginsAt p place.path place.offset u) o
 begins_as p u at o lt stands e h =
     found_as (λ (place : Place). NameBegins (slice_get p.files at.file) at.index place.path place.offset)
     (λ (place : Place). BeginsAt p place.path place.offset u) o

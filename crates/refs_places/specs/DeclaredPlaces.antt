@@ -11,36 +11,36 @@ use Rattle.workspace_check.specs.Verdicts.{Verdicts}
 use Rattle.refs_binding.specs.declared.declaration.Declaration.{Declaration}
 use Rattle.refs_binding.specs.Binding.{IsFieldAt, IsMethodAt}
 use Rattle.refs_binding.specs.Workspaces.{IsPackageAt}
-use Rattle.refs_binding.specs.Standing.{TokenBegins, TokenAt, IsScopeAt, StandsIn}
+use Rattle.refs_binding.specs.DeclaringPlaces.{TokenBegins, TokenAt, IsScopeAt, DeclaresAt}
 use Rattle.refs_places.specs.declared.declared_places.DeclaredPlaces.{DeclaredPlaces}
 
 -- `found` satisfies `P`, or is `None` and nothing does.
-abbrev pub IsFound : {X : Type 0} → (X → Type 0) → Option X → Type 0
-IsFound {X} P found = MatchOption found ((x : X) → P x → ⊥) (λ x. P x)
+abbrev pub IsChoice : {X : Type 0} → (X → Type 0) → Option X → Type 0
+IsChoice {X} P found = MatchOption found ((x : X) → P x → ⊥) (λ x. P x)
 
 -- `found`, a borrow, satisfies `P`, or is `None` and nothing does.
-abbrev pub IsFoundIn : {X : Type 0} → (X → Type 0) → Option (Bor X) → Type 0
-IsFoundIn {X} P found = MatchOption found ((x : X) → P x → ⊥) (λ x. P x.now)
+abbrev pub IsChoiceIn : {X : Type 0} → (X → Type 0) → Option (Bor X) → Type 0
+IsChoiceIn {X} P found = MatchOption found ((x : X) → P x → ⊥) (λ x. P x.now)
 
 -- The token at a position of the files begins at the place. False without a position.
-abbrev pub BeginsIn : List SourceFile → Option Position → Place → Type 0
-BeginsIn files None place = ⊥
-BeginsIn files (Some at) place = TokenBegins (slice_get files at.file) at.index place
+abbrev pub TokenBeginsAt : List SourceFile → Option Position → Place → Type 0
+TokenBeginsAt files None place = ⊥
+TokenBeginsAt files (Some at) place = TokenBegins (slice_get files at.file) at.index place
 
 -- `places` has for each position of a list the place of its token.
 pub record ArePlacesOf (files : List SourceFile) (positions : List (Option Position)) (places : List (Option Place)) : Type 0 where
   pub size : length places ≡ length positions
-  pub each : (k : ℕ) → IsFound (BeginsIn files (slice_index_or positions k None)) (slice_index_or places k None)
+  pub each : (k : ℕ) → IsChoice (TokenBeginsAt files (slice_index_or positions k None)) (slice_index_or places k None)
 
 -- The token at a position of the package that satisfies `IsAt` begins at the place.
-pub record StandsBy (IsAt : Position → Type 0) (p : Package) (place : Place) : Type 0 where
+pub record IsPlacedBy (IsAt : Position → Type 0) (p : Package) (place : Place) : Type 0 where
   pub at : Position
   pub is_at : IsAt at
   pub begins : TokenAt p at place
 
 -- `places` has for each rank the place of what has that rank, or `None` if nothing has.
 abbrev pub AreRanked : ((rank : ℕ) → Position → Type 0) → Package → List (Option Place) → Type 0
-AreRanked IsAt p places = (rank : ℕ) → IsFound (StandsBy (IsAt rank) p) (slice_index_or places rank None)
+AreRanked IsAt p places = (rank : ℕ) → IsChoice (IsPlacedBy (IsAt rank) p) (slice_index_or places rank None)
 
 -- `places` are those of all declarations of a package.
 pub record AreDeclaredIn (p : Package) (places : DeclaredPlaces) : Type 0 where
@@ -60,9 +60,9 @@ pub record AreDeclaredBelow (w : Workspace) (known : Verdicts) (count : ℕ) (al
   pub each : (n : ℕ) (places : DeclaredPlaces) → slice_get all n ≡ Some places → AreDeclaredAt w known n places
 
 -- `all` has the places of the declarations of each package.
-abbrev pub AreDeclared : Workspace → Verdicts → List DeclaredPlaces → Type 0
-AreDeclared w known all = AreDeclaredBelow w known (length (package_paths w)) all
+abbrev pub AreAllPlaces : Workspace → Verdicts → List DeclaredPlaces → Type 0
+AreAllPlaces w known all = AreDeclaredBelow w known (length (package_paths w)) all
 
 -- `found` is the place of a declaration of the package.
 abbrev pub IsPlaceIn : Package → Declaration → Option (Bor Place) → Type 0
-IsPlaceIn p d found = IsFoundIn (StandsIn p d) found
+IsPlaceIn p d found = IsChoiceIn (DeclaresAt p d) found

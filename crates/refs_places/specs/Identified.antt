@@ -16,7 +16,7 @@ pub record IsIdentifierAt (w : Workspace) (known : Verdicts) (place : Place) : T
   pub begins : BeginsAt used_in place.path place.offset user
 
 -- An identifier of the package of this number begins at the place. It is no import's path literal.
-pub record BeginsInNumber (w : Workspace) (known : Verdicts) (number : ℕ) (place : Place) : Type 0 where
+pub record BeginsInPackageAt (w : Workspace) (known : Verdicts) (number : ℕ) (place : Place) : Type 0 where
   pub used_in : Package
   pub is_package : IsPackageAt w known number used_in
   pub user : ℕ

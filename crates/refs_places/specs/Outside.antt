@@ -7,16 +7,16 @@ use Rattle.refs_binding.specs.declared.declaration.Declaration.{Declaration}
 use Rattle.refs_binding.specs.declared.declaration.Declaration.TheVariants.{Predeclared, Declared, Field, Method}
 
 -- The path of the package of a declaration, or `None` if it is predeclared.
-abbrev pub path_by : Declaration → Option (List ℕ)
-path_by (Predeclared n) = None
-path_by (Declared path n) = Some path
-path_by (Field s) = Some s.package
-path_by (Method s) = Some s.package
+abbrev pub declaring_path : Declaration → Option (List ℕ)
+declaring_path (Predeclared n) = None
+declaring_path (Declared path n) = Some path
+declaring_path (Field s) = Some s.package
+declaring_path (Method s) = Some s.package
 
 -- The workspace has the package of the declaration, and it is not marked.
 pub record IsOutside (w : Workspace) (marks : List Bool) (d : Declaration) : Type 0 where
   pub path : List ℕ
-  pub of_path : path_by d ≡ Some path
+  pub of_path : declaring_path d ≡ Some path
   pub number : ℕ
   pub has_number : slice_get (package_paths w) number ≡ Some path
   pub unmarked : IsMarked marks number → ⊥

@@ -3,79 +3,79 @@ ghost use Rattle.std.specs.Prelude.{◌≡◌, ◌↔◌, ◌≤◌, IsTrue, Con
 ghost use Rattle.std.specs.List.{AllWithin};
 ghost use Rattle.std.specs.List.Sorted.{IsSortedBy, IsPartitionedBy, IsPartitionPoint};
 ghost use Rattle.std.specs.Ordering.{is_lt, is_gt};
-ghost use Rattle.refs_binding.specs.declared.bound_spot.BoundSpot.{BoundSpot as Bound};
-ghost use Rattle.refs_binding.specs.Bindings.{place_at};
+ghost use Rattle.refs_binding.specs.declared.bound_identifier.BoundIdentifier.{BoundIdentifier as Bound};
+ghost use Rattle.refs_binding.specs.Bindings.{bound_place};
 ghost use Rattle.refs_binding.specs.Places.{place_cmp};
 ghost use Rattle.refs_places.specs.Beginnings.{BeginsAmong, place_of};
 
 use crate::places::NameStart;
 use base_files::Place;
-use refs_binding::BoundSpot;
+use refs_binding::BoundIdentifier;
 use refs_binding::bindings::compare;
 use std::cmp::Ordering;
 
 /// Whether a bound identifier begins before a place.
-fn is_before(bound: &BoundSpot, place: &Place) -> bool
-    ensures { result ≡ is_lt (place_cmp (place_at bound.now) place.now) }
+fn is_before(bound: &BoundIdentifier, place: &Place) -> bool
+    ensures { result ≡ is_lt (place_cmp (bound_place bound.now) place.now) }
 {
     compare(bound, place).is_lt()
 }
 
 /// Whether a bound identifier begins after a place.
-fn is_behind(bound: &BoundSpot, place: &Place) -> bool
-    ensures { result ≡ is_gt (place_cmp (place_at bound.now) place.now) }
+fn is_behind(bound: &BoundIdentifier, place: &Place) -> bool
+    ensures { result ≡ is_gt (place_cmp (bound_place bound.now) place.now) }
 {
     compare(bound, place).is_gt()
 }
 
 /// Whether all bound identifiers below an index begin before a place.
-fn are_before(bound: &[BoundSpot], number: usize, place: &Place) -> bool
-    requires parted { IsPartitionedBy (λ b. is_lt (place_cmp (place_at b) place.now)) bound.now }
+fn are_before(bound: &[BoundIdentifier], number: usize, place: &Place) -> bool
+    requires parted { IsPartitionedBy (λ b. is_lt (place_cmp (bound_place b) place.now)) bound.now }
     requires within { number ≤ length bound.now }
-    ensures { IsTrue result → AllWithin (λ b. is_lt (place_cmp (place_at b) place.now) ≡ true) bound.now 0 number }
+    ensures { IsTrue result → AllWithin (λ b. is_lt (place_cmp (bound_place b) place.now) ≡ true) bound.now 0 number }
 {
     number == 0 || is_before(&bound[number - 1], place)
 }
 
 /// Whether none of the bound identifiers from an index on begins before a place.
-fn is_none_before(bound: &[BoundSpot], number: usize, place: &Place) -> bool
-    requires { IsPartitionedBy (λ b. is_lt (place_cmp (place_at b) place.now)) bound.now }
-    ensures { IsTrue result → AllWithin (λ b. is_lt (place_cmp (place_at b) place.now) ≡ false) bound.now number (length bound.now) }
+fn is_none_before(bound: &[BoundIdentifier], number: usize, place: &Place) -> bool
+    requires { IsPartitionedBy (λ b. is_lt (place_cmp (bound_place b) place.now)) bound.now }
+    ensures { IsTrue result → AllWithin (λ b. is_lt (place_cmp (bound_place b) place.now) ≡ false) bound.now number (length bound.now) }
 {
     number >= bound.len() || !is_before(&bound[number], place)
 }
 
 /// Whether none of the bound identifiers below an index begins after a place.
-fn is_none_behind(bound: &[BoundSpot], number: usize, place: &Place) -> bool
-    requires parted { IsPartitionedBy (λ b. not (is_gt (place_cmp (place_at b) place.now))) bound.now }
+fn is_none_behind(bound: &[BoundIdentifier], number: usize, place: &Place) -> bool
+    requires parted { IsPartitionedBy (λ b. not (is_gt (place_cmp (bound_place b) place.now))) bound.now }
     requires within { number ≤ length bound.now }
-    ensures { IsTrue result → AllWithin (λ b. not (is_gt (place_cmp (place_at b) place.now)) ≡ true) bound.now 0 number }
+    ensures { IsTrue result → AllWithin (λ b. not (is_gt (place_cmp (bound_place b) place.now)) ≡ true) bound.now 0 number }
 {
     number == 0 || !is_behind(&bound[number - 1], place)
 }
 
 /// Whether all bound identifiers from an index on begin after a place.
-fn are_behind(bound: &[BoundSpot], number: usize, place: &Place) -> bool
-    requires { IsPartitionedBy (λ b. not (is_gt (place_cmp (place_at b) place.now))) bound.now }
-    ensures { IsTrue result → AllWithin (λ b. not (is_gt (place_cmp (place_at b) place.now)) ≡ false) bound.now number (length bound.now) }
+fn are_behind(bound: &[BoundIdentifier], number: usize, place: &Place) -> bool
+    requires { IsPartitionedBy (λ b. not (is_gt (place_cmp (bound_place b) place.now))) bound.now }
+    ensures { IsTrue result → AllWithin (λ b. not (is_gt (place_cmp (bound_place b) place.now)) ≡ false) bound.now number (length bound.now) }
 {
     number >= bound.len() || is_behind(&bound[number], place)
 }
 
 /// Whether an index is the end of the bound identifiers that begin at a place or before it.
-fn is_end(bound: &[BoundSpot], number: usize, place: &Place) -> bool
-    requires parted { IsPartitionedBy (λ b. not (is_gt (place_cmp (place_at b) place.now))) bound.now }
+fn is_end(bound: &[BoundIdentifier], number: usize, place: &Place) -> bool
+    requires parted { IsPartitionedBy (λ b. not (is_gt (place_cmp (bound_place b) place.now))) bound.now }
     requires within { number ≤ length bound.now }
-    ensures { IsTrue result → IsPartitionPoint (λ b. not (is_gt (place_cmp (place_at b) place.now)) ≡ true) (λ b. not (is_gt (place_cmp (place_at b) place.now)) ≡ false) bound.now number }
+    ensures { IsTrue result → IsPartitionPoint (λ b. not (is_gt (place_cmp (bound_place b) place.now)) ≡ true) (λ b. not (is_gt (place_cmp (bound_place b) place.now)) ≡ false) bound.now number }
 {
     is_none_behind(bound, number, place) && are_behind(bound, number, place)
 }
 
 /// Returns the count of bound identifiers that begin before a place. Takes no search if that is `near`.
-fn first_near(bound: &[BoundSpot], near: usize, place: &Place) -> usize
-    requires { IsPartitionedBy (λ b. is_lt (place_cmp (place_at b) place.now)) bound.now }
+fn first_near(bound: &[BoundIdentifier], near: usize, place: &Place) -> usize
+    requires { IsPartitionedBy (λ b. is_lt (place_cmp (bound_place b) place.now)) bound.now }
     ensures within { result ≤ length bound.now }
-    ensures point { IsPartitionPoint (λ b. is_lt (place_cmp (place_at b) place.now) ≡ true) (λ b. is_lt (place_cmp (place_at b) place.now) ≡ false) bound.now result }
+    ensures point { IsPartitionPoint (λ b. is_lt (place_cmp (bound_place b) place.now) ≡ true) (λ b. is_lt (place_cmp (bound_place b) place.now) ≡ false) bound.now result }
 {
     if near <= bound.len() && are_before(bound, near, place) && is_none_before(bound, near, place) {
         return near;
@@ -84,11 +84,11 @@ fn first_near(bound: &[BoundSpot], near: usize, place: &Place) -> usize
 }
 
 /// Returns the count of bound identifiers that begin at a place or before it. Takes no search if at most one begins there.
-fn end_near(bound: &[BoundSpot], first: usize, place: &Place) -> usize
-    requires parted { IsPartitionedBy (λ b. not (is_gt (place_cmp (place_at b) place.now))) bound.now }
+fn end_near(bound: &[BoundIdentifier], first: usize, place: &Place) -> usize
+    requires parted { IsPartitionedBy (λ b. not (is_gt (place_cmp (bound_place b) place.now))) bound.now }
     requires within { first ≤ length bound.now }
     ensures within { result ≤ length bound.now }
-    ensures point { IsPartitionPoint (λ b. not (is_gt (place_cmp (place_at b) place.now)) ≡ true) (λ b. not (is_gt (place_cmp (place_at b) place.now)) ≡ false) bound.now result }
+    ensures point { IsPartitionPoint (λ b. not (is_gt (place_cmp (bound_place b) place.now)) ≡ true) (λ b. not (is_gt (place_cmp (bound_place b) place.now)) ≡ false) bound.now result }
 {
     if first < bound.len() && is_end(bound, first + 1, place) {
         return first + 1;
@@ -101,9 +101,13 @@ fn end_near(bound: &[BoundSpot], first: usize, place: &Place) -> usize
 
 /// Returns the bound identifiers that begin at a place, in a list sorted by place. The search starts at the index `near`, where the last
 /// answer ended, so queries in the order of places take no search.
-pub fn bound_here<'a>(bound: &'a [BoundSpot], near: &mut usize, place: &Place) -> &'a [BoundSpot]
-    requires { IsSortedBy (λ a b. is_lt (place_cmp (place_at a) (place_at b))) bound.now }
-    ensures { (b : Bound) → Contains result.now b ↔ (Contains bound.now b × (place_at b ≡ place.now)) }
+pub fn bound_here<'a>(
+    bound: &'a [BoundIdentifier],
+    near: &mut usize,
+    place: &Place,
+) -> &'a [BoundIdentifier]
+    requires { IsSortedBy (λ a b. is_lt (place_cmp (bound_place a) (bound_place b))) bound.now }
+    ensures { (b : Bound) → Contains result.now b ↔ (Contains bound.now b × (bound_place b ≡ place.now)) }
 {
     let first = first_near(bound, *near, place);
     let end = end_near(bound, first, place);
@@ -112,27 +116,27 @@ pub fn bound_here<'a>(bound: &'a [BoundSpot], near: &mut usize, place: &Place) -
 }
 
 /// Whether a bound identifier begins at this place.
-fn begins(bound: &BoundSpot, at: NameStart<'_>) -> bool
-    ensures { IsTrue result ↔ (place_at bound.now ≡ place_of at.entry) }
+fn begins(bound: &BoundIdentifier, at: NameStart<'_>) -> bool
+    ensures { IsTrue result ↔ (bound_place bound.now ≡ place_of at.entry) }
 {
     bound.spot.offset == at.offset && bound.spot.path == *at.path
 }
 
 /// Whether the bound identifier at an index begins at this place.
-fn begins_there(bound: &[BoundSpot], number: usize, at: NameStart<'_>) -> bool
+fn begins_there(bound: &[BoundIdentifier], number: usize, at: NameStart<'_>) -> bool
     ensures { IsTrue result → BeginsAmong bound.now (place_of at.entry) }
 {
     number < bound.len() && begins(&bound[number], at)
 }
 
 /// Compares the place of a bound identifier with another place.
-fn compare_start(bound: &BoundSpot, at: NameStart<'_>) -> Ordering {
+fn compare_start(bound: &BoundIdentifier, at: NameStart<'_>) -> Ordering {
     let by_path = bound.spot.path.cmp(at.path);
     by_path.then(bound.spot.offset.cmp(&at.offset))
 }
 
 /// Whether some bound identifier begins at this place, by a binary search. Sets `near` to the index that it finds.
-fn search(bound: &[BoundSpot], near: &mut usize, at: NameStart<'_>) -> bool
+fn search(bound: &[BoundIdentifier], near: &mut usize, at: NameStart<'_>) -> bool
     ensures { IsTrue result → BeginsAmong bound.now (place_of at.entry) }
 {
     match bound.binary_search_by(|b| compare_start(b, at)) {
@@ -144,7 +148,7 @@ fn search(bound: &[BoundSpot], near: &mut usize, at: NameStart<'_>) -> bool
 
 /// Whether some bound identifier of a list sorted by place begins at this place. The index `near` of the last answer and the next one are
 /// tried first, then a binary search.
-pub fn is_bound(bound: &[BoundSpot], near: &mut usize, at: NameStart<'_>) -> bool
+pub fn is_bound(bound: &[BoundIdentifier], near: &mut usize, at: NameStart<'_>) -> bool
     ensures { IsTrue result → BeginsAmong bound.now (place_of at.entry) }
 {
     if begins_there(bound, *near, at) {

@@ -4,7 +4,7 @@ ghost use Rattle.std.specs.Option.{option_copied};
 ghost use Rattle.base_files.specs.Packages.{package_paths};
 ghost use Rattle.go_ast.specs.SourceFile.{source_of};
 ghost use Rattle.go_scope.specs.Bindings.{Counts};
-ghost use Rattle.go_scope.specs.Scoped.{layout_in, names_in};
+ghost use Rattle.go_scope.specs.Packages.{layout_in, names_in};
 ghost use Rattle.types_declared.specs.Package.{Package as Checked};
 ghost use Rattle.types_declared.specs.PackageView.{package_of, IsIndexOf};
 ghost use Rattle.base_files.specs.declared.place.Place.{Place as At};
@@ -13,9 +13,9 @@ ghost use Rattle.refs_binding.specs.Steps.{ArePlaces};
 ghost use Rattle.refs_binding.specs.Uses.{IsPackage};
 ghost use Rattle.refs_binding.specs.Packages.{ArePackages};
 ghost use Rattle.refs_binding.specs.Workspaces.{known_in};
-ghost use Rattle.refs_binding.specs.Standing.{InPackage, IsScopeAt, StandsIn, IsDeclaredAt};
-ghost use Rattle.refs_places.specs.Outside.{path_by};
-ghost use Rattle.refs_places.specs.DeclaredPlaces.{IsFound, IsFoundIn, BeginsIn, ArePlacesOf, AreDeclaredIn, AreDeclaredAt, AreDeclared, IsPlaceIn};
+ghost use Rattle.refs_binding.specs.DeclaringPlaces.{InPackage, IsScopeAt, DeclaresAt, IsDeclaredAt};
+ghost use Rattle.refs_places.specs.Outside.{declaring_path};
+ghost use Rattle.refs_places.specs.DeclaredPlaces.{IsChoice, IsChoiceIn, TokenBeginsAt, ArePlacesOf, AreDeclaredIn, AreDeclaredAt, AreAllPlaces, IsPlaceIn};
 
 use crate::places::place_of;
 use base_files::Place;
@@ -56,7 +56,7 @@ fn counts(table: &ScopeTable<'_>, d: usize) -> bool
 /// Returns the position of a declaration of a package's own scopes. An import is at its path literal.
 fn position_in(unit: Package<'_>, d: usize) -> Option<Position>
     requires { d < length unit.table.now.sites }
-    ensures { IsFound (IsScopeAt (package_of unit.entry) d) result }
+    ensures { IsChoice (IsScopeAt (package_of unit.entry) d) result }
 {
     if d < PREDECLARED {
         return None;
@@ -81,7 +81,7 @@ fn name_places(alloc: Global, unit: Package<'_>) -> Result<Vec<Option<Position>>
 
 /// Returns the place of the token at a position, if there is a position.
 fn found_place(files: &[FileTree], at: Option<Position>) -> Result<Option<Place>, AllocError>
-    ensures { IfOk result (IsFound (BeginsIn (map source_of files.now) at)) }
+    ensures { IfOk result (IsChoice (TokenBeginsAt (map source_of files.now) at)) }
 {
     match at {
         None => Ok(None),
@@ -124,7 +124,7 @@ pub fn indexed_places(
 }
 
 /// Indexes a package, and returns the places of its declarations.
-pub fn unit_places(alloc: Global, unit: Package<'_>) -> Result<DeclaredPlaces, AllocError>
+pub fn package_places(alloc: Global, unit: Package<'_>) -> Result<DeclaredPlaces, AllocError>
     ensures { IfOk result (AreDeclaredIn (package_of unit.entry)) }
 {
     let index = Index::of(alloc, unit)?;
@@ -142,7 +142,7 @@ fn places_at(
     ensures { IfOk result (AreDeclaredAt packages.now.graph.now (known_in packages.now.found.now) number) }
 {
     let unit = packages.unit(number);
-    unit_places(alloc, unit)
+    package_places(alloc, unit)
 }
 
 /// Returns the places of the declarations of all packages, by package number.
@@ -151,7 +151,7 @@ pub fn declared_places(
     packages: &Packages<'_>,
 ) -> Result<Vec<DeclaredPlaces>, AllocError>
     requires { ArePackages packages.now }
-    ensures { IfOk result (λ all. AreDeclared packages.now.graph.now (known_in packages.now.found.now) all.items) }
+    ensures { IfOk result (λ all. AreAllPlaces packages.now.graph.now (known_in packages.now.found.now) all.items) }
 {
     let mut all = Vec::new(alloc);
     for number in 0..packages.graph.len() {
@@ -186,7 +186,7 @@ impl DeclaredPlaces {
 
 /// Returns the path of the package of a declaration, or `None` if it is predeclared.
 pub fn package_path(declaration: &Declaration) -> Option<&SharedPath>
-    ensures { option_copied result ≡ path_by declaration.now }
+    ensures { option_copied result ≡ declaring_path declaration.now }
 {
     match declaration {
         Declaration::Predeclared(_) => None,
@@ -204,7 +204,7 @@ fn has_path(graph: &Graph, number: usize, path: &[u8]) -> bool
 }
 
 /// Returns the number of the package of a path. The search starts at `near`, the number found last.
-fn number_near(graph: &Graph, near: &mut usize, path: &[u8]) -> Option<usize>
+fn number_by_hint(graph: &Graph, near: &mut usize, path: &[u8]) -> Option<usize>
     ensures { MatchOption result (Contains (package_paths graph.now) path.now → ⊥) (λ number. slice_get (package_paths graph.now) number ≡ Some path.now) }
 {
     if has_path(graph, *near, path) {
@@ -223,9 +223,9 @@ fn declared_under<'a>(
     path: &SharedPath,
     declaration: &Declaration,
 ) -> Option<&'a Place>
-    ensures { (known : Verdicts) → AreDeclared graph.now known all.now → IsFoundIn (λ (place : At). InPackage (IsPackage graph.now known) path.now (λ p. StandsIn p declaration.now place)) result }
+    ensures { (known : Verdicts) → AreAllPlaces graph.now known all.now → IsChoiceIn (λ (place : At). InPackage (IsPackage graph.now known) path.now (λ p. DeclaresAt p declaration.now place)) result }
 {
-    match number_near(graph, near, path.path()) {
+    match number_by_hint(graph, near, path.path()) {
         None => None,
         Some(number) => match all.get(number) {
             None => None,
@@ -241,7 +241,7 @@ pub fn declared_near<'a>(
     near: &mut usize,
     declaration: &Declaration,
 ) -> Option<&'a Place>
-    ensures { (known : Verdicts) → AreDeclared graph.now known all.now → IsFoundIn (IsDeclaredAt (IsPackage graph.now known) declaration.now) result }
+    ensures { (known : Verdicts) → AreAllPlaces graph.now known all.now → IsChoiceIn (IsDeclaredAt (IsPackage graph.now known) declaration.now) result }
 {
     match declaration {
         Declaration::Predeclared(_) => None,
@@ -261,7 +261,7 @@ pub fn declared_at<'a>(
     all: &'a [DeclaredPlaces],
     declaration: &Declaration,
 ) -> Option<&'a Place>
-    ensures { (known : Verdicts) → AreDeclared graph.now known all.now → IsFoundIn (IsDeclaredAt (IsPackage graph.now known) declaration.now) result }
+    ensures { (known : Verdicts) → AreAllPlaces graph.now known all.now → IsChoiceIn (IsDeclaredAt (IsPackage graph.now known) declaration.now) result }
 {
     let mut near = 0;
     declared_near(graph, all, &mut near, declaration)

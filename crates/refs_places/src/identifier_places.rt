@@ -8,7 +8,7 @@ ghost use Rattle.refs_binding.specs.Identifiers.{BeginsAt};
 ghost use Rattle.refs_binding.specs.Packages.{ArePackages};
 ghost use Rattle.refs_binding.specs.Workspaces.{known_in};
 ghost use Rattle.refs_places.specs.Identified.{IsIdentifierAt};
-ghost use Rattle.refs_places.specs.Identified.{BeginsInNumber};
+ghost use Rattle.refs_places.specs.Identified.{BeginsInPackageAt};
 
 use crate::places::beginning;
 use base_files::Place;
@@ -48,7 +48,7 @@ fn add_package(
 ) -> Result<(), AllocError>
     requires in_range { number < length (package_paths packages.now.graph.now) }
     requires read { ArePackages packages.now }
-    ensures { OnOk result (AddsAll places.old.items places.new.items (BeginsInNumber packages.now.graph.now (known_in packages.now.found.now) number)) }
+    ensures { OnOk result (AddsAll places.old.items places.new.items (BeginsInPackageAt packages.now.graph.now (known_in packages.now.found.now) number)) }
 {
     let unit = packages.unit(number);
     add_unit(places, unit)

@@ -4,9 +4,9 @@ ghost use Rattle.base_files.specs.declared.place.Place.{Place as At};
 ghost use Rattle.go_ast.specs.SourceFile.{source_of};
 ghost use Rattle.types_declared.specs.PackageView.{package_of};
 ghost use Rattle.refs_binding.specs.Identifiers.{BeginsAt, NameBegins};
-ghost use Rattle.refs_binding.specs.Standing.{TokenBegins};
+ghost use Rattle.refs_binding.specs.DeclaringPlaces.{TokenBegins};
 ghost use Rattle.refs_places.specs.Beginnings.{place_of};
-ghost use Rattle.refs_places.specs.DeclaredPlaces.{IsFound};
+ghost use Rattle.refs_places.specs.DeclaredPlaces.{IsChoice};
 
 use base_files::{Path, Place};
 use go_ast::FileTree;
@@ -27,7 +27,7 @@ fn begin(file: &FileTree, token: usize) -> Result<Place, AllocError>
 
 /// Returns the place of the token at a position, if the file exists.
 pub fn place_of(files: &[FileTree], at: Position) -> Result<Option<Place>, AllocError>
-    ensures { IfOk result (IsFound (TokenBegins (slice_get (map source_of files.now) at.file) at.index)) }
+    ensures { IfOk result (IsChoice (TokenBegins (slice_get (map source_of files.now) at.file) at.index)) }
 {
     match files.get(at.file) {
         None => Ok(None),
@@ -37,7 +37,7 @@ pub fn place_of(files: &[FileTree], at: Position) -> Result<Option<Place>, Alloc
 
 /// Returns the place of a token of a file, or `None` if the token is no identifier.
 fn name_in(file: &FileTree, token: usize) -> Result<Option<Place>, AllocError>
-    ensures { IfOk result (IsFound (λ (place : At). NameBegins (Some (source_of file.now)) token place.path place.offset)) }
+    ensures { IfOk result (IsChoice (λ (place : At). NameBegins (Some (source_of file.now)) token place.path place.offset)) }
 {
     if is_name(file, token) {
         Ok(Some(begin(file, token)?))
@@ -48,7 +48,7 @@ fn name_in(file: &FileTree, token: usize) -> Result<Option<Place>, AllocError>
 
 /// Returns the place of the token at a position, or `None` if the token is no identifier.
 pub fn name_beginning(files: &[FileTree], at: Position) -> Result<Option<Place>, AllocError>
-    ensures { IfOk result (IsFound (λ (place : At). NameBegins (slice_get (map source_of files.now) at.file) at.index place.path place.offset)) }
+    ensures { IfOk result (IsChoice (λ (place : At). NameBegins (slice_get (map source_of files.now) at.file) at.index place.path place.offset)) }
 {
     match files.get(at.file) {
         None => Ok(None),
@@ -59,7 +59,7 @@ pub fn name_beginning(files: &[FileTree], at: Position) -> Result<Option<Place>,
 /// Returns the place of the identifier `u`, or `None` for an import's path literal or a predeclared name.
 pub fn beginning(unit: Package<'_>, u: usize) -> Result<Option<Place>, AllocError>
     requires { u < length unit.table.now.sites }
-    ensures { IfOk result (IsFound (λ (place : At). BeginsAt (package_of unit.entry) place.path place.offset u)) }
+    ensures { IfOk result (IsChoice (λ (place : At). BeginsAt (package_of unit.entry) place.path place.offset u)) }
 {
     if unit.table.role(u).is_implied() {
         Ok(None)
@@ -77,7 +77,7 @@ pub struct NameStart<'a> {
 
 /// Returns the borrowed place of a token of a file, or `None` if the token is no identifier.
 fn start_in<'a>(file: &'a FileTree, token: usize) -> Option<NameStart<'a>>
-    ensures { IsFound (λ (place : At). NameBegins (Some (source_of file.now)) token place.path place.offset) (option_map place_of result) }
+    ensures { IsChoice (λ (place : At). NameBegins (Some (source_of file.now)) token place.path place.offset) (option_map place_of result) }
 {
     if is_name(file, token) {
         Some(NameStart {
@@ -91,7 +91,7 @@ fn start_in<'a>(file: &'a FileTree, token: usize) -> Option<NameStart<'a>>
 
 /// Returns the borrowed place of the token at a position, or `None` if the token is no identifier.
 fn start_at<'a>(files: &'a [FileTree], at: Position) -> Option<NameStart<'a>>
-    ensures { IsFound (λ (place : At). NameBegins (slice_get (map source_of files.now) at.file) at.index place.path place.offset) (option_map place_of result) }
+    ensures { IsChoice (λ (place : At). NameBegins (slice_get (map source_of files.now) at.file) at.index place.path place.offset) (option_map place_of result) }
 {
     match files.get(at.file) {
         None => None,
@@ -102,7 +102,7 @@ fn start_at<'a>(files: &'a [FileTree], at: Position) -> Option<NameStart<'a>>
 /// Returns the borrowed place of the identifier `u`, or `None` for an import's path literal or a predeclared name.
 pub fn start<'a>(unit: Package<'a>, u: usize) -> Option<NameStart<'a>>
     requires { u < length unit.table.now.sites }
-    ensures { IsFound (λ (place : At). BeginsAt (package_of unit.entry) place.path place.offset u) (option_map place_of result) }
+    ensures { IsChoice (λ (place : At). BeginsAt (package_of unit.entry) place.path place.offset u) (option_map place_of result) }
 {
     if unit.table.role(u).is_implied() {
         None

@@ -19,14 +19,14 @@ use Rattle.types_expr.specs.declared.symbol.Symbol.{Symbol}
 use Rattle.types_declared.specs.Definitions.{AreDefinitions}
 use Rattle.types_declared.specs.Package.{Package}
 use Rattle.types_info.specs.MemberUses.{AreMemberUses, uses_in}
-use Rattle.types_info.proofs.BoundLists.{slice_get_some}
-use Rattle.types_info.proofs.OneWorld.{one_world}
+use Rattle.types_info.proofs.MeaningLists.{slice_get_some}
+use Rattle.types_info.proofs.OneWorld.{has_one_world}
 use Rattle.workspace_check.specs.Verdicts.{Verdicts, AreVerdicts}
 use Rattle.workspace_check.proofs.Members.{nothing_in}
 use Rattle.workspace_check.proofs.OnePackage.{layout_formed, files_in_order}
 use Rattle.refs_binding.specs.declared.declaration.Declaration.{Declaration}
 use Rattle.refs_binding.specs.declared.declaration.Declaration.TheVariants.{Predeclared, Declared, Field, Method}
-use Rattle.refs_binding.specs.Binding.{declaration_of, IsMemberAt}
+use Rattle.refs_binding.specs.Binding.{declaration_of, UsesMemberAt}
 use Rattle.refs_binding.specs.Members.{uses_or_none}
 use Rattle.refs_binding.specs.Steps.{BindsIn, by_scope, by_package, by_member, by_name}
 use Rattle.refs_binding.specs.Workspaces.{IsPackageAt, home_path}
@@ -65,7 +65,7 @@ module _ (w : Workspace) (known : Verdicts) (home n : ℕ) (other : home ≡ n �
 
   -- a member is used as one
   pub field_used : (s : Symbol) (name : Option (List ℕ)) (u : ℕ) → slice_get (package_paths w) home ≡ Some s.package → BindsIn p (Field s) name u →
-      IsMemberAt p (p.layout.place u).file (p.layout.place u).index (Field s)
+      UsesMemberAt p (p.layout.place u).file (p.layout.place u).index (Field s)
   field_used s name u at (by_scope h) = absurd h
   field_used s None u at (by_package h) = absurd h
   field_used s (Some x) u at (by_package h) = absurd h
@@ -73,7 +73,7 @@ module _ (w : Workspace) (known : Verdicts) (home n : ℕ) (other : home ≡ n �
   field_used s name u at (by_name h) = absurd (not_own s.package at h.0)
 
   pub method_used : (s : Symbol) (name : Option (List ℕ)) (u : ℕ) → slice_get (package_paths w) home ≡ Some s.package → BindsIn p (Method s) name u →
-      IsMemberAt p (p.layout.place u).file (p.layout.place u).index (Method s)
+      UsesMemberAt p (p.layout.place u).file (p.layout.place u).index (Method s)
   method_used s name u at (by_scope h) = absurd h
   method_used s None u at (by_package h) = absurd h
   method_used s (Some x) u at (by_package h) = absurd h
@@ -91,7 +91,7 @@ module _ (w : Workspace) (known : Verdicts) (right : AreVerdicts w known) (n : �
   owned_within definitions are (Method s) o path e = subst (IsInClosure w p.path) (o.of_path ∙ same_Some s.package path e) o.in_closure
 
   -- its package is in the closure
-  pub member_within : (file token : ℕ) (d : Declaration) → IsMemberAt p file token d → (path : List ℕ) → home_path d ≡ Some path → IsInClosure w p.path path
+  pub member_within : (file token : ℕ) (d : Declaration) → UsesMemberAt p file token d → (path : List ℕ) → home_path d ≡ Some path → IsInClosure w p.path path
   member_within file token d m path e =
       let world = m.judged.judged_by in
       let owned = member_owned w known right p is.is_package world.definitions world.are_definitions (spelling_of m.judged.source token) m.found.before
@@ -99,7 +99,7 @@ module _ (w : Workspace) (known : Verdicts) (right : AreVerdicts w known) (n : �
       owned_within world.definitions world.are_definitions d
       (subst (λ x. IsOwned w known right p is.is_package world.definitions world.are_definitions x) m.declares owned) path e
 
-  pub member_reached : (home file token : ℕ) (d : Declaration) → IsMemberAt p file token d → slice_get (package_paths w) home ≡ home_path d →
+  pub member_reached : (home file token : ℕ) (d : Declaration) → UsesMemberAt p file token d → slice_get (package_paths w) home ≡ home_path d →
       (path : List ℕ) × ((slice_get (package_paths w) home ≡ Some path) × IsInClosure w p.path path)
   member_reached home file token d m at =
       let path = (member_symbol m.member).package in
@@ -107,12 +107,12 @@ module _ (w : Workspace) (known : Verdicts) (right : AreVerdicts w known) (n : �
       (path, (at ∙ of_path, member_within file token d m path of_path))
 
   -- and some member is used in the file
-  pub one_used : (members : List (Vec FoundUse)) → AreMemberUses p (map uses_in members) → (file token : ℕ) (d : Declaration) → IsMemberAt p file token d →
+  pub one_used : (members : List (Vec FoundUse)) → AreMemberUses p (map uses_in members) → (file token : ℕ) (d : Declaration) → UsesMemberAt p file token d →
       uses_or_none (slice_get members file) ≡ [] → ⊥
   one_used members all file token d m empty =
       let v = slice_get_some members file (has_uses p members all file m.uses m.judged) in
       let h = is.is_package.is_checked in
-      let one = one_world p (layout_formed w known p.path p h) (files_in_order w known p.path p h) in
+      let one = has_one_world p (layout_formed w known p.path p h) (files_in_order w known p.path p h) in
       let lists : m.uses ≡ uses_in v.0 = one_list p one file m.uses (uses_in v.0) m.judged (file_uses p members all file v.0 v.1) in
       let none : v.0.items ≡ [] = sym (ap uses_or_none v.1) ∙ empty in
       nothing_in m.found (subst (λ l. Contains l m.found) (lists ∙ ap (map use_of) none) m.is_use)

@@ -9,18 +9,18 @@ use Rattle.go_scope.specs.Bindings.{is_implied}
 use Rattle.go_scope.specs.declared.model.Position.{Position}
 use Rattle.types_declared.specs.Package.{Package}
 use Rattle.types_info.specs.declared.lists.Qualified.{Qualified}
-use Rattle.types_info.specs.Qualified.{IsBehindPackage, AreQualified}
+use Rattle.types_info.specs.QualifiedIdentifiers.{IsQualifiedByPath, AreQualified}
 use Rattle.workspace_check.specs.Verdicts.{Verdicts}
 use Rattle.refs_binding.specs.declared.declaration.Declaration.TheVariants.{Declared}
-use Rattle.refs_binding.specs.declared.spot.Spot.{Spot}
+use Rattle.refs_binding.specs.declared.place_key.PlaceKey.{PlaceKey}
 use Rattle.refs_binding.specs.Identifiers.{NameBegins}
-use Rattle.refs_binding.specs.Steps.{Adds, UsesIn, BindsIn, by_scope, by_package, by_member, by_name}
+use Rattle.refs_binding.specs.Steps.{AddsMisfits, UsesIn, BindsIn, by_scope, by_package, by_member, by_name}
 use Rattle.refs_binding.specs.Workspaces.{IsPackageAt, IsUseAt}
 use Rattle.refs_binding.proofs.Adding.{Below, adds_as, adds_none}
 use Rattle.refs_binding.proofs.MemberParts.{not_declared}
 use Rattle.refs_binding.proofs.Spelled.{selected_spelled}
 use Rattle.refs_binding.proofs.Units.{one_at}
-use Rattle.refs_uses.specs.Abroad.{IsAbroad, IsSpelledAt, IsSpelledAmong, IsSpelledUnder, IsSpelledListed, IsUseBehind}
+use Rattle.refs_uses.specs.Abroad.{IsAbroad, IsSpelledAt, IsSpelledAmong, IsSpelledUnder, IsSpelledListed, IsQualifiedUseOf}
 
 -- the token of a rank in a list
 
@@ -29,15 +29,15 @@ pub record IsSpelledRank (files : List SourceFile) (name : List ℕ) (places : L
   pub has_rank : slice_get places k ≡ Some at
   pub is_spelled : IsSpelledAt files name at place
 
-pub one_place : (files : List SourceFile) (name : List ℕ) (places : List Position) (k : ℕ) (at : Position) (a b : List Spot) → slice_get places k ≡ Some at →
-    Adds a b (IsSpelledAt files name at) → Adds a b (IsSpelledRank files name places k)
+pub one_place : (files : List SourceFile) (name : List ℕ) (places : List Position) (k : ℕ) (at : Position) (a b : List PlaceKey) → slice_get places k ≡ Some at →
+    AddsMisfits a b (IsSpelledAt files name at) → AddsMisfits a b (IsSpelledRank files name places k)
 one_place files name places k at a b is h =
     adds_as a b (IsSpelledAt files name at) (IsSpelledRank files name places k)
     (λ place s. record { at = at; has_rank = is; is_spelled = s })
     (λ place r. subst (λ x. IsSpelledAt files name x place) (same_Some r.at at (sym r.has_rank ∙ is)) r.is_spelled) h
 
-pub all_places : (files : List SourceFile) (name : List ℕ) (places : List Position) (n : ℕ) (a b : List Spot) → n ≡ length places →
-    Adds a b (Below (IsSpelledRank files name places) n) → Adds a b (IsSpelledAmong files name places)
+pub all_places : (files : List SourceFile) (name : List ℕ) (places : List Position) (n : ℕ) (a b : List PlaceKey) → n ≡ length places →
+    AddsMisfits a b (Below (IsSpelledRank files name places) n) → AddsMisfits a b (IsSpelledAmong files name places)
 all_places files name places n a b e h =
     adds_as a b (Below (IsSpelledRank files name places) n) (IsSpelledAmong files name places)
     (λ place q. record {
@@ -62,15 +62,15 @@ pub record IsUnderRank (files : List SourceFile) (name path : List ℕ) (lists :
   pub has_rank : slice_get lists k ≡ Some list
   pub under : IsSpelledUnder files name path list place
 
-pub one_list : (files : List SourceFile) (name path : List ℕ) (lists : List Qualified) (k : ℕ) (list : Qualified) (a b : List Spot) →
-    slice_get lists k ≡ Some list → Adds a b (IsSpelledUnder files name path list) → Adds a b (IsUnderRank files name path lists k)
+pub one_list : (files : List SourceFile) (name path : List ℕ) (lists : List Qualified) (k : ℕ) (list : Qualified) (a b : List PlaceKey) →
+    slice_get lists k ≡ Some list → AddsMisfits a b (IsSpelledUnder files name path list) → AddsMisfits a b (IsUnderRank files name path lists k)
 one_list files name path lists k list a b is h =
     adds_as a b (IsSpelledUnder files name path list) (IsUnderRank files name path lists k)
     (λ place s. record { list = list; has_rank = is; under = s })
     (λ place r. subst (λ x. IsSpelledUnder files name path x place) (same_Some r.list list (sym r.has_rank ∙ is)) r.under) h
 
-pub all_lists : (files : List SourceFile) (name path : List ℕ) (lists : List Qualified) (n : ℕ) (a b : List Spot) → n ≡ length lists →
-    Adds a b (Below (IsUnderRank files name path lists) n) → Adds a b (IsSpelledListed files name path lists)
+pub all_lists : (files : List SourceFile) (name path : List ℕ) (lists : List Qualified) (n : ℕ) (a b : List PlaceKey) → n ≡ length lists →
+    AddsMisfits a b (Below (IsUnderRank files name path lists) n) → AddsMisfits a b (IsSpelledListed files name path lists)
 all_lists files name path lists n a b e h =
     adds_as a b (Below (IsUnderRank files name path lists) n) (IsSpelledListed files name path lists)
     (λ place q. record {
@@ -92,11 +92,11 @@ all_lists files name path lists n a b e h =
 -- what is listed of a package
 
 module _ (w : Workspace) (known : Verdicts) (n : ℕ) (p : Package) (is : IsPackageAt w known n p) (path name : List ℕ) where
-  pub listed_behind : (files : List SourceFile) → files ≡ p.files → (lists : List Qualified) → AreQualified p lists → (a b : List Spot) →
-      Adds a b (IsSpelledListed files name path lists) → Adds a b (IsUseBehind w known n path name)
-  listed_behind files same lists all a b h = adds_as a b (IsSpelledListed files name path lists) (IsUseBehind w known n path name) to from h
+  pub listed_behind : (files : List SourceFile) → files ≡ p.files → (lists : List Qualified) → AreQualified p lists → (a b : List PlaceKey) →
+      AddsMisfits a b (IsSpelledListed files name path lists) → AddsMisfits a b (IsQualifiedUseOf w known n path name)
+  listed_behind files same lists all a b h = adds_as a b (IsSpelledListed files name path lists) (IsQualifiedUseOf w known n path name) to from h
     where
-      to : (place : Place) → IsSpelledListed files name path lists place → IsUseBehind w known n path name place
+      to : (place : Place) → IsSpelledListed files name path lists place → IsQualifiedUseOf w known n path name place
       to place s =
           let stands = (all path s.at).0 s.listed in
           let u = stands.identifier in
@@ -115,7 +115,7 @@ module _ (w : Workspace) (known : Verdicts) (n : ℕ) (p : Package) (is : IsPack
             );
           }
 
-      from_own : (place : Place) → UsesIn p (λ u. IsBehindPackage p u path × (p.names u ≡ name)) place → IsSpelledListed files name path lists place
+      from_own : (place : Place) → UsesIn p (λ u. IsQualifiedByPath p u path × (p.names u ≡ name)) place → IsSpelledListed files name path lists place
       from_own place q =
           let u = q.0 in
           let behind = q.1.1.0 in
@@ -127,24 +127,24 @@ module _ (w : Workspace) (known : Verdicts) (n : ℕ) (p : Package) (is : IsPack
             is_spelled = subst (λ fs. IsSpelledAt fs name (p.layout.place u) place) (sym same) here;
           }
 
-      from : (place : Place) → IsUseBehind w known n path name place → IsSpelledListed files name path lists place
-      from place q = from_own place (subst (λ (x : Package). UsesIn x (λ u. IsBehindPackage x u path × (x.names u ≡ name)) place)
+      from : (place : Place) → IsQualifiedUseOf w known n path name place → IsSpelledListed files name path lists place
+      from place q = from_own place (subst (λ (x : Package). UsesIn x (λ u. IsQualifiedByPath x u path × (x.names u ≡ name)) place)
           (one_at w known n q.used_in p q.is_package is) q.is_use)
 
 -- a declaration of another package is used so, and not otherwise
 
 module _ (w : Workspace) (known : Verdicts) (n : ℕ) (path : List ℕ) (abroad : IsAbroad w known n path) (d : ℕ) where
   behind_name : (p : Package) → IsPackageAt w known n p → (name : List ℕ) (u : ℕ) → BindsIn p (Declared path d) (Some name) u →
-      IsBehindPackage p u path × (p.names u ≡ name)
+      IsQualifiedByPath p u path × (p.names u ≡ name)
   behind_name p is name u (by_scope h) = absurd (abroad p is (sym h.0))
   behind_name p is name u (by_package h) = h
   behind_name p is name u (by_member h) = absurd (not_declared h.member path d h.declares)
   behind_name p is name u (by_name h) = absurd h
 
-  pub used_abroad : (name : List ℕ) (a b : List Spot) → Adds a b (IsUseBehind w known n path name) →
-      Adds a b (IsUseAt w known (Declared path d) (Some name) n)
+  pub used_abroad : (name : List ℕ) (a b : List PlaceKey) → AddsMisfits a b (IsQualifiedUseOf w known n path name) →
+      AddsMisfits a b (IsUseAt w known (Declared path d) (Some name) n)
   used_abroad name a b h =
-      adds_as a b (IsUseBehind w known n path name) (IsUseAt w known (Declared path d) (Some name) n)
+      adds_as a b (IsQualifiedUseOf w known n path name) (IsUseAt w known (Declared path d) (Some name) n)
       (λ place q. record { used_in = q.used_in; is_package = q.is_package; is_use = (q.is_use.0, (q.is_use.1.0, by_package q.is_use.1.1)) })
       (λ place q. record {
         used_in = q.used_in;
@@ -158,6 +158,6 @@ module _ (w : Workspace) (known : Verdicts) (n : ℕ) (path : List ℕ) (abroad 
   no_name p is u (by_member h) = not_declared h.member path d h.declares
   no_name p is u (by_name h) = h
 
-  pub unnamed_abroad : (a : List Spot) → Adds a a (IsUseAt w known (Declared path d) None n)
+  pub unnamed_abroad : (a : List PlaceKey) → AddsMisfits a a (IsUseAt w known (Declared path d) None n)
   unnamed_abroad a =
       adds_none a (IsUseAt w known (Declared path d) None n) (λ place q. no_name q.used_in q.is_package q.is_use.0 q.is_use.1.1)

@@ -7,8 +7,8 @@ use Rattle.go_ast.specs.SourceFile.{SourceFile}
 use Rattle.go_scope.specs.declared.model.Position.{Position}
 use Rattle.types_declared.specs.Package.{Package, spelled_at}
 use Rattle.types_info.specs.declared.lists.Qualified.{Qualified}
-use Rattle.types_info.specs.Lists.{path_of, IsListed}
-use Rattle.types_info.specs.Qualified.{IsBehindPackage}
+use Rattle.types_info.specs.Lists.{list_path, IsListedUnder}
+use Rattle.types_info.specs.QualifiedIdentifiers.{IsQualifiedByPath}
 use Rattle.workspace_check.specs.Verdicts.{Verdicts}
 use Rattle.refs_binding.specs.declared.declaration.Declaration.{Declaration}
 use Rattle.refs_binding.specs.declared.declaration.Declaration.TheVariants.{Declared}
@@ -29,20 +29,20 @@ pub record IsSpelledAmong (files : List SourceFile) (name : List ℕ) (places : 
 
 -- The list is that of `path`, and the token at one of its positions is an identifier with this name and begins at the place.
 abbrev pub IsSpelledUnder : List SourceFile → (name path : List ℕ) → Qualified → Place → Type 0
-IsSpelledUnder files name path list place = (path_of list ≡ path) × IsSpelledAmong files name list.places.items place
+IsSpelledUnder files name path list place = (list_path list ≡ path) × IsSpelledAmong files name list.places.items place
 
 -- A token that is listed under `path` is an identifier with this name and begins at the place.
 pub record IsSpelledListed (files : List SourceFile) (name path : List ℕ) (lists : List Qualified) (place : Place) : Type 0 where
   pub at : Position
-  pub listed : IsListed lists path at
+  pub listed : IsListedUnder lists path at
   pub is_spelled : IsSpelledAt files name at place
 
 -- An identifier of the package `number` begins at the place. It is `N` in a qualified identifier `q.N`, where `q` names the package of
 -- `path` and `N` is `name`.
-pub record IsUseBehind (w : Workspace) (known : Verdicts) (number : ℕ) (path name : List ℕ) (place : Place) : Type 0 where
+pub record IsQualifiedUseOf (w : Workspace) (known : Verdicts) (number : ℕ) (path name : List ℕ) (place : Place) : Type 0 where
   pub used_in : Package
   pub is_package : IsPackageAt w known number used_in
-  pub is_use : UsesIn used_in (λ u. IsBehindPackage used_in u path × (used_in.names u ≡ name)) place
+  pub is_use : UsesIn used_in (λ u. IsQualifiedByPath used_in u path × (used_in.names u ≡ name)) place
 
 -- The package `number` has another path than `path`.
 abbrev pub IsAbroad : Workspace → Verdicts → (number : ℕ) → (path : List ℕ) → Type 0

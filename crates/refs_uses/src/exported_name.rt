@@ -5,7 +5,7 @@ ghost use Rattle.refs_binding.specs.declared.declaration.Declaration.TheVariants
 ghost use Rattle.refs_binding.specs.Indexed.{IsNumbered};
 ghost use Rattle.refs_binding.specs.Packages.{IsTableAs};
 ghost use Rattle.refs_binding.specs.Steps.{IsExportedBy};
-ghost use Rattle.refs_binding.specs.Workspaces.{IsSound, known_in, bytes_of, IsExportedUnder, IsNameAt};
+ghost use Rattle.refs_binding.specs.Workspaces.{IsFaultless, known_in, name_bytes, IsExportedUnder, IsNameAt};
 ghost use Rattle.go_scope.specs.Named.{name_value};
 
 use go_scope::table::ScopeTable;
@@ -13,7 +13,7 @@ use refs_binding::indexed::{Numbered, unit_of};
 use refs_binding::{Declaration, read_table};
 use std::alloc::{AllocError, Global};
 use types_check::is_seen;
-use types_declared::{Interfaces, Package};
+use types_declared::{ExportTable, Package};
 use types_expr::symbol::SharedPath;
 use workspace_check::{Findings, seen};
 use workspace_graph::Graph;
@@ -24,7 +24,7 @@ pub(crate) fn own_name(
     unit: Package<'_>,
     d: usize,
 ) -> Result<Option<Vec<u8>>, AllocError>
-    ensures { IfOk result (λ name. IsExportedBy (package_of unit.entry) d (option_map bytes_of name)) }
+    ensures { IfOk result (λ name. IsExportedBy (package_of unit.entry) d (option_map name_bytes name)) }
 {
     match exported_name(unit, d) {
         None => Ok(None),
@@ -36,13 +36,13 @@ pub(crate) fn own_name(
 fn name_by(
     alloc: Global,
     at: Numbered<'_>,
-    seen: &Interfaces,
+    seen: &ExportTable,
     table: &ScopeTable<'_>,
     d: usize,
 ) -> Result<Option<Vec<u8>>, AllocError>
     requires numbered { IsNumbered at }
     requires table { IsTableAs at.graph.now (known_in at.found.now) at.number table.now seen.now }
-    ensures { IfOk result (λ name. IsNameAt at.entry.graph.now (known_in at.entry.found.now) at.entry.number d (option_map bytes_of name)) }
+    ensures { IfOk result (λ name. IsNameAt at.entry.graph.now (known_in at.entry.found.now) at.entry.number d (option_map name_bytes name)) }
 {
     own_name(alloc, unit_of(at, seen, table), d)
 }
@@ -50,9 +50,9 @@ fn name_by(
 /// Reads the package of a number, and returns the name under which it exports its declaration `d`, if it does.
 fn name_at(alloc: Global, at: Numbered<'_>, d: usize) -> Result<Option<Vec<u8>>, AllocError>
     requires { IsNumbered at }
-    ensures { IfOk result (λ name. IsNameAt at.entry.graph.now (known_in at.entry.found.now) at.entry.number d (option_map bytes_of name)) }
+    ensures { IfOk result (λ name. IsNameAt at.entry.graph.now (known_in at.entry.found.now) at.entry.number d (option_map name_bytes name)) }
 {
-    let seen = seen(alloc, at.graph, at.number, &at.found.interfaces)?;
+    let seen = seen(alloc, at.graph, at.number, &at.found.export_table)?;
     let table = read_table(alloc, at.graph, at.found, &seen, at.number)?;
     name_by(alloc, at, &seen, &table, d)
 }
@@ -65,8 +65,8 @@ pub(crate) fn declared_name(
     path: &SharedPath,
     d: usize,
 ) -> Result<Option<Vec<u8>>, AllocError>
-    requires { IsSound graph.now found.now }
-    ensures { IfOk result (λ name. IsExportedUnder graph.now (known_in found.now) (Declared path.now d) (option_map bytes_of name)) }
+    requires { IsFaultless graph.now found.now }
+    ensures { IfOk result (λ name. IsExportedUnder graph.now (known_in found.now) (Declared path.now d) (option_map name_bytes name)) }
 {
     match graph.number_of(path.path()) {
         None => Ok(None),
@@ -88,8 +88,8 @@ pub(crate) fn exported_under(
     found: &Findings,
     declaration: &Declaration,
 ) -> Result<Option<Vec<u8>>, AllocError>
-    requires { IsSound graph.now found.now }
-    ensures { IfOk result (λ name. IsExportedUnder graph.now (known_in found.now) declaration.now (option_map bytes_of name)) }
+    requires { IsFaultless graph.now found.now }
+    ensures { IfOk result (λ name. IsExportedUnder graph.now (known_in found.now) declaration.now (option_map name_bytes name)) }
 {
     match declaration {
         Declaration::Declared(path, d) => declared_name(alloc, graph, found, path, *d),

@@ -1,17 +1,17 @@
 //! Lists the identifiers of a workspace that are bound to a declaration.
 #![tactic(auto)]
 
-mod abroad;
 mod exported_name;
 mod may_use;
 mod member_uses;
 mod members_abroad;
 mod own_names;
-mod package_uses;
 mod places;
+mod qualified_abroad;
+mod qualified_uses;
 mod scope_uses;
 mod sorting;
-mod unit_uses;
+mod uses_in_package;
 mod workspace_uses;
 
 pub use places::Places;

@@ -5,13 +5,13 @@ ghost use Rattle.base_files.specs.Packages.{package_paths};
 ghost use Rattle.go_scope.specs.Named.{name_value};
 ghost use Rattle.workspace_graph.specs.Graphs.{OfPackage};
 ghost use Rattle.workspace_graph.specs.Packages.{PackageImports};
-ghost use Rattle.workspace_graph.specs.Reaching.{MarkImporting};
+ghost use Rattle.workspace_graph.specs.Reaching.{MarksClosuresWith};
 ghost use Rattle.types_declared.specs.Package.{Package as Checked};
 ghost use Rattle.refs_binding.specs.declared.declaration.Declaration.{Declaration as Bound};
-ghost use Rattle.refs_binding.specs.Binding.{IsMemberAt};
+ghost use Rattle.refs_binding.specs.Binding.{UsesMemberAt};
 ghost use Rattle.refs_binding.specs.Members.{uses_or_none};
 ghost use Rattle.refs_uses.specs.Importing.{AreImporting};
-ghost use Rattle.refs_binding.specs.Workspaces.{IsSound, IsPackageAt, known_in, home_path, IsHome, IsUseAt};
+ghost use Rattle.refs_binding.specs.Workspaces.{IsFaultless, IsPackageAt, known_in, home_path, IsHome, IsUseAt};
 
 use refs_binding::{Declaration, members_of};
 use std::alloc::{AllocError, Global};
@@ -31,7 +31,7 @@ pub struct Sought<'a> {
 
 /// Marks the package of a number and the packages that import it, directly or indirectly.
 fn importing_number(alloc: Global, graph: &Graph, number: usize) -> Result<Vec<bool>, AllocError>
-    ensures { IfOk result (λ marks. OfPackage graph.now number (λ q. MarkImporting graph.now q marks.items)) }
+    ensures { IfOk result (λ marks. OfPackage graph.now number (λ q. MarksClosuresWith graph.now q marks.items)) }
 {
     if number < graph.len() {
         graph.importing(alloc, number)
@@ -83,9 +83,9 @@ fn may_use_member(
     importing: &[bool],
 ) -> bool
     requires in_range { number < length (package_paths graph.now) }
-    requires sound { IsSound graph.now found.now }
-    requires importing { OfPackage graph.now home (λ q. MarkImporting graph.now q importing.now) }
-    ensures { (p : Checked) → IsPackageAt graph.now (known_in found.now) number p → (file token : ℕ) (d : Bound) → IsMemberAt p file token d → slice_get (package_paths graph.now) home ≡ home_path d → IsTrue result }
+    requires sound { IsFaultless graph.now found.now }
+    requires importing { OfPackage graph.now home (λ q. MarksClosuresWith graph.now q importing.now) }
+    ensures { (p : Checked) → IsPackageAt graph.now (known_in found.now) number p → (file token : ℕ) (d : Bound) → UsesMemberAt p file token d → slice_get (package_paths graph.now) home ≡ home_path d → IsTrue result }
 {
     is_marked(importing, number) && uses_members(members_of(graph, found, number))
 }
@@ -99,10 +99,10 @@ fn may_use_other(
     sought: &Sought<'_>,
 ) -> bool
     requires in_range { number < length (package_paths graph.now) }
-    requires sound { IsSound graph.now found.now }
+    requires sound { IsFaultless graph.now found.now }
     requires home { slice_get (package_paths graph.now) home ≡ home_path sought.now.declaration.now }
     requires other { home ≢ number }
-    requires importing { OfPackage graph.now home (λ q. MarkImporting graph.now q sought.now.importing.now) }
+    requires importing { OfPackage graph.now home (λ q. MarksClosuresWith graph.now q sought.now.importing.now) }
     ensures { (place : Place) → IsUseAt graph.now (known_in found.now) sought.now.declaration.now (name_value sought.now.name) number place → IsTrue result }
 {
     match sought.declaration {
@@ -128,7 +128,7 @@ pub(crate) fn home_of(graph: &Graph, declaration: &Declaration) -> Option<usize>
 /// Whether an identifier of the package `number` may be bound to a declaration.
 pub(crate) fn may_use(graph: &Graph, found: &Findings, number: usize, sought: &Sought<'_>) -> bool
     requires in_range { number < length (package_paths graph.now) }
-    requires sound { IsSound graph.now found.now }
+    requires sound { IsFaultless graph.now found.now }
     requires home { IsHome graph.now sought.now.declaration.now sought.now.home }
     requires importing { AreImporting graph.now sought.now.home sought.now.importing.now }
     ensures { (place : Place) → IsUseAt graph.now (known_in found.now) sought.now.declaration.now (name_value sought.now.name) number place → IsTrue result }

@@ -5,19 +5,19 @@ ghost use Rattle.types_expr.specs.View.{type_of};
 ghost use Rattle.types_declared.specs.PackageView.{package_of};
 ghost use Rattle.refs_binding.specs.Binding.{BindsByMember};
 ghost use Rattle.refs_binding.specs.Indexed.{IsIndexed};
-ghost use Rattle.refs_binding.specs.Steps.{Adds, UsesIn};
+ghost use Rattle.refs_binding.specs.Steps.{AddsMisfits, UsesIn};
 ghost use Rattle.refs_binding.specs.Members.{definitions_seen, member_at, IsMemberUseOf, IsMemberUseAmong};
 
 use go_scope::model::Position;
 use refs_binding::identifiers::add_token;
 use refs_binding::indexed::Indexed;
 use refs_binding::member_uses::member;
-use refs_binding::{Declaration, Spot};
+use refs_binding::{Declaration, PlaceKey};
 use std::alloc::AllocError;
 use types_declared::Package;
 use types_expr::found::MemberUse;
 use types_expr::world::{Definition, Name};
-use types_info::one_world;
+use types_info::has_one_world;
 
 /// Whether a use of a member is bound to this declaration.
 fn is_member_use(
@@ -42,14 +42,14 @@ fn is_member_use(
 
 /// Adds the place of a use of a member, if it is bound to this declaration.
 fn add_member_use(
-    found: &mut Vec<Spot>,
+    found: &mut Vec<PlaceKey>,
     of: &Indexed<'_>,
     file: usize,
     member: &MemberUse,
     declaration: &Declaration,
 ) -> Result<(), AllocError>
     requires { IsIndexed of.now }
-    ensures { OnOk result (Adds found.old.items found.new.items (IsMemberUseOf (definitions_seen of.now.unit of.now.own.now) (package_of of.now.unit) file declaration.now (use_of member.now))) }
+    ensures { OnOk result (AddsMisfits found.old.items found.new.items (IsMemberUseOf (definitions_seen of.now.unit of.now.own.now) (package_of of.now.unit) file declaration.now (use_of member.now))) }
 {
     if is_member_use(of.unit, of.own, file, member, declaration) {
         let at = Position {
@@ -64,14 +64,14 @@ fn add_member_use(
 
 /// Adds the places of the uses of members in a file that are bound to this declaration.
 fn add_file_members(
-    found: &mut Vec<Spot>,
+    found: &mut Vec<PlaceKey>,
     of: &Indexed<'_>,
     file: usize,
     uses: &[MemberUse],
     declaration: &Declaration,
 ) -> Result<(), AllocError>
     requires { IsIndexed of.now }
-    ensures { OnOk result (Adds found.old.items found.new.items (IsMemberUseAmong (definitions_seen of.now.unit of.now.own.now) (package_of of.now.unit) file declaration.now (map use_of uses.now))) }
+    ensures { OnOk result (AddsMisfits found.old.items found.new.items (IsMemberUseAmong (definitions_seen of.now.unit of.now.own.now) (package_of of.now.unit) file declaration.now (map use_of uses.now))) }
 {
     for k in 0..uses.len() {
         add_member_use(found, of, file, &uses[k], declaration)?;
@@ -81,16 +81,16 @@ fn add_file_members(
 
 /// Adds the places of a package's selectors and composite literal keys that are bound to this field or method.
 fn add_all_members(
-    found: &mut Vec<Spot>,
+    found: &mut Vec<PlaceKey>,
     of: &Indexed<'_>,
     declaration: &Declaration,
 ) -> Result<(), AllocError>
     requires { IsIndexed of.now }
     ensures { let p = package_of of.now.unit in
-        OnOk result (Adds found.old.items found.new.items (UsesIn p (λ u. BindsByMember p u declaration.now))) }
+        OnOk result (AddsMisfits found.old.items found.new.items (UsesIn p (λ u. BindsByMember p u declaration.now))) }
 {
     of.unit.table.is_well_formed();
-    one_world(of.unit);
+    has_one_world(of.unit);
     for file in 0..of.members.len() {
         add_file_members(found, of, file, &of.members[file], declaration)?;
     }
@@ -100,13 +100,13 @@ fn add_all_members(
 /// Adds the places of a package's selectors and composite literal keys that are bound to this declaration. Adds nothing unless it is a
 /// field or method.
 pub(crate) fn add_member_uses(
-    found: &mut Vec<Spot>,
+    found: &mut Vec<PlaceKey>,
     of: &Indexed<'_>,
     declaration: &Declaration,
 ) -> Result<(), AllocError>
     requires { IsIndexed of.now }
     ensures { let p = package_of of.now.unit in
-        OnOk result (Adds found.old.items found.new.items (UsesIn p (λ u. BindsByMember p u declaration.now))) }
+        OnOk result (AddsMisfits found.old.items found.new.items (UsesIn p (λ u. BindsByMember p u declaration.now))) }
 {
     match declaration {
         Declaration::Predeclared(_) | Declaration::Declared(_, _) => Ok(()),

@@ -11,19 +11,19 @@ ghost use Rattle.refs_binding.specs.Binding.{declaration_of, BindsByMember};
 ghost use Rattle.refs_binding.specs.Indexed.{IsNumbered};
 ghost use Rattle.refs_binding.specs.Members.{definitions_known, member_at, IsMemberUseOf, IsMemberUseAmong};
 ghost use Rattle.refs_binding.specs.Packages.{IsSeenBy};
-ghost use Rattle.refs_binding.specs.Steps.{Adds, UsesIn};
+ghost use Rattle.refs_binding.specs.Steps.{AddsMisfits, UsesIn};
 ghost use Rattle.refs_binding.specs.Workspaces.{known_in, IsUseAt};
 ghost use Rattle.refs_uses.specs.MembersAbroad.{IsKnownOf, IsMemberAbroad};
 
-use crate::abroad::{is_home, spelling_at};
+use crate::qualified_abroad::{is_home, spelling_at};
 use go_ast::FileTree;
 use go_scope::model::Position;
 use refs_binding::identifiers::add_place;
 use refs_binding::indexed::Numbered;
 use refs_binding::member_uses::{KnownTypes, known_member};
-use refs_binding::{Declaration, Spot, members_of, own_of, path_of, trees};
+use refs_binding::{Declaration, PlaceKey, members_of, own_of, path_of, trees};
 use std::alloc::{AllocError, Global};
-use types_declared::Interfaces;
+use types_declared::ExportTable;
 use types_expr::found::MemberUse;
 use types_expr::types::GoType;
 use types_expr::world::Name;
@@ -76,14 +76,14 @@ fn is_use(of: &KnownUses<'_>, file: usize, member: &MemberUse, declaration: &Dec
 
 /// Adds the place of a use of a member, if it is bound to this declaration.
 fn add_use(
-    spots: &mut Vec<Spot>,
+    spots: &mut Vec<PlaceKey>,
     of: &KnownUses<'_>,
     file: usize,
     member: &MemberUse,
     declaration: &Declaration,
 ) -> Result<(), AllocError>
     ensures { OnOk result ((w : Workspace) → (known : Verdicts) → (p : Checked) → IsKnownOf w known p of.now →
-        Adds spots.old.items spots.new.items (IsMemberUseOf (definitions_known of.now.types) p file declaration.now (use_of member.now))) }
+        AddsMisfits spots.old.items spots.new.items (IsMemberUseOf (definitions_known of.now.types) p file declaration.now (use_of member.now))) }
 {
     if is_use(of, file, member, declaration) {
         let at = Position {
@@ -98,14 +98,14 @@ fn add_use(
 
 /// Adds the places of the uses of members in a file that are bound to this declaration.
 fn add_file_uses(
-    spots: &mut Vec<Spot>,
+    spots: &mut Vec<PlaceKey>,
     of: &KnownUses<'_>,
     file: usize,
     uses: &[MemberUse],
     declaration: &Declaration,
 ) -> Result<(), AllocError>
     ensures { OnOk result ((w : Workspace) → (known : Verdicts) → (p : Checked) → IsKnownOf w known p of.now →
-        Adds spots.old.items spots.new.items (IsMemberUseAmong (definitions_known of.now.types) p file declaration.now (map use_of uses.now))) }
+        AddsMisfits spots.old.items spots.new.items (IsMemberUseAmong (definitions_known of.now.types) p file declaration.now (map use_of uses.now))) }
 {
     for k in 0..uses.len() {
         add_use(spots, of, file, &uses[k], declaration)?;
@@ -115,12 +115,12 @@ fn add_file_uses(
 
 /// Adds the places of a package's selectors and composite literal keys that are bound to this declaration.
 fn add_known_members(
-    spots: &mut Vec<Spot>,
+    spots: &mut Vec<PlaceKey>,
     of: &KnownUses<'_>,
     declaration: &Declaration,
 ) -> Result<(), AllocError>
     ensures { OnOk result ((w : Workspace) → (known : Verdicts) → (p : Checked) → IsKnownOf w known p of.now →
-        Adds spots.old.items spots.new.items (UsesIn p (λ u. BindsByMember p u declaration.now))) }
+        AddsMisfits spots.old.items spots.new.items (UsesIn p (λ u. BindsByMember p u declaration.now))) }
 {
     for file in 0..of.members.len() {
         add_file_uses(spots, of, file, &of.members[file], declaration)?;
@@ -130,15 +130,15 @@ fn add_known_members(
 
 /// Adds the places of a package's identifiers that are bound to a field or method of another package, by what the package sees of others.
 fn add_members_by(
-    spots: &mut Vec<Spot>,
+    spots: &mut Vec<PlaceKey>,
     at: Numbered<'_>,
-    seen: &Interfaces,
+    seen: &ExportTable,
     declaration: &Declaration,
 ) -> Result<(), AllocError>
     requires numbered { IsNumbered at }
     requires seen { IsSeenBy at.graph.now (known_in at.found.now) at.number seen.now }
     requires abroad { IsMemberAbroad at.graph.now (known_in at.found.now) at.number declaration.now }
-    ensures { OnOk result ((name : Option (List ℕ)) → Adds spots.old.items spots.new.items
+    ensures { OnOk result ((name : Option (List ℕ)) → AddsMisfits spots.old.items spots.new.items
         (IsUseAt at.entry.graph.now (known_in at.entry.found.now) declaration.now name at.entry.number)) }
 {
     let types = KnownTypes {
@@ -157,16 +157,16 @@ fn add_members_by(
 /// Adds the places of a package's identifiers that are bound to a field or method of another package.
 pub(crate) fn add_members_abroad(
     alloc: Global,
-    spots: &mut Vec<Spot>,
+    spots: &mut Vec<PlaceKey>,
     at: Numbered<'_>,
     declaration: &Declaration,
 ) -> Result<(), AllocError>
     requires numbered { IsNumbered at }
     requires abroad { IsMemberAbroad at.graph.now (known_in at.found.now) at.number declaration.now }
-    ensures { OnOk result ((name : Option (List ℕ)) → Adds spots.old.items spots.new.items
+    ensures { OnOk result ((name : Option (List ℕ)) → AddsMisfits spots.old.items spots.new.items
         (IsUseAt at.entry.graph.now (known_in at.entry.found.now) declaration.now name at.entry.number)) }
 {
-    let seen = seen(alloc, at.graph, at.number, &at.found.interfaces)?;
+    let seen = seen(alloc, at.graph, at.number, &at.found.export_table)?;
     add_members_by(spots, at, &seen, declaration)
 }
 

@@ -2,27 +2,27 @@
 ghost use Rattle.std.specs.Prelude.{◌≡◌, ◌↔◌, Some, None, slice_index_or, IsTrue, OnOk};
 ghost use Rattle.types_declared.specs.PackageView.{package_of, IsIndexOf};
 ghost use Rattle.refs_binding.specs.declared.declaration.Declaration.TheVariants.{Field, Method};
-ghost use Rattle.refs_binding.specs.Binding.{BindsByName};
-ghost use Rattle.refs_binding.specs.Steps.{Adds, UsesIn, AtFound};
+ghost use Rattle.refs_binding.specs.Binding.{DeclaresMember};
+ghost use Rattle.refs_binding.specs.Steps.{AddsMisfits, UsesIn, AtFound};
 
 use go_scope::model::Position;
 use refs_binding::identifiers::add_token;
 use refs_binding::own_names::{place_of, symbol};
-use refs_binding::{Declaration, Spot, field_places, method_places};
+use refs_binding::{Declaration, PlaceKey, field_places, method_places};
 use std::alloc::{AllocError, Global};
 use types_declared::{Index, Package};
 use types_expr::symbol::{SharedPath, Symbol};
 
 /// Adds the place of the identifier at the position that a list has for a rank.
 fn add_named(
-    found: &mut Vec<Spot>,
+    found: &mut Vec<PlaceKey>,
     unit: Package<'_>,
     index: &Index<'_>,
     places: &[Option<Position>],
     rank: usize,
 ) -> Result<(), AllocError>
     requires { IsIndexOf (package_of unit) index.now }
-    ensures { OnOk result (Adds found.old.items found.new.items (AtFound (package_of unit.entry) (slice_index_or places.now rank None))) }
+    ensures { OnOk result (AddsMisfits found.old.items found.new.items (AtFound (package_of unit.entry) (slice_index_or places.now rank None))) }
 {
     match place_of(places, rank) {
         None => Ok(()),
@@ -40,14 +40,14 @@ pub(crate) fn is_own(unit: Package<'_>, path: &SharedPath) -> bool
 /// Adds the place of the declaring identifier of a field.
 fn add_own_field(
     alloc: Global,
-    found: &mut Vec<Spot>,
+    found: &mut Vec<PlaceKey>,
     unit: Package<'_>,
     index: &Index<'_>,
     symbol: &Symbol,
 ) -> Result<(), AllocError>
     requires { IsIndexOf (package_of unit) index.now }
     ensures { let p = package_of unit.entry in
-        OnOk result (Adds found.old.items found.new.items (UsesIn p (λ u. BindsByName p u (Field symbol.now)))) }
+        OnOk result (AddsMisfits found.old.items found.new.items (UsesIn p (λ u. DeclaresMember p u (Field symbol.now)))) }
 {
     if is_own(unit, &symbol.package) {
         let places = field_places(alloc, unit, index)?;
@@ -60,14 +60,14 @@ fn add_own_field(
 /// Adds the place of the declaring identifier of a method.
 fn add_own_method(
     alloc: Global,
-    found: &mut Vec<Spot>,
+    found: &mut Vec<PlaceKey>,
     unit: Package<'_>,
     index: &Index<'_>,
     symbol: &Symbol,
 ) -> Result<(), AllocError>
     requires { IsIndexOf (package_of unit) index.now }
     ensures { let p = package_of unit.entry in
-        OnOk result (Adds found.old.items found.new.items (UsesIn p (λ u. BindsByName p u (Method symbol.now)))) }
+        OnOk result (AddsMisfits found.old.items found.new.items (UsesIn p (λ u. DeclaresMember p u (Method symbol.now)))) }
 {
     if is_own(unit, &symbol.package) {
         let places = method_places(alloc, unit, index)?;
@@ -80,14 +80,14 @@ fn add_own_method(
 /// Adds the place of the declaring identifier of a field or method, if this package declares it.
 pub fn add_own_names(
     alloc: Global,
-    found: &mut Vec<Spot>,
+    found: &mut Vec<PlaceKey>,
     unit: Package<'_>,
     index: &Index<'_>,
     declaration: &Declaration,
 ) -> Result<(), AllocError>
     requires { IsIndexOf (package_of unit) index.now }
     ensures { let p = package_of unit.entry in
-        OnOk result (Adds found.old.items found.new.items (UsesIn p (λ u. BindsByName p u declaration.now))) }
+        OnOk result (AddsMisfits found.old.items found.new.items (UsesIn p (λ u. DeclaresMember p u declaration.now))) }
 {
     match declaration {
         Declaration::Predeclared(_) | Declaration::Declared(_, _) => Ok(()),

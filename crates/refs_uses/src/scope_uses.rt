@@ -4,10 +4,10 @@ ghost use Rattle.go_scope.specs.Bindings.{IsBoundTo};
 ghost use Rattle.types_declared.specs.PackageView.{package_of};
 ghost use Rattle.refs_binding.specs.Binding.{BindsByScope};
 ghost use Rattle.refs_binding.specs.Identifiers.{BeginsAt};
-ghost use Rattle.refs_binding.specs.Steps.{Adds, UsesIn, IsNumberOf};
+ghost use Rattle.refs_binding.specs.Steps.{AddsMisfits, UsesIn, IsNumberOf};
 
 use refs_binding::identifiers::add_identifier;
-use refs_binding::{Declaration, Spot};
+use refs_binding::{Declaration, PlaceKey};
 use std::alloc::AllocError;
 use types_declared::Package;
 
@@ -62,10 +62,15 @@ fn is_bound_to(unit: Package<'_>, u: usize, d: usize) -> bool
 }
 
 /// Adds the place of `u`, if the scopes bind it to the declaration with the number `d`.
-fn add_bound(found: &mut Vec<Spot>, unit: Package<'_>, d: usize, u: usize) -> Result<(), AllocError>
+fn add_bound(
+    found: &mut Vec<PlaceKey>,
+    unit: Package<'_>,
+    d: usize,
+    u: usize,
+) -> Result<(), AllocError>
     requires { u < length unit.table.now.sites }
     ensures { let p = package_of unit.entry in
-        OnOk result (Adds found.old.items found.new.items (λ place. BeginsAt p place.path place.offset u × IsBoundTo p.layout p.names u d)) }
+        OnOk result (AddsMisfits found.old.items found.new.items (λ place. BeginsAt p place.path place.offset u × IsBoundTo p.layout p.names u d)) }
 {
     if is_bound_to(unit, u, d) {
         add_identifier(found, unit, u)
@@ -75,9 +80,9 @@ fn add_bound(found: &mut Vec<Spot>, unit: Package<'_>, d: usize, u: usize) -> Re
 }
 
 /// Adds the places of the identifiers that the scopes bind to the declaration with the number `d`.
-fn add_all_bound(found: &mut Vec<Spot>, unit: Package<'_>, d: usize) -> Result<(), AllocError>
+fn add_all_bound(found: &mut Vec<PlaceKey>, unit: Package<'_>, d: usize) -> Result<(), AllocError>
     ensures { let p = package_of unit.entry in
-        OnOk result (Adds found.old.items found.new.items (UsesIn p (λ u. IsBoundTo p.layout p.names u d))) }
+        OnOk result (AddsMisfits found.old.items found.new.items (UsesIn p (λ u. IsBoundTo p.layout p.names u d))) }
 {
     for u in 0..unit.table.len() {
         add_bound(found, unit, d, u)?;
@@ -87,12 +92,12 @@ fn add_all_bound(found: &mut Vec<Spot>, unit: Package<'_>, d: usize) -> Result<(
 
 /// Adds the places of the identifiers that the scopes of a package bind to a declaration.
 pub fn add_scope_uses(
-    found: &mut Vec<Spot>,
+    found: &mut Vec<PlaceKey>,
     unit: Package<'_>,
     declaration: &Declaration,
 ) -> Result<(), AllocError>
     ensures { let p = package_of unit.entry in
-        OnOk result (Adds found.old.items found.new.items (UsesIn p (λ u. BindsByScope p u declaration.now))) }
+        OnOk result (AddsMisfits found.old.items found.new.items (UsesIn p (λ u. BindsByScope p u declaration.now))) }
 {
     match number_in(unit, declaration) {
         None => Ok(()),

@@ -5,7 +5,7 @@ ghost use Rattle.refs_binding.specs.Steps.{place_of};
 ghost use Rattle.refs_binding.specs.Places.{place_cmp};
 
 use base_files::Place;
-use refs_binding::Spot;
+use refs_binding::PlaceKey;
 use std::alloc::{AllocError, Global};
 
 /// Sorts values and keeps one of those that are equal.
@@ -19,16 +19,16 @@ fn sort_strictly<T: Ord + Drop>(values: &mut Vec<T>)
 }
 
 /// Sorts places and drops duplicates.
-fn sort(spots: &mut Vec<Spot>)
-    ensures keeps { (s : Spot) → Contains spots.old.items s → Contains spots.new.items s }
-    ensures only { (s : Spot) → Contains spots.new.items s → Contains spots.old.items s }
+fn sort(spots: &mut Vec<PlaceKey>)
+    ensures keeps { (s : PlaceKey) → Contains spots.old.items s → Contains spots.new.items s }
+    ensures only { (s : PlaceKey) → Contains spots.new.items s → Contains spots.old.items s }
     ensures order { IsStrictlySortedBy place_cmp (map place_of spots.new.items) }
 {
     sort_strictly(spots);
 }
 
 /// Returns the places of spots.
-fn places_of(alloc: Global, spots: Vec<Spot>) -> Result<Vec<Place>, AllocError>
+fn places_of(alloc: Global, spots: Vec<PlaceKey>) -> Result<Vec<Place>, AllocError>
     ensures { IfOk result (λ places. places.items ≡ map place_of spots.items) }
 {
     let mut places = Vec::new(alloc);
@@ -42,8 +42,8 @@ fn places_of(alloc: Global, spots: Vec<Spot>) -> Result<Vec<Place>, AllocError>
 }
 
 /// Returns the places of spots, sorted and without duplicates.
-pub fn places(alloc: Global, spots: Vec<Spot>) -> Result<Vec<Place>, AllocError>
-    ensures each { IfOk result (λ places. (s : Spot) → Contains places.items (place_of s) ↔ Contains spots.items s) }
+pub fn places(alloc: Global, spots: Vec<PlaceKey>) -> Result<Vec<Place>, AllocError>
+    ensures each { IfOk result (λ places. (s : PlaceKey) → Contains places.items (place_of s) ↔ Contains spots.items s) }
     ensures order { IfOk result (λ places. IsStrictlySortedBy place_cmp places.items) }
 {
     let mut spots = spots;

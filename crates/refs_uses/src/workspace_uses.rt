@@ -6,28 +6,28 @@ ghost use Rattle.go_scope.specs.Named.{name_value};
 ghost use Rattle.types_declared.specs.PackageView.{package_of, IsIndexOf};
 ghost use Rattle.workspace_check.specs.Found.{AreFindings};
 ghost use Rattle.refs_binding.specs.declared.declaration.Declaration.TheVariants.{Declared};
-ghost use Rattle.refs_binding.specs.Indexed.{IsNumbered, IsUnitAt, IsIndexed};
+ghost use Rattle.refs_binding.specs.Indexed.{IsNumbered, IsPackageNumbered, IsIndexed};
 ghost use Rattle.refs_uses.specs.Sought.{IsSought};
 ghost use Rattle.refs_binding.specs.Packages.{IsTableAs};
-ghost use Rattle.refs_binding.specs.Steps.{Adds};
-ghost use Rattle.refs_binding.specs.Uses.{IsUseOf, TellsUses, TellsUsesAt};
-ghost use Rattle.refs_binding.specs.Workspaces.{IsSound, known_in, bytes_of, IsExportedUnder, IsUseAt, ListsFound, TellsUsesIn};
+ghost use Rattle.refs_binding.specs.Steps.{AddsMisfits};
+ghost use Rattle.refs_binding.specs.Uses.{IsUseOf, AnswersUses, AnswersUsesAt};
+ghost use Rattle.refs_binding.specs.Workspaces.{IsFaultless, known_in, name_bytes, IsExportedUnder, IsUseAt, ListsFound, AnswersUsesIn};
 
-use crate::abroad::{add_abroad, path_abroad};
 use crate::exported_name::{declared_name, exported_under, own_name};
 use crate::may_use::{Sought, home_of, importing_home, may_use};
 use crate::members_abroad::{add_members_abroad, is_member_abroad};
 use crate::own_names::is_own;
 use crate::places::Places;
+use crate::qualified_abroad::{add_abroad, path_abroad};
 use crate::sorting::places;
-use crate::unit_uses::add_unit_uses;
+use crate::uses_in_package::add_uses_in_package;
 use base_files::{Path, Refusal};
 use go_scope::table::ScopeTable;
 use refs_binding::indexed::{Indexed, Numbered, known_of, unit_of};
-use refs_binding::{Declaration, Spot, read_table, refuse_faults};
-use refs_lookup::declaration_in_unit;
+use refs_binding::{Declaration, PlaceKey, read_table, refuse_faults};
+use refs_lookup::declaration_in_package;
 use std::alloc::{AllocError, Global};
-use types_declared::{Index, Interfaces, Package};
+use types_declared::{ExportTable, Index, Package};
 use types_expr::symbol::SharedPath;
 use workspace_check::{Findings, seen};
 use workspace_graph::Graph;
@@ -35,32 +35,32 @@ use workspace_graph::Graph;
 /// Adds the places of the identifiers of the package of a number that are bound to a declaration.
 fn add_known_uses(
     alloc: Global,
-    spots: &mut Vec<Spot>,
+    spots: &mut Vec<PlaceKey>,
     at: Numbered<'_>,
     of: &Indexed<'_>,
     sought: &Sought<'_>,
 ) -> Result<(), AllocError>
-    requires unit { IsUnitAt at (package_of of.now.unit) }
+    requires unit { IsPackageNumbered at (package_of of.now.unit) }
     requires indexed { IsIndexed of.now }
-    ensures { OnOk result (Adds spots.old.items spots.new.items
+    ensures { OnOk result (AddsMisfits spots.old.items spots.new.items
         (IsUseAt at.entry.graph.now (known_in at.entry.found.now) sought.now.declaration.now (name_value sought.now.name) at.entry.number)) }
 {
-    add_unit_uses(alloc, spots, of, sought)
+    add_uses_in_package(alloc, spots, of, sought)
 }
 
 /// Adds the places of a package's identifiers that are bound to a declaration, by the package's index.
 fn add_indexed_uses(
     alloc: Global,
-    spots: &mut Vec<Spot>,
+    spots: &mut Vec<PlaceKey>,
     at: Numbered<'_>,
     unit: Package<'_>,
     index: &Index<'_>,
     sought: &Sought<'_>,
 ) -> Result<(), AllocError>
     requires numbered { IsNumbered at }
-    requires unit { IsUnitAt at (package_of unit) }
+    requires unit { IsPackageNumbered at (package_of unit) }
     requires index { IsIndexOf (package_of unit) index.now }
-    ensures { OnOk result (Adds spots.old.items spots.new.items
+    ensures { OnOk result (AddsMisfits spots.old.items spots.new.items
         (IsUseAt at.entry.graph.now (known_in at.entry.found.now) sought.now.declaration.now (name_value sought.now.name) at.entry.number)) }
 {
     let of = known_of(at, unit, index);
@@ -70,15 +70,15 @@ fn add_indexed_uses(
 /// Adds the places of a package's identifiers that are bound to a declaration, by its table and by what it sees of others.
 fn add_uses_by(
     alloc: Global,
-    spots: &mut Vec<Spot>,
+    spots: &mut Vec<PlaceKey>,
     at: Numbered<'_>,
-    seen: &Interfaces,
+    seen: &ExportTable,
     table: &ScopeTable<'_>,
     sought: &Sought<'_>,
 ) -> Result<(), AllocError>
     requires numbered { IsNumbered at }
     requires table { IsTableAs at.graph.now (known_in at.found.now) at.number table.now seen.now }
-    ensures { OnOk result (Adds spots.old.items spots.new.items
+    ensures { OnOk result (AddsMisfits spots.old.items spots.new.items
         (IsUseAt at.entry.graph.now (known_in at.entry.found.now) sought.now.declaration.now (name_value sought.now.name) at.entry.number)) }
 {
     let unit = unit_of(at, seen, table);
@@ -89,15 +89,15 @@ fn add_uses_by(
 /// Reads a package, and adds the places of its identifiers that are bound to a declaration.
 fn add_package_uses(
     alloc: Global,
-    spots: &mut Vec<Spot>,
+    spots: &mut Vec<PlaceKey>,
     at: Numbered<'_>,
     sought: &Sought<'_>,
 ) -> Result<(), AllocError>
     requires { IsNumbered at }
-    ensures { OnOk result (Adds spots.old.items spots.new.items
+    ensures { OnOk result (AddsMisfits spots.old.items spots.new.items
         (IsUseAt at.entry.graph.now (known_in at.entry.found.now) sought.now.declaration.now (name_value sought.now.name) at.entry.number)) }
 {
-    let seen = seen(alloc, at.graph, at.number, &at.found.interfaces)?;
+    let seen = seen(alloc, at.graph, at.number, &at.found.export_table)?;
     let table = read_table(alloc, at.graph, at.found, &seen, at.number)?;
     add_uses_by(alloc, spots, at, &seen, &table, sought)
 }
@@ -106,12 +106,12 @@ fn add_package_uses(
 /// one.
 fn add_members_or_read(
     alloc: Global,
-    spots: &mut Vec<Spot>,
+    spots: &mut Vec<PlaceKey>,
     at: Numbered<'_>,
     sought: &Sought<'_>,
 ) -> Result<(), AllocError>
     requires { IsNumbered at }
-    ensures { OnOk result (Adds spots.old.items spots.new.items
+    ensures { OnOk result (AddsMisfits spots.old.items spots.new.items
         (IsUseAt at.entry.graph.now (known_in at.entry.found.now) sought.now.declaration.now (name_value sought.now.name) at.entry.number)) }
 {
     if is_member_abroad(at, sought.declaration) {
@@ -125,12 +125,12 @@ fn add_members_or_read(
 /// declares that.
 fn add_where_used(
     alloc: Global,
-    spots: &mut Vec<Spot>,
+    spots: &mut Vec<PlaceKey>,
     at: Numbered<'_>,
     sought: &Sought<'_>,
 ) -> Result<(), AllocError>
     requires { IsNumbered at }
-    ensures { OnOk result (Adds spots.old.items spots.new.items
+    ensures { OnOk result (AddsMisfits spots.old.items spots.new.items
         (IsUseAt at.entry.graph.now (known_in at.entry.found.now) sought.now.declaration.now (name_value sought.now.name) at.entry.number)) }
 {
     match path_abroad(at, sought.declaration) {
@@ -142,13 +142,13 @@ fn add_where_used(
 /// Adds the places of a package's identifiers that are bound to a declaration. Skips a package that can't use it.
 fn add_if_used(
     alloc: Global,
-    spots: &mut Vec<Spot>,
+    spots: &mut Vec<PlaceKey>,
     at: Numbered<'_>,
     sought: &Sought<'_>,
 ) -> Result<(), AllocError>
     requires numbered { IsNumbered at }
     requires sought { IsSought at.graph.now (known_in at.found.now) sought.now }
-    ensures { OnOk result (Adds spots.old.items spots.new.items
+    ensures { OnOk result (AddsMisfits spots.old.items spots.new.items
         (IsUseAt at.entry.graph.now (known_in at.entry.found.now) sought.now.declaration.now (name_value sought.now.name) at.entry.number)) }
 {
     if may_use(at.graph, at.found, at.number, sought) {
@@ -161,14 +161,14 @@ fn add_if_used(
 /// Adds the places of the identifiers of all packages that are bound to a declaration.
 fn add_all_uses(
     alloc: Global,
-    spots: &mut Vec<Spot>,
+    spots: &mut Vec<PlaceKey>,
     graph: &Graph,
     found: &Findings,
     sought: &Sought<'_>,
 ) -> Result<(), AllocError>
-    requires sound { IsSound graph.now found.now }
+    requires sound { IsFaultless graph.now found.now }
     requires sought { IsSought graph.now (known_in found.now) sought.now }
-    ensures { OnOk result (Adds spots.old.items spots.new.items (IsUseOf graph.now (known_in found.now) sought.now.declaration.now)) }
+    ensures { OnOk result (AddsMisfits spots.old.items spots.new.items (IsUseOf graph.now (known_in found.now) sought.now.declaration.now)) }
 {
     for number in 0..graph.len() {
         let at = Numbered {
@@ -184,18 +184,18 @@ fn add_all_uses(
 /// Adds the places of the identifiers of the package `number` that are bound to a declaration. The package `read` is not read again.
 fn add_uses_at(
     alloc: Global,
-    spots: &mut Vec<Spot>,
+    spots: &mut Vec<PlaceKey>,
     read: Numbered<'_>,
     of: &Indexed<'_>,
     number: usize,
     sought: &Sought<'_>,
 ) -> Result<(), AllocError>
     requires numbered { IsNumbered read }
-    requires unit { IsUnitAt read (package_of of.now.unit) }
+    requires unit { IsPackageNumbered read (package_of of.now.unit) }
     requires indexed { IsIndexed of.now }
     requires in_range { number < length (package_paths read.graph.now) }
     requires sought { IsSought read.graph.now (known_in read.found.now) sought.now }
-    ensures { OnOk result (Adds spots.old.items spots.new.items
+    ensures { OnOk result (AddsMisfits spots.old.items spots.new.items
         (IsUseAt read.entry.graph.now (known_in read.entry.found.now) sought.now.declaration.now (name_value sought.now.name) number)) }
 {
     if number == read.number {
@@ -212,16 +212,16 @@ fn add_uses_at(
 /// Adds the places of the identifiers of all packages that are bound to a declaration. The package `read` is not read again.
 fn add_uses_beyond(
     alloc: Global,
-    spots: &mut Vec<Spot>,
+    spots: &mut Vec<PlaceKey>,
     read: Numbered<'_>,
     of: &Indexed<'_>,
     sought: &Sought<'_>,
 ) -> Result<(), AllocError>
     requires numbered { IsNumbered read }
-    requires unit { IsUnitAt read (package_of of.now.unit) }
+    requires unit { IsPackageNumbered read (package_of of.now.unit) }
     requires indexed { IsIndexed of.now }
     requires sought { IsSought read.graph.now (known_in read.found.now) sought.now }
-    ensures { OnOk result (Adds spots.old.items spots.new.items (IsUseOf read.entry.graph.now (known_in read.entry.found.now) sought.now.declaration.now)) }
+    ensures { OnOk result (AddsMisfits spots.old.items spots.new.items (IsUseOf read.entry.graph.now (known_in read.entry.found.now) sought.now.declaration.now)) }
 {
     for number in 0..read.graph.len() {
         add_uses_at(alloc, spots, read, of, number, sought)?;
@@ -238,8 +238,8 @@ fn scope_name(
     d: usize,
 ) -> Result<Option<Vec<u8>>, AllocError>
     requires numbered { IsNumbered read }
-    requires unit { IsUnitAt read (package_of unit) }
-    ensures { IfOk result (λ name. IsExportedUnder read.entry.graph.now (known_in read.entry.found.now) (Declared path.now d) (option_map bytes_of name)) }
+    requires unit { IsPackageNumbered read (package_of unit) }
+    ensures { IfOk result (λ name. IsExportedUnder read.entry.graph.now (known_in read.entry.found.now) (Declared path.now d) (option_map name_bytes name)) }
 {
     if is_own(unit, path) {
         own_name(alloc, unit, d)
@@ -256,8 +256,8 @@ fn name_by_read(
     declaration: &Declaration,
 ) -> Result<Option<Vec<u8>>, AllocError>
     requires numbered { IsNumbered read }
-    requires unit { IsUnitAt read (package_of unit) }
-    ensures { IfOk result (λ name. IsExportedUnder read.entry.graph.now (known_in read.entry.found.now) declaration.now (option_map bytes_of name)) }
+    requires unit { IsPackageNumbered read (package_of unit) }
+    ensures { IfOk result (λ name. IsExportedUnder read.entry.graph.now (known_in read.entry.found.now) declaration.now (option_map name_bytes name)) }
 {
     match declaration {
         Declaration::Declared(path, d) => scope_name(alloc, read, unit, path, *d),
@@ -267,7 +267,7 @@ fn name_by_read(
 
 /// Borrows the bytes of a name.
 fn bytes(name: &Option<Vec<u8>>) -> Option<&[u8]>
-    ensures { name_value result ≡ option_map bytes_of name.now }
+    ensures { name_value result ≡ option_map name_bytes name.now }
 {
     match name {
         None => None,
@@ -285,7 +285,7 @@ fn list_named(
     name: Option<&[u8]>,
 ) -> Result<Places, AllocError>
     requires numbered { IsNumbered read }
-    requires unit { IsUnitAt read (package_of of.now.unit) }
+    requires unit { IsPackageNumbered read (package_of of.now.unit) }
     requires indexed { IsIndexed of.now }
     requires name { IsExportedUnder read.graph.now (known_in read.found.now) declaration.now (name_value name) }
     ensures { IfOk result (ListsFound read.entry.graph.now (known_in read.entry.found.now) declaration.now) }
@@ -311,7 +311,7 @@ fn list_from(
     declaration: &Declaration,
 ) -> Result<Places, AllocError>
     requires numbered { IsNumbered read }
-    requires unit { IsUnitAt read (package_of of.now.unit) }
+    requires unit { IsPackageNumbered read (package_of of.now.unit) }
     requires indexed { IsIndexed of.now }
     ensures { IfOk result (ListsFound read.entry.graph.now (known_in read.entry.found.now) declaration.now) }
 {
@@ -327,7 +327,7 @@ fn list_everywhere(
     declaration: &Declaration,
     name: Option<&[u8]>,
 ) -> Result<Places, AllocError>
-    requires sound { IsSound graph.now found.now }
+    requires sound { IsFaultless graph.now found.now }
     requires name { IsExportedUnder graph.now (known_in found.now) declaration.now (name_value name) }
     ensures { IfOk result (ListsFound graph.now (known_in found.now) declaration.now) }
 {
@@ -351,7 +351,7 @@ pub fn list_uses(
     found: &Findings,
     declaration: &Declaration,
 ) -> Result<Places, AllocError>
-    requires { IsSound graph.now found.now }
+    requires { IsFaultless graph.now found.now }
     ensures { IfOk result (ListsFound graph.now (known_in found.now) declaration.now) }
 {
     let name = exported_under(alloc, graph, found, declaration)?;
@@ -368,11 +368,11 @@ fn uses_known(
 ) -> Result<Places, Refusal>
     requires numbered { IsNumbered at }
     requires folder { slice_get (package_paths at.graph.now) at.number ≡ Some (folder path.now) }
-    requires unit { IsUnitAt at (package_of of.now.unit) }
+    requires unit { IsPackageNumbered at (package_of of.now.unit) }
     requires indexed { IsIndexed of.now }
-    ensures { TellsUsesAt at.entry.graph.now path.now offset result }
+    ensures { AnswersUsesAt at.entry.graph.now path.now offset result }
 {
-    match declaration_in_unit(alloc, at.graph, at.found, of, path, offset) {
+    match declaration_in_package(alloc, at.graph, at.found, of, path, offset) {
         Err(refusal) => Err(refusal),
         Ok(declaration) => Ok(list_from(alloc, at, of, &declaration)?),
     }
@@ -389,9 +389,9 @@ fn uses_indexed(
 ) -> Result<Places, Refusal>
     requires numbered { IsNumbered at }
     requires folder { slice_get (package_paths at.graph.now) at.number ≡ Some (folder path.now) }
-    requires unit { IsUnitAt at (package_of unit) }
+    requires unit { IsPackageNumbered at (package_of unit) }
     requires index { IsIndexOf (package_of unit) index.now }
-    ensures { TellsUsesAt at.entry.graph.now path.now offset result }
+    ensures { AnswersUsesAt at.entry.graph.now path.now offset result }
 {
     let of = known_of(at, unit, index);
     uses_known(alloc, at, &of, path, offset)
@@ -401,7 +401,7 @@ fn uses_indexed(
 fn uses_by(
     alloc: Global,
     at: Numbered<'_>,
-    seen: &Interfaces,
+    seen: &ExportTable,
     table: &ScopeTable<'_>,
     path: &Path,
     offset: usize,
@@ -409,7 +409,7 @@ fn uses_by(
     requires numbered { IsNumbered at }
     requires folder { slice_get (package_paths at.graph.now) at.number ≡ Some (folder path.now) }
     requires table { IsTableAs at.graph.now (known_in at.found.now) at.number table.now seen.now }
-    ensures { TellsUsesAt at.entry.graph.now path.now offset result }
+    ensures { AnswersUsesAt at.entry.graph.now path.now offset result }
 {
     let unit = unit_of(at, seen, table);
     let index = Index::of(alloc, unit)?;
@@ -425,9 +425,9 @@ fn uses_of_package(
 ) -> Result<Places, Refusal>
     requires numbered { IsNumbered at }
     requires folder { slice_get (package_paths at.graph.now) at.number ≡ Some (folder path.now) }
-    ensures { TellsUsesAt at.entry.graph.now path.now offset result }
+    ensures { AnswersUsesAt at.entry.graph.now path.now offset result }
 {
-    let seen = seen(alloc, at.graph, at.number, &at.found.interfaces)?;
+    let seen = seen(alloc, at.graph, at.number, &at.found.export_table)?;
     let table = read_table(alloc, at.graph, at.found, &seen, at.number)?;
     uses_by(alloc, at, &seen, &table, path, offset)
 }
@@ -440,8 +440,8 @@ fn uses_at(
     path: &Path,
     offset: usize,
 ) -> Result<Places, Refusal>
-    requires { IsSound graph.now found.now }
-    ensures { TellsUsesAt graph.now path.now offset result }
+    requires { IsFaultless graph.now found.now }
+    ensures { AnswersUsesAt graph.now path.now offset result }
 {
     match graph.number_of(path.folder()) {
         None => Err(Refusal::NoIdentifier),
@@ -465,7 +465,7 @@ fn uses_in(
     offset: usize,
 ) -> Result<Places, Refusal>
     requires { AreFindings graph.now found.now }
-    ensures { TellsUsesIn graph.now path.now offset result }
+    ensures { AnswersUsesIn graph.now path.now offset result }
 {
     match refuse_faults(alloc, graph, found) {
         Err(refusal) => Err(refusal),
@@ -486,7 +486,7 @@ pub fn uses(
     offset: usize,
 ) -> Result<Places, Refusal>
     requires { AreFindings graph.now found.now }
-    ensures { TellsUses graph.now path.now offset result }
+    ensures { AnswersUses graph.now path.now offset result }
 {
     let path = Path::read(alloc, path, 2)?;
     if graph.files().get(&path).is_none() {

@@ -13,13 +13,13 @@ use Rattle.history_machine.specs.declared.event.Event.{Event}
 use Rattle.history_machine.specs.declared.event.Event.TheVariants.{Look, Log, Commit, Undo, Redo}
 use Rattle.history_machine.specs.declared.event.Reply.{Reply}
 use Rattle.history_machine.specs.declared.event.Reply.TheVariants.{Looked, Logged, Done, Taken, Refused, Back}
-use Rattle.refs_binding.specs.Uses.{TellsUses}
+use Rattle.refs_binding.specs.Uses.{AnswersUses}
 use Rattle.workspace_check.specs.FaultLists.{ListsFaults}
 use Rattle.workspace_check.specs.declared.fault.FileFault.{FileFault}
-use Rattle.server_commands.specs.Queries.{Cats, TellsObject}
+use Rattle.server_commands.specs.Queries.{FindsFile, FindsObject}
 use Rattle.server_commands.specs.Wait.{WaitLaw, Waits}
 use Rattle.server_commands.specs.Work.{Works}
-use Rattle.server_read.specs.Commands.{basis_of}
+use Rattle.server_read.specs.Commands.{command_basis}
 use Rattle.server_read.specs.declared.command.Command.{Command}
 use Rattle.server_read.specs.declared.command.Command.TheVariants as command
 use Rattle.server_read.specs.declared.command.StateCommand.{StateCommand}
@@ -29,7 +29,7 @@ use Rattle.server_commands.specs.declared.response.Response.TheVariants as respo
 
 -- the command is meant for the state that the view shows: its basis is that state's number, or it has none
 abbrev pub FitsView : View → StateCommand → Type 0
-FitsView view asked = IfSome (basis_of asked) (λ basis. basis ≡ view.snapshot.number)
+FitsView view asked = IfSome (command_basis asked) (λ basis. basis ≡ view.snapshot.number)
 
 -- the refusal of a put whose body was dropped: its path is no path of a file, or its body is over the limit of a file
 abbrev pub PlansDropped : List ℕ → Result Change Refusal → Type 0
@@ -45,17 +45,17 @@ PlansBody view path None planned = PlansDropped path planned
 PlansBody view path (Some text) planned = PlansPut view.snapshot path text planned
 
 -- the answer is the view's files, or a refusal for want of memory to share them
-abbrev pub TellsFiles : View → Response → Type 0
-TellsFiles view answer = (answer ≡ response.Listing view.snapshot.number view.snapshot.files) ⊎ (answer ≡ response.Refused Memory)
+abbrev pub AnswersFiles : View → Response → Type 0
+AnswersFiles view answer = (answer ≡ response.Listing view.snapshot.number view.snapshot.files) ⊎ (answer ≡ response.Refused Memory)
 
 -- the answer that passes this reply on; there is none to a reply with a Job
-abbrev pub TellsReply : Reply → Response → Type 0
-TellsReply (Looked view) answer = answer ≡ response.Steps view.snapshot.number view.undo view.redo
-TellsReply (Logged current line) answer = answer ≡ response.Entry current line
-TellsReply (Done number) answer = answer ≡ response.Done number
-TellsReply (Taken job) answer = ⊥
-TellsReply (Refused refusal) answer = answer ≡ response.Refused refusal
-TellsReply (Back refusal job unit) answer = ⊥
+abbrev pub AnswersReply : Reply → Response → Type 0
+AnswersReply (Looked view) answer = answer ≡ response.Steps view.snapshot.number view.undo view.redo
+AnswersReply (Logged current line) answer = answer ≡ response.Entry current line
+AnswersReply (Done number) answer = answer ≡ response.Done number
+AnswersReply (Taken job) answer = ⊥
+AnswersReply (Refused refusal) answer = answer ≡ response.Refused refusal
+AnswersReply (Back refusal job unit) answer = ⊥
 
 -- the answer with the text of a file or an object, or with the refusal
 abbrev pub file_response : ℕ → Result (List ℕ) Refusal → Response
@@ -76,7 +76,7 @@ AnswersFaults view answer =
 module _ {D : Type 0} (steps : D → Event → Reply → D → Type 0) where
   -- the event is sent, and its reply answered
   abbrev pub Sends : D → Event → Response → D → Type 0
-  Sends old event answer new = (reply : Reply) × steps old event reply new × TellsReply reply answer
+  Sends old event answer new = (reply : Reply) × steps old event reply new × AnswersReply reply answer
 
   -- a planned change is committed; without a plan its refusal is answered, and no event is sent
   abbrev pub Commits : D → ℕ → Result Change Refusal → Response → D → Type 0
@@ -85,7 +85,7 @@ module _ {D : Type 0} (steps : D → Event → Reply → D → Type 0) where
 
   -- a command that is meant for the state of the view, after its look
   abbrev pub ActsOn : D → View → StateCommand → Response → D → Type 0
-  ActsOn old view state.Look answer new = TellsReply (Looked view) answer × (new ≡ old)
+  ActsOn old view state.Look answer new = AnswersReply (Looked view) answer × (new ≡ old)
   ActsOn old view (state.Put basis path body) answer new =
       (planned : Result Change Refusal) × PlansBody view path body planned × Commits old basis planned answer new
   ActsOn old view (state.Del basis path) answer new =
@@ -97,14 +97,14 @@ module _ {D : Type 0} (steps : D → Event → Reply → D → Type 0) where
   ActsOn old view (state.Undo basis) answer new = Sends old (Undo basis) answer new
   ActsOn old view (state.Redo basis) answer new = Sends old (Redo basis) answer new
   ActsOn old view (state.Cat path) answer new =
-      ((found : Result (List ℕ) Refusal) × Cats view path found × (answer ≡ file_response view.snapshot.number found)) × (new ≡ old)
+      ((found : Result (List ℕ) Refusal) × FindsFile view path found × (answer ≡ file_response view.snapshot.number found)) × (new ≡ old)
   ActsOn old view (state.Uses path offset) answer new =
-      ((found : Result (List Place) Refusal) × TellsUses view.snapshot.files path offset found × (answer ≡ places_response view.snapshot.number found))
+      ((found : Result (List Place) Refusal) × AnswersUses view.snapshot.files path offset found × (answer ≡ places_response view.snapshot.number found))
       × (new ≡ old)
-  ActsOn old view state.List answer new = TellsFiles view answer × (new ≡ old)
+  ActsOn old view state.List answer new = AnswersFiles view answer × (new ≡ old)
   ActsOn old view state.Faults answer new = AnswersFaults view answer × (new ≡ old)
   ActsOn old view (state.Object path) answer new =
-      ((found : Result (List ℕ) Refusal) × TellsObject view path found × (answer ≡ file_response view.snapshot.number found)) × (new ≡ old)
+      ((found : Result (List ℕ) Refusal) × FindsObject view path found × (answer ≡ file_response view.snapshot.number found)) × (new ≡ old)
   ActsOn old view state.Work answer new = Works steps old answer new
 
   -- a command after its look has shown this view: it is refused where it is meant for another state
@@ -114,16 +114,16 @@ module _ {D : Type 0} (steps : D → Event → Reply → D → Type 0) where
       ⊎ (FitsView view asked × ActsOn old view asked answer new)
 
   -- a command after its look got this reply: a refused look refuses the command
-  abbrev pub Continues : D → Reply → StateCommand → Response → D → Type 0
-  Continues old (Looked view) asked answer new = ActsAfter old view asked answer new
-  Continues old reply asked answer new = TellsReply reply answer × (new ≡ old)
+  abbrev pub AfterLook : D → Reply → StateCommand → Response → D → Type 0
+  AfterLook old (Looked view) asked answer new = ActsAfter old view asked answer new
+  AfterLook old reply asked answer new = AnswersReply reply answer × (new ≡ old)
 
   -- a command about the current state: a look, and what comes after it
-  abbrev pub Looks : D → StateCommand → Response → D → Type 0
-  Looks old asked answer new = (reply : Reply) × (mid : D) × steps old Look reply mid × Continues mid reply asked answer new
+  abbrev pub LooksFirst : D → StateCommand → Response → D → Type 0
+  LooksFirst old asked answer new = (reply : Reply) × (mid : D) × steps old Look reply mid × AfterLook mid reply asked answer new
 
   -- One command: it looks first if it is about the current state. A wait is one wait of the desk, and a log one event.
   abbrev pub Acts : WaitLaw D → D → Command → Response → D → Type 0
-  Acts waits old (command.OnState asked) answer new = Looks old asked answer new
+  Acts waits old (command.OnState asked) answer new = LooksFirst old asked answer new
   Acts waits old command.Wait answer new = Waits waits old answer new
   Acts waits old (command.Log number) answer new = Sends old (Log number) answer new

@@ -7,7 +7,7 @@ ghost use Rattle.refactor_plan.specs.Plan.{PlansRename};
 ghost use Rattle.refactor_preserve.specs.Planned.{change_in};
 ghost use Rattle.workspace_check.specs.FaultLists.{ListsFaults};
 ghost use Rattle.workspace_check.specs.Found.{AreFindings, IsFound, KnowsVerdicts};
-ghost use Rattle.refs_binding.specs.Uses.{TellsUses};
+ghost use Rattle.refs_binding.specs.Uses.{AnswersUses};
 ghost use Rattle.history_book.specs.Questions.{changing_event};
 ghost use Rattle.history_machine.specs.declared.event.Event.TheVariants.{Commit, Log, Redo, Undo};
 ghost use Rattle.workspace_snapshot.specs.Plan.{PlansDel};
@@ -19,15 +19,15 @@ ghost use Rattle.server_commands.specs.Act.{
   AnswersFaults,
   Commits,
   FitsView,
-  Looks,
+  LooksFirst,
   PlansBody,
   Sends,
-  TellsFiles,
+  AnswersFiles,
   file_response,
   places_response,
 };
 ghost use Rattle.server_commands.specs.Wait.{Waits};
-ghost use Rattle.server_commands.specs.Queries.{Cats, TellsObject};
+ghost use Rattle.server_commands.specs.Queries.{FindsFile, FindsObject};
 
 use crate::desk::Desk;
 use crate::queries::{cat, found, object};
@@ -215,7 +215,7 @@ fn learn<D: Desk>(desk: &mut D, view: &View, found: Found)
 }
 
 /// Plans a rename. The desk learns what was found in the view's packages for it.
-fn plan_name<D: Desk>(
+fn rename_plan<D: Desk>(
     alloc: Global,
     desk: &mut D,
     view: &View,
@@ -253,7 +253,7 @@ fn rename<D: Desk>(
     requires { D.sees desk.old view.now.snapshot.files }
     ensures { (planned : Result PlannedChange WhyRefused) × PlansRename view.now.snapshot at.path at.offset name planned × Commits D.steps desk.old basis planned result desk.new }
 {
-    let planned = plan_name(
+    let planned = rename_plan(
         alloc,
         desk,
         view,
@@ -265,7 +265,7 @@ fn rename<D: Desk>(
 }
 
 /// Plans a move. The desk learns what was found in the view's packages for it.
-fn plan_target<D: Desk>(
+fn move_plan<D: Desk>(
     alloc: Global,
     desk: &mut D,
     view: &View,
@@ -295,7 +295,7 @@ fn move_to<D: Desk>(
     requires { D.sees desk.old view.now.snapshot.files }
     ensures { (planned : Result PlannedChange WhyRefused) × PlansMove view.now.snapshot from to planned × Commits D.steps desk.old basis planned result desk.new }
 {
-    let planned = plan_target(alloc, desk, view, from.as_str(), to.as_str());
+    let planned = move_plan(alloc, desk, view, from.as_str(), to.as_str());
     commit_known(desk, basis, planned)
 }
 
@@ -320,16 +320,16 @@ fn places_response(number: u64, found: Result<Places, Refusal>) -> Response
 }
 
 /// Answers a cat.
-fn tell_file(alloc: Global, view: &View, path: Word) -> Response
-    ensures { (found : Result (List ℕ) WhyRefused) × Cats view.now path found × (result ≡ file_response view.now.snapshot.number found) }
+fn answer_cat(alloc: Global, view: &View, path: Word) -> Response
+    ensures { (found : Result (List ℕ) WhyRefused) × FindsFile view.now path found × (result ≡ file_response view.now.snapshot.number found) }
 {
     let found = cat(alloc, view, path.as_str());
     file_response(view.snapshot.number(), found)
 }
 
 /// Answers an `object` command.
-fn tell_object(alloc: Global, view: &View, path: Word) -> Response
-    ensures { (found : Result (List ℕ) WhyRefused) × TellsObject view.now path found × (result ≡ file_response view.now.snapshot.number found) }
+fn answer_object(alloc: Global, view: &View, path: Word) -> Response
+    ensures { (found : Result (List ℕ) WhyRefused) × FindsObject view.now path found × (result ≡ file_response view.now.snapshot.number found) }
 {
     let found = object(alloc, view, path.as_str());
     file_response(view.snapshot.number(), found)
@@ -344,7 +344,7 @@ fn find_uses<D: Desk>(
     offset: usize,
 ) -> Result<Places, Refusal>
     requires { D.sees desk.old view.now.snapshot.files }
-    ensures uses { TellsUses view.now.snapshot.files path.now offset result }
+    ensures uses { AnswersUses view.now.snapshot.files path.now offset result }
     ensures same { desk.new ≡ desk.old }
 {
     let found = find(alloc, desk, view)?;
@@ -352,7 +352,7 @@ fn find_uses<D: Desk>(
 }
 
 /// Answers a `uses` command.
-fn tell_uses<D: Desk>(
+fn answer_uses<D: Desk>(
     alloc: Global,
     desk: &mut D,
     view: &View,
@@ -360,7 +360,7 @@ fn tell_uses<D: Desk>(
     offset: usize,
 ) -> Response
     requires { D.sees desk.old view.now.snapshot.files }
-    ensures told { (found : Result (List Place) WhyRefused) × TellsUses view.now.snapshot.files path offset found × (result ≡ places_response view.now.snapshot.number found) }
+    ensures told { (found : Result (List Place) WhyRefused) × AnswersUses view.now.snapshot.files path offset found × (result ≡ places_response view.now.snapshot.number found) }
     ensures same { desk.new ≡ desk.old }
 {
     let found = find_uses(alloc, desk, view, path.as_str(), offset);
@@ -368,8 +368,8 @@ fn tell_uses<D: Desk>(
 }
 
 /// Answers a list: all files of a view, which are shared.
-fn tell_list(view: &View) -> Response
-    ensures { TellsFiles view.now result }
+fn answer_list(view: &View) -> Response
+    ensures { AnswersFiles view.now result }
 {
     match view.snapshot.files().clone() {
         Ok(files) => Response::Listing {
@@ -394,7 +394,7 @@ fn find_faults<D: Desk>(alloc: Global, desk: &mut D, view: &View) -> Result<Faul
 }
 
 /// Answers a `faults` command.
-fn tell_faults<D: Desk>(alloc: Global, desk: &mut D, view: &View) -> Response
+fn answer_faults<D: Desk>(alloc: Global, desk: &mut D, view: &View) -> Response
     requires { D.sees desk.old view.now.snapshot.files }
     ensures told { AnswersFaults view.now result }
     ensures same { desk.new ≡ desk.old }
@@ -432,12 +432,12 @@ fn act_on<D: Desk>(alloc: Global, desk: &mut D, view: &View, command: StateComma
         StateCommand::Move { basis, from, to } => move_to(alloc, desk, view, basis, from, to),
         StateCommand::Undo { basis } => undo(desk, basis),
         StateCommand::Redo { basis } => redo(desk, basis),
-        StateCommand::Cat { path } => tell_file(alloc, view, path),
-        StateCommand::Uses { path, offset } => tell_uses(alloc, desk, view, path, offset),
-        StateCommand::Object { path } => tell_object(alloc, view, path),
+        StateCommand::Cat { path } => answer_cat(alloc, view, path),
+        StateCommand::Uses { path, offset } => answer_uses(alloc, desk, view, path, offset),
+        StateCommand::Object { path } => answer_object(alloc, view, path),
         StateCommand::Work => work(alloc, desk),
-        StateCommand::List => tell_list(view),
-        StateCommand::Faults => tell_faults(alloc, desk, view),
+        StateCommand::List => answer_list(view),
+        StateCommand::Faults => answer_faults(alloc, desk, view),
     }
 }
 
@@ -460,7 +460,7 @@ fn act_after<D: Desk>(alloc: Global, desk: &mut D, view: &View, command: StateCo
 
 /// Looks, and acts on a command about the current state.
 fn act_looking<D: Desk>(alloc: Global, desk: &mut D, command: StateCommand) -> Response
-    ensures { Looks D.steps desk.old command result desk.new }
+    ensures { LooksFirst D.steps desk.old command result desk.new }
 {
     match desk.look() {
         Ok(view) => act_after(alloc, desk, &view, command),

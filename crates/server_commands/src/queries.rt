@@ -1,7 +1,7 @@
 //! Answers queries from a view: a file's text, a package's object, and what is found in the packages.
 ghost use Rattle.std.specs.Prelude.{IfOk};
 ghost use Rattle.workspace_check.specs.Found.{IsFound};
-ghost use Rattle.server_commands.specs.Queries.{Cats, TellsObject};
+ghost use Rattle.server_commands.specs.Queries.{FindsFile, FindsObject};
 
 use base_files::{FileText, Path, Place, Refusal};
 use history_machine::View;
@@ -10,7 +10,7 @@ use workspace_check::{Found, verdicts};
 
 /// The text of one file. It is shared, not copied.
 pub fn cat(alloc: Global, view: &View, path: &str) -> Result<FileText, Refusal>
-    ensures { Cats view.now path.now result }
+    ensures { FindsFile view.now path.now result }
 {
     let path = Path::read(alloc, path, 2)?;
     match view.snapshot.files().files().get(&path) {
@@ -22,7 +22,7 @@ pub fn cat(alloc: Global, view: &View, path: &str) -> Result<FileText, Refusal>
 /// The object of a package. It is shared, not copied. The refusal says why there is none: no package has this path, its unit isn't
 /// finished, or its unit is a fault.
 pub fn object(alloc: Global, view: &View, path: &str) -> Result<FileText, Refusal>
-    ensures { TellsObject view.now path.now result }
+    ensures { FindsObject view.now path.now result }
 {
     let path = Path::read(alloc, path, 1)?;
     let Some(number) = view.snapshot.files().number_of(path.as_str().as_bytes()) else {

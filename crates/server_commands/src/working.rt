@@ -27,7 +27,7 @@ fn give_back<D: Desk>(desk: &mut D, job: Job)
 }
 
 /// Builds a Job. Returns what was built, and the package's path, which is shared before anything is delivered.
-fn made_of(alloc: Global, job: &Job) -> Result<(Built, SharedPath), AllocError>
+fn build_job(alloc: Global, job: &Job) -> Result<(Built, SharedPath), AllocError>
     ensures { IfOk result (λ made. IsBuiltOf job.now made.0 × (made.1 ≡ job.now.package)) }
 {
     let path = job.package().clone()?;
@@ -61,7 +61,7 @@ fn build_in<D: Desk>(alloc: Global, desk: &mut D, job: Job) -> Response
     requires { D.brings desk.old job }
     ensures { Builds D.steps desk.old job result desk.new }
 {
-    match made_of(alloc, &job) {
+    match build_job(alloc, &job) {
         Ok((built, path)) => deliver(desk, job, built, path),
         Err(_) => {
             give_back(desk, job);

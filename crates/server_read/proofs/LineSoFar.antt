@@ -9,7 +9,7 @@ use Rattle.std.proofs.lemmas.List.Folds.{position_or_len_push, prefix_len-append
 use Rattle.std.specs.List.{position_or_len}
 use Rattle.std.specs.Io.KnownBytes.{Consumes}
 use Rattle.std.proofs.KnownBytes.{Consumes-trans}
-use Rattle.server_read.specs.Limit.{is_newline, line_of, after_line}
+use Rattle.server_read.specs.FirstLine.{is_newline, line_of, after_line}
 use Rattle.server_read.specs.Incoming.{ReadsLine}
 use Rattle.server_read.specs.declared.input.ReadLine.TheVariants.{Whole, TooLong}
 

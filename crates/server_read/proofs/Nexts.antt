@@ -20,10 +20,10 @@ use Rattle.server_read.specs.declared.next.Next.TheVariants as next
 use Rattle.server_read.specs.declared.parse.CommandLine.{CommandLine}
 use Rattle.server_read.specs.declared.parse.CommandLine.TheVariants.{Look, Put, Del, Rename, Move, Undo, Redo, Cat, Uses, End}
 use Rattle.server_read.specs.declared.parse.CommandLine.TheVariants as line
-use Rattle.server_read.specs.Limit.{is_newline, line_of, after_line}
+use Rattle.server_read.specs.FirstLine.{is_newline, line_of, after_line}
 use Rattle.server_read.specs.Lines.{IsCommandLine, size_after}
 use Rattle.server_read.specs.Stops.{StopsInLine, StopsBefore}
-use Rattle.server_read.specs.Wire.{IsReadable, Says, Ends, IsWhole, IsWholeEnd, StaysWithin}
+use Rattle.server_read.specs.Wire.{IsReadable, Says, Ends, IsWholeMessage, IsWholeEnd, StaysWithin}
 use Rattle.server_read.specs.Parsing.{ReadsLineText}
 use Rattle.server_read.specs.Puts.{ReadsPut, ReadsAfter, AsksOf}
 use Rattle.server_read.specs.NextMessage.{ReadsNext}
@@ -74,7 +74,7 @@ ended_line part front back e = ap (λ l. l ++ 10 ∷ []) e ∙ append_assoc fron
 
 -- no message is whole before the end of its line
 no_message_in_line : (limits : Limits) (part front back : List ℕ) (m : Message) → position_or_len is_newline part ≡ length part
-    → part ≡ front ++ back → IsWhole limits front m → ⊥
+    → part ≡ front ++ back → IsWholeMessage limits front m → ⊥
 no_message_in_line limits part front back m p e whole =
     let said : Says limits (part ++ 10 ∷ []) m (back ++ 10 ∷ []) = rw (ended_line part front back e) (whole (back ++ 10 ∷ [])) in
     let within = says_after limits (part ++ 10 ∷ []) m (back ++ 10 ∷ []) said in
@@ -110,7 +110,7 @@ after_body limits input part rest said CutShort after readable is_line e short h
 -- no message is whole before the end of its body
 no_message_in_body : (limits : Limits) (input bytes rest front back : List ℕ) (said : CommandLine) (m : Message)
     → IsReadable limits (line_of input) → IsCommandLine (line_of input) said
-    → after_line input ≡ bytes ++ rest → length bytes < size_after said → input ≡ front ++ (back ++ rest) → IsWhole limits front m → ⊥
+    → after_line input ≡ bytes ++ rest → length bytes < size_after said → input ≡ front ++ (back ++ rest) → IsWholeMessage limits front m → ⊥
 no_message_in_body limits input bytes rest front back said (Ask asked) readable is_line e short all whole =
     let h : Says limits input (Ask asked) (back ++ rest) = rw all (whole (back ++ rest)) in
     let same = ap size_after (line_unique (line_of input) h.1.0 said h.1.2 is_line) in

@@ -13,9 +13,9 @@ use Rattle.server_read.specs.declared.body.Body.{Body}
 use Rattle.server_read.specs.declared.body.Body.TheVariants as body
 use Rattle.server_read.specs.declared.message.Message.TheVariants.{CutShort}
 use Rattle.server_read.specs.declared.next.Next.TheVariants as next
-use Rattle.server_read.specs.Bodies.{Skips, ReadsBody, Takes, FallsShort}
-use Rattle.server_read.specs.Wire.{IsKept, KeepsBody}
-use Rattle.server_read.specs.Puts.{ReadsPut, TellsKept, put_next}
+use Rattle.server_read.specs.Bodies.{Skips, ReadsBody, ReadsBytes, FallsShort}
+use Rattle.server_read.specs.Wire.{IsBodyKept, KeepsBody}
+use Rattle.server_read.specs.Puts.{ReadsPut, SaysIfKept, put_next}
 
 Either : Type 0 → Type 0
 Either P = P ⊎ (P → ⊥)
@@ -44,7 +44,7 @@ path_or path = elim (le_by (length path) 255 (nat_lt 255 (length path)) refl) [
   ]
 ]
 
-kept_or : (limits : Limits) (path : List ℕ) (size : ℕ) → Either (IsKept limits path size)
+kept_or : (limits : Limits) (path : List ℕ) (size : ℕ) → Either (IsBodyKept limits path size)
 unfolding Either
 kept_or limits path size = elim (path_or path) [
   | inr f ↦ inr (λ k. f k.0)
@@ -76,7 +76,7 @@ front size input bytes rest n e = rw e (record {
 })
 
 -- bytes that were read, and dropped for want of memory
-taken_away : (limits : Limits) (basis : ℕ) (path : List ℕ) (size : ℕ) (before after : Option (List ℕ)) → Takes before after size
+taken_away : (limits : Limits) (basis : ℕ) (path : List ℕ) (size : ℕ) (before after : Option (List ℕ)) → ReadsBytes before after size
     → ReadsPut limits basis path size before after (Ok next.NoRoom)
 taken_away limits basis path size None after h = (command.OnState state.Look, tt)
 taken_away limits basis path size (Some input) None h = absurd h.2
@@ -98,11 +98,11 @@ pub put_skipped : (limits : Limits) (basis : ℕ) (path : List ℕ) (size : ℕ)
 put_skipped limits basis path size before after true h = taken_away limits basis path size before after h
 put_skipped limits basis path size before after false h = cut_short limits basis path size before after h
 
-not_kept_of : (limits : Limits) (path : List ℕ) (size : ℕ) (kept : Bool) → TellsKept limits path size kept → kept ≡ false → IsKept limits path size → ⊥
+not_kept_of : (limits : Limits) (path : List ℕ) (size : ℕ) (kept : Bool) → SaysIfKept limits path size kept → kept ≡ false → IsBodyKept limits path size → ⊥
 not_kept_of limits path size kept t e = λ k. false≢true (sym e ∙ t.1 k)
 
 pub put_read : (limits : Limits) (basis : ℕ) (path : List ℕ) (size : ℕ) (before after : Option (List ℕ)) (kept : Bool) (became : Body)
-    → TellsKept limits path size kept → ReadsBody before after size kept (Ok became)
+    → SaysIfKept limits path size kept → ReadsBody before after size kept (Ok became)
     → ReadsPut limits basis path size before after (Ok (put_next basis path became))
 put_read limits basis path size before after kept body.NoRoom t h = taken_away limits basis path size before after h.1
 put_read limits basis path size before after kept body.Short t h = cut_short limits basis path size before after h
@@ -110,11 +110,11 @@ put_read limits basis path size None after kept (body.Kept bytes) t h = tt
 put_read limits basis path size (Some input) None kept (body.Kept bytes) t h = absurd h.2
 put_read limits basis path size (Some input) (Some rest) kept (body.Kept bytes) t h =
     let f = front size input bytes rest h.1 h.2 in
-    let k : IsKept limits path (length (take size input)) = rw (f.taken, h.1) (t.0 h.0) in
+    let k : IsBodyKept limits path (length (take size input)) = rw (f.taken, h.1) (t.0 h.0) in
     (f.within, (Some bytes, (k, sym f.taken), refl), ap Some (sym f.left))
 put_read limits basis path size None after kept body.Dropped t h = tt
 put_read limits basis path size (Some input) None kept body.Dropped t h = absurd h.1.2
 put_read limits basis path size (Some input) (Some rest) kept body.Dropped t h =
     let f = front size input h.1.0 rest h.1.1 h.1.2 in
-    let k : IsKept limits path (length (take size input)) → ⊥ = rw (f.taken, h.1.1) (not_kept_of limits path size kept t h.0) in
+    let k : IsBodyKept limits path (length (take size input)) → ⊥ = rw (f.taken, h.1.1) (not_kept_of limits path size kept t h.0) in
     (f.within, (None, k, refl), ap Some (sym f.left))

@@ -13,7 +13,7 @@ use Rattle.server_read.specs.declared.parse.CommandLine.TheVariants as line
 use Rattle.server_read.specs.Lines.{verb_of, args_of, place_word, FitsLine, IsCommandLine, size_after}
 use Rattle.server_read.specs.Wire.{IsReadable, KeepsBody, SaysCommand, SaysLine, Says, Ends}
 use Rattle.server_read.specs.Laws.{BeginsOneWay, ReadsOneWay}
-use Rattle.server_read.specs.Limit.{line_of, after_line}
+use Rattle.server_read.specs.FirstLine.{line_of, after_line}
 use Rattle.server_read.proofs.Places.{place_word_unique}
 use Rattle.server_read.proofs.LineWords.{same_words, only_put, only_del, only_rename, only_move, only_undo, only_redo, only_cat, only_uses, only_look}
 use Rattle.server_read.proofs.LineWords.{only_list, only_faults, only_object, only_work, only_wait, only_log, only_end}

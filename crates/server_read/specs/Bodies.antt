@@ -7,8 +7,8 @@ use Rattle.server_read.specs.declared.body.Body.TheVariants as body
 use Rattle.server_read.specs.Stops.{StopsBefore}
 
 -- `size` bytes are read
-abbrev pub Takes : (before after : Option (List ℕ)) → ℕ → Type 0
-Takes before after size = (bytes : List ℕ) × (length bytes ≡ size) × Consumes before after bytes
+abbrev pub ReadsBytes : (before after : Option (List ℕ)) → ℕ → Type 0
+ReadsBytes before after size = (bytes : List ℕ) × (length bytes ≡ size) × Consumes before after bytes
 
 -- the input ends before `size` bytes, and is read to its end
 abbrev pub FallsShort : (before after : Option (List ℕ)) → ℕ → Type 0
@@ -22,7 +22,7 @@ Fills before after buf (Err fault) = StopsBefore before after (length buf)
 
 -- Skipping `size` bytes: true where they are read, false where the input ends first.
 abbrev pub Skips : (before after : Option (List ℕ)) → ℕ → Result Bool InputFault → Type 0
-Skips before after size (Ok true) = Takes before after size
+Skips before after size (Ok true) = ReadsBytes before after size
 Skips before after size (Ok false) = FallsShort before after size
 Skips before after size (Err fault) = StopsBefore before after size
 
@@ -30,8 +30,8 @@ Skips before after size (Err fault) = StopsBefore before after size
 -- first.
 abbrev pub ReadsBody : (before after : Option (List ℕ)) → ℕ → Bool → Result Body InputFault → Type 0
 ReadsBody before after size is_kept (Ok (body.Kept bytes)) = (is_kept ≡ true) × (length bytes ≡ size) × Consumes before after bytes
-ReadsBody before after size is_kept (Ok body.Dropped) = (is_kept ≡ false) × Takes before after size
-ReadsBody before after size is_kept (Ok body.NoRoom) = (is_kept ≡ true) × Takes before after size
+ReadsBody before after size is_kept (Ok body.Dropped) = (is_kept ≡ false) × ReadsBytes before after size
+ReadsBody before after size is_kept (Ok body.NoRoom) = (is_kept ≡ true) × ReadsBytes before after size
 ReadsBody before after size is_kept (Ok body.Short) = FallsShort before after size
 ReadsBody before after size is_kept (Err fault) = StopsBefore before after size
 

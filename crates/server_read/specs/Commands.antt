@@ -4,17 +4,17 @@ use Rattle.server_read.specs.declared.command.StateCommand.{StateCommand}
 use Rattle.server_read.specs.declared.command.StateCommand.TheVariants as state
 
 -- the basis of a command about the current state, or none
-abbrev pub basis_of : StateCommand → Option ℕ
-basis_of state.Look = None
-basis_of (state.Put basis path body) = Some basis
-basis_of (state.Del basis path) = Some basis
-basis_of (state.Rename basis path offset name) = Some basis
-basis_of (state.Move basis from to) = Some basis
-basis_of (state.Undo basis) = Some basis
-basis_of (state.Redo basis) = Some basis
-basis_of (state.Cat path) = None
-basis_of (state.Uses path offset) = None
-basis_of state.List = None
-basis_of state.Faults = None
-basis_of (state.Object path) = None
-basis_of state.Work = None
+abbrev pub command_basis : StateCommand → Option ℕ
+command_basis state.Look = None
+command_basis (state.Put basis path body) = Some basis
+command_basis (state.Del basis path) = Some basis
+command_basis (state.Rename basis path offset name) = Some basis
+command_basis (state.Move basis from to) = Some basis
+command_basis (state.Undo basis) = Some basis
+command_basis (state.Redo basis) = Some basis
+command_basis (state.Cat path) = None
+command_basis (state.Uses path offset) = None
+command_basis state.List = None
+command_basis state.Faults = None
+command_basis (state.Object path) = None
+command_basis state.Work = None

@@ -2,7 +2,7 @@
 use Rattle.std.specs.Prelude.{◌≡◌, ◌≢◌, ◌<◌, ◌≤◌, ℕ, List, [], ◌∷◌, length, Option, None, Some, IfSome, Result, Ok, Err}
 use Rattle.std.specs.Io.KnownBytes.{Consumes, Keeps, IsAtEnd}
 use Rattle.server_read.specs.Stops.{StopsInLine}
-use Rattle.server_read.specs.Limit.{line_of, after_line}
+use Rattle.server_read.specs.FirstLine.{line_of, after_line}
 use Rattle.server_read.specs.declared.input.ReadLine.{ReadLine}
 use Rattle.server_read.specs.declared.input.ReadLine.TheVariants.{Nothing, Whole, TooLong}
 use Rattle.server_read.specs.declared.input.InputFault.{InputFault}

@@ -2,7 +2,7 @@
 pub mod Commands
 pub mod Failures
 pub mod Last
-pub mod Limit
+pub mod FirstLine
 pub mod Words
 pub mod Lines
 pub mod Wire

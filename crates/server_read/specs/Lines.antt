@@ -1,7 +1,7 @@
 -- The command lines: each is its words with one space between. A later command is a case of each function here.
 use Rattle.std.specs.Prelude.{◌≡◌, ℕ, ◌^◌, ◌<◌, List, [], ◌∷◌, codes, decimal, ⊤}
 use Rattle.base_files.specs.PlaceText.{place_text}
-use Rattle.server_read.specs.Words.{HasNoSpace, IsWord, spaced}
+use Rattle.server_read.specs.Words.{HasNoSpace, IsArgument, spaced}
 use Rattle.server_read.specs.declared.parse.CommandLine.{CommandLine}
 use Rattle.server_read.specs.declared.parse.CommandLine.TheVariants.{Look, Put, Del, Rename, Move, Undo, Redo, Cat, Uses, End}
 use Rattle.server_read.specs.declared.parse.CommandLine.TheVariants as line
@@ -55,17 +55,17 @@ FitsPlace path offset = HasNoSpace path × (offset < 2 ^ 32)
 -- the command line's numbers are within their ranges, and its other arguments are words
 abbrev pub FitsLine : CommandLine → Type 0
 FitsLine Look = ⊤
-FitsLine (Put basis path size) = (basis < 2 ^ 64) × IsWord path × (size < 2 ^ 32)
-FitsLine (Del basis path) = (basis < 2 ^ 64) × IsWord path
-FitsLine (Rename basis path offset name) = (basis < 2 ^ 64) × FitsPlace path offset × IsWord name
-FitsLine (Move basis from to) = (basis < 2 ^ 64) × IsWord from × IsWord to
+FitsLine (Put basis path size) = (basis < 2 ^ 64) × IsArgument path × (size < 2 ^ 32)
+FitsLine (Del basis path) = (basis < 2 ^ 64) × IsArgument path
+FitsLine (Rename basis path offset name) = (basis < 2 ^ 64) × FitsPlace path offset × IsArgument name
+FitsLine (Move basis from to) = (basis < 2 ^ 64) × IsArgument from × IsArgument to
 FitsLine (Undo basis) = basis < 2 ^ 64
 FitsLine (Redo basis) = basis < 2 ^ 64
-FitsLine (Cat path) = IsWord path
+FitsLine (Cat path) = IsArgument path
 FitsLine (Uses path offset) = FitsPlace path offset
 FitsLine line.List = ⊤
 FitsLine line.Faults = ⊤
-FitsLine (line.Object path) = IsWord path
+FitsLine (line.Object path) = IsArgument path
 FitsLine line.Work = ⊤
 FitsLine line.Wait = ⊤
 FitsLine (line.Log number) = number < 2 ^ 64

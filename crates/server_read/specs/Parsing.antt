@@ -2,7 +2,7 @@
 use Rattle.std.specs.Prelude.{◌≡◌, ◌≢◌, ℕ, ◌<◌, List, [], ◌∷◌, ◌++◌, Option, None, Some, decimal}
 use Rattle.std.specs.Str.{IsUtf8}
 use Rattle.std.specs.Borrow.{Bor}
-use Rattle.server_read.specs.Words.{HasNoSpace, HasNoMark, IsWord, spaced}
+use Rattle.server_read.specs.Words.{HasNoSpace, HasNoMark, IsArgument, spaced}
 use Rattle.server_read.specs.Lines.{IsCommandLine, verb_of, args_of, place_word, FitsPlace, FitsLine}
 use Rattle.server_read.specs.declared.parse.CommandLine.{CommandLine}
 
@@ -33,8 +33,8 @@ ReadsPlace text (Some place) = (text ≡ place_word place.0 place.1) × FitsPlac
 
 -- the text as a word: none where it is empty or has a space
 abbrev pub ReadsArgument : List ℕ → Option (List ℕ) → Type 0
-ReadsArgument text None = ¬ (IsWord text)
-ReadsArgument text (Some word) = (word ≡ text) × IsWord text
+ReadsArgument text None = ¬ (IsArgument text)
+ReadsArgument text (Some word) = (word ≡ text) × IsArgument text
 
 -- the text is these words, with one space between; there is at least one
 abbrev pub IsSpaced : List (List ℕ) → List ℕ → Type 0

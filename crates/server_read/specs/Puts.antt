@@ -15,11 +15,11 @@ use Rattle.server_read.specs.declared.next.Next.TheVariants as next
 use Rattle.server_read.specs.declared.parse.CommandLine.{CommandLine}
 use Rattle.server_read.specs.declared.parse.CommandLine.TheVariants as line
 use Rattle.server_read.specs.Stops.{StopsBefore}
-use Rattle.server_read.specs.Wire.{IsKept, SaysCommand}
+use Rattle.server_read.specs.Wire.{IsBodyKept, SaysCommand}
 
 -- whether the body of a put with this path and size is kept
-abbrev pub TellsKept : Limits → List ℕ → ℕ → Bool → Type 0
-TellsKept limits path size kept = IsTrue kept ↔ IsKept limits path size
+abbrev pub SaysIfKept : Limits → List ℕ → ℕ → Bool → Type 0
+SaysIfKept limits path size kept = IsTrue kept ↔ IsBodyKept limits path size
 
 -- the message of a line `put`, from the outcome of reading its body
 abbrev pub put_next : ℕ → List ℕ → Body → Next

@@ -2,7 +2,7 @@
 use Rattle.std.specs.Prelude.{◌≡◌, ℕ, ◌<◌, List, length, Option}
 use Rattle.std.specs.List.{position_or_len}
 use Rattle.std.specs.Io.KnownBytes.{Consumes}
-use Rattle.server_read.specs.Limit.{is_newline}
+use Rattle.server_read.specs.FirstLine.{is_newline}
 
 -- a part of the first line is read, and not its newline
 abbrev pub StopsInLine : (before after : Option (List ℕ)) → Type 0

@@ -10,7 +10,7 @@ use Rattle.server_read.specs.declared.message.Message.{Message}
 use Rattle.server_read.specs.declared.message.Message.TheVariants.{Ask, Unknown, CutShort}
 use Rattle.server_read.specs.declared.parse.CommandLine.{CommandLine}
 use Rattle.server_read.specs.declared.parse.CommandLine.TheVariants as line
-use Rattle.server_read.specs.Limit.{line_of, after_line}
+use Rattle.server_read.specs.FirstLine.{line_of, after_line}
 use Rattle.server_read.specs.Lines.{IsCommandLine, size_after}
 
 -- the line may be a command: it is within the limit, and UTF-8
@@ -19,13 +19,13 @@ pub record IsReadable (limits : Limits) (text : List ℕ) : Type 0 where
   pub utf8 : IsUtf8 text
 
 -- the body of a put is kept: its path is a path of a file, and its size is within the limit of a file
-abbrev pub IsKept : Limits → List ℕ → ℕ → Type 0
-IsKept limits path size = IsPath 2 path × (size ≤ limits.file_bytes)
+abbrev pub IsBodyKept : Limits → List ℕ → ℕ → Type 0
+IsBodyKept limits path size = IsPath 2 path × (size ≤ limits.file_bytes)
 
 -- the body of a put is these bytes where it is kept, else none
 abbrev pub KeepsBody : Limits → List ℕ → List ℕ → Option (List ℕ) → Type 0
-KeepsBody limits path bytes (Some body) = IsKept limits path (length bytes) × (body ≡ bytes)
-KeepsBody limits path bytes None = ¬ (IsKept limits path (length bytes))
+KeepsBody limits path bytes (Some body) = IsBodyKept limits path (length bytes) × (body ≡ bytes)
+KeepsBody limits path bytes None = ¬ (IsBodyKept limits path (length bytes))
 
 -- the command line, with these bytes that it announces, says this command
 abbrev pub SaysCommand : Limits → CommandLine → List ℕ → Command → Type 0
@@ -72,8 +72,8 @@ Ends limits input rest = ((input ≡ []) × (rest ≡ []))
     ⊎ (IsReadable limits (line_of input) × (line_of input ≡ codes "end") × (rest ≡ after_line input))
 
 -- these bytes are exactly one message, whatever follows them
-abbrev pub IsWhole : Limits → List ℕ → Message → Type 0
-IsWhole limits bytes message = (rest : List ℕ) → Says limits (bytes ++ rest) message rest
+abbrev pub IsWholeMessage : Limits → List ℕ → Message → Type 0
+IsWholeMessage limits bytes message = (rest : List ℕ) → Says limits (bytes ++ rest) message rest
 
 -- these bytes are exactly the end of a session, whatever follows them
 abbrev pub IsWholeEnd : Limits → List ℕ → Type 0
@@ -84,5 +84,5 @@ IsWholeEnd limits bytes = (rest : List ℕ) → Ends limits (bytes ++ rest) rest
 pub record StaysWithin (limits : Limits) (part rest : List ℕ) : Type 0 where
   pub message : (m : Message) (after : List ℕ) → Says limits (part ++ rest) m after → length after ≤ length rest
   pub end : (after : List ℕ) → Ends limits (part ++ rest) after → length after ≤ length rest
-  pub no_message : (front back : List ℕ) (m : Message) → part ≡ front ++ back → IsWhole limits front m → ⊥
+  pub no_message : (front back : List ℕ) (m : Message) → part ≡ front ++ back → IsWholeMessage limits front m → ⊥
   pub no_end : (front back : List ℕ) → part ≡ front ++ back → IsWholeEnd limits front → ⊥

@@ -11,8 +11,8 @@ abbrev pub HasNoMark : List ℕ → Type 0
 HasNoMark text = (front back : List ℕ) → text ≢ front ++ 58 ∷ 35 ∷ back
 
 -- the text is a word: it isn't empty, and has no space
-abbrev pub IsWord : List ℕ → Type 0
-IsWord word = (word ≢ []) × HasNoSpace word
+abbrev pub IsArgument : List ℕ → Type 0
+IsArgument word = (word ≢ []) × HasNoSpace word
 
 -- the words, with one space between
 abbrev pub spaced : List ℕ → List (List ℕ) → List ℕ

@@ -1,4 +1,4 @@
-//! The commands of a session. A later command is a variant here. If it is about the current state, it is also a case of `basis_of` in
+//! The commands of a session. A later command is a variant here. If it is about the current state, it is also a case of `command_basis` in
 //! specs/Commands.antt.
 ghost use Rattle.std.specs.Prelude.{◌≡◌};
 
@@ -64,11 +64,11 @@ pub enum StateCommand {
 }
 
 impl StateCommand {
-    ghost use Rattle.server_read.specs.Commands.{basis_of};
+    ghost use Rattle.server_read.specs.Commands.{command_basis};
 
     /// The basis of the command, or `None` where it has none.
     pub fn basis(&self) -> Option<u64>
-        ensures { result ≡ basis_of self.now }
+        ensures { result ≡ command_basis self.now }
     {
         match self {
             StateCommand::Put { basis, .. }

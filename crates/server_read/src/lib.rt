@@ -16,7 +16,7 @@ pub use command::{Command, StateCommand};
 pub use input::{InputFault, ReadLine, read_line};
 pub use laws::begins_one_way;
 pub use message::Message;
-pub use next::{LineBuffer, Next, read_command};
+pub use next::{LineBuffer, Next, read_message};
 pub use parse::{Argument, CommandLine, parse_command_line};
 pub use stream::{ByteSource, ReadFailed, Reading, Sink, WriteFailed, Writing};
 pub use word::Word;

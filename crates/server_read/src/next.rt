@@ -2,7 +2,7 @@
 ghost use Rattle.std.specs.Prelude.{◌≡◌, ◌+◌, ◌^◌, ◌≤◌, ◌<◌, IfOk, vec_capacity};
 ghost use Rattle.server_read.specs.Failures.{CountsReadFault};
 ghost use Rattle.server_read.specs.NextMessage.{ReadsNext};
-ghost use Rattle.server_read.specs.Puts.{ReadsPut, ReadsAfter, put_next, TellsKept};
+ghost use Rattle.server_read.specs.Puts.{ReadsPut, ReadsAfter, put_next, SaysIfKept};
 ghost use Rattle.server_read.specs.Parsing.{ReadsLineText};
 
 use crate::{
@@ -38,7 +38,7 @@ impl LineBuffer {
 
 /// Whether the body of a put is kept: its path is a path of a file, and its size is within the limit of a file.
 fn is_kept(alloc: Global, path: &str, size: u32, limits: &Limits) -> Result<bool, AllocError>
-    ensures { IfOk result (TellsKept limits.now path.now size) }
+    ensures { IfOk result (SaysIfKept limits.now path.now size) }
 {
     if size as usize > limits.file_bytes {
         return Ok(false);
@@ -73,7 +73,7 @@ fn prepare_put(
     size: u32,
     limits: &Limits,
 ) -> Result<(Word, bool), AllocError>
-    ensures { IfOk result (λ put. (put.0 ≡ path.now) × TellsKept limits.now path.now size put.1) }
+    ensures { IfOk result (λ put. (put.0 ≡ path.now) × SaysIfKept limits.now path.now size put.1) }
 {
     let is_kept = is_kept(alloc, path, size, limits)?;
     Ok((Word::new(alloc, path)?, is_kept))
@@ -217,7 +217,7 @@ fn command_line_of(line: &[u8]) -> Option<CommandLine<'_>>
 
 /// Reads the next message whole, and nothing beyond it. Each read of the source takes one from `reads_left`. A read may wait for the
 /// client, so everything that was written to the sink must be sent before.
-pub fn read_command<S: ByteSource, T: Sink>(
+pub fn read_message<S: ByteSource, T: Sink>(
     alloc: Global,
     source: &mut S,
     _sink: &T,

@@ -6,7 +6,7 @@ use Rattle.history_machine.specs.declared.event.Reply.{Reply}
 use Rattle.server_commands.specs.Wait.{WaitLaw}
 use Rattle.server_session.specs.declared.exchange.SessionFault.{SessionFault}
 use Rattle.server_session.specs.declared.exchange.SessionFault.TheVariants.{Memory, Read, Write, Turns}
-use Rattle.server_session.specs.Alone.{Converses}
+use Rattle.server_session.specs.Conversing.{Converses}
 use Rattle.server_session.specs.Transcript.{SessionEnds, EndsEarly}
 
 none_is_no_list : (P : Type 0) (xs : List ℕ) → None ≡ Some xs → P

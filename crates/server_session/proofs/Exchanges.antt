@@ -9,7 +9,7 @@ use Rattle.server_commands.specs.Wait.{WaitLaw}
 use Rattle.server_commands.specs.declared.response.Response.{Response}
 use Rattle.server_read.specs.declared.message.Message.{Message}
 use Rattle.server_read.specs.Wire.{Says, Reads}
-use Rattle.server_session.specs.Answers.{Answered, AnswersAll}
+use Rattle.server_session.specs.Answers.{AnswersMessage, AnswersAll}
 use Rattle.server_session.specs.Replies.{reply_text}
 use Rattle.server_session.specs.Transcript.{Exchange, BreaksOff, CutsOff}
 
@@ -34,7 +34,7 @@ Exchange-none steps waits limits input old = record { messages = []; replies = [
 -- the exchange of one message and its reply
 pub Exchange-one : {D : Type 0} (steps : D → Event → Reply → D → Type 0) (waits : WaitLaw D)
     (limits : Limits) (input rest : List ℕ) (old new : D) (message : Message) (reply : Response)
-    → Says limits input message rest → Answered steps waits old message reply new
+    → Says limits input message rest → AnswersMessage steps waits old message reply new
     → Exchange steps waits limits input rest old new (reply_text reply)
 Exchange-one steps waits limits input rest old new message reply said answered = record {
   messages = message ∷ [];
@@ -59,7 +59,7 @@ Exchange-append steps waits limits input mid rest old now new text more a b = re
 -- one message whose reply is not written whole
 pub BreaksOff-one : {D : Type 0} (steps : D → Event → Reply → D → Type 0) (waits : WaitLaw D)
     (limits : Limits) (input rest : List ℕ) (old new : D) (message : Message) (reply : Response)
-    (written unwritten : List ℕ) → Says limits input message rest → Answered steps waits old message reply new → reply_text reply ≡ written ++ unwritten
+    (written unwritten : List ℕ) → Says limits input message rest → AnswersMessage steps waits old message reply new → reply_text reply ≡ written ++ unwritten
     → BreaksOff steps waits limits input rest old new written
 BreaksOff-one steps waits limits input rest old new message reply written unwritten said answered cut = record {
   messages = message ∷ [];

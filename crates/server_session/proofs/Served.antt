@@ -13,7 +13,7 @@ use Rattle.base_files.specs.declared.refusal.Refusal.TheVariants as refusal
 use Rattle.server_read.specs.declared.next.Next.TheVariants as next
 use Rattle.server_session.specs.declared.exchange.SessionFault.{SessionFault}
 use Rattle.server_session.specs.declared.exchange.SessionFault.TheVariants.{Memory, Read, Write, Turns}
-use Rattle.server_session.specs.Answers.{Answered}
+use Rattle.server_session.specs.Answers.{AnswersMessage}
 use Rattle.server_session.specs.Replies.{reply_text}
 use Rattle.server_read.specs.Last.{is_last}
 use Rattle.server_session.specs.Awaits.{AwaitsNext}
@@ -43,7 +43,7 @@ module _ {D : Type 0} (steps : D → Event → Reply → D → Type 0) (waits : 
   step_ended (Some input) b x y d h = (input, h.0.0, [], Exchange-none steps waits limits input d, h.0.1, h.0.2, kept_nil x y h.1)
 
   pub step_answered : (a b x y z : Option (List ℕ)) (old new : D) (message : Message) (reply : Response)
-      → AwaitsNext limits a b x y (Ok (next.Message message)) → Answered steps waits old message reply new → Appends y z (reply_text reply)
+      → AwaitsNext limits a b x y (Ok (next.Message message)) → AnswersMessage steps waits old message reply new → Appends y z (reply_text reply)
       → StepEnds steps waits limits a b x z old new (Ok (not (is_last message)))
   step_answered None b x y z old new (Ask command) reply h k w = tt
   step_answered None b x y z old new Unknown reply h k w = tt
@@ -68,7 +68,7 @@ module _ {D : Type 0} (steps : D → Event → Reply → D → Type 0) (waits : 
   )
 
   pub step_cut : (a b x y z : Option (List ℕ)) (old new : D) (message : Message) (reply : Response) (written unwritten : List ℕ)
-      → AwaitsNext limits a b x y (Ok (next.Message message)) → Answered steps waits old message reply new
+      → AwaitsNext limits a b x y (Ok (next.Message message)) → AnswersMessage steps waits old message reply new
       → reply_text reply ≡ written ++ unwritten → Appends y z written
       → StepEnds steps waits limits a b x z old new (Err Write)
   step_cut None b x y z old new message reply written unwritten h k e w = tt

@@ -14,15 +14,15 @@ use Rattle.server_read.specs.declared.message.Message.TheVariants.{Ask, Unknown,
 module _ {D : Type 0} (steps : D → Event → Reply → D → Type 0) (waits : WaitLaw D) where
   -- The reply that a session may give to a message, and the desk after it. A command is acted on, and its answer written. A command that is
   -- dropped for want of memory is refused and changes nothing.
-  abbrev pub Answered : D → Message → Response → D → Type 0
-  Answered old (Ask command) reply new =
+  abbrev pub AnswersMessage : D → Message → Response → D → Type 0
+  AnswersMessage old (Ask command) reply new =
       ((answer : Response) × Acts steps waits old command answer new × IsWrittenFor answer reply) ⊎ ((reply ≡ Refused Memory) × (new ≡ old))
-  Answered old Unknown reply new = (reply ≡ Refused BadCommand) × (new ≡ old)
-  Answered old CutShort reply new = (reply ≡ Refused BodyShort) × (new ≡ old)
+  AnswersMessage old Unknown reply new = (reply ≡ Refused BadCommand) × (new ≡ old)
+  AnswersMessage old CutShort reply new = (reply ≡ Refused BodyShort) × (new ≡ old)
 
   -- the replies that a session may give to these messages, in order, and the desk after them
   abbrev pub AnswersAll : D → List Message → List Response → D → Type 0
   AnswersAll old [] [] new = new ≡ old
-  AnswersAll old (message ∷ messages) (reply ∷ replies) new = (mid : D) × Answered old message reply mid × AnswersAll mid messages replies new
+  AnswersAll old (message ∷ messages) (reply ∷ replies) new = (mid : D) × AnswersMessage old message reply mid × AnswersAll mid messages replies new
   AnswersAll old [] (reply ∷ replies) new = ⊥
   AnswersAll old (message ∷ messages) [] new = ⊥

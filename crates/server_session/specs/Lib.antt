@@ -2,7 +2,7 @@
 pub mod Awaits
 pub mod Answers
 pub mod Transcript
-pub mod Alone
+pub mod Conversing
 pub mod Laws
 pub mod Refusals
 pub mod Listings

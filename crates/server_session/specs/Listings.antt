@@ -6,7 +6,7 @@ use Rattle.base_files.specs.PlaceText.{place_text, fault_line}
 use Rattle.base_files.specs.Workspace.{Workspace}
 use Rattle.base_files.specs.declared.place.Place.{Place}
 use Rattle.workspace_check.specs.declared.fault.FileFault.{FileFault}
-use Rattle.history_machine.specs.Kinds.{kind_name, refusal_of}
+use Rattle.history_machine.specs.Kinds.{kind_name, reason_refusal}
 use Rattle.history_machine.specs.declared.entry.Line.{Line}
 use Rattle.history_machine.specs.declared.entry.Told.{Told}
 use Rattle.history_machine.specs.declared.entry.Told.TheVariants.{Done, Refused}
@@ -40,7 +40,7 @@ told_word (Refused reason) = codes "no "
 -- the number of an outcome: that of the state, or the refusal's code
 abbrev pub told_number : Told → ℕ
 told_number (Done number) = number
-told_number (Refused reason) = code_of (refusal_of reason)
+told_number (Refused reason) = code_of (reason_refusal reason)
 
 -- the text line of an entry: its kind, its basis and its outcome
 abbrev pub entry_line : Line → List ℕ

@@ -1,4 +1,4 @@
--- The text of replies. A later form of answer is a case of `number_of` and `body_of`. If its body takes memory, it is also a case of
+-- The text of replies. A later form of answer is a case of `reply_number` and `reply_body`. If its body takes memory, it is also a case of
 -- `TakesMemory` and `made_body`.
 use Rattle.std.specs.Prelude.{◌≡◌, ◌⊎◌, ⊤, ℕ, List, [], ◌∷◌, ◌++◌, length, codes, decimal, Bool, true, false, if◌then◌else◌}
 use Rattle.base_files.specs.declared.refusal.Refusal.TheVariants.{Memory}
@@ -24,37 +24,37 @@ is_done (Entry number line) = true
 is_done (Built number path) = true
 
 -- the number of the current state, or the refusal's code
-abbrev pub number_of : Response → ℕ
-number_of (Done number) = number
-number_of (Steps number undo redo) = number
-number_of (File number text) = number
-number_of (Listing number files) = number
-number_of (Places number places) = number
-number_of (Faults number faults) = number
-number_of (Entry number line) = number
-number_of (Built number path) = number
-number_of (Refused refusal) = code_of refusal
+abbrev pub reply_number : Response → ℕ
+reply_number (Done number) = number
+reply_number (Steps number undo redo) = number
+reply_number (File number text) = number
+reply_number (Listing number files) = number
+reply_number (Places number places) = number
+reply_number (Faults number faults) = number
+reply_number (Entry number line) = number
+reply_number (Built number path) = number
+reply_number (Refused refusal) = code_of refusal
 
 -- the body of the reply with this answer
-abbrev pub body_of : Response → List ℕ
-body_of (Done number) = []
-body_of (Steps number undo redo) = steps_line undo redo
-body_of (File number text) = text
-body_of (Listing number files) = listing files
-body_of (Places number places) = place_lines places
-body_of (Faults number faults) = fault_lines faults
-body_of (Entry number line) = entry_text line
-body_of (Built number path) = package_line path
-body_of (Refused refusal) = refusal_body refusal
+abbrev pub reply_body : Response → List ℕ
+reply_body (Done number) = []
+reply_body (Steps number undo redo) = steps_line undo redo
+reply_body (File number text) = text
+reply_body (Listing number files) = listing files
+reply_body (Places number places) = place_lines places
+reply_body (Faults number faults) = fault_lines faults
+reply_body (Entry number line) = entry_text line
+reply_body (Built number path) = package_line path
+reply_body (Refused refusal) = refusal_body refusal
 
 -- the first line of a reply: `ok` or `no`, a number, and the size of the body in bytes
-abbrev pub head_of : Bool → ℕ → ℕ → List ℕ
-head_of done number size =
+abbrev pub reply_head : Bool → ℕ → ℕ → List ℕ
+reply_head done number size =
     (if done then codes "ok " else codes "no ") ++ decimal number ++ 32 ∷ [] ++ decimal size ++ 10 ∷ []
 
 -- the text of the reply with this answer: its first line, and its body
 abbrev pub reply_text : Response → List ℕ
-reply_text reply = head_of (is_done reply) (number_of reply) (length (body_of reply)) ++ body_of reply
+reply_text reply = reply_head (is_done reply) (reply_number reply) (length (reply_body reply)) ++ reply_body reply
 
 -- The body takes memory to be made. No such answer is to a change or to a delivery.
 abbrev pub TakesMemory : Response → Type 0

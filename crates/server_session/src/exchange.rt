@@ -2,7 +2,7 @@
 ghost use Rattle.std.specs.Prelude.{◌≡◌, ◌+◌, ◌^◌, ◌≤◌, ◌<◌, IfOk, OnOk, IsTrue};
 ghost use Rattle.server_read.specs.Failures.{CountsFailure, WritesText};
 ghost use Rattle.server_session.specs.Replies.{reply_text};
-ghost use Rattle.server_session.specs.Answers.{Answered};
+ghost use Rattle.server_session.specs.Answers.{AnswersMessage};
 ghost use Rattle.server_session.specs.Awaits.{AwaitsNext, LeavesSent, StepLeavesSent};
 ghost use Rattle.server_session.specs.Transcript.{SessionEnds, CountsFaults, StepEnds};
 
@@ -10,7 +10,7 @@ use crate::written::{WrittenReply, print_reply};
 use base_files::{Limits, Refusal};
 use server_commands::{Desk, act};
 use server_read::{
-    ByteSource, InputFault, LineBuffer, Message, Next, Sink, WriteFailed, read_command,
+    ByteSource, InputFault, LineBuffer, Message, Next, Sink, WriteFailed, read_message,
 };
 use std::alloc::Global;
 
@@ -39,7 +39,7 @@ impl From<WriteFailed> for SessionFault {
 
 /// Has a message answered, and makes the reply's body if that takes memory.
 fn answer<D: Desk>(alloc: Global, desk: &mut D, message: Message) -> WrittenReply
-    ensures { Answered D.steps D.waits desk.old message result desk.new }
+    ensures { AnswersMessage D.steps D.waits desk.old message result desk.new }
 {
     match message {
         Message::Ask(command) => WrittenReply::of(alloc, act(alloc, desk, command)),
@@ -74,7 +74,7 @@ fn await_message<S: ByteSource, T: Sink>(
     ensures reads { S.reads source.new + reading.new.reads_left ≡ S.reads source.old + reading.old.reads_left }
 {
     sink.flush()?;
-    match read_command(
+    match read_message(
         alloc,
         source,
         sink,

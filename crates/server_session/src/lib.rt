@@ -1,7 +1,7 @@
 //! Serves a session: reads messages, has a desk answer them, and writes the answers as text.
 #![tactic(auto)]
 
-mod alone;
+mod conversing;
 mod entries;
 mod exchange;
 mod laws;
@@ -11,7 +11,7 @@ mod output;
 mod refusal;
 mod written;
 
-pub use alone::{converse, session_alone};
+pub use conversing::{converse, session_alone};
 pub use exchange::{SessionFault, session};
 pub use laws::runs_the_machine;
 pub use memory::transcript;

@@ -4,7 +4,7 @@ ghost use Rattle.history_machine.specs.Step.{Step};
 ghost use Rattle.server_commands.specs.Wait.{RefusesWait};
 ghost use Rattle.server_session.specs.Transcript.{IsTranscript, EndsEarly};
 
-use crate::alone::converse;
+use crate::conversing::converse;
 use crate::exchange::SessionFault;
 use base_files::Limits;
 use server_commands::Solo;

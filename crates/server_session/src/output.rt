@@ -2,7 +2,7 @@
 //! its body takes memory, it is also an arm of `made_body` in written.rt.
 ghost use Rattle.std.specs.Prelude.{◌≡◌, ◌++◌, ◌≤◌, true, length};
 ghost use Rattle.server_session.specs.Listings.{package_line};
-ghost use Rattle.server_session.specs.Replies.{head_of, made_body, reply_text, steps_line};
+ghost use Rattle.server_session.specs.Replies.{reply_head, made_body, reply_text, steps_line};
 ghost use Rattle.server_read.specs.Failures.{CountsFailure, WritesText};
 
 use crate::entries::entry_text;
@@ -33,7 +33,7 @@ fn write_whole<T: Sink>(sink: &mut T, bytes: &[u8]) -> Result<(), WriteFailed>
 
 /// The first line of a reply. It takes no memory.
 fn head(is_done: bool, number: u64, body_len: usize) -> ArrayString<LONGEST_HEAD>
-    ensures { result.bytes ≡ head_of is_done number body_len }
+    ensures { result.bytes ≡ reply_head is_done number body_len }
 {
     let mut digits = Buffer::new();
     let mut head = ArrayString::new();
@@ -70,7 +70,7 @@ fn write_both<T: Sink>(sink: &mut T, first: &[u8], second: &[u8]) -> Result<(), 
 
 /// Writes a reply whose body may be long.
 fn print_parts<T: Sink>(sink: &mut T, number: u64, body: &[u8]) -> Result<(), WriteFailed>
-    ensures written { WritesText (T.contents sink.old) (T.contents sink.new) (head_of true number (length body.now) ++ body.now) result }
+    ensures written { WritesText (T.contents sink.old) (T.contents sink.new) (reply_head true number (length body.now) ++ body.now) result }
     ensures counted { CountsFailure (T.failures sink.old) (T.failures sink.new) result }
 {
     let first_line = head(true, number, body.len());
@@ -79,7 +79,7 @@ fn print_parts<T: Sink>(sink: &mut T, number: u64, body: &[u8]) -> Result<(), Wr
 
 /// Writes a reply whose body is the line of a package's path.
 fn print_line<T: Sink>(sink: &mut T, number: u64, path: &[u8]) -> Result<(), WriteFailed>
-    ensures written { WritesText (T.contents sink.old) (T.contents sink.new) (head_of true number (length (package_line path.now)) ++ package_line path.now) result }
+    ensures written { WritesText (T.contents sink.old) (T.contents sink.new) (reply_head true number (length (package_line path.now)) ++ package_line path.now) result }
     ensures counted { CountsFailure (T.failures sink.old) (T.failures sink.new) result }
 {
     let first_line = head(true, number, path.len() + 1);
@@ -95,7 +95,7 @@ fn print_short<T: Sink>(
     body: &str,
 ) -> Result<(), WriteFailed>
     requires { length body.now ≤ LONGEST_BODY }
-    ensures written { WritesText (T.contents sink.old) (T.contents sink.new) (head_of is_done number (length body.now) ++ body.now) result }
+    ensures written { WritesText (T.contents sink.old) (T.contents sink.new) (reply_head is_done number (length body.now) ++ body.now) result }
     ensures counted { CountsFailure (T.failures sink.old) (T.failures sink.new) result }
 {
     let mut text: ArrayString<LONGEST_SHORT> = ArrayString::new();

@@ -13,22 +13,22 @@ use Rattle.history_machine.specs.declared.event.Event.TheVariants.{Look}
 use Rattle.history_machine.specs.declared.event.Reply.{Reply}
 use Rattle.history_machine.specs.declared.event.Reply.TheVariants.{Looked, Refused}
 use Rattle.history_machine.specs.declared.view.View.{View}
-use Rattle.history_machine.specs.Journal.{kind_of, told_of}
+use Rattle.history_machine.specs.Journal.{event_kind, told_of}
 use Rattle.history_machine.specs.Machine.{Machine}
 use Rattle.history_machine.specs.Step.{Step, looked}
 use Rattle.server_shared.specs.declared.receipt.Receipt.{Receipt}
 use Rattle.server_shared.specs.Steps.{IsReceiptOf}
 use Rattle.server_shared.specs.Call.{Calls, Gains, IsLook, Looks}
-use Rattle.server_shared.specs.Call.{Replies}
+use Rattle.server_shared.specs.Call.{CallsWith}
 use Rattle.server_shared.proofs.GainsLaws.{gains_more}
 
 -- the entry of a receipt is of the event's kind
-kind_is : (event : Event) (reply : Reply) (receipt : Receipt) → IsReceiptOf event reply receipt → receipt.entry.line.kind ≡ kind_of event
+kind_is : (event : Event) (reply : Reply) (receipt : Receipt) → IsReceiptOf event reply receipt → receipt.entry.line.kind ≡ event_kind event
 kind_is event reply receipt is = ap (λ (x : Entry). x.line.kind) is.2.2.1.0.2
 
 -- a call gains receipts of its kind
 pub gains_of : (P : Receipt → Type 0) (old : List Receipt) (event : Event) (reply : Reply) (index : Option ℕ) (new : List Receipt)
-    → ((receipt : Receipt) → receipt.entry.line.kind ≡ kind_of event → P receipt) → Calls old event reply index new → Gains P old new
+    → ((receipt : Receipt) → receipt.entry.line.kind ≡ event_kind event → P receipt) → Calls old event reply index new → Gains P old new
 gains_of P old event reply (Some index) new each calls =
     (calls.0 ∷ [], calls.3, All-cons P calls.0 [] (each calls.0 (kind_is event reply calls.0 calls.2)) (All-nil P))
 gains_of P old event reply None new each calls = ([], calls.1 ∙ sym (append-nil old), All-nil P)
@@ -44,7 +44,7 @@ shows_view old view None new calls =
     absurd (⊎_elim (λ (e : Looked view ≡ Refused Memory). none-some _ (sym (ap told_of e)))
     (λ (e : Looked view ≡ Refused JournalFull). none-some _ (sym (ap told_of e))) calls.0)
 
-looked_view : (old : List Receipt) (view : View) (new : List Receipt) → Replies old Look (Looked view) new → Looks old (Ok view) new
+looked_view : (old : List Receipt) (view : View) (new : List Receipt) → CallsWith old Look (Looked view) new → Looks old (Ok view) new
 looked_view old view new replied = shows_view old view replied.0 new replied.1
 
 look_refused : (old : Machine) (refusal : Refusal) (new : Machine) (told : Told) → Step old Look (Refused refusal) new →
@@ -65,11 +65,11 @@ turns_away old refusal None new calls = (
   calls.1,
 )
 
-looked_refusal : (old : List Receipt) (refusal : Refusal) (new : List Receipt) → Replies old Look (Refused refusal) new → Looks old (Err refusal) new
+looked_refusal : (old : List Receipt) (refusal : Refusal) (new : List Receipt) → CallsWith old Look (Refused refusal) new → Looks old (Err refusal) new
 looked_refusal old refusal new replied = turns_away old refusal replied.0 new replied.1
 
 -- the answer to a look
-pub looks_is : (old : List Receipt) (outcome : Result View Refusal) (new : List Receipt) → Replies old Look (looked outcome) new → Looks old outcome new
+pub looks_is : (old : List Receipt) (outcome : Result View Refusal) (new : List Receipt) → CallsWith old Look (looked outcome) new → Looks old outcome new
 looks_is old (Ok view) new replied = looked_view old view new replied
 looks_is old (Err refusal) new replied = looked_refusal old refusal new replied
 

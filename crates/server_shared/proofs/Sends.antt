@@ -42,7 +42,7 @@ use Rattle.workspace_graph.proofs.shared_links.SharedLinks.TheSendSync.{the_send
 use Rattle.build_unit.proofs.out.Out.TheSendSync.{the_send as Out-send}
 use Rattle.history_machine.proofs.entry.Entry.TheSendSync.{the_send as Entry-send}
 use Rattle.server_shared.proofs.seat.Seat.TheSendSync.{the_send as Seat-send}
-use Rattle.server_shared.proofs.SendsFound.{file_fault_sent, file_fault_shared, interface_sent, interface_shared, verdict_sent}
+use Rattle.server_shared.proofs.SendsFound.{file_fault_sent, file_fault_shared, export_data_sent, export_data_shared, verdict_sent}
 use Rattle.server_shared.proofs.SendsFound.{verdict_shared}
 use Rattle.types_expr.proofs.types.GoType.TheLaws.TheKnot.{crosses as type_crosses}
 use Rattle.server_shared.proofs.SendsTrees.{file_tree_sent, file_tree_shared}
@@ -137,10 +137,10 @@ pub shared_known_sent : IsSend shared_known
 shared_known_sent = search (owned, known_sent, known_shared) depth 30 fits 50000
 
 pub compiled_sent : IsSend compiled
-compiled_sent = search (owned, type_crosses, file_fault_sent, interface_sent, interface_shared) depth 30 fits 50000
+compiled_sent = search (owned, type_crosses, file_fault_sent, export_data_sent, export_data_shared) depth 30 fits 50000
 
 pub compiled_shared : IsSync compiled
-compiled_shared = search (owned, type_crosses, file_fault_shared, interface_sent, interface_shared) depth 30 fits 50000
+compiled_shared = search (owned, type_crosses, file_fault_shared, export_data_sent, export_data_shared) depth 30 fits 50000
 
 pub unit_sent : IsSend unit
 unit_sent = search (owned, compiled_sent, compiled_shared) depth 30 fits 50000

@@ -9,11 +9,11 @@ use Rattle.types_expr.specs.contracts.world.Field.{the_row as field}
 use Rattle.types_expr.specs.contracts.world.Method.{the_row as method}
 use Rattle.types_expr.specs.contracts.world.Definition.{the_row as definition}
 use Rattle.types_expr.specs.contracts.found.MemberUse.{the_row as member_use}
-use Rattle.types_expr.specs.contracts.interfaces.Export.{the_row as exported}
-use Rattle.types_expr.specs.contracts.interfaces.PackageScope.{the_row as scope}
-use Rattle.types_expr.specs.contracts.interfaces.Interface.{the_row as interface}
-use Rattle.types_declared.specs.contracts.interfaces.Interfaces.{the_row as interfaces}
-use Rattle.types_declared.specs.contracts.known_interface.KnownInterface.{the_row as known_interface}
+use Rattle.types_expr.specs.contracts.exports.Export.{the_row as exported}
+use Rattle.types_expr.specs.contracts.exports.PackageScope.{the_row as scope}
+use Rattle.types_expr.specs.contracts.exports.ExportData.{the_row as export_data}
+use Rattle.types_declared.specs.contracts.export_tables.ExportTable.{the_row as export_table}
+use Rattle.types_declared.specs.contracts.known_export.KnownExportData.{the_row as known_interface}
 use Rattle.workspace_check.specs.contracts.fault.FileFault.{the_row as file_fault}
 use Rattle.workspace_check.specs.contracts.finding.Finding.{the_row as finding}
 use Rattle.workspace_check.specs.contracts.finding.SharedFinding.{the_row as shared_finding}
@@ -83,17 +83,17 @@ scope_sent = search (owned, exported_sent) depth 30 fits 50000
 pub scope_shared : IsSync scope
 scope_shared = search (owned, exported_shared) depth 30 fits 50000
 
-pub interface_sent : IsSend interface
-interface_sent = search (owned, type_crosses, definition_sent) depth 30 fits 50000
+pub export_data_sent : IsSend export_data
+export_data_sent = search (owned, type_crosses, definition_sent) depth 30 fits 50000
 
-pub interface_shared : IsSync interface
-interface_shared = search (owned, type_crosses, definition_shared) depth 30 fits 50000
+pub export_data_shared : IsSync export_data
+export_data_shared = search (owned, type_crosses, definition_shared) depth 30 fits 50000
 
-pub interfaces_sent : IsSend interfaces
-interfaces_sent = search (owned, type_crosses, interface_sent, interface_shared) depth 30 fits 50000
+pub export_tables_sent : IsSend export_table
+export_tables_sent = search (owned, type_crosses, export_data_sent, export_data_shared) depth 30 fits 50000
 
-pub interfaces_shared : IsSync interfaces
-interfaces_shared = search (owned, type_crosses, interface_sent, interface_shared) depth 30 fits 50000
+pub export_tables_shared : IsSync export_table
+export_tables_shared = search (owned, type_crosses, export_data_sent, export_data_shared) depth 30 fits 50000
 
 pub file_fault_sent : IsSend file_fault
 file_fault_sent = FileFault-send
@@ -113,14 +113,14 @@ shared_finding_sent = search (owned, finding_sent, finding_shared) depth 30 fits
 pub shared_finding_shared : IsSync shared_finding
 shared_finding_shared = search (owned, finding_sent, finding_shared) depth 30 fits 50000
 
-pub known_interface_sent : IsSend known_interface
-known_interface_sent = search (owned, interface_sent, interface_shared) depth 30 fits 50000
+pub known_export_data_sent : IsSend known_interface
+known_export_data_sent = search (owned, export_data_sent, export_data_shared) depth 30 fits 50000
 
-pub known_interface_shared : IsSync known_interface
-known_interface_shared = search (owned, interface_sent, interface_shared) depth 30 fits 50000
+pub known_export_data_shared : IsSync known_interface
+known_export_data_shared = search (owned, export_data_sent, export_data_shared) depth 30 fits 50000
 
 pub verdict_sent : IsSend verdict
-verdict_sent = search (owned, shared_finding_sent, known_interface_sent) depth 30 fits 50000
+verdict_sent = search (owned, shared_finding_sent, known_export_data_sent) depth 30 fits 50000
 
 pub verdict_shared : IsSync verdict
-verdict_shared = search (owned, shared_finding_shared, known_interface_shared) depth 30 fits 50000
+verdict_shared = search (owned, shared_finding_shared, known_export_data_shared) depth 30 fits 50000

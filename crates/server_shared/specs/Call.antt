@@ -11,7 +11,7 @@ use Rattle.history_machine.specs.declared.event.Event.TheVariants.{Look}
 use Rattle.history_machine.specs.declared.event.Reply.{Reply}
 use Rattle.history_machine.specs.declared.event.Reply.TheVariants.{Looked}
 use Rattle.history_machine.specs.declared.view.View.{View}
-use Rattle.history_machine.specs.Kept.{IsTurnedAway}
+use Rattle.history_machine.specs.JournalSteps.{IsTurnedAway}
 use Rattle.server_shared.specs.declared.receipt.Receipt.{Receipt}
 use Rattle.server_shared.specs.Steps.{IsReceiptOf}
 
@@ -23,8 +23,8 @@ Calls old event reply (Some index) new =
 Calls old event reply None new = IsTurnedAway event reply × (new ≡ old)
 
 -- the event is called at the seat, and gets this reply
-abbrev pub Replies : List Receipt → Event → Reply → List Receipt → Type 0
-Replies old event reply new = (index : Option ℕ) × Calls old event reply index new
+abbrev pub CallsWith : List Receipt → Event → Reply → List Receipt → Type 0
+CallsWith old event reply new = (index : Option ℕ) × Calls old event reply index new
 
 -- the refusal is for want of memory, or of room in the journal
 abbrev pub IsLack : Refusal → Type 0
@@ -40,12 +40,12 @@ abbrev pub IsLook : Receipt → Type 0
 IsLook receipt = receipt.entry.line.kind ≡ kind.Look
 
 -- the package of this number is finished
-unfoldable pub HasUnit : Table → ℕ → Type 0
-HasUnit table number = (unit : PackageUnit) × (slice_get table number ≡ Some (Some unit))
+unfoldable pub IsFinishedAt : Table → ℕ → Type 0
+IsFinishedAt table number = (unit : PackageUnit) × (slice_get table number ≡ Some (Some unit))
 
 -- each package of the view's files is finished
 abbrev pub IsBuilt : View → Type 0
-IsBuilt view = (number : ℕ) → number < length (package_paths view.snapshot.files) → HasUnit view.finished number
+IsBuilt view = (number : ℕ) → number < length (package_paths view.snapshot.files) → IsFinishedAt view.finished number
 
 -- The seat gains the receipts of looks. The last shows a view in which each package is finished, or a look is turned away.
 abbrev pub LooksUntilBuilt : List Receipt → Result View Refusal → List Receipt → Type 0

@@ -3,5 +3,5 @@ pub mod Call
 pub mod Settled
 pub mod Reserved
 pub mod Steps
-pub mod Outcome
+pub mod SettledBook
 pub mod Working

@@ -10,6 +10,6 @@ receipts_needed GiveBack jobs = max jobs 1
 receipts_needed kind jobs = jobs + 1
 
 -- an event of this kind gives a Job back
-abbrev pub GivesBack : EntryKind → Type 0
-GivesBack GiveBack = Unit {0}
-GivesBack kind = ⊥
+abbrev pub IsGiveBack : EntryKind → Type 0
+IsGiveBack GiveBack = Unit {0}
+IsGiveBack kind = ⊥

@@ -4,8 +4,8 @@ use Rattle.history_machine.specs.declared.entry.Entry.{Entry}
 use Rattle.server_shared.specs.declared.receipt.Receipt.{Receipt}
 
 -- the journal has the receipt's entry at the receipt's index
-abbrev pub Stands : List Entry → Receipt → Type 0
-Stands journal receipt = slice_get journal receipt.index ≡ Some receipt.entry
+abbrev pub IsInJournal : List Entry → Receipt → Type 0
+IsInJournal journal receipt = slice_get journal receipt.index ≡ Some receipt.entry
 
 -- the receipts' indexes rise
 abbrev pub Rises : List Receipt → Type 0
@@ -25,7 +25,7 @@ receipt_count = sum_by length
 
 -- The entries that the journal gained since it had `from` of them are exactly those of the seats' receipts.
 pub record IsSettled (from : ℕ) (journal : List Entry) (seats : List (List Receipt)) : Type 0 where
-  pub stand : All (All (Stands journal)) seats
+  pub stand : All (All (IsInJournal journal)) seats
   pub rise : All Rises seats
   pub apart : AllPairs AreApart seats
   pub counted : length journal ≡ from + receipt_count seats

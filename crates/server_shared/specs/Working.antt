@@ -11,11 +11,11 @@ use Rattle.history_machine.specs.declared.event.Event.TheVariants.{Take, Deliver
 use Rattle.history_machine.specs.declared.event.Reply.{Reply}
 use Rattle.history_machine.specs.declared.event.Reply.TheVariants.{Taken, Refused, Back}
 use Rattle.server_shared.specs.declared.receipt.Receipt.{Receipt}
-use Rattle.server_shared.specs.Call.{Replies}
+use Rattle.server_shared.specs.Call.{CallsWith}
 
 -- the event is called at the seat, whatever its reply
-abbrev pub Sends : List Receipt → Event → List Receipt → Type 0
-Sends old event new = (reply : Reply) × Replies old event reply new
+abbrev pub CallsEvent : List Receipt → Event → List Receipt → Type 0
+CallsEvent old event new = (reply : Reply) × CallsWith old event reply new
 
 -- the reply brings the Job back
 abbrev pub ComesBack : Reply → Type 0
@@ -23,30 +23,30 @@ ComesBack (Back refusal job unit) = ⊤
 ComesBack reply = ⊥
 
 -- after this reply to a delivery the Job is given back if it came back; else nothing more is called
-abbrev pub AfterDelivery : List Receipt → JobRecord → Reply → List Receipt → Type 0
-AfterDelivery old job (Back refusal back unit) new = Sends old (GiveBack job) new
-AfterDelivery old job reply new = new ≡ old
+abbrev pub AfterSeatDelivery : List Receipt → JobRecord → Reply → List Receipt → Type 0
+AfterSeatDelivery old job (Back refusal back unit) new = CallsEvent old (GiveBack job) new
+AfterSeatDelivery old job reply new = new ≡ old
 
 -- what was built for the Job is delivered; a Job that comes back is given back
-abbrev pub Delivers : List Receipt → JobRecord → List Receipt → Type 0
-Delivers old job new =
+abbrev pub DeliversAtSeat : List Receipt → JobRecord → List Receipt → Type 0
+DeliversAtSeat old job new =
     (built : Built) × IsBuiltOf job built
-    × ((reply : Reply) × (mid : List Receipt) × Replies old (Deliver job built) reply mid × AfterDelivery mid job reply new)
+    × ((reply : Reply) × (mid : List Receipt) × CallsWith old (Deliver job built) reply mid × AfterSeatDelivery mid job reply new)
 
 -- The Job is built and delivered, or given back unbuilt.
 abbrev pub HandsIn : List Receipt → JobRecord → List Receipt → Type 0
-HandsIn old job new = Delivers old job new ⊎ Sends old (GiveBack job) new
+HandsIn old job new = DeliversAtSeat old job new ⊎ CallsEvent old (GiveBack job) new
 
 -- a Take is refused; or a Job is taken and handed in
-abbrev pub Works : List Receipt → List Receipt → Type 0
-Works old new =
-    ((refusal : Refusal) × Replies old Take (Refused refusal) new)
-    ⊎ ((job : JobRecord) × (mid : List Receipt) × Replies old Take (Taken job) mid × HandsIn mid job new)
+abbrev pub WorksOnce : List Receipt → List Receipt → Type 0
+WorksOnce old new =
+    ((refusal : Refusal) × CallsWith old Take (Refused refusal) new)
+    ⊎ ((job : JobRecord) × (mid : List Receipt) × CallsWith old Take (Taken job) mid × HandsIn mid job new)
 
 -- So many times, one after another, a Take is refused, or a Job is taken and handed in.
 abbrev pub WorksOften : ℕ → List Receipt → List Receipt → Type 0
 WorksOften zero old new = new ≡ old
-WorksOften (suc n) old new = (mid : List Receipt) × WorksOften n old mid × Works mid new
+WorksOften (suc n) old new = (mid : List Receipt) × WorksOften n old mid × WorksOnce mid new
 
 -- whether a worker's events are of this kind
 abbrev pub is_work : EntryKind → Bool

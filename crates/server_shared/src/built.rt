@@ -1,13 +1,13 @@
 //! Decides whether every package of a view is finished.
 ghost use Rattle.std.specs.Prelude.{◌↔◌, IsTrue};
-ghost use Rattle.server_shared.specs.Call.{HasUnit, IsBuilt};
+ghost use Rattle.server_shared.specs.Call.{IsFinishedAt, IsBuilt};
 
 use build_carry::Finished;
 use history_machine::View;
 
 /// Whether the package of this number is finished.
 fn is_finished(table: &Finished, number: usize) -> bool
-    ensures { IsTrue result ↔ HasUnit table.now number }
+    ensures { IsTrue result ↔ IsFinishedAt table.now number }
 {
     table.get(number).is_some()
 }

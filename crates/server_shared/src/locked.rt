@@ -1,16 +1,16 @@
 //! The state under the lock of a shared book.
 ghost use Rattle.std.specs.Prelude.{◌≡◌, ◌+◌, ◌<◌, ◌≤◌, ◌↔◌, [], length, vec_len, is_some, IfSome, IsOk, if◌then◌else◌};
 ghost use Rattle.workspace_check.specs.Found.{KnowsVerdicts};
-ghost use Rattle.history_machine.specs.Kept.{IsTurnedAway, StepKept};
+ghost use Rattle.history_machine.specs.JournalSteps.{IsTurnedAway, JournalStep};
 ghost use Rattle.history_machine.specs.MayReply.{MayReply};
-ghost use Rattle.server_shared.specs.Steps.{IsReplayed, IsStepOf, StepsAt};
-ghost use Rattle.server_shared.specs.Outcome.{book_in};
+ghost use Rattle.server_shared.specs.Steps.{IsReplayed, IsReceiptOrNone, ReceiptStep};
+ghost use Rattle.server_shared.specs.SettledBook.{book_in};
 ghost use Rattle.server_shared.specs.Settled.{IsSettled, receipt_count};
 
+use crate::comparing::merged;
 use crate::opening::Opening;
 use crate::receipt::Receipt;
 use crate::seat::Seat;
-use crate::settle::merged;
 use crate::settling::{Unsettled, is_settled};
 use base_files::Refusal;
 use history_book::{Book, Question};
@@ -31,7 +31,7 @@ pub struct Locked<L: Opening> {
     /// The length of the journal when the book was shared.
     pub from: u64,
     pub is_stopped: bool,
-    /// How many events that may give others something to do were answered `Done` (`is_done`).
+    /// How many events that may give others something to do were answered `Done` (`may_wake`).
     pub done: u64,
     ghost counted: { length book.journal ≡ from + count.total },
     ghost one_each: { rest.parts ≡ free },
@@ -41,10 +41,10 @@ pub struct Locked<L: Opening> {
 
 /// Makes one step of a book, and returns a copy of the entry that it adds.
 fn step_book<Q: Question>(book: &mut Book, question: Q) -> (Q::Answer, Option<Entry>)
-    ensures step { StepKept book.old (Q.event question) (Q.reply result.0) result.1 book.new }
+    ensures step { JournalStep book.old (Q.event question) (Q.reply result.0) result.1 book.new }
     ensures kind { MayReply (Q.event question) (Q.reply result.0) }
 {
-    book.step_kept(question)
+    book.journal_step(question)
 }
 
 /// The answer to an event that is turned away for want of memory for its receipt.
@@ -56,7 +56,7 @@ pub fn turn_away<Q: Question>(question: Q, error: AllocError) -> Q::Answer
 }
 
 /// Whether an entry's event may give others something to do: it was answered `Done`, and changed the workspace or handed a Job in.
-pub fn is_done(line: &Line) -> bool {
+pub fn may_wake(line: &Line) -> bool {
     match (line.kind, line.out) {
         (EntryKind::Look | EntryKind::Log | EntryKind::Take, _) => false,
         (_, Told::Done(_)) => true,
@@ -84,7 +84,7 @@ impl<L: Opening> Locked<L> {
         question: Q,
     ) -> (Q::Answer, Option<Receipt>)
         requires { 0 < share.old.parts }
-        ensures step { StepsAt self.old.book (Q.event question) (Q.reply result.0) result.1 self.new.book }
+        ensures step { ReceiptStep self.old.book (Q.event question) (Q.reply result.0) result.1 self.new.book }
         ensures kind { MayReply (Q.event question) (Q.reply result.0) }
         ensures amount { share.new.amount ≡ share.old.amount + (if is_some result.1 then 1 else 0) }
         ensures parts { share.new.parts ≡ share.old.parts }
@@ -100,7 +100,7 @@ impl<L: Opening> Locked<L> {
         match kept {
             None => (answer, None),
             Some(entry) => {
-                if is_done(&entry.line) {
+                if may_wake(&entry.line) {
                     *done = done.wrapping_add(1);
                 }
                 count.add(share, 1);
@@ -116,7 +116,7 @@ impl<L: Opening> Locked<L> {
         question: Q,
     ) -> (Q::Answer, Option<Receipt>)
         requires { 0 < share.old.parts }
-        ensures step { IsStepOf (Q.event question) (Q.reply result.0) result.1 }
+        ensures step { IsReceiptOrNone (Q.event question) (Q.reply result.0) result.1 }
         ensures kind { MayReply (Q.event question) (Q.reply result.0) }
         ensures amount { share.new.amount ≡ share.old.amount + (if is_some result.1 then 1 else 0) }
         ensures parts { share.new.parts ≡ share.old.parts }

@@ -1,6 +1,6 @@
 //! Receipts: copies of entries of the journal, with their indexes.
 ghost use Rattle.std.specs.Prelude.{◌↔◌, IsTrue, All};
-ghost use Rattle.server_shared.specs.Settled.{Stands};
+ghost use Rattle.server_shared.specs.Settled.{IsInJournal};
 
 use history_machine::Entry;
 
@@ -12,8 +12,8 @@ pub struct Receipt {
 }
 
 /// Whether the journal has this entry at the receipt's index.
-fn stands(receipt: &Receipt, journal: &[Entry]) -> bool
-    ensures { IsTrue result ↔ Stands journal.now receipt.now }
+fn is_in_journal(receipt: &Receipt, journal: &[Entry]) -> bool
+    ensures { IsTrue result ↔ IsInJournal journal.now receipt.now }
 {
     match journal.get(receipt.index as usize) {
         Some(entry) => entry.same(&receipt.entry),
@@ -22,8 +22,10 @@ fn stands(receipt: &Receipt, journal: &[Entry]) -> bool
 }
 
 /// Whether the journal has the entry of each of these receipts, at its index.
-pub(crate) fn all_stand(receipts: &[Receipt], journal: &[Entry]) -> bool
-    ensures { IsTrue result ↔ All (Stands journal.now) receipts.now }
+pub(crate) fn all_in_journal(receipts: &[Receipt], journal: &[Entry]) -> bool
+    ensures { IsTrue result ↔ All (IsInJournal journal.now) receipts.now }
 {
-    receipts.iter().all(|receipt| stands(receipt, journal))
+    receipts
+        .iter()
+        .all(|receipt| is_in_journal(receipt, journal))
 }

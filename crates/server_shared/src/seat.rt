@@ -1,6 +1,6 @@
 //! A seat at a shared book.
 ghost use Rattle.std.specs.Prelude.{◌≡◌, ◌+◌, ◌<◌, ◌≤◌, [], length, vec_len, vec_capacity, IfOk, IsOk};
-ghost use Rattle.server_shared.specs.Reserved.{GivesBack, receipts_needed};
+ghost use Rattle.server_shared.specs.Reserved.{IsGiveBack, receipts_needed};
 
 use crate::opening::Opening;
 use crate::receipt::Receipt;
@@ -75,7 +75,7 @@ fn sum(one: u64, other: u64) -> Result<u64, AllocError>
 /// room is there.
 fn receipts_needed(jobs: u64, kind: EntryKind) -> Result<u64, AllocError>
     ensures needed { IfOk result (λ needed. (needed ≡ receipts_needed kind jobs) × (0 < needed)) }
-    ensures given_back { GivesBack kind → IsOk result }
+    ensures given_back { IsGiveBack kind → IsOk result }
 {
     match kind {
         EntryKind::Take => sum(jobs, 2),
@@ -92,7 +92,7 @@ pub fn reserve(receipts: &mut Vec<Receipt>, jobs: u64, kind: EntryKind) -> Resul
     ensures kept { vec_len receipts.old + jobs ≤ vec_capacity receipts.new }
     ensures needed { IfOk result (λ needed. (needed ≡ receipts_needed kind jobs) × (0 < needed)) }
     ensures room { IfOk result (λ needed. vec_len receipts.old + needed ≤ vec_capacity receipts.new) }
-    ensures given_back { GivesBack kind → 0 < jobs → IsOk result }
+    ensures given_back { IsGiveBack kind → 0 < jobs → IsOk result }
 {
     let needed = receipts_needed(jobs, kind)?;
     receipts.reserve(needed as usize)?;

@@ -2,9 +2,9 @@
 ghost use Rattle.std.specs.Prelude.{◌↔◌, ◌≤◌, IsTrue, length};
 ghost use Rattle.server_shared.specs.Settled.{IsSettled};
 
+use crate::comparing::{are_counted, seats_apart, seats_in_journal, seats_rise};
 use crate::opening::Opening;
 use crate::seat::Seat;
-use crate::settle::{are_counted, seats_apart, seats_rise, seats_stand};
 use history_book::Book;
 use history_machine::Entry;
 
@@ -27,5 +27,5 @@ pub(crate) fn is_settled<L: Opening>(from: u64, journal: &[Entry], seats: &[Seat
     if !seats_apart(seats) {
         return false;
     }
-    seats_stand(seats, journal)
+    seats_in_journal(seats, journal)
 }

@@ -2,13 +2,13 @@
 ghost use Rattle.std.specs.Prelude.{◌≡◌, ◌+◌, ◌<◌, ◌≤◌, ◌↔◌, [], if◌then◌else◌, length, vec_len, is_some, IfSome, IsOk};
 ghost use Rattle.workspace_check.specs.Found.{KnowsVerdicts};
 ghost use Rattle.history_machine.specs.MayReply.{MayReply};
-ghost use Rattle.server_shared.specs.Outcome.{book_in};
-ghost use Rattle.server_shared.specs.Steps.{IsReplayed, IsStepOf};
-ghost use Rattle.server_shared.specs.Call.{Calls, Looks, LooksUntilBuilt, Replies};
+ghost use Rattle.server_shared.specs.SettledBook.{book_in};
+ghost use Rattle.server_shared.specs.Steps.{IsReplayed, IsReceiptOrNone};
+ghost use Rattle.server_shared.specs.Call.{Calls, Looks, LooksUntilBuilt, CallsWith};
 ghost use Rattle.server_shared.specs.Settled.{IsSettled, receipt_count};
 
 use crate::built::is_built;
-use crate::locked::{Locked, is_done, turn_away};
+use crate::locked::{Locked, may_wake, turn_away};
 use crate::opening::Opening;
 use crate::receipt::Receipt;
 use crate::seat::{Seat, jobs_after, reserve};
@@ -98,7 +98,7 @@ impl<L: Opening> Shared<L> {
         question: Q,
     ) -> (Q::Answer, Option<Receipt>)
         requires { 0 < share.old.parts }
-        ensures step { IsStepOf (Q.event question) (Q.reply result.0) result.1 }
+        ensures step { IsReceiptOrNone (Q.event question) (Q.reply result.0) result.1 }
         ensures kind { MayReply (Q.event question) (Q.reply result.0) }
         ensures amount { share.new.amount ≡ share.old.amount + (if is_some result.1 then 1 else 0) }
         ensures parts { share.new.parts ≡ share.old.parts }
@@ -112,14 +112,14 @@ impl<L: Opening> Shared<L> {
 
     /// Wakes all waiting threads, if the event of an entry may give them something to do.
     fn wake(&self, line: &Line) {
-        if is_done(line) {
+        if may_wake(line) {
             self.changed.notify_all();
         }
     }
 
     /// Makes one event of the book at a seat, and returns the answer.
     pub fn send<R: Wait, Q: Question>(&self, rt: &R, seat: &mut Seat<L>, question: Q) -> Q::Answer
-        ensures replies { Replies seat.old (Q.event question) (Q.reply result) seat.new }
+        ensures replies { CallsWith seat.old (Q.event question) (Q.reply result) seat.new }
         ensures kind { MayReply (Q.event question) (Q.reply result) }
     {
         let (answer, _index) = self.call(rt, seat, question);
@@ -153,7 +153,7 @@ impl<L: Opening> Shared<L> {
     }
 
     /// How many events that may give others something to do were answered `Done`, or `None` after the book was stopped.
-    pub fn done_so_far<R: Wait>(&self, rt: &R) -> Option<u64> {
+    pub fn done_unless_stopped<R: Wait>(&self, rt: &R) -> Option<u64> {
         let locked = self.locked.lock(rt);
         if locked.is_stopped {
             None
@@ -182,7 +182,7 @@ impl<L: Opening> Shared<L> {
         ensures { LooksUntilBuilt seat.old result seat.new }
     {
         for _ in rt.forever() {
-            let seen = self.done_by_now(rt);
+            let seen = self.done_count(rt);
             let view = self.look(rt, seat)?;
             if is_built(&view) {
                 return Ok(view);
@@ -200,7 +200,7 @@ impl<L: Opening> Shared<L> {
     }
 
     /// How many events that may give others something to do were answered `Done`, stopped or not.
-    fn done_by_now<R: Wait>(&self, rt: &R) -> u64 {
+    fn done_count<R: Wait>(&self, rt: &R) -> u64 {
         self.locked.lock(rt).done
     }
 }

@@ -2,7 +2,7 @@
 ghost use Rattle.std.specs.Prelude.{ℕ};
 ghost use Rattle.server_shared.specs.Call.{Gains};
 ghost use Rattle.build_unit.specs.Builds.{IsBuiltOf};
-ghost use Rattle.server_shared.specs.Working.{Delivers, HandsIn, IsWork, WorksOften};
+ghost use Rattle.server_shared.specs.Working.{DeliversAtSeat, HandsIn, IsWork, WorksOften};
 
 use crate::gate::Gate;
 use crate::in_hand::{InHand, take};
@@ -25,7 +25,7 @@ pub fn worker<L: Opening, R: Wait, G: Gate>(
     ensures gains { Gains IsWork seat.old seat.new }
 {
     for _ in rt.forever() {
-        let Some(seen) = shared.done_so_far(rt) else {
+        let Some(seen) = shared.done_unless_stopped(rt) else {
             return;
         };
         match take(rt, shared, seat) {
@@ -65,7 +65,7 @@ fn deliver<L: Opening, R: Wait>(
     built: Built,
 )
     requires { IsBuiltOf hand.job built }
-    ensures { Delivers seat.old hand.job seat.new }
+    ensures { DeliversAtSeat seat.old hand.job seat.new }
 {
     match hand.deliver(rt, shared, seat, built) {
         Ok(()) => {}

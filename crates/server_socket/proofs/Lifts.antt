@@ -19,12 +19,12 @@ use Rattle.server_commands.specs.declared.response.Response.{Response}
 use Rattle.server_read.specs.declared.message.Message.{Message}
 use Rattle.server_read.specs.declared.message.Message.TheVariants.{Ask, Unknown, CutShort}
 use Rattle.server_commands.specs.Wait.{WaitLaw}
-use Rattle.server_commands.specs.Act.{Acts, ActsOn, Commits, Continues, Sends}
+use Rattle.server_commands.specs.Act.{Acts, ActsOn, Commits, AfterLook, Sends}
 use Rattle.server_commands.specs.Work.{Works, AfterTake, AfterDelivery, Builds, Delivers, GivesBack}
 use Rattle.server_session.specs.declared.exchange.SessionFault.{SessionFault}
 use Rattle.server_session.specs.declared.exchange.SessionFault.TheVariants.{Memory, Read, Write, Turns}
-use Rattle.server_session.specs.Alone.{Converses}
-use Rattle.server_session.specs.Answers.{Answered, AnswersAll}
+use Rattle.server_session.specs.Conversing.{Converses}
+use Rattle.server_session.specs.Answers.{AnswersMessage, AnswersAll}
 use Rattle.server_session.specs.Transcript.{Exchange, BreaksOff, CutsOff, SessionEnds}
 
 module _ {D E : Type 0} (steps : D → Event → Reply → D → Type 0) (waits : WaitLaw D) (shown : E → Event → Reply → E → Type 0) (awaited : WaitLaw E)
@@ -97,8 +97,8 @@ module _ {D E : Type 0} (steps : D → Event → Reply → D → Type 0) (waits 
   acted_on old new view (state.Object path) answer h = let k = same old new h.1 in (k.0, (h.0, k.1))
   acted_on old new view state.Work answer h = worked old new answer h
 
-  continued : (old new : D) (reply : Reply) (asked : StateCommand) (answer : Response) → Continues steps old reply asked answer new
-      → Lifts old new (λ a b. Continues shown a reply asked answer b)
+  continued : (old new : D) (reply : Reply) (asked : StateCommand) (answer : Response) → AfterLook steps old reply asked answer new
+      → Lifts old new (λ a b. AfterLook shown a reply asked answer b)
   continued old new (Looked view) asked answer h = elim h [
     | inl k ↦ let l = same old new k.2 in (l.0, inl (k.0, k.1, l.1))
     | inr k ↦ let l = acted_on old new view asked answer k.1 in (l.0, inr (k.0, l.1))
@@ -118,8 +118,8 @@ module _ {D E : Type 0} (steps : D → Event → Reply → D → Type 0) (waits 
       let l = continued h.1 new h.0 asked answer h.3 in
       (l.0 ∙ k.0, (h.0, show h.1, k.1, l.1))
 
-  answered : (old new : D) (message : Message) (reply : Response) → Answered steps waits old message reply new
-      → Lifts old new (λ a b. Answered shown awaited a message reply b)
+  answered : (old new : D) (message : Message) (reply : Response) → AnswersMessage steps waits old message reply new
+      → Lifts old new (λ a b. AnswersMessage shown awaited a message reply b)
   answered old new (Ask asked) reply h = elim h [
     | inl k ↦ let l = acted old new asked k.0 k.1 in (l.0, inl (k.0, l.1, k.2))
     | inr k ↦ let l = same old new k.1 in (l.0, inr (k.0, l.1))

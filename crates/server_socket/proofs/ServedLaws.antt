@@ -4,7 +4,7 @@ use Rattle.history_machine.specs.Machine.{Machine}
 use Rattle.server_shared.specs.declared.receipt.Receipt.{Receipt}
 use Rattle.server_shared.specs.declared.settling.Unsettled.{Unsettled as Leftover}
 use Rattle.server_shared.specs.Steps.{IsReplayed}
-use Rattle.server_shared.specs.Outcome.{book_in}
+use Rattle.server_shared.specs.SettledBook.{book_in}
 use Rattle.server_shared.specs.Settled.{IsSettled, receipt_count}
 use Rattle.server_socket.specs.declared.fault.ServeFault.{ServeFault}
 use Rattle.server_socket.specs.declared.fault.ServeFault.TheVariants.{Memory, Socket, Unsettled}

@@ -1,5 +1,5 @@
 -- The definitions of this crate.
 pub mod Served
 pub mod Session
-pub mod Step
-pub mod Wait
+pub mod SeatStep
+pub mod SeatWait

@@ -2,7 +2,7 @@
 #![tactic(auto)]
 
 mod fault;
-mod held;
+mod seat_desk;
 mod serving;
 mod session;
 mod socket;
@@ -10,6 +10,6 @@ mod threads;
 mod turns;
 
 pub use fault::ServeFault;
-pub use held::Held;
+pub use seat_desk::SeatDesk;
 pub use serving::serve;
 pub use session::{Connection, session_at_seat};

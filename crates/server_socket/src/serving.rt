@@ -1,6 +1,6 @@
 //! Runs the server, from making its socket to settling its book.
 ghost use Rattle.std.specs.Prelude.{◌≡◌, ◌≢◌, ◌+◌, IfErr, IfOk, IsErr, IsOk, OnOk, length};
-ghost use Rattle.server_shared.specs.Outcome.{book_in};
+ghost use Rattle.server_shared.specs.SettledBook.{book_in};
 ghost use Rattle.server_socket.specs.Served.{Serves, Settles};
 
 use crate::fault::ServeFault;
@@ -10,7 +10,7 @@ use crate::turns::Turns;
 use base_files::Limits;
 use history_book::Book;
 use server_shared::{Gate, Opening, Seat, Shared, Unsettled};
-use server_words::ServeWords;
+use server_words::ServeOptions;
 use std::alloc::{AllocError, Global};
 use std::marker::Brand;
 use std::net::Net;
@@ -20,7 +20,7 @@ use std::sync::ledger::Blank;
 use std::thread::Threads;
 
 /// How many threads serve sessions or build packages. Each has a seat of its own.
-fn threads_of(words: &ServeWords<'_>) -> u64
+fn threads_of(words: &ServeOptions<'_>) -> u64
     ensures { result ≡ words.now.workers + words.now.sessions }
 {
     u64::from(words.workers) + u64::from(words.sessions)
@@ -73,7 +73,7 @@ fn serve_by<L: Opening + Send + Sync, R: Threads + Wait + Sync, G: Gate + Sync>(
     alloc: Global,
     shared: &Shared<L>,
     seats: &mut [Seat<L>],
-    words: &ServeWords<'_>,
+    words: &ServeOptions<'_>,
     running: Running<'_, G>,
 ) -> Result<(), ServeFault>
     ensures all { OnOk result (length seats.new ≡ words.now.workers + words.now.sessions) }
@@ -96,7 +96,7 @@ fn serve_by<L: Opening + Send + Sync, R: Threads + Wait + Sync, G: Gate + Sync>(
 fn serve_in<L: Opening + Send + Sync, R: Threads + Wait + Sync, G: Gate + Sync>(
     rt: &R,
     alloc: Global,
-    words: &ServeWords<'_>,
+    words: &ServeOptions<'_>,
     gate: &G,
     turns: Turns,
     blank: Blank,
@@ -128,7 +128,7 @@ fn serve_in<L: Opening + Send + Sync, R: Threads + Wait + Sync, G: Gate + Sync>(
 /// that number it doesn't end. The gate hears of each worker's progress.
 pub fn serve<R: Threads + Wait + Net + Files + AllocGlobal + Sync, G: Gate + Sync>(
     rt: &R,
-    words: &ServeWords<'_>,
+    words: &ServeOptions<'_>,
     gate: &G,
 ) -> Result<u64, ServeFault>
     ensures { Serves (words.now.workers + words.now.sessions) result }

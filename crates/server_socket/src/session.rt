@@ -1,7 +1,7 @@
 //! A session at a seat.
 ghost use Rattle.server_socket.specs.Session.{ConversesAtSeat};
 
-use crate::held::Held;
+use crate::seat_desk::SeatDesk;
 use base_files::Limits;
 use server_session::{SessionFault, converse};
 use server_shared::{Opening, Seat, Shared};
@@ -28,6 +28,6 @@ pub fn session_at_seat<L: Opening, W: Wait, I: Read + Drop, O: Write>(
     ensures { ConversesAtSeat limits (I.remaining connection.input) (O.contents connection.output) (O.contents result.1) seat.old seat.new result.0 }
 {
     let Connection { input, output } = connection;
-    let mut held = Held { rt, shared, seat };
+    let mut held = SeatDesk { rt, shared, seat };
     converse(alloc, input, output, &mut held, limits)
 }

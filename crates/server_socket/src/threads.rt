@@ -21,7 +21,7 @@ fn sized() -> Builder {
 }
 
 /// Serves the session of one connection.
-fn talk<L: Opening, R: Wait>(
+fn serve_connection<L: Opening, R: Wait>(
     rt: &R,
     alloc: Global,
     shared: &Shared<L>,
@@ -47,7 +47,7 @@ fn take_turns<L: Opening, R: Wait>(
         match turns.next(rt) {
             Some(stream) => {
                 // How a session ends concerns no other.
-                let _ended = talk(rt, alloc, shared, seat, &stream);
+                let _ended = serve_connection(rt, alloc, shared, seat, &stream);
             }
             None => return,
         }

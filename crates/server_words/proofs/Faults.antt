@@ -5,15 +5,15 @@ use Rattle.clap.specs.declared.error.Error.{Error}
 use Rattle.clap.specs.declared.error.kind.ErrorKind.{ErrorKind}
 use Rattle.clap.specs.declared.error.kind.ErrorKind.TheVariants.{DisplayHelp, OutOfMemory}
 use Rattle.server_words.specs.CommandLine.{gorefd}
-use Rattle.server_words.specs.Reads.{ReadsWords, Tells}
-use Rattle.server_words.specs.declared.reading.WordsFault.{WordsFault}
-use Rattle.server_words.specs.declared.reading.WordsFault.TheVariants.{Memory, Help, Usage}
+use Rattle.server_words.specs.Reads.{ReadsRequest, IsParserFault}
+use Rattle.server_words.specs.declared.reading.RequestFault.{RequestFault}
+use Rattle.server_words.specs.declared.reading.RequestFault.TheVariants.{Memory, Help, Usage}
 
 no_help : (kind : ErrorKind) → kind ≡ DisplayHelp → kind ≡ OutOfMemory → ⊥
 no_help kind help memory = let bad : DisplayHelp ≡ OutOfMemory = sym help ∙ memory in absurd cc
 
-pub told_fault : (words : List Text) (error : Error) (fault : WordsFault) → HasKind (fault_of gorefd words) error → Tells (kind_of error) fault
-    → ReadsWords words (Err fault)
+pub told_fault : (words : List Text) (error : Error) (fault : RequestFault) → HasKind (fault_of gorefd words) error → IsParserFault (kind_of error) fault
+    → ReadsRequest words (Err fault)
 told_fault words error Memory h told = tt
 told_fault words error (Help text) h told = elim h [
   | inl memory ↦ absurd (no_help (kind_of error) told memory)

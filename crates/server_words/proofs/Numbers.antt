@@ -3,7 +3,7 @@ use Rattle.std.proofs.Common.{◌≡◌, ◌∙◌, ◌<◌, ◌≤◌, ◌^◌,
 use Rattle.std.specs.Str.Parse.{ParsesUnsigned}
 use Rattle.clap.specs.Matches.{ReadsOne}
 use Rattle.clap.specs.Words.{Row, Text, first_of, one_of}
-use Rattle.server_words.specs.Asked.{IsNumberOf, IsStopOf}
+use Rattle.server_words.specs.CommandRequests.{IsOptionNumber, IsStopAfter}
 
 module _ {E : Type 0} (G : List ℕ → Result ℕ E → Type 0) (only : (u : List ℕ) (x : Result ℕ E) → G u x → ParsesUnsigned 32 10 u x)
     (option : Text) (rows : List Row) (most : ℕ) (o : Option Text) (at : o ≡ one_of option rows) where
@@ -12,17 +12,17 @@ module _ {E : Type 0} (G : List ℕ → Result ℕ E → Type 0) (only : (u : Li
 
   -- a number that was read is the option's
   pub number_read : (n : ℕ) → (o ≡ None → Some n ≡ None) → ((t : List ℕ) → o ≡ Some t → ReadsOne G t (Some n)) → 1 ≤ n → n ≤ most
-      → IsNumberOf option most rows n
+      → IsOptionNumber option most rows n
   number_read n none value low high = go o refl
     where
-      go : (t : Option Text) → o ≡ t → IsNumberOf option most rows n
+      go : (t : Option Text) → o ≡ t → IsOptionNumber option most rows n
       go None e = absurd (no_text o n none e)
       go (Some t) e = let parsed = only t (Ok n) (value t e) in (t, sym at ∙ e, parsed.0.0, parsed.1, low, high)
 
-  pub number_same : (m n : ℕ) → ((t : List ℕ) → o ≡ Some t → ReadsOne G t (Some m)) → IsNumberOf option most rows n → n ≡ m
+  pub number_same : (m n : ℕ) → ((t : List ℕ) → o ≡ Some t → ReadsOne G t (Some m)) → IsOptionNumber option most rows n → n ≡ m
   number_same m n value h = let parsed = only h.0 (Ok m) (value h.0 (at ∙ h.1)) in h.3 ∙ sym parsed.1
 
-  pub no_number : most < 2 ^ 32 → ((t : List ℕ) → o ≡ Some t → ReadsOne G t None) → (n : ℕ) → IsNumberOf option most rows n → ⊥
+  pub no_number : most < 2 ^ 32 → ((t : List ℕ) → o ≡ Some t → ReadsOne G t None) → (n : ℕ) → IsOptionNumber option most rows n → ⊥
   no_number small value n h =
       let failed = value h.0 (at ∙ h.1) in
       let high = h.5 in
@@ -30,8 +30,8 @@ module _ {E : Type 0} (G : List ℕ → Result ℕ E → Type 0) (only : (u : Li
       only h.0 (Err failed.0) failed.1 (h.2, omega arith)
 
 -- where `stop-after` was given no number from 1 to 1000000, it gives no number of connections
-pub no_stop : (rows : List Row) (s : Text) → Some s ≡ first_of (codes "stop-after") rows → ((n : ℕ) → IsNumberOf (codes "stop-after") 1000000 rows n → ⊥)
-    → (stop : Option ℕ) → IsStopOf rows stop → ⊥
+pub no_stop : (rows : List Row) (s : Text) → Some s ≡ first_of (codes "stop-after") rows → ((n : ℕ) → IsOptionNumber (codes "stop-after") 1000000 rows n → ⊥)
+    → (stop : Option ℕ) → IsStopAfter rows stop → ⊥
 no_stop rows s at none None h = let bad : Some s ≡ None = at ∙ h in absurd cc
 no_stop rows s at none (Some n) h = none n h
 

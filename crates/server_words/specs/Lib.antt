@@ -1,4 +1,4 @@
 -- The definitions of this crate.
 pub mod CommandLine
-pub mod Asked
+pub mod CommandRequests
 pub mod Reads

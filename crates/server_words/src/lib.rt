@@ -1,9 +1,9 @@
 //! Reads the words of the program's command line as a request, or as a help or usage text.
 #![tactic(auto)]
 
-mod asked;
 mod command_line;
 mod reading;
+mod requests;
 
-pub use asked::{ServeWords, Words};
-pub use reading::{WordsFault, read_words};
+pub use reading::{RequestFault, read_request};
+pub use requests::{ServeOptions, Words};

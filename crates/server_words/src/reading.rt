@@ -2,17 +2,17 @@
 ghost use Rattle.std.specs.Prelude.{◌≡◌, IfOk, map, string_bytes};
 ghost use Rattle.clap.specs.Words.{FailsBy, fault_of, kind_of, subcommand_of, subcommand_rows_of};
 ghost use Rattle.server_words.specs.CommandLine.{gorefd};
-ghost use Rattle.server_words.specs.Reads.{IsUsage, ReadsWords, Tells};
+ghost use Rattle.server_words.specs.Reads.{IsUsage, ReadsRequest, IsParserFault};
 
-use crate::asked::{Words, asked};
 use crate::command_line::command_line;
+use crate::requests::{Words, asked};
 use clap::error::ErrorKind;
 use clap::{ArgMatches, Error};
 use std::alloc::{AllocError, Global};
 
 /// Why words make no request.
 #[derive(Drop)]
-pub enum WordsFault {
+pub enum RequestFault {
     /// Memory was wanting.
     Memory,
     /// The words ask for help. The text goes to standard output.
@@ -21,33 +21,33 @@ pub enum WordsFault {
     Usage(String),
 }
 
-impl From<AllocError> for WordsFault {
-    ghost use Rattle.server_words.specs.declared.reading.WordsFault.TheVariants.{Memory};
+impl From<AllocError> for RequestFault {
+    ghost use Rattle.server_words.specs.declared.reading.RequestFault.TheVariants.{Memory};
 
     ghost from_gives = { λ _ fault. fault ≡ Memory };
 
-    fn from(_: AllocError) -> WordsFault {
-        WordsFault::Memory
+    fn from(_: AllocError) -> RequestFault {
+        RequestFault::Memory
     }
 }
 
 /// The fault that an error of the parser is, with the text that it prints.
-fn tell(alloc: Global, error: &Error) -> Result<WordsFault, AllocError>
-    ensures { IfOk result (Tells (kind_of error.now)) }
+fn as_fault(alloc: Global, error: &Error) -> Result<RequestFault, AllocError>
+    ensures { IfOk result (IsParserFault (kind_of error.now)) }
 {
     match error.kind() {
-        ErrorKind::OutOfMemory => Ok(WordsFault::Memory),
-        ErrorKind::DisplayHelp => Ok(WordsFault::Help(format!(in alloc; "{error}")?)),
-        _ => Ok(WordsFault::Usage(format!(in alloc; "{error}")?)),
+        ErrorKind::OutOfMemory => Ok(RequestFault::Memory),
+        ErrorKind::DisplayHelp => Ok(RequestFault::Help(format!(in alloc; "{error}")?)),
+        _ => Ok(RequestFault::Usage(format!(in alloc; "{error}")?)),
     }
 }
 
 /// The fault of words that the parser accepts and that make no request.
-fn tell_nothing(alloc: Global) -> Result<WordsFault, AllocError>
+fn no_request(alloc: Global) -> Result<RequestFault, AllocError>
     ensures { IfOk result IsUsage }
 {
     let text = String::from_str(alloc, "error: these words ask nothing\n")?;
-    Ok(WordsFault::Usage(text))
+    Ok(RequestFault::Usage(text))
 }
 
 /// Parses the words of a command line, the first of which is the program's name.
@@ -60,14 +60,14 @@ fn parse<'a>(alloc: Global, words: &'a [String]) -> Result<ArgMatches<'a>, Error
 }
 
 /// Reads the words of a command line, the first of which is the program's name, as a request.
-pub fn read_words<'a>(alloc: Global, words: &'a [String]) -> Result<Words<'a>, WordsFault>
-    ensures { ReadsWords (map string_bytes words.now) result }
+pub fn read_request<'a>(alloc: Global, words: &'a [String]) -> Result<Words<'a>, RequestFault>
+    ensures { ReadsRequest (map string_bytes words.now) result }
 {
     match parse(alloc, words) {
         Ok(matches) => match asked(&matches) {
             Some(words) => Ok(words),
-            None => Err(tell_nothing(alloc)?),
+            None => Err(no_request(alloc)?),
         },
-        Err(error) => Err(tell(alloc, &error)?),
+        Err(error) => Err(as_fault(alloc, &error)?),
     }
 }

@@ -15,11 +15,11 @@ use Rattle.types_expr.specs.World as plain
 use Rattle.types_expr.specs.WorldView.{definition_of}
 use Rattle.types_declared.specs.Package.{Package, PlacedType, PlacedFunction, package_types, package_functions, spelled}
 use Rattle.types_declared.specs.Written.{IsTypeOf}
-use Rattle.types_declared.specs.Definitions.{PlacedField, body_fields, fields_from, package_fields, IsCountingField, IsMethodOf, IsCountingMethod, IsField}
-use Rattle.types_declared.specs.Definitions.{IsSignature, IsMethod, IsUnderlyingOf}
+use Rattle.types_declared.specs.Definitions.{PlacedField, body_fields, fields_from, package_fields, IsCountingField, IsMethodOf, IsCountingMethod, IsFoundField}
+use Rattle.types_declared.specs.Definitions.{IsFoundSignature, IsFoundMethod, IsUnderlyingOf}
 use Rattle.types_members.specs.MembersView.{CountsAsField, IsMethodOn, CountsAsMethod}
 use Rattle.types_info.specs.DefinitionsView.{HaveDefinitions}
-use Rattle.types_check.specs.Building.{IsFieldBelow, IsMethodBelow, IsDefinitionBelow, HaveMembersBelow, SetsField, field_by, received_by_pointer, method_by}
+use Rattle.types_check.specs.Building.{IsFieldBelow, IsMethodBelow, IsDefinitionBelow, HaveMembersBelow, SetsField, typed_field, received_by_pointer, signed_method}
 use Rattle.types_check.specs.Building.{SetsMethodOf, ChangesAt, AddsField, typed, untyped}
 use Rattle.types_declared.proofs.ByteKeys.{cases_bytes}
 use Rattle.types_declared.proofs.Mentioning.{get_set_same, get_set_other}
@@ -131,7 +131,7 @@ field_skipped p count methods found none h = fields_skipped p count methods foun
 
 field_set : (p : Package) (count methods : ℕ) (f : PlacedField) (t : PlainType) (x y : plain.Definition) → slice_get (package_fields p) count ≡ Some f →
     IsCountingField p f.definition (spelled p f.file f.name) count f →
-    IsTypeOf p f.file f.type_use t → SetsField x y (spelled p f.file f.name) (field_by p count f t) → IsDefinitionBelow p count methods f.definition x →
+    IsTypeOf p f.file f.type_use t → SetsField x y (spelled p f.file f.name) (typed_field p count f t) → IsDefinitionBelow p count methods f.definition x →
     IsDefinitionBelow p (count + 1) methods f.definition y
 field_set p count methods f t x y at c is s h = record {
   underlying = subst (IsUnderlyingOf p f.definition) (sym s.underlying) h.underlying;
@@ -146,7 +146,7 @@ field_set p count methods f t x y at c is s h = record {
 
 fields_added : (p : Package) (count methods : ℕ) (f : PlacedField) (t : PlainType) (old new : List Definition) → slice_get (package_fields p) count ≡ Some f →
     IsCountingField p f.definition (spelled p f.file f.name) count f → IsTypeOf p f.file f.type_use t →
-    ChangesAt old new f.definition (λ x y. SetsField (definition_of x) (definition_of y) (spelled p f.file f.name) (field_by p count f t)) →
+    ChangesAt old new f.definition (λ x y. SetsField (definition_of x) (definition_of y) (spelled p f.file f.name) (typed_field p count f t)) →
     HaveMembersBelow p count methods old →
     HaveMembersBelow p (count + 1) methods new
 fields_added p count methods f t old new at c is ch h = record {
@@ -163,9 +163,9 @@ fields_added p count methods f t old new at c is ch h = record {
 
 pub field_changed : (p : Package) (rank : ℕ) (f : PlacedField) (t : PlainType) (old : List Definition) (x y : Definition) → f.definition < length old →
     x ≡ get_or old f.definition x → IsTypeOf p f.file f.type_use t →
-    SetsField (definition_of x) (definition_of y) (spelled p f.file f.name) (field_by p rank f t) → AddsField p rank f old (set old f.definition y)
+    SetsField (definition_of x) (definition_of y) (spelled p f.file f.name) (typed_field p rank f t) → AddsField p rank f old (set old f.definition y)
 field_changed p rank f t old x y lt at is s =
-    typed is (changes_set old f.definition x y (λ a b. SetsField (definition_of a) (definition_of b) (spelled p f.file f.name) (field_by p rank f t)) lt at s)
+    typed is (changes_set old f.definition x y (λ a b. SetsField (definition_of a) (definition_of b) (spelled p f.file f.name) (typed_field p rank f t)) lt at s)
 
 -- a field that counts is added
 pub field_added : (p : Package) (count methods : ℕ) (f : PlacedField) (old new : List Definition) → slice_get (package_fields p) count ≡ Some f →
@@ -225,9 +225,9 @@ pub no_owner : (p : Package) (rank : ℕ) (o : Option ℕ) → HasOwner p rank o
 no_owner p rank None has none c = has c.definition (record { name = c.name; method = c.method; is_method = c.counting.is_method })
 no_owner p rank (Some d) has none c = none d refl
 
-method_there : (p : Package) (rank d : ℕ) (f : PlacedFunction) (s : Option Signature) → IsSignature p f s →
+method_there : (p : Package) (rank d : ℕ) (f : PlacedFunction) (s : Option Signature) → IsFoundSignature p f s →
     (c : IsCountingMethod p d (spelled p f.file f.function.name) rank f) →
-    IsMethod p d (spelled p f.file f.function.name) (Some (method_by p rank f s))
+    IsFoundMethod p d (spelled p f.file f.function.name) (Some (signed_method p rank f s))
 method_there p rank d f s is c = (f, c, is, ap received_by_pointer c.is_method.received, refl, refl)
 
 method_set : (p : Package) (fields count d : ℕ) (f : PlacedFunction) (x y : plain.Definition) → slice_get (package_functions p) count ≡ Some f →
@@ -270,11 +270,11 @@ method_added p w fields count d f old new at c m ch h =
 
 -- All fields and methods are added
 
-all_fields : (p : Package) (d : ℕ) (n : List ℕ) (o : Option Field) → IsFieldBelow p (length (package_fields p)) d n o → IsField p d n o
+all_fields : (p : Package) (d : ℕ) (n : List ℕ) (o : Option Field) → IsFieldBelow p (length (package_fields p)) d n o → IsFoundField p d n o
 all_fields p d n None h = λ r f t c is. h r f t (slice_get_within (package_fields p) r f c.is_field.has_rank) c is
 all_fields p d n (Some x) h = h
 
-all_methods : (p : Package) (d : ℕ) (n : List ℕ) (o : Option Method) → IsMethodBelow p (length (package_functions p)) d n o → IsMethod p d n o
+all_methods : (p : Package) (d : ℕ) (n : List ℕ) (o : Option Method) → IsMethodBelow p (length (package_functions p)) d n o → IsFoundMethod p d n o
 all_methods p d n None h = λ r f c. h r f (slice_get_within (package_functions p) r f c.is_method.has_rank) c
 all_methods p d n (Some x) h = h
 

@@ -10,23 +10,23 @@ use Rattle.std.proofs.lemmas.Option.{slice_get_past, slice_get_within}
 use Rattle.go_scope.specs.declared.model.Block.{Block}
 use Rattle.go_scope.specs.declared.model.Block.TheVariants as block
 use Rattle.go_scope.specs.Bindings.{Layout, Names, Counts, IsPackageLevel, block_of}
-use Rattle.go_scope.specs.Site.{Site, found_site, sites_layout}
+use Rattle.go_scope.specs.Site.{Site, or_blank, sites_layout}
 use Rattle.types_expr.specs.Types.{Meaning}
 use Rattle.types_expr.specs.World.{Bound}
 use Rattle.types_expr.specs.World.{Means as Stands}
-use Rattle.types_expr.specs.declared.interfaces.Export.{Export}
+use Rattle.types_expr.specs.declared.exports.Export.{Export}
 use Rattle.types_declared.specs.Package as plain
 use Rattle.types_expr.specs.declared.world.Definition.{Definition}
 use Rattle.types_expr.specs.WorldView.{definition_or_none, no_definition}
 use Rattle.types_declared.specs.Package.{Package, PlacedType, package_types, symbol_in}
 use Rattle.types_declared.specs.Definitions.{IsDefinition}
 use Rattle.types_info.specs.DefinitionsView.{HaveDefinitions}
-use Rattle.types_declared.specs.Bound.{IsMeantBy}
-use Rattle.types_declared.specs.Bound as bound
-use Rattle.types_declared.specs.InterfacesView.{export_of, exports_at}
-use Rattle.types_check.specs.Interfaces.{IsSeen, IsExportBy, IsExport, IsExported, IsGlobalMeaning, variable, type_name, function, IsGlobalFound}
-use Rattle.types_check.specs.Interfaces.{IsExportFound, IsExportBelow, AreExportsBelow}
-use Rattle.types_info.proofs.BoundLists.{slice_get_some, none_past}
+use Rattle.types_declared.specs.MeaningOf.{IsMeaningOf}
+use Rattle.types_declared.specs.MeaningOf as bound
+use Rattle.types_declared.specs.ExportTablesView.{export_of, exports_at}
+use Rattle.types_check.specs.Exports.{DoesExport, IsExportBy, IsExport, IsExported, IsGlobalMeaning, variable, type_name, function, IsGlobalFound}
+use Rattle.types_check.specs.Exports.{IsExportFound, IsExportBelow, AreExportsBelow}
+use Rattle.types_info.proofs.MeaningLists.{slice_get_some, none_past}
 use Rattle.types_declared.proofs.ByteKeys.{cases_bytes, others_stay}
 
 -- Whether a declaration counts
@@ -42,7 +42,7 @@ is_package (block.Inner f a b) = ⊥
 not_level : (b c : Block) → b ≡ block.Package → b ≡ c → is_package c
 not_level b c is e = subst is_package (sym is ∙ e) tt
 
-global_by : (p : Package) (d : ℕ) → IsPackageLevel p.layout d → (m : Meaning) → IsMeantBy p d (Stands m) → IsGlobalMeaning m
+global_by : (p : Package) (d : ℕ) → IsPackageLevel p.layout d → (m : Meaning) → IsMeaningOf p d (Stands m) → IsGlobalMeaning m
 global_by p d level _ (bound.predeclared is means) = absurd (not_level (block_of (p.layout.role d)) block.Universe level is.universe)
 global_by p d level _ (bound.import_name is) = absurd (not_level (block_of (p.layout.role d)) (block.File is.is_import.0) level is.is_import.1)
 global_by p d level _ (bound.variable is t) = variable
@@ -51,13 +51,13 @@ global_by p d level _ (bound.definition at is whole) = type_name
 
 -- The export of a declaration
 
-pub no_export : (p : Package) (d : ℕ) (b : Bound) → ((b c : Bound) → IsMeantBy p d b → IsMeantBy p d c → b ≡ c) → IsMeantBy p d b → IsGlobalFound b None →
+pub no_export : (p : Package) (d : ℕ) (b : Bound) → ((b c : Bound) → IsMeaningOf p d b → IsMeaningOf p d c → b ≡ c) → IsMeaningOf p d b → IsGlobalFound b None →
     IsExportFound p d None
 no_export p d b one means none = λ e by. none e.meaning (global_by p d by.seen.package_level e.meaning by.means) (one b (Stands e.meaning) means by.means)
 
-pub is_export : (p : Package) (d : ℕ) (b : Bound) (e : plain.Export) → IsSeen p d → IsMeantBy p d b → b ≡ Stands e.meaning →
+pub is_export : (p : Package) (d : ℕ) (b : Bound) (e : plain.Export) → DoesExport p d → IsMeaningOf p d b → b ≡ Stands e.meaning →
     IsExportBy p d e
-is_export p d b e seen means is = record { seen = seen; means = subst (IsMeantBy p d) is means }
+is_export p d b e seen means is = record { seen = seen; means = subst (IsMeaningOf p d) is means }
 
 -- One more declaration
 
@@ -97,7 +97,7 @@ one_more_export p n old new key e is u by h = λ name. elim (cases_bytes key.ite
 
 beyond : (sites : List Site) (d : ℕ) → length sites ≤ d → block_of ((sites_layout sites).role d) ≡ block.Package → ⊥
 beyond sites d ge level = not_level (block_of ((sites_layout sites).role d)) block.Universe level
-    (ap (λ s. block_of (found_site s).role) (slice_get_past sites d ge))
+    (ap (λ s. block_of (or_blank s).role) (slice_get_past sites d ge))
 
 export_within : (p : Package) (sites : List Site) (name : List ℕ) (e : plain.Export) → p.layout ≡ sites_layout sites → IsExport p name e →
     IsExportBelow p (length sites) name e
@@ -142,14 +142,14 @@ one_declaration l names d e at_d at_e h k same = elim (cases_order d e) [
   ]
 ]
 
-one_export_by : (p : Package) → ((d : ℕ) (b c : Bound) → IsMeantBy p d b → IsMeantBy p d c → b ≡ c) → (d : ℕ) (e f : plain.Export) → IsExportBy p d e →
+one_export_by : (p : Package) → ((d : ℕ) (b c : Bound) → IsMeaningOf p d b → IsMeaningOf p d c → b ≡ c) → (d : ℕ) (e f : plain.Export) → IsExportBy p d e →
     IsExportBy p d f → e ≡ f
 one_export_by p one d e f h k =
     let stands : Stands e.meaning ≡ Stands f.meaning = one d (Stands e.meaning) (Stands f.meaning) h.means k.means in
     let meaning : e.meaning ≡ f.meaning = cc in
     ap (λ m. record { meaning = m }) meaning
 
-pub one_export : (p : Package) → ((d : ℕ) (b c : Bound) → IsMeantBy p d b → IsMeantBy p d c → b ≡ c) → (name : List ℕ) (e f : plain.Export) →
+pub one_export : (p : Package) → ((d : ℕ) (b c : Bound) → IsMeaningOf p d b → IsMeaningOf p d c → b ≡ c) → (name : List ℕ) (e f : plain.Export) →
     IsExport p name e → IsExport p name f → e ≡ f
 one_export p one name e f h k =
     let at : h.declaration ≡ k.declaration =

@@ -5,11 +5,11 @@ use Rattle.std.proofs.Math.Path.{ap₂}
 use Rattle.std.proofs.lemmas.Option.{none-some}
 use Rattle.go_ast.specs.SourceFile.{SourceFile, FileParts, source_of}
 use Rattle.go_scope.specs.Named.{is_unnamed_import, named_sites, named_where}
-use Rattle.go_scope.specs.Scoped.{ScopedPackage, scoped}
-use Rattle.go_scope.specs.Site.{Site, found_site}
+use Rattle.go_scope.specs.Packages.{ScopedPackage, scoped}
+use Rattle.go_scope.specs.Site.{Site, or_blank}
 use Rattle.types_declared.specs.Laid.{Laid, laid_in, IsPathOf}
 use Rattle.types_declared.specs.PackageNames.{IsPackageName, IsLaidOver}
-use Rattle.types_declared.specs.Package.{Package, Interface}
+use Rattle.types_declared.specs.Package.{Package, ExportData}
 use Rattle.types_info.specs.PackageOf.{IsPackageOf, package_in}
 use Rattle.types_declared.proofs.ByteKeys.{cases_bytes}
 
@@ -36,7 +36,7 @@ same_where true a b x e = ap (λ name. named_where true name x) (e refl)
 same_where false a b x e = refl
 
 same_named : (m n : ℕ → Option (List ℕ)) (xs : List Site) →
-    ((u : ℕ) → u < length xs → is_unnamed_import (found_site (slice_get xs u)).role ≡ true → m u ≡ n u) →
+    ((u : ℕ) → u < length xs → is_unnamed_import (or_blank (slice_get xs u)).role ≡ true → m u ≡ n u) →
     named_sites m xs ≡ named_sites n xs
 unfolding named_sites
 same_named m n [] e = refl
@@ -52,10 +52,10 @@ one_laid files name_of plain a b h k =
     one_name files name_of (laid_in plain) u (h.names u) (k.names u) (h.are_names u lt is) (k.are_names u lt is)))
     ∙ sym k.is_named
 
-pub one_package : (path : List ℕ) (files : List FileParts) (name_of : (path : List ℕ) → Option (List ℕ)) (interface_of : (path : List ℕ) → Interface)
+pub one_package : (path : List ℕ) (files : List FileParts) (name_of : (path : List ℕ) → Option (List ℕ)) (export_data_of : (path : List ℕ) → ExportData)
     (p q : Package) →
-    IsPackageOf path files name_of interface_of p → IsPackageOf path files name_of interface_of q → p ≡ q
-one_package path files name_of interface_of p q h k =
-    h.is_package ∙ ap (λ laid. package_in path (map source_of files) laid interface_of)
+    IsPackageOf path files name_of export_data_of p → IsPackageOf path files name_of export_data_of q → p ≡ q
+one_package path files name_of export_data_of p q h k =
+    h.is_package ∙ ap (λ laid. package_in path (map source_of files) laid export_data_of)
     (one_laid (map source_of files) name_of (scoped files) h.laid k.laid h.is_laid k.is_laid)
     ∙ sym k.is_package

@@ -8,30 +8,30 @@ use Rattle.std.proofs.lemmas.List.{nil_from_length}
 use Rattle.std.proofs.lemmas.Option.{none-some}
 use Rattle.types_declared.specs.declared.fault.Fault.{Fault}
 use Rattle.types_declared.specs.contracts.fault.FaultOrd.TheImpl as order
-use Rattle.types_declared.specs.Listing.{Lists}
+use Rattle.types_declared.specs.Listing.{HoldsExactly}
 use Rattle.types_declared.specs.Stage.{FirstOf}
 use Rattle.types_declared.proofs.Stages.{first_listed}
 use Rattle.types_check.specs.declared.checking.Checked.{Checked}
 use Rattle.types_check.specs.declared.checking.CheckedPackage.{CheckedPackage}
 use Rattle.types_declared.specs.Package.{Package}
-use Rattle.types_declared.specs.InterfacesView.{interface_of}
-use Rattle.types_check.specs.Interfaces.{IsInterface}
-use Rattle.types_check.specs.Check.{IsCheckedBy, MayMean}
+use Rattle.types_declared.specs.ExportTablesView.{export_data_of}
+use Rattle.types_check.specs.Exports.{IsExportData}
+use Rattle.types_check.specs.Check.{IsFindingBy, AreMeaningsFound}
 
 pub nothing_in : (f : Fault) → Contains [] f → ⊥
 nothing_in f c = let lt : c.0 < 0 = c.1 in omega arith
 
-lists_first : (P Q : Fault → Type 0) (found : List Fault) → (found ≡ [] → ⊥) → Lists P found → Lists (FirstOf P Q) found
+lists_first : (P Q : Fault → Type 0) (found : List Fault) → (found ≡ [] → ⊥) → HoldsExactly P found → HoldsExactly (FirstOf P Q) found
 lists_first P Q found ne h = first_listed P Q found (record { keeps = λ f c. absurd (nothing_in f c); holds = h.holds; only = λ f c. inr (h.only f c) }) ne
 
 -- A stage with faults
 
-faulty_by : (P : Fault → Type 0) (p : Package) (c : Checked) → (c.faults.items ≡ [] → ⊥) → Lists P c.faults.items →
-    IsStrictlySortedBy order.ghosts.cmp c.faults.items → c.interface ≡ None → IsCheckedBy P p c
+faulty_by : (P : Fault → Type 0) (p : Package) (c : Checked) → (c.faults.items ≡ [] → ⊥) → HoldsExactly P c.faults.items →
+    IsStrictlySortedBy order.ghosts.cmp c.faults.items → c.export_data ≡ None → IsFindingBy P p c
 faulty_by P p c ne h sorted none = record {
   faults = h;
   order = sorted;
-  interface = subst (λ o. MatchOption o (c.faults.items ≡ [] → ⊥) (λ i. (c.faults.items ≡ []) × IsInterface p (interface_of p.path i))) (sym none) ne;
+  export_data = subst (λ o. MatchOption o (c.faults.items ≡ [] → ⊥) (λ i. (c.faults.items ≡ []) × IsExportData p (export_data_of p.path i))) (sym none) ne;
   members = λ e. absurd (ne e);
   qualified = λ e. absurd (ne e);
 }
@@ -44,32 +44,32 @@ some_found found b is fails e = eqb-false (vec_len found) 0 (sym is ∙ fails) (
 pub none_found : (found : Vec Fault) (b : Bool) → b ≡ nat_eq (vec_len found) 0 → b ≡ true → found.items ≡ []
 none_found found b is passes = nil_from_length found.items (sym found.ok.0 ∙ eqb-true (vec_len found) 0 (sym is ∙ passes))
 
-pub ends_with : (P Q : Fault → Type 0) (p : Package) (c : Checked) (found : Vec Fault) (b : Bool) → c.faults ≡ found → c.interface ≡ None →
-    b ≡ nat_eq (vec_len found) 0 → b ≡ false → Lists P found.items →
-    IsStrictlySortedBy order.ghosts.cmp found.items → IsCheckedBy (FirstOf P Q) p c
+pub ends_with : (P Q : Fault → Type 0) (p : Package) (c : Checked) (found : Vec Fault) (b : Bool) → c.faults ≡ found → c.export_data ≡ None →
+    b ≡ nat_eq (vec_len found) 0 → b ≡ false → HoldsExactly P found.items →
+    IsStrictlySortedBy order.ghosts.cmp found.items → IsFindingBy (FirstOf P Q) p c
 ends_with P Q p c found b same none is fails h sorted =
     let ne : c.faults.items ≡ [] → ⊥ = λ e. some_found found b is fails (sym (ap (λ (v : Vec Fault). v.items) same) ∙ e) in
-    let listed : Lists P c.faults.items = subst (λ (v : Vec Fault). Lists P v.items) (sym same) h in
+    let listed : HoldsExactly P c.faults.items = subst (λ (v : Vec Fault). HoldsExactly P v.items) (sym same) h in
     faulty_by (FirstOf P Q) p c ne (lists_first P Q c.faults.items ne listed)
     (subst (λ (v : Vec Fault). IsStrictlySortedBy order.ghosts.cmp v.items) (sym same) sorted) none
 
 -- no meanings are handed back of a package with faults
-pub none_kept : (p : Package) (c : CheckedPackage) → c.bounds ≡ None → MayMean p c
+pub none_kept : (p : Package) (c : CheckedPackage) → c.bounds ≡ None → AreMeaningsFound p c
 none_kept p c none b is = absurd (none-some b (sym none ∙ is))
 
 -- equivalent properties describe the same finding
-pub checked_same : (P Q : Fault → Type 0) (p : Package) (c : Checked) → ((f : Fault) → P f ↔ Q f) → IsCheckedBy P p c → IsCheckedBy Q p c
+pub checked_same : (P Q : Fault → Type 0) (p : Package) (c : Checked) → ((f : Fault) → P f ↔ Q f) → IsFindingBy P p c → IsFindingBy Q p c
 checked_same P Q p c same h = record {
   faults = record { holds = λ f is. h.faults.holds f ((same f).1 is); only = λ f k. (same f).0 (h.faults.only f k) };
   order = h.order;
-  interface = h.interface;
+  export_data = h.export_data;
   members = h.members;
   qualified = h.qualified;
 }
 
 -- A stage without faults
 
-without_first : (P Q : Fault → Type 0) (p : Package) (c : Checked) → Lists P [] → IsCheckedBy Q p c → IsCheckedBy (FirstOf P Q) p c
+without_first : (P Q : Fault → Type 0) (p : Package) (c : Checked) → HoldsExactly P [] → IsFindingBy Q p c → IsFindingBy (FirstOf P Q) p c
 without_first P Q p c none h = checked_same Q (FirstOf P Q) p c
     (λ f. (
       λ is. inr (λ g by. nothing_in g (none.holds g by), is),
@@ -77,10 +77,10 @@ without_first P Q p c none h = checked_same Q (FirstOf P Q) p c
           elim first [ inl by ↦ absurd (nothing_in f (none.holds f by)) | inr later ↦ later.1 ],
     )) h
 
-pub goes_on : (P Q : Fault → Type 0) (p : Package) (found : Vec Fault) (b : Bool) → b ≡ nat_eq (vec_len found) 0 → b ≡ true → Lists P found.items →
-    (c : Checked) → IsCheckedBy Q p c →
-    IsCheckedBy (FirstOf P Q) p c
-goes_on P Q p found b is passes h c k = without_first P Q p c (subst (Lists P) (none_found found b is passes) h) k
+pub goes_on : (P Q : Fault → Type 0) (p : Package) (found : Vec Fault) (b : Bool) → b ≡ nat_eq (vec_len found) 0 → b ≡ true → HoldsExactly P found.items →
+    (c : Checked) → IsFindingBy Q p c →
+    IsFindingBy (FirstOf P Q) p c
+goes_on P Q p found b is passes h c k = without_first P Q p c (subst (HoldsExactly P) (none_found found b is passes) h) k
 
 -- two stages, and those after both
 pub after_both : (A B C : Fault → Type 0) (f : Fault) → FirstOf (FirstOf A B) C f ↔ FirstOf A (FirstOf B C) f

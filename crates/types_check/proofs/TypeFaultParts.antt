@@ -8,7 +8,7 @@ use Rattle.std.proofs.lemmas.List.Elements.{Contains-append_left, Contains-push,
 use Rattle.std.proofs.lemmas.Option.{slice_get_within, same_Some}
 use Rattle.base_files.specs.declared.fault_kind.FaultKind.TheVariants as kind
 use Rattle.types_declared.specs.declared.fault.Fault.{Fault}
-use Rattle.types_declared.specs.Listing.{Adds, Below, Lists}
+use Rattle.types_declared.specs.Listing.{AddsFaults, IsFaultBelow, HoldsExactly}
 use Rattle.types_declared.proofs.Listings.{adds_none, adds_as, adds_then, lists_from, make, fault_from}
 use Rattle.go_ast.specs.Tree.{FileTree}
 use Rattle.go_ast.specs.SourceFile.{FileParts, source_of}
@@ -21,26 +21,26 @@ use Rattle.types_stmt.specs.Checked.{Checked}
 use Rattle.types_stmt.specs.Declarations.{check_file}
 use Rattle.types_declared.specs.Package.{Package}
 use Rattle.types_info.specs.Worlds.{IsWorldOf, is_init}
-use Rattle.types_check.specs.Faults.{IsTypeFault}
+use Rattle.types_check.specs.TypeFaults.{IsTypeFault}
 use Rattle.types_info.specs.MemberUses.{AreUsesIn, AreMemberUsesBelow, AreMemberUses, uses_in, AddsUses, AddsFile}
-use Rattle.types_info.specs.Uniqueness.{IsOneWorld}
+use Rattle.types_info.specs.Uniqueness.{HasOneWorld}
 use Rattle.types_check.specs.TypesView.{IsChecked, IsAtToken, IsTypeFaultIn}
 use Rattle.types_declared.proofs.DeclaredPaths.{get_before, get_last}
 
 -- Faults at tokens
 
-pub no_tokens : (file : ℕ) (a : List Fault) → Adds a a (IsAtToken file [])
+pub no_tokens : (file : ℕ) (a : List Fault) → AddsFaults a a (IsAtToken file [])
 no_tokens file a = adds_none a (IsAtToken file []) (λ f h. let lt : h.at.0 < 0 = h.at.1 in absurd (omega arith))
 
 one_token : (file x : ℕ) (f : Fault) → f ≡ make file x kind.«Type» → (tokens : List ℕ) → Contains tokens x → IsAtToken file tokens f
 one_token file x f e tokens h = record { in_file = ap (λ z. z.file) e; at = subst (Contains tokens) (sym (ap (λ z. z.token) e)) h; kind = ap (λ z. z.kind) e }
 
-pub next_token : (file : ℕ) (tokens : List ℕ) (i d : ℕ) (a b c : List Fault) → i < length tokens → Adds a b (IsAtToken file (take i tokens)) →
-    Adds b c (λ f. f ≡ make file (get_or tokens i d) kind.«Type») → Adds a c (IsAtToken file (take (i + 1) tokens))
+pub next_token : (file : ℕ) (tokens : List ℕ) (i d : ℕ) (a b c : List Fault) → i < length tokens → AddsFaults a b (IsAtToken file (take i tokens)) →
+    AddsFaults b c (λ f. f ≡ make file (get_or tokens i d) kind.«Type») → AddsFaults a c (IsAtToken file (take (i + 1) tokens))
 next_token file tokens i d a b c lt h k =
     let x = get_or tokens i d in
     let more : take (i + 1) tokens ≡ take i tokens ++ (x ∷ []) = ap (λ n. take n tokens) (let z : i + 1 ≡ suc i = omega arith in z) ∙ take-suc tokens i d lt in
-    subst (λ ts. Adds a c (IsAtToken file ts)) (sym more)
+    subst (λ ts. AddsFaults a c (IsAtToken file ts)) (sym more)
     (adds_as a c (λ f. IsAtToken file (take i tokens) f ⊎ (f ≡ make file x kind.«Type»)) (IsAtToken file (take i tokens ++ (x ∷ [])))
     (adds_then a b c (IsAtToken file (take i tokens)) (λ f. f ≡ make file x kind.«Type») h k)
     (λ f q. elim q [
@@ -52,9 +52,9 @@ next_token file tokens i d a b c lt h k =
       | inr e ↦ inr (fault_from f file x kind.«Type» q.in_file (sym e) q.kind)
     ]))
 
-pub all_tokens : (file : ℕ) (tokens : List ℕ) (i : ℕ) (a b : List Fault) → i ≡ length tokens → Adds a b (IsAtToken file (take i tokens)) →
-    Adds a b (IsAtToken file tokens)
-all_tokens file tokens i a b e h = subst (λ ts. Adds a b (IsAtToken file ts)) (ap (λ n. take n tokens) e ∙ take-length tokens) h
+pub all_tokens : (file : ℕ) (tokens : List ℕ) (i : ℕ) (a b : List Fault) → i ≡ length tokens → AddsFaults a b (IsAtToken file (take i tokens)) →
+    AddsFaults a b (IsAtToken file tokens)
+all_tokens file tokens i a b e h = subst (λ ts. AddsFaults a b (IsAtToken file ts)) (ap (λ n. take n tokens) e ∙ take-length tokens) h
 
 -- The faults of a file
 
@@ -71,7 +71,7 @@ fault_in p file c ch f h = record {
   };
 }
 
-fault_from_file : (p : Package) → IsOneWorld p → (file : ℕ) (c : Checked) → IsChecked p file c → (f : Fault) → IsTypeFaultIn p file f →
+fault_from_file : (p : Package) → HasOneWorld p → (file : ℕ) (c : Checked) → IsChecked p file c → (f : Fault) → IsTypeFaultIn p file f →
     IsAtToken file c.faults f
 fault_from_file p one file c ch f h =
     let t = h.fault in
@@ -84,22 +84,22 @@ fault_from_file p one file c ch f h =
     ap (λ s. check_file t.world (is_init s) s.tree) source ∙ ap (λ w. check_file w (is_init ch.source) ch.source.tree) world ∙ sym ch.is in
     record { in_file = h.in_file; at = subst (λ z. Contains z.faults f.token) same t.found; kind = t.kind }
 
-pub faults_of_file : (p : Package) → IsOneWorld p → (file : ℕ) (c : Checked) (a b : List Fault) → IsChecked p file c → Adds a b (IsAtToken file c.faults) →
-    Adds a b (IsTypeFaultIn p file)
+pub faults_of_file : (p : Package) → HasOneWorld p → (file : ℕ) (c : Checked) (a b : List Fault) → IsChecked p file c → AddsFaults a b (IsAtToken file c.faults) →
+    AddsFaults a b (IsTypeFaultIn p file)
 faults_of_file p one file c a b ch h = adds_as a b (IsAtToken file c.faults) (IsTypeFaultIn p file) h (fault_in p file c ch) (fault_from_file p one file c ch)
 
 -- The faults of all files
 
-some_file : (p : Package) (n : ℕ) (f : Fault) → Below (IsTypeFaultIn p) n f → IsTypeFault p f
+some_file : (p : Package) (n : ℕ) (f : Fault) → IsFaultBelow (IsTypeFaultIn p) n f → IsTypeFault p f
 some_file p n f h = h.2.fault
 
-own_file : (p : Package) (f : Fault) → IsTypeFault p f → Below (IsTypeFaultIn p) (length p.files) f
+own_file : (p : Package) (f : Fault) → IsTypeFault p f → IsFaultBelow (IsTypeFaultIn p) (length p.files) f
 own_file p f h = (f.file, slice_get_within p.files f.file h.source h.in_file, record { in_file = refl; fault = h })
 
-pub all_faults : (p : Package) (n : ℕ) (found : List Fault) → n ≡ length p.files → Adds [] found (Below (IsTypeFaultIn p) n) → Lists (IsTypeFault p) found
+pub all_faults : (p : Package) (n : ℕ) (found : List Fault) → n ≡ length p.files → AddsFaults [] found (IsFaultBelow (IsTypeFaultIn p) n) → HoldsExactly (IsTypeFault p) found
 all_faults p n found e h =
     lists_from found (IsTypeFault p)
-    (adds_as [] found (Below (IsTypeFaultIn p) n) (IsTypeFault p) h (some_file p n) (λ f t. subst (λ k. Below (IsTypeFaultIn p) k f) (sym e) (own_file p f t)))
+    (adds_as [] found (IsFaultBelow (IsTypeFaultIn p) n) (IsTypeFault p) h (some_file p n) (λ f t. subst (λ k. IsFaultBelow (IsTypeFaultIn p) k f) (sym e) (own_file p f t)))
 
 -- Member uses
 

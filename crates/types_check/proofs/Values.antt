@@ -4,8 +4,8 @@ use Rattle.std.specs.Prelude.{Bool, IsTrue, ◌↔◌}
 use Rattle.std.specs.List.{AllZip}
 use Rattle.std.specs.Global.{Vec}
 use Rattle.types_expr.specs.Types.{PlainType, Underlying, same_type, same_underlying}
-use Rattle.law_typing.proofs.Same.{types_same, same_types, underlying_same, same_underlyings}
-use Rattle.types_check.specs.Alike.{AreNamedAlike}
+use Rattle.law_typing.proofs.IdenticalTypes.{types_same, same_types, underlying_same, same_underlyings}
+use Rattle.types_check.specs.EqualEntries.{AreNamedAlike}
 use Rattle.types_check.specs.Known.{entry_value}
 
 abbrev SameValue : {X Y : Type 0} → (X → Y) → X → X → Type 0

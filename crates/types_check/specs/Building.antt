@@ -9,18 +9,18 @@ use Rattle.types_expr.specs.WorldView.{definition_of}
 use Rattle.types_declared.specs.Laid.{is_exported}
 use Rattle.types_declared.specs.Package.{Package, PlacedFunction, package_types, symbol_in, spelled}
 use Rattle.types_declared.specs.Written.{IsTypeOf}
-use Rattle.types_declared.specs.Definitions.{PlacedField, IsCountingField, IsCountingMethod, IsField, IsSignature, IsMethod, IsUnderlyingOf, is_on_pointer}
+use Rattle.types_declared.specs.Definitions.{PlacedField, IsCountingField, IsCountingMethod, IsFoundField, IsFoundSignature, IsFoundMethod, IsUnderlyingOf, is_on_pointer}
 
 -- the definition's field of this name, while only the fields below count are added
 abbrev pub IsFieldBelow : Package → (count definition : ℕ) → List ℕ → Option Field → Type 0
 IsFieldBelow p count definition name None = (rank : ℕ) (f : PlacedField) (t : PlainType) → rank < count → IsCountingField p definition name rank f →
     IsTypeOf p f.file f.type_use t → ⊥
-IsFieldBelow p count definition name (Some x) = IsField p definition name (Some x)
+IsFieldBelow p count definition name (Some x) = IsFoundField p definition name (Some x)
 
 -- the definition's method of this name, while only the methods below count are added
 abbrev pub IsMethodBelow : Package → (count definition : ℕ) → List ℕ → Option Method → Type 0
 IsMethodBelow p count definition name None = (rank : ℕ) (f : PlacedFunction) → rank < count → IsCountingMethod p definition name rank f → ⊥
-IsMethodBelow p count definition name (Some x) = IsMethod p definition name (Some x)
+IsMethodBelow p count definition name (Some x) = IsFoundMethod p definition name (Some x)
 
 -- d is the definition of this rank with those fields and methods whose ranks are below these
 pub record IsDefinitionBelow (p : Package) (fields methods rank : ℕ) (d : plain.Definition) : Type 0 where
@@ -48,8 +48,8 @@ pub record SetsMethod (old new : plain.Definition) (name : List ℕ) (x : Method
   pub fields : (n : List ℕ) → new.field n ≡ old.field n
 
 -- the field of this rank, with its type, as expressions see it
-abbrev pub field_by : Package → ℕ → PlacedField → PlainType → Field
-field_by p rank f t = record { symbol = symbol_in p rank; exported = is_exported (spelled p f.file f.name); type_of = t }
+abbrev pub typed_field : Package → ℕ → PlacedField → PlainType → Field
+typed_field p rank f t = record { symbol = symbol_in p rank; exported = is_exported (spelled p f.file f.name); type_of = t }
 
 -- whether there is a receiver whose type is a pointer
 abbrev pub received_by_pointer : Option ReceiverTree → Bool
@@ -57,8 +57,8 @@ received_by_pointer None = false
 received_by_pointer (Some r) = is_on_pointer r
 
 -- the method of this rank, with its signature, as expressions see it
-abbrev pub method_by : Package → ℕ → PlacedFunction → Option Signature → Method
-method_by p rank f s =
+abbrev pub signed_method : Package → ℕ → PlacedFunction → Option Signature → Method
+signed_method p rank f s =
     record {
       symbol = symbol_in p rank;
       exported = is_exported (spelled p f.file f.function.name);
@@ -70,8 +70,8 @@ method_by p rank f s =
 -- the new definition has the method f, with its signature, and all else is as in the old one
 pub record SetsMethodOf (p : Package) (rank : ℕ) (f : PlacedFunction) (old new : plain.Definition) : Type 0 where
   pub signature : Option Signature
-  pub is_signature : IsSignature p f signature
-  pub sets : SetsMethod old new (spelled p f.file f.function.name) (method_by p rank f signature)
+  pub is_signature : IsFoundSignature p f signature
+  pub sets : SetsMethod old new (spelled p f.file f.function.name) (signed_method p rank f signature)
 
 -- the item at this place changed by the relation C, and no other item changed
 pub record ChangesAt {X : Type 0} (old new : List X) (place : ℕ) (C : X → X → Type 0) : Type 0 where
@@ -86,6 +86,6 @@ pub record ChangesAt {X : Type 0} (old new : List X) (place : ℕ) (C : X → X 
 -- the field f was added to its definition; nothing was added where its type expression is broken
 pub data AddsField (p : Package) (rank : ℕ) (f : PlacedField) (old new : List Definition) : Type 0 where
   typed : {t : PlainType} → IsTypeOf p f.file f.type_use t →
-      ChangesAt old new f.definition (λ x y. SetsField (definition_of x) (definition_of y) (spelled p f.file f.name) (field_by p rank f t)) →
+      ChangesAt old new f.definition (λ x y. SetsField (definition_of x) (definition_of y) (spelled p f.file f.name) (typed_field p rank f t)) →
       AddsField p rank f old new
   untyped : ((t : PlainType) → IsTypeOf p f.file f.type_use t → ⊥) → new ≡ old → AddsField p rank f old new

@@ -3,29 +3,29 @@ use Rattle.std.specs.Prelude.{ℕ, ◌≡◌, Bool, List, [], Option, None, Some
 use Rattle.std.specs.List.Sorted.{IsStrictlySortedBy}
 use Rattle.types_declared.specs.declared.fault.Fault.{Fault}
 use Rattle.types_declared.specs.contracts.fault.FaultOrd.TheImpl as order
-use Rattle.types_declared.specs.Listing.{Lists}
-use Rattle.types_declared.specs.Stage.{HasNone, FirstOf}
+use Rattle.types_declared.specs.Listing.{HoldsExactly}
+use Rattle.types_declared.specs.Stage.{HasNoFault, FirstOf}
 use Rattle.go_ast.specs.SourceFile.{FileParts, source_of}
-use Rattle.go_scope.specs.Scoped.{ScopedPackage, scoped}
+use Rattle.go_scope.specs.Packages.{ScopedPackage, scoped}
 use Rattle.types_declared.specs.PackageNames.{IsLaidOver}
 use Rattle.types_declared.specs.declared.states.ImportState.{ImportState}
 use Rattle.types_resolve.specs.Stages.{IsOuterFault, IsInnerFault, IsFaultIn}
 use Rattle.types_check.specs.declared.checking.Checked.{Checked}
 use Rattle.types_check.specs.declared.checking.CheckedPackage.{CheckedPackage}
-use Rattle.types_declared.specs.Package.{Package, Interface, laid_of}
-use Rattle.types_declared.specs.InterfacesView.{interface_of}
-use Rattle.types_check.specs.Interfaces.{IsInterface}
-use Rattle.types_members.specs.Members.{IsMemberFault}
-use Rattle.types_check.specs.Faults.{IsTypeFault}
-use Rattle.types_info.specs.declared.bounds.Bounds.{Bounds}
-use Rattle.types_info.specs.BoundsView.{AreBounds}
+use Rattle.types_declared.specs.Package.{Package, ExportData, laid_of}
+use Rattle.types_declared.specs.ExportTablesView.{export_data_of}
+use Rattle.types_check.specs.Exports.{IsExportData}
+use Rattle.types_members.specs.MemberFaults.{IsMemberFault}
+use Rattle.types_check.specs.TypeFaults.{IsTypeFault}
+use Rattle.types_info.specs.declared.meanings.MeaningTable.{MeaningTable}
+use Rattle.types_info.specs.MeaningsView.{AreMeanings}
 use Rattle.types_info.specs.MemberUses.{AreMemberUses, uses_in}
 use Rattle.types_info.specs.PackageOf.{IsPackageOf}
-use Rattle.types_info.specs.Qualified.{AreQualified}
+use Rattle.types_info.specs.QualifiedIdentifiers.{AreQualified}
 
 -- whether the package at a path exports a name, as p sees it
 abbrev pub exports_in : Package → (path name : List ℕ) → Bool
-exports_in p path name = is_some ((p.interface_of path).exported name)
+exports_in p path name = is_some ((p.export_data_of path).exported name)
 
 -- f is a fault of the first stage of p that has any; state gives the states of imported paths
 abbrev pub IsPackageFault : (List ℕ → ImportState) → Package → Fault → Type 0
@@ -33,16 +33,16 @@ IsPackageFault state p = IsFaultIn state p.files (exports_in p) (laid_of p) (IsM
 
 -- c is the finding of a package whose faults are those with the property P. The faults are sorted by file and token, each once. Where there
 -- is none, c has the package's export data, its uses of members and its qualified identifiers.
-pub record IsCheckedBy (P : Fault → Type 0) (p : Package) (c : Checked) : Type 0 where
-  pub faults : Lists P c.faults.items
+pub record IsFindingBy (P : Fault → Type 0) (p : Package) (c : Checked) : Type 0 where
+  pub faults : HoldsExactly P c.faults.items
   pub order : IsStrictlySortedBy order.ghosts.cmp c.faults.items
-  pub interface : MatchOption c.interface (c.faults.items ≡ [] → ⊥) (λ i. (c.faults.items ≡ []) × IsInterface p (interface_of p.path i))
+  pub export_data : MatchOption c.export_data (c.faults.items ≡ [] → ⊥) (λ i. (c.faults.items ≡ []) × IsExportData p (export_data_of p.path i))
   pub members : c.faults.items ≡ [] → AreMemberUses p (map uses_in c.members.items)
   pub qualified : c.faults.items ≡ [] → AreQualified p c.qualified.items
 
 -- c is the finding of p; state gives the states of imported paths
-abbrev pub IsCheckedPackage : (List ℕ → ImportState) → Package → Checked → Type 0
-IsCheckedPackage state p c = IsCheckedBy (IsPackageFault state p) p c
+abbrev pub IsFindingOfPackage : (List ℕ → ImportState) → Package → Checked → Type 0
+IsFindingOfPackage state p c = IsFindingBy (IsPackageFault state p) p c
 
 -- f is a fault of p, whose clauses and imports have none
 abbrev pub IsLaterFault : Package → Fault → Type 0
@@ -50,27 +50,27 @@ IsLaterFault p = FirstOf (IsInnerFault p.files (exports_in p) (laid_of p)) (Firs
 
 -- c is the finding of a path and files: the faults of their clauses or imports, or where these have none, the finding of the package that
 -- they make.
-pub data IsFoundIn (path : List ℕ) (files : List FileParts) (state : List ℕ → ImportState) (name_of : List ℕ → Option (List ℕ))
-    (interface_of : List ℕ → Interface) (c : Checked) : Type 0 where
-  outside : (c.faults.items ≡ [] → ⊥) → Lists (IsOuterFault state (map source_of files)) c.faults.items → c.interface ≡ None →
-      IsFoundIn path files state name_of interface_of c
-  inside : {p : Package} → HasNone (IsOuterFault state (map source_of files)) → IsPackageOf path files name_of interface_of p →
-      IsCheckedBy (IsLaterFault p) p c → IsFoundIn path files state name_of interface_of c
+pub data IsFindingIn (path : List ℕ) (files : List FileParts) (state : List ℕ → ImportState) (name_of : List ℕ → Option (List ℕ))
+    (export_data_of : List ℕ → ExportData) (c : Checked) : Type 0 where
+  outside : (c.faults.items ≡ [] → ⊥) → HoldsExactly (IsOuterFault state (map source_of files)) c.faults.items → c.export_data ≡ None →
+      IsFindingIn path files state name_of export_data_of c
+  inside : {p : Package} → HasNoFault (IsOuterFault state (map source_of files)) → IsPackageOf path files name_of export_data_of p →
+      IsFindingBy (IsLaterFault p) p c → IsFindingIn path files state name_of export_data_of c
 
 -- c has no fault, and b has the meanings of p's declarations
-pub record IsMeant (p : Package) (c : Checked) (b : Bounds) : Type 0 where
+pub record AreMeaningsOf (p : Package) (c : Checked) (b : MeaningTable) : Type 0 where
   pub faultless : c.faults.items ≡ []
-  pub bounds : AreBounds p b.list.items b.of.items
+  pub bounds : AreMeanings p b.list.items b.of.items
 
 -- the meanings that c hands back, if any, are those of p's declarations, and c has no fault
-abbrev pub MayMean : Package → CheckedPackage → Type 0
-MayMean p c = (b : Bounds) → c.bounds ≡ Some b → IsMeant p c.checked b
+abbrev pub AreMeaningsFound : Package → CheckedPackage → Type 0
+AreMeaningsFound p c = (b : MeaningTable) → c.bounds ≡ Some b → AreMeaningsOf p c.checked b
 
 -- The clauses and imports of the files have no faults. In the scope table each import without a name declares the name of its package.
-pub record IsLaid (files : List FileParts) (state : List ℕ → ImportState) (name_of : List ℕ → Option (List ℕ)) (table : ScopedPackage) : Type 0 where
-  pub faultless : HasNone (IsOuterFault state (map source_of files))
+pub record IsSoundTable (files : List FileParts) (state : List ℕ → ImportState) (name_of : List ℕ → Option (List ℕ)) (table : ScopedPackage) : Type 0 where
+  pub faultless : HasNoFault (IsOuterFault state (map source_of files))
   pub is_laid : IsLaidOver (map source_of files) name_of (scoped files) table
 
 -- the table found, if any, is the scope table of files whose clauses and imports have no faults
-abbrev pub MayLay : List FileParts → (List ℕ → ImportState) → (List ℕ → Option (List ℕ)) → Option ScopedPackage → Type 0
-MayLay files state name_of found = (table : ScopedPackage) → found ≡ Some table → IsLaid files state name_of table
+abbrev pub IsTableFound : List FileParts → (List ℕ → ImportState) → (List ℕ → Option (List ℕ)) → Option ScopedPackage → Type 0
+IsTableFound files state name_of found = (table : ScopedPackage) → found ≡ Some table → IsSoundTable files state name_of table

@@ -3,13 +3,13 @@ use Rattle.std.specs.Prelude.{ℕ, ◌≡◌, List, map, Option, option_map}
 use Rattle.std.specs.Global.{Vec}
 use Rattle.types_expr.specs.Types.{Underlying}
 use Rattle.types_expr.specs.World as plain
-use Rattle.types_expr.specs.WorldView.{underlying_of, field_of, method_of, known_at}
+use Rattle.types_expr.specs.WorldView.{underlying_of, field_of, plain_method_of, known_at}
 use Rattle.types_expr.specs.declared.world.Definition.{Definition}
 use Rattle.types_declared.specs.Package as seen
-use Rattle.types_expr.specs.declared.interfaces.Interface.{Interface}
-use Rattle.types_expr.specs.declared.interfaces.PackageScope.{PackageScope}
-use Rattle.types_declared.specs.declared.interfaces.Interfaces.{Interfaces}
-use Rattle.types_declared.specs.InterfacesView.{export_of, name_in, known_name, interface_in, interface_known}
+use Rattle.types_expr.specs.declared.exports.ExportData.{ExportData}
+use Rattle.types_expr.specs.declared.exports.PackageScope.{PackageScope}
+use Rattle.types_declared.specs.declared.export_tables.ExportTable.{ExportTable}
+use Rattle.types_declared.specs.ExportTablesView.{export_of, name_in, known_name, export_data_in, export_data_known}
 
 -- an entry of a map: its name and the plain value
 abbrev pub entry_value : {X Y : Type 0} → (X → Y) → Vec ℕ × X → List ℕ × Y
@@ -35,7 +35,7 @@ abbrev pub known_definition : Definition → KnownDefinition
 known_definition d = record {
   underlying = underlying_of d.underlying;
   fields = map (entry_value field_of) d.fields.entries;
-  methods = map (entry_value method_of) d.methods.entries;
+  methods = map (entry_value plain_method_of) d.methods.entries;
 }
 
 -- the plain values of a package's export data
@@ -44,18 +44,18 @@ pub record Known : Type 0 where
   pub definitions : List KnownDefinition
 
 -- the plain values of export data
-abbrev pub known_as : Interface → Known
+abbrev pub known_as : ExportData → Known
 known_as i = record { scope = known_scope i.scope; definitions = map known_definition i.definitions.items }
 
 -- the plain values of export data, if there is any
-abbrev pub known_of : Option Interface → Option Known
-known_of known = option_map known_as known
+abbrev pub known_values : Option ExportData → Option Known
+known_values known = option_map known_as known
 
 -- the plain values of the export data that a table has for a path
-abbrev pub known_in : Interfaces → List ℕ → Option Known
-known_in i path = known_of (known_at i.definitions path)
+abbrev pub known_at_path : ExportTable → List ℕ → Option Known
+known_at_path i path = known_values (known_at i.definitions path)
 
 -- the known export data gives the package the name and the export data that the table has for its path
-pub record IsKnownAlike (known : Option Interface) (all : Interfaces) (path : List ℕ) : Type 0 where
+pub record IsKnownAlike (known : Option ExportData) (all : ExportTable) (path : List ℕ) : Type 0 where
   pub name : known_name known ≡ name_in all path
-  pub interface : interface_known path known ≡ interface_in all path
+  pub export_data : export_data_known path known ≡ export_data_in all path

@@ -1,8 +1,8 @@
 -- The definitions of this crate.
-pub mod Interfaces
-pub mod Faults
+pub mod Exports
+pub mod TypeFaults
 pub mod TypesView
 pub mod Check
 pub mod Building
-pub mod Alike
+pub mod EqualEntries
 pub mod Known

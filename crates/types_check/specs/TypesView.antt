@@ -8,7 +8,7 @@ use Rattle.types_stmt.specs.Checked.{Checked}
 use Rattle.types_stmt.specs.Declarations.{check_file}
 use Rattle.types_declared.specs.Package.{Package}
 use Rattle.types_info.specs.Worlds.{IsWorldOf, is_init}
-use Rattle.types_check.specs.Faults.{IsTypeFault}
+use Rattle.types_check.specs.TypeFaults.{IsTypeFault}
 
 -- c is the result of checking this file in its world
 pub record IsChecked (p : Package) (file : ℕ) (c : Checked) : Type 0 where

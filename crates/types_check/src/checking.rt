@@ -3,38 +3,38 @@ ghost use Rattle.std.specs.Prelude.{ℕ, List, Option, None, ◌≡◌, map, IfO
 ghost use Rattle.std.specs.List.Sorted.{IsStrictlySortedBy};
 ghost use Rattle.types_declared.specs.contracts.fault.FaultOrd.TheImpl as order;
 ghost use Rattle.go_ast.specs.SourceFile.{FileParts, source_of};
-ghost use Rattle.go_scope.specs.Scoped.{scoped};
+ghost use Rattle.go_scope.specs.Packages.{scoped};
 ghost use Rattle.types_declared.specs.PackageNames.{IsLaidOver};
-ghost use Rattle.types_declared.specs.Package.{Package as Plain, Interface as Exported};
-ghost use Rattle.types_declared.specs.InterfacesView.{name_in, interface_in};
-ghost use Rattle.types_declared.specs.Listing.{Lists};
+ghost use Rattle.types_declared.specs.Package.{Package as Plain, ExportData as Exported};
+ghost use Rattle.types_declared.specs.ExportTablesView.{name_in, export_data_in};
+ghost use Rattle.types_declared.specs.Listing.{HoldsExactly};
 ghost use Rattle.types_declared.specs.Stage.{FirstOf};
 ghost use Rattle.types_declared.specs.States.{state_in};
 ghost use Rattle.types_declared.specs.Broken.{AreBroken};
-ghost use Rattle.types_members.specs.Members.{IsMemberFault};
+ghost use Rattle.types_members.specs.MemberFaults.{IsMemberFault};
 ghost use Rattle.types_info.specs.DefinitionsView.{HaveDefinitions};
-ghost use Rattle.types_check.specs.Faults.{IsTypeFault};
+ghost use Rattle.types_check.specs.TypeFaults.{IsTypeFault};
 ghost use Rattle.types_info.specs.PackageOf.{package_in, IsPackageOf};
-ghost use Rattle.types_check.specs.Check.{IsCheckedBy, IsCheckedPackage, IsLaterFault, IsFoundIn, MayLay, MayMean};
-ghost use Rattle.types_members.specs.Found.{AreMembers};
-ghost use Rattle.types_info.specs.BoundsView.{AreBounds};
+ghost use Rattle.types_check.specs.Check.{IsFindingBy, IsFindingOfPackage, IsLaterFault, IsFindingIn, IsTableFound, AreMeaningsFound};
+ghost use Rattle.types_members.specs.TypeMembers.{AreMembers};
+ghost use Rattle.types_info.specs.MeaningsView.{AreMeanings};
 ghost use Rattle.types_info.specs.MemberUses.{AreMemberUses, uses_in};
 ghost use Rattle.types_declared.specs.PackageView.{package_of, IsIndexOf};
 
 use crate::definitions::definitions;
-use crate::exporting::interface;
+use crate::exporting::export_data;
 use crate::type_faults::{Typed, type_faults};
 use go_ast::FileTree;
 use go_scope::declare::declare;
 use go_scope::table::ScopeTable;
 use std::alloc::{AllocError, Global};
 use types_declared::{
-    Fault, ImportStates, Index, Interface, Interfaces, Package, broken_definitions, lay_names,
+    ExportData, ExportTable, Fault, ImportStates, Index, Package, broken_definitions, lay_names,
 };
 use types_expr::found::MemberUse;
 use types_expr::symbol::SharedPath;
 use types_expr::world::Definition;
-use types_info::{Bounds, Qualified, bounds_of, qualified_identifiers};
+use types_info::{MeaningTable, Qualified, meanings_of, qualified_identifiers};
 use types_members::{Members, member_faults};
 use types_resolve::{inner_faults, outer_faults};
 
@@ -43,7 +43,7 @@ use types_resolve::{inner_faults, outer_faults};
 #[derive(Drop)]
 pub struct Checked {
     pub faults: Vec<Fault>,
-    pub interface: Option<Interface>,
+    pub export_data: Option<ExportData>,
     pub members: Vec<Vec<MemberUse>>,
     pub qualified: Vec<Qualified>,
 }
@@ -52,11 +52,11 @@ impl Checked {
     /// The finding of a package with these faults.
     fn faulty(alloc: Global, faults: Vec<Fault>) -> Checked
         ensures faults { result.faults ≡ faults }
-        ensures interface { result.interface ≡ None }
+        ensures export_data { result.export_data ≡ None }
     {
         Checked {
             faults,
-            interface: None,
+            export_data: None,
             members: Vec::new(alloc),
             qualified: Vec::new(alloc),
         }
@@ -67,14 +67,14 @@ impl Checked {
 #[derive(Drop)]
 pub struct CheckedPackage {
     pub checked: Checked,
-    pub bounds: Option<Bounds>,
+    pub bounds: Option<MeaningTable>,
 }
 
 impl CheckedPackage {
     /// The finding of a package with these faults.
     fn faulty(alloc: Global, faults: Vec<Fault>) -> CheckedPackage
         ensures faults { result.checked.faults ≡ faults }
-        ensures interface { result.checked.interface ≡ None }
+        ensures export_data { result.checked.export_data ≡ None }
         ensures bounds { result.bounds ≡ None }
     {
         CheckedPackage {
@@ -87,29 +87,29 @@ impl CheckedPackage {
 /// Makes the finding of a package from the types' faults and the uses of members in its files.
 fn judged(
     alloc: Global,
-    unit: Package<'_>,
+    pkg: Package<'_>,
     index: &Index<'_>,
-    bounds: Bounds,
+    bounds: MeaningTable,
     definitions: Vec<Definition>,
     typed: Typed,
 ) -> Result<CheckedPackage, AllocError>
-    requires index { IsIndexOf (package_of unit) index.now }
-    requires bounds { AreBounds (package_of unit) bounds.list.items bounds.of.items }
-    requires definitions { HaveDefinitions (package_of unit) definitions.items }
-    requires listed { Lists (IsTypeFault (package_of unit)) typed.faults.items }
+    requires index { IsIndexOf (package_of pkg) index.now }
+    requires bounds { AreMeanings (package_of pkg) bounds.list.items bounds.of.items }
+    requires definitions { HaveDefinitions (package_of pkg) definitions.items }
+    requires listed { HoldsExactly (IsTypeFault (package_of pkg)) typed.faults.items }
     requires order { IsStrictlySortedBy order.ghosts.cmp typed.faults.items }
-    requires members { AreMemberUses (package_of unit) (map uses_in typed.members.items) }
-    ensures checked { IfOk result (λ c. IsCheckedBy (IsTypeFault (package_of unit.entry)) (package_of unit.entry) c.checked) }
-    ensures bounds { IfOk result (MayMean (package_of unit.entry)) }
+    requires members { AreMemberUses (package_of pkg) (map uses_in typed.members.items) }
+    ensures checked { IfOk result (λ c. IsFindingBy (IsTypeFault (package_of pkg.entry)) (package_of pkg.entry) c.checked) }
+    ensures bounds { IfOk result (AreMeaningsFound (package_of pkg.entry)) }
 {
     if !typed.faults.is_empty() {
         return Ok(CheckedPackage::faulty(alloc, typed.faults));
     }
-    let interface = interface(alloc, unit, &bounds, definitions)?;
-    let qualified = qualified_identifiers(alloc, unit, index)?;
+    let export_data = export_data(alloc, pkg, &bounds, definitions)?;
+    let qualified = qualified_identifiers(alloc, pkg, index)?;
     let checked = Checked {
         faults: typed.faults,
-        interface: Some(interface),
+        export_data: Some(export_data),
         members: typed.members,
         qualified,
     };
@@ -122,99 +122,99 @@ fn judged(
 /// Checks types, the last stage.
 fn check_types(
     alloc: Global,
-    unit: Package<'_>,
+    pkg: Package<'_>,
     index: &Index<'_>,
     broken: &[bool],
     definitions: Vec<Definition>,
 ) -> Result<CheckedPackage, AllocError>
-    requires index { IsIndexOf (package_of unit) index.now }
-    requires broken { AreBroken (package_of unit) broken.now }
-    requires definitions { HaveDefinitions (package_of unit) definitions.items }
-    ensures checked { IfOk result (λ c. IsCheckedBy (IsTypeFault (package_of unit.entry)) (package_of unit.entry) c.checked) }
-    ensures bounds { IfOk result (MayMean (package_of unit.entry)) }
+    requires index { IsIndexOf (package_of pkg) index.now }
+    requires broken { AreBroken (package_of pkg) broken.now }
+    requires definitions { HaveDefinitions (package_of pkg) definitions.items }
+    ensures checked { IfOk result (λ c. IsFindingBy (IsTypeFault (package_of pkg.entry)) (package_of pkg.entry) c.checked) }
+    ensures bounds { IfOk result (AreMeaningsFound (package_of pkg.entry)) }
 {
-    let mut bounds = bounds_of(alloc, unit, index, broken)?;
-    let typed = type_faults(alloc, unit, index, &mut bounds, &definitions)?;
-    judged(alloc, unit, index, bounds, definitions, typed)
+    let mut bounds = meanings_of(alloc, pkg, index, broken)?;
+    let typed = type_faults(alloc, pkg, index, &mut bounds, &definitions)?;
+    judged(alloc, pkg, index, bounds, definitions, typed)
 }
 
 /// Checks types, the last stage, given the underlying types, fields and methods.
 fn check_definitions(
     alloc: Global,
-    unit: Package<'_>,
+    pkg: Package<'_>,
     index: &Index<'_>,
     members: &Members<'_>,
 ) -> Result<CheckedPackage, AllocError>
-    requires index { IsIndexOf (package_of unit) index.now }
-    requires members { AreMembers (package_of unit) members.now }
-    ensures checked { IfOk result (λ c. IsCheckedBy (IsTypeFault (package_of unit.entry)) (package_of unit.entry) c.checked) }
-    ensures bounds { IfOk result (MayMean (package_of unit.entry)) }
+    requires index { IsIndexOf (package_of pkg) index.now }
+    requires members { AreMembers (package_of pkg) members.now }
+    ensures checked { IfOk result (λ c. IsFindingBy (IsTypeFault (package_of pkg.entry)) (package_of pkg.entry) c.checked) }
+    ensures bounds { IfOk result (AreMeaningsFound (package_of pkg.entry)) }
 {
-    let broken = broken_definitions(alloc, unit, index)?;
-    let definitions = definitions(alloc, unit, index, &broken, members)?;
-    check_types(alloc, unit, index, &broken, definitions)
+    let broken = broken_definitions(alloc, pkg, index)?;
+    let definitions = definitions(alloc, pkg, index, &broken, members)?;
+    check_types(alloc, pkg, index, &broken, definitions)
 }
 
 /// Checks members and then types, the last two stages, given the underlying types, fields and methods.
 fn check_known(
     alloc: Global,
-    unit: Package<'_>,
+    pkg: Package<'_>,
     index: &Index<'_>,
     members: &Members<'_>,
 ) -> Result<CheckedPackage, AllocError>
-    requires index { IsIndexOf (package_of unit) index.now }
-    requires members { AreMembers (package_of unit) members.now }
-    ensures checked { IfOk result (λ c. IsCheckedBy (FirstOf (IsMemberFault (package_of unit.entry)) (IsTypeFault (package_of unit.entry))) (package_of unit.entry) c.checked) }
-    ensures bounds { IfOk result (MayMean (package_of unit.entry)) }
+    requires index { IsIndexOf (package_of pkg) index.now }
+    requires members { AreMembers (package_of pkg) members.now }
+    ensures checked { IfOk result (λ c. IsFindingBy (FirstOf (IsMemberFault (package_of pkg.entry)) (IsTypeFault (package_of pkg.entry))) (package_of pkg.entry) c.checked) }
+    ensures bounds { IfOk result (AreMeaningsFound (package_of pkg.entry)) }
 {
-    let faults = member_faults(alloc, unit, index, members)?;
+    let faults = member_faults(alloc, pkg, index, members)?;
     if !faults.is_empty() {
         return Ok(CheckedPackage::faulty(alloc, faults));
     }
-    check_definitions(alloc, unit, index, members)
+    check_definitions(alloc, pkg, index, members)
 }
 
 /// Checks members and then types, the last two stages.
 fn check_members(
     alloc: Global,
-    unit: Package<'_>,
+    pkg: Package<'_>,
     index: &Index<'_>,
 ) -> Result<CheckedPackage, AllocError>
-    requires { IsIndexOf (package_of unit) index.now }
-    ensures checked { IfOk result (λ c. IsCheckedBy (FirstOf (IsMemberFault (package_of unit.entry)) (IsTypeFault (package_of unit.entry))) (package_of unit.entry) c.checked) }
-    ensures bounds { IfOk result (MayMean (package_of unit.entry)) }
+    requires { IsIndexOf (package_of pkg) index.now }
+    ensures checked { IfOk result (λ c. IsFindingBy (FirstOf (IsMemberFault (package_of pkg.entry)) (IsTypeFault (package_of pkg.entry))) (package_of pkg.entry) c.checked) }
+    ensures bounds { IfOk result (AreMeaningsFound (package_of pkg.entry)) }
 {
-    let members = Members::of(alloc, unit, index)?;
-    check_known(alloc, unit, index, &members)
+    let members = Members::of(alloc, pkg, index)?;
+    check_known(alloc, pkg, index, &members)
 }
 
 /// Checks scopes, members and types of a package whose clauses and imports have no faults, given its index.
 pub fn check_package(
     alloc: Global,
-    unit: Package<'_>,
+    pkg: Package<'_>,
     index: &Index<'_>,
 ) -> Result<CheckedPackage, AllocError>
-    requires { IsIndexOf (package_of unit) index.now }
-    ensures checked { IfOk result (λ c. IsCheckedBy (IsLaterFault (package_of unit.entry)) (package_of unit.entry) c.checked) }
-    ensures bounds { IfOk result (MayMean (package_of unit.entry)) }
+    requires { IsIndexOf (package_of pkg) index.now }
+    ensures checked { IfOk result (λ c. IsFindingBy (IsLaterFault (package_of pkg.entry)) (package_of pkg.entry) c.checked) }
+    ensures bounds { IfOk result (AreMeaningsFound (package_of pkg.entry)) }
 {
-    let faults = inner_faults(alloc, unit.table, unit.files, unit.interfaces)?;
+    let faults = inner_faults(alloc, pkg.table, pkg.files, pkg.export_table)?;
     if !faults.is_empty() {
         return Ok(CheckedPackage::faulty(alloc, faults));
     }
-    check_members(alloc, unit, index)
+    check_members(alloc, pkg, index)
 }
 
 /// Returns the scope table of a package in which each import without a name declares the name of the imported package.
 fn laid<'a>(
     alloc: Global,
     files: &'a [FileTree],
-    interfaces: &'a Interfaces,
+    export_table: &'a ExportTable,
 ) -> Result<ScopeTable<'a>, AllocError>
-    ensures { IfOk result (λ table. IsLaidOver (map source_of files.now) (name_in interfaces.now) (scoped files.now) table) }
+    ensures { IfOk result (λ table. IsLaidOver (map source_of files.now) (name_in export_table.now) (scoped files.now) table) }
 {
     let plain = declare(alloc, files)?;
-    lay_names(alloc, &plain, files, interfaces)
+    lay_names(alloc, &plain, files, export_table)
 }
 
 /// Returns the scope table of a package in which each import without a name declares the name of the imported package; none where its
@@ -223,15 +223,15 @@ pub fn table_of<'a>(
     alloc: Global,
     states: &ImportStates,
     files: &'a [FileTree],
-    interfaces: &'a Interfaces,
+    export_table: &'a ExportTable,
 ) -> Result<Option<ScopeTable<'a>>, AllocError>
-    ensures { IfOk result (MayLay files.now (state_in states.now) (name_in interfaces.now)) }
+    ensures { IfOk result (IsTableFound files.now (state_in states.now) (name_in export_table.now)) }
 {
     let faults = outer_faults(alloc, states, files)?;
     if !faults.is_empty() {
         return Ok(None);
     }
-    let table = laid(alloc, files, interfaces)?;
+    let table = laid(alloc, files, export_table)?;
     Ok(Some(table))
 }
 
@@ -241,18 +241,18 @@ fn check_laid(
     path: &SharedPath,
     files: &[FileTree],
     table: &ScopeTable<'_>,
-    interfaces: &Interfaces,
+    export_table: &ExportTable,
 ) -> Result<Checked, AllocError>
-    ensures { IfOk result (λ c. let p = package_in path.now (map source_of files.now) table.now (interface_in interfaces.now) in IsCheckedBy (IsLaterFault p) p c) }
+    ensures { IfOk result (λ c. let p = package_in path.now (map source_of files.now) table.now (export_data_in export_table.now) in IsFindingBy (IsLaterFault p) p c) }
 {
-    let unit = Package {
+    let pkg = Package {
         path,
         files,
         table,
-        interfaces,
+        export_table,
     };
-    let index = Index::of(alloc, unit)?;
-    let CheckedPackage { checked, bounds: _ } = check_package(alloc, unit, &index)?;
+    let index = Index::of(alloc, pkg)?;
+    let CheckedPackage { checked, bounds: _ } = check_package(alloc, pkg, &index)?;
     Ok(checked)
 }
 
@@ -261,18 +261,18 @@ fn check_files<'a>(
     alloc: Global,
     path: &SharedPath,
     files: &'a [FileTree],
-    interfaces: &'a Interfaces,
+    export_table: &'a ExportTable,
 ) -> Result<Checked, AllocError>
     ensures order { IfOk result (λ c. IsStrictlySortedBy order.ghosts.cmp c.faults.items) }
-    ensures found { IfOk result (IsFoundIn path.now files.now (state_in interfaces.now.states) (name_in interfaces.now) (interface_in interfaces.now)) }
-    ensures checked { IfOk result (λ c. (p : Plain) → IsPackageOf path.now files.now (name_in interfaces.now) (interface_in interfaces.now) p → IsCheckedPackage (state_in interfaces.now.states) p c) }
+    ensures found { IfOk result (IsFindingIn path.now files.now (state_in export_table.now.states) (name_in export_table.now) (export_data_in export_table.now)) }
+    ensures checked { IfOk result (λ c. (p : Plain) → IsPackageOf path.now files.now (name_in export_table.now) (export_data_in export_table.now) p → IsFindingOfPackage (state_in export_table.now.states) p c) }
 {
-    let faults = outer_faults(alloc, interfaces.states(), files)?;
+    let faults = outer_faults(alloc, export_table.states(), files)?;
     if !faults.is_empty() {
         return Ok(Checked::faulty(alloc, faults));
     }
-    let table = laid(alloc, files, interfaces)?;
-    check_laid(alloc, path, files, &table, interfaces)
+    let table = laid(alloc, files, export_table)?;
+    check_laid(alloc, path, files, &table, export_table)
 }
 
 /// Checks the package at a path. Its files are in the order of their paths.
@@ -280,17 +280,17 @@ pub fn check(
     alloc: Global,
     path: &SharedPath,
     files: &[FileTree],
-    interfaces: &Interfaces,
+    export_table: &ExportTable,
 ) -> Result<Checked, AllocError>
     ensures order { IfOk result (λ c. IsStrictlySortedBy order.ghosts.cmp c.faults.items) }
-    ensures found { IfOk result (IsFoundIn path.now files.now (state_in interfaces.now.states) (name_in interfaces.now) (interface_in interfaces.now)) }
-    ensures checked { IfOk result (λ c. (p : Plain) → IsPackageOf path.now files.now (name_in interfaces.now) (interface_in interfaces.now) p → IsCheckedPackage (state_in interfaces.now.states) p c) }
+    ensures found { IfOk result (IsFindingIn path.now files.now (state_in export_table.now.states) (name_in export_table.now) (export_data_in export_table.now)) }
+    ensures checked { IfOk result (λ c. (p : Plain) → IsPackageOf path.now files.now (name_in export_table.now) (export_data_in export_table.now) p → IsFindingOfPackage (state_in export_table.now.states) p c) }
 {
-    check_files(alloc, path, files, interfaces)
+    check_files(alloc, path, files, export_table)
 }
 
 /// A path, files and the export data of other packages determine the package to check.
 pub fn packages_are_unique()
-    ensures { (path : List ℕ) → (files : List FileParts) → (name_of : List ℕ → Option (List ℕ)) → (interface_of : List ℕ → Exported) → (p q : Plain) →
-        IsPackageOf path files name_of interface_of p → IsPackageOf path files name_of interface_of q → p ≡ q }
+    ensures { (path : List ℕ) → (files : List FileParts) → (name_of : List ℕ → Option (List ℕ)) → (export_data_of : List ℕ → Exported) → (p q : Plain) →
+        IsPackageOf path files name_of export_data_of p → IsPackageOf path files name_of export_data_of q → p ≡ q }
 {}

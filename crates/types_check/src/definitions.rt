@@ -1,16 +1,16 @@
 //! Builds the type definitions of a package, as expressions see them: underlying types, fields and methods.
 ghost use Rattle.std.specs.Prelude.{◌≡◌, ◌<◌, length, map, option_map, IfOk, OnOk};
 ghost use Rattle.types_expr.specs.View.{type_of};
-ghost use Rattle.types_expr.specs.WorldView.{definition_of, field_of as plain_field, method_of as plain_method, underlying_of};
+ghost use Rattle.types_expr.specs.WorldView.{definition_of, field_of as plain_field, plain_method_of as plain_method, underlying_of};
 ghost use Rattle.types_declared.specs.Package.{package_functions, spelled};
 ghost use Rattle.types_declared.specs.Definitions.{IsUnderlyingOf, package_fields};
 ghost use Rattle.types_declared.specs.DeclaredView.{function_of};
 ghost use Rattle.types_members.specs.FieldsView.{field_of};
 ghost use Rattle.types_declared.specs.Broken.{AreBroken};
-ghost use Rattle.types_check.specs.Building.{IsDefinitionBelow, HaveMembersBelow, SetsField, SetsMethod, SetsMethodOf, AddsField, field_by, received_by_pointer};
+ghost use Rattle.types_check.specs.Building.{IsDefinitionBelow, HaveMembersBelow, SetsField, SetsMethod, SetsMethodOf, AddsField, typed_field, received_by_pointer};
 ghost use Rattle.types_members.specs.MembersView.{IsUnderlyingFound, AreUnderlying, AreCountingFields, AreOwners, AreCountingMethods};
 ghost use Rattle.types_info.specs.DefinitionsView.{HaveDefinitions};
-ghost use Rattle.types_members.specs.Found.{AreMembers};
+ghost use Rattle.types_members.specs.TypeMembers.{AreMembers};
 ghost use Rattle.types_declared.specs.PackageView.{package_of, IsIndexOf};
 
 use std::alloc::{AllocError, Global};
@@ -19,21 +19,21 @@ use types_declared::{Function, Index, Package, is_exported};
 use types_expr::symbol::Symbol;
 use types_expr::types::GoType;
 use types_expr::world::{Definition, Field, Method, Underlying};
-use types_info::{signature, whole_type};
+use types_info::{signature, valid_type};
 use types_members::{FieldDef, Members, copy, own_struct};
 
 /// The underlying type of the definition of this rank; a struct of its own where none was found.
 fn underlying_or_struct(
     alloc: Global,
-    unit: Package<'_>,
+    pkg: Package<'_>,
     rank: usize,
     found: &Option<Underlying>,
 ) -> Result<Underlying, AllocError>
-    requires { IsUnderlyingFound (package_of unit) rank (option_map underlying_of found.now) }
-    ensures { IfOk result (λ u. IsUnderlyingOf (package_of unit.entry) rank (underlying_of u)) }
+    requires { IsUnderlyingFound (package_of pkg) rank (option_map underlying_of found.now) }
+    ensures { IfOk result (λ u. IsUnderlyingOf (package_of pkg.entry) rank (underlying_of u)) }
 {
     match found {
-        None => own_struct(unit, rank),
+        None => own_struct(pkg, rank),
         Some(own) => copy(alloc, own),
     }
 }
@@ -41,14 +41,14 @@ fn underlying_or_struct(
 /// The definition of this rank without fields and methods.
 fn bare_definition(
     alloc: Global,
-    unit: Package<'_>,
+    pkg: Package<'_>,
     rank: usize,
     found: &Option<Underlying>,
 ) -> Result<Definition, AllocError>
-    requires { IsUnderlyingFound (package_of unit) rank (option_map underlying_of found.now) }
-    ensures { IfOk result (λ d. IsDefinitionBelow (package_of unit.entry) 0 0 rank (definition_of d)) }
+    requires { IsUnderlyingFound (package_of pkg) rank (option_map underlying_of found.now) }
+    ensures { IfOk result (λ d. IsDefinitionBelow (package_of pkg.entry) 0 0 rank (definition_of d)) }
 {
-    let underlying = underlying_or_struct(alloc, unit, rank, found)?;
+    let underlying = underlying_or_struct(alloc, pkg, rank, found)?;
     Ok(Definition {
         underlying,
         fields: BTreeMap::new(alloc),
@@ -59,15 +59,15 @@ fn bare_definition(
 /// The definitions of a package without fields and methods.
 fn bare_definitions(
     alloc: Global,
-    unit: Package<'_>,
+    pkg: Package<'_>,
     underlying: &[Option<Underlying>],
 ) -> Result<Vec<Definition>, AllocError>
-    requires { AreUnderlying (package_of unit) underlying.now }
-    ensures { IfOk result (λ found. HaveMembersBelow (package_of unit.entry) 0 0 found.items) }
+    requires { AreUnderlying (package_of pkg) underlying.now }
+    ensures { IfOk result (λ found. HaveMembersBelow (package_of pkg.entry) 0 0 found.items) }
 {
     let mut found = Vec::new(alloc);
     for rank in 0..underlying.len() {
-        found.push(bare_definition(alloc, unit, rank, &underlying[rank])?)?;
+        found.push(bare_definition(alloc, pkg, rank, &underlying[rank])?)?;
     }
     Ok(found)
 }
@@ -83,18 +83,18 @@ fn insert_field(definition: &mut Definition, name: Vec<u8>, field: Field) -> Res
 /// Sets the field of this rank, with its type.
 fn set_field(
     alloc: Global,
-    unit: Package<'_>,
+    pkg: Package<'_>,
     definition: &mut Definition,
     rank: usize,
     field: FieldDef<'_>,
     own: GoType,
 ) -> Result<(), AllocError>
     ensures { OnOk result (SetsField (definition_of definition.old) (definition_of definition.new)
-        (spelled (package_of unit.entry) field.entry.file field.entry.name) (field_by (package_of unit.entry) rank (field_of field.entry) (type_of own))) }
+        (spelled (package_of pkg.entry) field.entry.file field.entry.name) (typed_field (package_of pkg.entry) rank (field_of field.entry) (type_of own))) }
 {
-    let name = unit.spelling(field.file, field.name);
+    let name = pkg.spelling(field.file, field.name);
     let key = Vec::from_slice(alloc, name)?;
-    let package = unit.path.clone()?;
+    let package = pkg.path.clone()?;
     let made = Field {
         symbol: Symbol { package, rank },
         exported: is_exported(name),
@@ -105,8 +105,8 @@ fn set_field(
 
 /// A package, its index, and the marks of its broken definitions.
 #[derive(Clone, Copy)]
-struct Laying<'a> {
-    unit: Package<'a>,
+struct BuildInputs<'a> {
+    pkg: Package<'a>,
     index: &'a Index<'a>,
     broken: &'a [bool],
 }
@@ -114,19 +114,19 @@ struct Laying<'a> {
 /// Adds a field to its definition, unless its type expression is broken.
 fn add_field(
     alloc: Global,
-    of: &Laying<'_>,
+    of: &BuildInputs<'_>,
     definitions: &mut Vec<Definition>,
     rank: usize,
     field: FieldDef<'_>,
 ) -> Result<(), AllocError>
-    requires index { IsIndexOf (package_of of.now.unit) of.now.index.now }
-    requires broken { AreBroken (package_of of.now.unit) of.now.broken.now }
+    requires index { IsIndexOf (package_of of.now.pkg) of.now.index.now }
+    requires broken { AreBroken (package_of of.now.pkg) of.now.broken.now }
     requires in_range { field.definition < length definitions.old.items }
-    ensures { OnOk result (AddsField (package_of of.now.unit) rank (field_of field.entry) definitions.old.items definitions.new.items) }
+    ensures { OnOk result (AddsField (package_of of.now.pkg) rank (field_of field.entry) definitions.old.items definitions.new.items) }
 {
-    match whole_type(
+    match valid_type(
         alloc,
-        of.unit,
+        of.pkg,
         of.index,
         of.broken,
         field.file,
@@ -135,7 +135,7 @@ fn add_field(
         None => Ok(()),
         Some(own) => set_field(
             alloc,
-            of.unit,
+            of.pkg,
             &mut definitions[field.definition],
             rank,
             field,
@@ -147,17 +147,17 @@ fn add_field(
 /// Adds the fields that count to their definitions.
 fn add_fields(
     alloc: Global,
-    of: &Laying<'_>,
+    of: &BuildInputs<'_>,
     definitions: &mut Vec<Definition>,
     fields: &[FieldDef<'_>],
     counting: &[bool],
 ) -> Result<(), AllocError>
-    requires index { IsIndexOf (package_of of.now.unit) of.now.index.now }
-    requires broken { AreBroken (package_of of.now.unit) of.now.broken.now }
-    requires fields { map field_of fields.now ≡ package_fields (package_of of.now.unit) }
-    requires counting { AreCountingFields (package_of of.now.unit) counting.now }
-    requires bare { HaveMembersBelow (package_of of.now.unit) 0 0 definitions.old.items }
-    ensures { OnOk result (HaveMembersBelow (package_of of.now.unit) (length (package_fields (package_of of.now.unit))) 0 definitions.new.items) }
+    requires index { IsIndexOf (package_of of.now.pkg) of.now.index.now }
+    requires broken { AreBroken (package_of of.now.pkg) of.now.broken.now }
+    requires fields { map field_of fields.now ≡ package_fields (package_of of.now.pkg) }
+    requires counting { AreCountingFields (package_of of.now.pkg) counting.now }
+    requires bare { HaveMembersBelow (package_of of.now.pkg) 0 0 definitions.old.items }
+    ensures { OnOk result (HaveMembersBelow (package_of of.now.pkg) (length (package_fields (package_of of.now.pkg))) 0 definitions.new.items) }
 {
     for rank in 0..fields.len() {
         if counting[rank] {
@@ -194,23 +194,23 @@ fn insert_method(
 #[tactic(auto, unfolding(go_ast::specs::FileView::func_view))]
 fn set_method(
     alloc: Global,
-    of: &Laying<'_>,
+    of: &BuildInputs<'_>,
     definition: &mut Definition,
     rank: usize,
     function: Function<'_>,
 ) -> Result<(), AllocError>
-    requires index { IsIndexOf (package_of of.now.unit) of.now.index.now }
-    requires broken { AreBroken (package_of of.now.unit) of.now.broken.now }
-    ensures { OnOk result (SetsMethodOf (package_of of.now.unit) rank (function_of function.entry) (definition_of definition.old) (definition_of definition.new)) }
+    requires index { IsIndexOf (package_of of.now.pkg) of.now.index.now }
+    requires broken { AreBroken (package_of of.now.pkg) of.now.broken.now }
+    ensures { OnOk result (SetsMethodOf (package_of of.now.pkg) rank (function_of function.entry) (definition_of definition.old) (definition_of definition.new)) }
 {
-    let name = of.unit.spelling(function.file, function.func.name);
+    let name = of.pkg.spelling(function.file, function.func.name);
     let key = Vec::from_slice(alloc, name)?;
-    let package = of.unit.path.clone()?;
+    let package = of.pkg.path.clone()?;
     let made = Method {
         symbol: Symbol { package, rank },
         exported: is_exported(name),
         on_pointer: is_on_pointer(function),
-        signature: signature(alloc, of.unit, of.index, of.broken, function)?,
+        signature: signature(alloc, of.pkg, of.index, of.broken, function)?,
     };
     insert_method(definition, key, made)
 }
@@ -218,19 +218,19 @@ fn set_method(
 /// Adds the methods that count to their definitions.
 fn add_methods(
     alloc: Global,
-    of: &Laying<'_>,
+    of: &BuildInputs<'_>,
     definitions: &mut Vec<Definition>,
     owners: &[Option<usize>],
     counting: &[bool],
 ) -> Result<(), AllocError>
-    requires index { IsIndexOf (package_of of.now.unit) of.now.index.now }
-    requires broken { AreBroken (package_of of.now.unit) of.now.broken.now }
-    requires owners { AreOwners (package_of of.now.unit) owners.now }
-    requires counting { AreCountingMethods (package_of of.now.unit) counting.now }
-    requires fields { HaveMembersBelow (package_of of.now.unit) (length (package_fields (package_of of.now.unit))) 0 definitions.old.items }
-    ensures { OnOk result (HaveMembersBelow (package_of of.now.unit) (length (package_fields (package_of of.now.unit))) (length (package_functions (package_of of.now.unit))) definitions.new.items) }
+    requires index { IsIndexOf (package_of of.now.pkg) of.now.index.now }
+    requires broken { AreBroken (package_of of.now.pkg) of.now.broken.now }
+    requires owners { AreOwners (package_of of.now.pkg) owners.now }
+    requires counting { AreCountingMethods (package_of of.now.pkg) counting.now }
+    requires fields { HaveMembersBelow (package_of of.now.pkg) (length (package_fields (package_of of.now.pkg))) 0 definitions.old.items }
+    ensures { OnOk result (HaveMembersBelow (package_of of.now.pkg) (length (package_fields (package_of of.now.pkg))) (length (package_functions (package_of of.now.pkg))) definitions.new.items) }
 {
-    of.unit.table.is_well_formed();
+    of.pkg.table.is_well_formed();
     let functions = &of.index.declared.functions;
     for rank in 0..functions.len() {
         if counting[rank] {
@@ -245,24 +245,20 @@ fn add_methods(
 /// Builds the type definitions of a package, by rank, from its underlying types, fields and methods.
 pub fn definitions(
     alloc: Global,
-    unit: Package<'_>,
+    pkg: Package<'_>,
     index: &Index<'_>,
     broken: &[bool],
     members: &Members<'_>,
 ) -> Result<Vec<Definition>, AllocError>
-    requires index { IsIndexOf (package_of unit) index.now }
-    requires broken { AreBroken (package_of unit) broken.now }
-    requires members { AreMembers (package_of unit) members.now }
-    ensures { IfOk result (λ found. HaveDefinitions (package_of unit.entry) found.items) }
+    requires index { IsIndexOf (package_of pkg) index.now }
+    requires broken { AreBroken (package_of pkg) broken.now }
+    requires members { AreMembers (package_of pkg) members.now }
+    ensures { IfOk result (λ found. HaveDefinitions (package_of pkg.entry) found.items) }
 {
     let fields = &members.fields;
     let methods = &members.methods;
-    let of = Laying {
-        unit,
-        index,
-        broken,
-    };
-    let mut found = bare_definitions(alloc, unit, &members.underlying)?;
+    let of = BuildInputs { pkg, index, broken };
+    let mut found = bare_definitions(alloc, pkg, &members.underlying)?;
     add_fields(alloc, &of, &mut found, &fields.all, &fields.counting)?;
     add_methods(alloc, &of, &mut found, &methods.owners, &methods.counting)?;
     Ok(found)

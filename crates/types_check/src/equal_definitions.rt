@@ -2,10 +2,10 @@
 ghost use Rattle.std.specs.Prelude.{◌≡◌, ◌↔◌, IsTrue, map, option_map};
 ghost use Rattle.types_expr.specs.Types.{same_underlying};
 ghost use Rattle.types_expr.specs.View.{type_of, signature_of};
-ghost use Rattle.types_expr.specs.WorldView.{underlying_of, field_of, method_of};
+ghost use Rattle.types_expr.specs.WorldView.{underlying_of, field_of, plain_method_of};
 ghost use Rattle.types_check.specs.Known.{entry_value, known_definition};
 
-use crate::parts::{Alike, are_lists_alike, are_maps_alike};
+use crate::equality::{Alike, are_lists_alike, are_maps_alike};
 use std::collections::BTreeMap;
 use types_expr::symbol::Symbol;
 use types_expr::types::{GoType, Signature};
@@ -97,7 +97,7 @@ impl Alike for Field {
 }
 
 impl Alike for Method {
-    ghost alike = { λ one other. method_of one ≡ method_of other };
+    ghost alike = { λ one other. plain_method_of one ≡ plain_method_of other };
 
     fn is_like(&self, other: &Method) -> bool {
         self.exported == other.exported
@@ -116,7 +116,7 @@ fn are_same_fields(one: &FieldPairs, other: &FieldPairs) -> bool
 
 /// Whether two maps have identical methods under the same names.
 fn are_same_methods(one: &MethodPairs, other: &MethodPairs) -> bool
-    ensures { IsTrue result ↔ (map (entry_value method_of) one.now.entries ≡ map (entry_value method_of) other.now.entries) }
+    ensures { IsTrue result ↔ (map (entry_value plain_method_of) one.now.entries ≡ map (entry_value plain_method_of) other.now.entries) }
 {
     are_maps_alike(one, other)
 }

@@ -2,14 +2,14 @@
 ghost use Rattle.std.specs.Prelude.{◌≡◌, ◌+◌, ◌<◌, ◌↔◌, None, length, map, slice_index_or, option_copied, option_map, IsTrue, IfOk, OnOk};
 ghost use Rattle.go_ast.specs.SourceFile.{source_of};
 ghost use Rattle.go_scope.specs.Bindings.{Counts};
-ghost use Rattle.go_scope.specs.Scoped.{layout_in, names_in};
+ghost use Rattle.go_scope.specs.Packages.{layout_in, names_in};
 ghost use Rattle.types_expr.specs.WorldView.{bound_of, bound_at};
 ghost use Rattle.types_declared.specs.Files.{package_name};
-ghost use Rattle.types_declared.specs.InterfacesView.{export_of, exports_at, meaning_of, interface_of};
-ghost use Rattle.types_check.specs.Interfaces.{IsSeen, IsGlobalFound, IsExportFound, AreExportsBelow, IsExportedOnce, IsInterface};
-ghost use Rattle.types_declared.specs.Bound.{IsMeantBy};
-ghost use Rattle.types_info.specs.BoundsView.{AreBounds};
-ghost use Rattle.types_info.specs.Uniqueness.{IsOneMeaning};
+ghost use Rattle.types_declared.specs.ExportTablesView.{export_of, exports_at, meaning_of, export_data_of};
+ghost use Rattle.types_check.specs.Exports.{DoesExport, IsGlobalFound, IsExportFound, AreExportsBelow, IsExportedOnce, IsExportData};
+ghost use Rattle.types_declared.specs.MeaningOf.{IsMeaningOf};
+ghost use Rattle.types_info.specs.MeaningsView.{AreMeanings};
+ghost use Rattle.types_info.specs.Uniqueness.{HasOneMeaning};
 ghost use Rattle.types_info.specs.DefinitionsView.{HaveDefinitions};
 ghost use Rattle.types_declared.specs.PackageView.{package_of};
 
@@ -17,12 +17,12 @@ use go_scope::model::Block;
 use go_scope::table::ScopeTable;
 use std::alloc::{AllocError, Global};
 use std::collections::BTreeMap;
-use types_declared::{Export, ExportMeaning, Interface, Package, PackageScope, is_exported};
+use types_declared::{Export, ExportData, ExportMeaning, Package, PackageScope, is_exported};
 use types_expr::world::{Bound, Definition};
-use types_info::{Bounds, copy_signature, one_meaning};
+use types_info::{MeaningTable, copy_signature, has_one_meaning};
 
 /// The meaning of an export whose declaration has this meaning; none where it is no package-level variable, type or function.
-#[tactic(auto, unfolding(types_expr::specs::WorldView::bound_of, types_declared::specs::InterfacesView::meaning_of))]
+#[tactic(auto, unfolding(types_expr::specs::WorldView::bound_of, types_declared::specs::ExportTablesView::meaning_of))]
 fn global_meaning(alloc: Global, bound: &Bound) -> Result<Option<ExportMeaning>, AllocError>
     ensures { IfOk result (λ m. IsGlobalFound (bound_of bound.now) (option_map meaning_of m)) }
 {
@@ -42,7 +42,7 @@ fn global_meaning(alloc: Global, bound: &Bound) -> Result<Option<ExportMeaning>,
 }
 
 /// The meaning of the declaration `d`; none where it has none.
-fn meant(bounds: &Bounds, d: usize) -> Option<&Bound>
+fn meant(bounds: &MeaningTable, d: usize) -> Option<&Bound>
     ensures { option_copied result ≡ bound_at bounds.now.list.items (slice_index_or bounds.now.of.items d None) }
 {
     let place = bounds.get(d)?;
@@ -59,26 +59,26 @@ fn counts(table: &ScopeTable<'_>, d: usize) -> bool
 }
 
 /// Whether the package exports the declaration `d`.
-pub fn is_seen(unit: Package<'_>, d: usize) -> bool
-    requires { d < length unit.table.now.sites }
-    ensures { IsTrue result ↔ IsSeen (package_of unit.entry) d }
+pub fn is_seen(pkg: Package<'_>, d: usize) -> bool
+    requires { d < length pkg.table.now.sites }
+    ensures { IsTrue result ↔ DoesExport (package_of pkg.entry) d }
 {
-    unit.table.role(d).block().same(Block::Package)
-        && counts(unit.table, d)
-        && is_exported(unit.table.name(d))
+    pkg.table.role(d).block().same(Block::Package)
+        && counts(pkg.table, d)
+        && is_exported(pkg.table.name(d))
 }
 
 /// The export of the exported declaration `d` with this meaning; none where its type is broken.
 fn export_by(
     alloc: Global,
-    unit: Package<'_>,
+    pkg: Package<'_>,
     d: usize,
     bound: &Bound,
 ) -> Result<Option<Export>, AllocError>
-    requires seen { IsSeen (package_of unit) d }
-    requires means { IsMeantBy (package_of unit) d (bound_of bound.now) }
-    requires one { IsOneMeaning (package_of unit) }
-    ensures { IfOk result (λ e. IsExportFound (package_of unit.entry) d (option_map export_of e)) }
+    requires seen { DoesExport (package_of pkg) d }
+    requires means { IsMeaningOf (package_of pkg) d (bound_of bound.now) }
+    requires one { HasOneMeaning (package_of pkg) }
+    ensures { IfOk result (λ e. IsExportFound (package_of pkg.entry) d (option_map export_of e)) }
 {
     match global_meaning(alloc, bound)? {
         None => Ok(None),
@@ -89,41 +89,41 @@ fn export_by(
 /// The export of the declaration `d`; none where the package doesn't export it or its type is broken.
 fn export(
     alloc: Global,
-    unit: Package<'_>,
-    bounds: &Bounds,
+    pkg: Package<'_>,
+    bounds: &MeaningTable,
     d: usize,
 ) -> Result<Option<Export>, AllocError>
-    requires in_range { d < length unit.table.now.sites }
-    requires bounds { AreBounds (package_of unit) bounds.now.list.items bounds.now.of.items }
-    requires one { IsOneMeaning (package_of unit) }
-    ensures { IfOk result (λ e. IsExportFound (package_of unit.entry) d (option_map export_of e)) }
+    requires in_range { d < length pkg.table.now.sites }
+    requires bounds { AreMeanings (package_of pkg) bounds.now.list.items bounds.now.of.items }
+    requires one { HasOneMeaning (package_of pkg) }
+    ensures { IfOk result (λ e. IsExportFound (package_of pkg.entry) d (option_map export_of e)) }
 {
-    if !is_seen(unit, d) {
+    if !is_seen(pkg, d) {
         return Ok(None);
     }
     match meant(bounds, d) {
         None => Ok(None),
-        Some(bound) => export_by(alloc, unit, d, bound),
+        Some(bound) => export_by(alloc, pkg, d, bound),
     }
 }
 
 /// Adds the export of the declaration `d`, if there is one.
 fn add_export(
     alloc: Global,
-    unit: Package<'_>,
-    bounds: &Bounds,
+    pkg: Package<'_>,
+    bounds: &MeaningTable,
     found: &mut BTreeMap<Vec<u8>, Export>,
     d: usize,
 ) -> Result<(), AllocError>
-    requires in_range { d < length unit.table.now.sites }
-    requires bounds { AreBounds (package_of unit) bounds.now.list.items bounds.now.of.items }
-    requires one { IsOneMeaning (package_of unit) }
-    ensures { OnOk result (AreExportsBelow (package_of unit.entry) d (exports_at found.old) → AreExportsBelow (package_of unit.entry) (d + 1) (exports_at found.new)) }
+    requires in_range { d < length pkg.table.now.sites }
+    requires bounds { AreMeanings (package_of pkg) bounds.now.list.items bounds.now.of.items }
+    requires one { HasOneMeaning (package_of pkg) }
+    ensures { OnOk result (AreExportsBelow (package_of pkg.entry) d (exports_at found.old) → AreExportsBelow (package_of pkg.entry) (d + 1) (exports_at found.new)) }
 {
-    match export(alloc, unit, bounds, d)? {
+    match export(alloc, pkg, bounds, d)? {
         None => Ok(()),
         Some(export) => {
-            let name = Vec::from_slice(alloc, unit.table.name(d))?;
+            let name = Vec::from_slice(alloc, pkg.table.name(d))?;
             found.insert(name, export)?;
             Ok(())
         }
@@ -133,54 +133,54 @@ fn add_export(
 /// Returns the exports of a package, by name.
 fn exports(
     alloc: Global,
-    unit: Package<'_>,
-    bounds: &Bounds,
+    pkg: Package<'_>,
+    bounds: &MeaningTable,
 ) -> Result<BTreeMap<Vec<u8>, Export>, AllocError>
-    requires bounds { AreBounds (package_of unit) bounds.now.list.items bounds.now.of.items }
-    requires one { IsOneMeaning (package_of unit) }
-    ensures { IfOk result (λ found. AreExportsBelow (package_of unit.entry) (length unit.entry.table.now.sites) (exports_at found)) }
+    requires bounds { AreMeanings (package_of pkg) bounds.now.list.items bounds.now.of.items }
+    requires one { HasOneMeaning (package_of pkg) }
+    ensures { IfOk result (λ found. AreExportsBelow (package_of pkg.entry) (length pkg.entry.table.now.sites) (exports_at found)) }
 {
     let mut found = BTreeMap::new(alloc);
-    for d in 0..unit.table.len() {
-        add_export(alloc, unit, bounds, &mut found, d)?;
+    for d in 0..pkg.table.len() {
+        add_export(alloc, pkg, bounds, &mut found, d)?;
     }
     Ok(found)
 }
 
 /// The name in the package clause of a package's first file; empty where it has no file.
 #[tactic(auto, unfolding(go_ast::specs::FileView::file_view))]
-fn package_name(alloc: Global, unit: Package<'_>) -> Result<Vec<u8>, AllocError>
-    ensures { IfOk result (λ name. name.items ≡ package_name (map source_of unit.entry.files.now)) }
+fn package_name(alloc: Global, pkg: Package<'_>) -> Result<Vec<u8>, AllocError>
+    ensures { IfOk result (λ name. name.items ≡ package_name (map source_of pkg.entry.files.now)) }
 {
-    match unit.files.first() {
+    match pkg.files.first() {
         None => Ok(Vec::new(alloc)),
         Some(file) => Vec::from_slice(alloc, file.spelling(file.file().name)),
     }
 }
 
 /// Builds the export data of a package from the meanings of its declarations and its type definitions.
-pub fn interface(
+pub fn export_data(
     alloc: Global,
-    unit: Package<'_>,
-    bounds: &Bounds,
+    pkg: Package<'_>,
+    bounds: &MeaningTable,
     definitions: Vec<Definition>,
-) -> Result<Interface, AllocError>
-    requires bounds { AreBounds (package_of unit) bounds.now.list.items bounds.now.of.items }
-    requires definitions { HaveDefinitions (package_of unit) definitions.items }
-    ensures { IfOk result (λ i. IsInterface (package_of unit.entry) (interface_of unit.entry.path.now i)) }
+) -> Result<ExportData, AllocError>
+    requires bounds { AreMeanings (package_of pkg) bounds.now.list.items bounds.now.of.items }
+    requires definitions { HaveDefinitions (package_of pkg) definitions.items }
+    ensures { IfOk result (λ i. IsExportData (package_of pkg.entry) (export_data_of pkg.entry.path.now i)) }
 {
-    one_meaning(unit);
-    let name = package_name(alloc, unit)?;
-    let exported = exports(alloc, unit, bounds)?;
-    Ok(Interface {
+    has_one_meaning(pkg);
+    let name = package_name(alloc, pkg)?;
+    let exported = exports(alloc, pkg, bounds)?;
+    Ok(ExportData {
         scope: PackageScope { name, exported },
         definitions,
     })
 }
 
 /// A package has at most one export under a name.
-pub fn exports_once(unit: Package<'_>)
-    ensures { IsExportedOnce (package_of unit.entry) }
+pub fn exports_once(pkg: Package<'_>)
+    ensures { IsExportedOnce (package_of pkg.entry) }
 {
-    one_meaning(unit);
+    has_one_meaning(pkg);
 }

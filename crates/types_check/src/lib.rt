@@ -5,10 +5,10 @@ mod alike;
 mod checking;
 mod definitions;
 mod equal_definitions;
+mod equal_scopes;
+mod equality;
 mod exporting;
 pub mod laws;
-mod parts;
-mod scopes;
 mod type_faults;
 mod worlds;
 

@@ -2,14 +2,14 @@
 ghost use Rattle.std.specs.Prelude.{◌<◌, length, map, IfOk, OnOk};
 ghost use Rattle.std.specs.List.Sorted.{IsStrictlySortedBy};
 ghost use Rattle.types_declared.specs.contracts.fault.FaultOrd.TheImpl as order;
-ghost use Rattle.types_declared.specs.Listing.{Adds, Lists};
+ghost use Rattle.types_declared.specs.Listing.{AddsFaults, HoldsExactly};
 ghost use Rattle.types_stmt.specs.View.{checked_of};
-ghost use Rattle.types_info.specs.BoundsView.{AreBounds};
+ghost use Rattle.types_info.specs.MeaningsView.{AreMeanings};
 ghost use Rattle.types_info.specs.DefinitionsView.{HaveDefinitions};
-ghost use Rattle.types_check.specs.Faults.{IsTypeFault};
+ghost use Rattle.types_check.specs.TypeFaults.{IsTypeFault};
 ghost use Rattle.types_info.specs.MemberUses.{AddsUses, AddsFile, AreMemberUses, uses_in};
 ghost use Rattle.types_info.specs.NamesView.{AreNames};
-ghost use Rattle.types_info.specs.Uniqueness.{IsOneWorld};
+ghost use Rattle.types_info.specs.Uniqueness.{HasOneWorld};
 ghost use Rattle.types_check.specs.TypesView.{IsChecked, IsAtToken, IsTypeFaultIn};
 ghost use Rattle.types_declared.specs.PackageView.{package_of, IsIndexOf};
 
@@ -19,7 +19,7 @@ use std::alloc::{AllocError, Global};
 use types_declared::{Fault, Index, Package, push, sort};
 use types_expr::found::{FoundInFile, MemberUse};
 use types_expr::world::{Bound, Definition, Name};
-use types_info::{Bounds, file_names, one_world};
+use types_info::{MeaningTable, file_names, has_one_world};
 use types_stmt::{CheckedBody, check_file};
 
 /// The result of checking the types of a package's files: the faults, and the uses of members of each file by rank.
@@ -31,7 +31,7 @@ pub struct Typed {
 
 /// Adds a fault of type at each of the tokens.
 fn add_tokens(found: &mut Vec<Fault>, file: usize, tokens: &[usize]) -> Result<(), AllocError>
-    ensures { OnOk result (Adds found.old.items found.new.items (IsAtToken file tokens.now)) }
+    ensures { OnOk result (AddsFaults found.old.items found.new.items (IsAtToken file tokens.now)) }
 {
     for token in tokens {
         let fault = Fault {
@@ -47,19 +47,19 @@ fn add_tokens(found: &mut Vec<Fault>, file: usize, tokens: &[usize]) -> Result<(
 /// Checks the types of one file, given its names and their meanings.
 fn check_names<'w>(
     alloc: Global,
-    unit: Package<'w>,
+    pkg: Package<'w>,
     names: &'w [Name<'w>],
     bounds: &'w [Bound],
     definitions: &'w [Definition],
     file: usize,
 ) -> Result<CheckedBody, AllocError>
-    requires names { AreNames (package_of unit) file bounds.now names.now }
-    requires definitions { HaveDefinitions (package_of unit) definitions.now }
-    requires in_range { file < length unit.files.now }
-    ensures { IfOk result (λ c. IsChecked (package_of unit.entry) file (checked_of c)) }
+    requires names { AreNames (package_of pkg) file bounds.now names.now }
+    requires definitions { HaveDefinitions (package_of pkg) definitions.now }
+    requires in_range { file < length pkg.files.now }
+    ensures { IfOk result (λ c. IsChecked (package_of pkg.entry) file (checked_of c)) }
 {
-    let world = file_world(unit, names, bounds, definitions, file);
-    let files = unit.files;
+    let world = file_world(pkg, names, bounds, definitions, file);
+    let files = pkg.files;
     let tree = files[file].file();
     check_file(alloc, &world, tree)
 }
@@ -67,7 +67,7 @@ fn check_names<'w>(
 /// A package, its index, and its type definitions.
 #[derive(Clone, Copy)]
 struct Judging<'a> {
-    unit: Package<'a>,
+    pkg: Package<'a>,
     index: &'a Index<'a>,
     definitions: &'a [Definition],
 }
@@ -76,24 +76,24 @@ struct Judging<'a> {
 fn check_source(
     alloc: Global,
     of: &Judging<'_>,
-    bounds: &mut Bounds,
+    bounds: &mut MeaningTable,
     file: usize,
 ) -> Result<CheckedBody, AllocError>
-    requires index { IsIndexOf (package_of of.now.unit) of.now.index.now }
-    requires bounds { AreBounds (package_of of.now.unit) bounds.old.list.items bounds.old.of.items }
-    requires definitions { HaveDefinitions (package_of of.now.unit) of.now.definitions.now }
-    requires in_range { file < length of.now.unit.files.now }
-    ensures checked { IfOk result (λ c. IsChecked (package_of of.now.unit) file (checked_of c)) }
-    ensures bounds { OnOk result (AreBounds (package_of of.now.unit) bounds.new.list.items bounds.new.of.items) }
+    requires index { IsIndexOf (package_of of.now.pkg) of.now.index.now }
+    requires bounds { AreMeanings (package_of of.now.pkg) bounds.old.list.items bounds.old.of.items }
+    requires definitions { HaveDefinitions (package_of of.now.pkg) of.now.definitions.now }
+    requires in_range { file < length of.now.pkg.files.now }
+    ensures checked { IfOk result (λ c. IsChecked (package_of of.now.pkg) file (checked_of c)) }
+    ensures bounds { OnOk result (AreMeanings (package_of of.now.pkg) bounds.new.list.items bounds.new.of.items) }
 {
-    let names = file_names(alloc, of.unit, of.index, bounds, file)?;
-    check_names(alloc, of.unit, &names, bounds.list(), of.definitions, file)
+    let names = file_names(alloc, of.pkg, of.index, bounds, file)?;
+    check_names(alloc, of.pkg, &names, bounds.list(), of.definitions, file)
 }
 
 impl Typed {
     /// Adds the faults and the uses of members of one file.
     fn add(&mut self, file: usize, checked: CheckedBody) -> Result<(), AllocError>
-        ensures faults { OnOk result (Adds self.old.faults.items self.new.faults.items (IsAtToken file checked.found.faults.items)) }
+        ensures faults { OnOk result (AddsFaults self.old.faults.items self.new.faults.items (IsAtToken file checked.found.faults.items)) }
         ensures members { OnOk result (AddsUses self.old.members.items self.new.members.items (uses_in checked.found.uses)) }
     {
         let CheckedBody { found, locals: _ } = checked;
@@ -108,18 +108,18 @@ impl Typed {
 fn add_file(
     alloc: Global,
     of: &Judging<'_>,
-    bounds: &mut Bounds,
+    bounds: &mut MeaningTable,
     typed: &mut Typed,
     file: usize,
 ) -> Result<(), AllocError>
-    requires index { IsIndexOf (package_of of.now.unit) of.now.index.now }
-    requires bounds { AreBounds (package_of of.now.unit) bounds.old.list.items bounds.old.of.items }
-    requires definitions { HaveDefinitions (package_of of.now.unit) of.now.definitions.now }
-    requires in_range { file < length of.now.unit.files.now }
-    requires one { IsOneWorld (package_of of.now.unit) }
-    ensures faults { OnOk result (Adds typed.old.faults.items typed.new.faults.items (IsTypeFaultIn (package_of of.now.unit) file)) }
-    ensures members { OnOk result (AddsFile (package_of of.now.unit) file typed.old.members.items typed.new.members.items) }
-    ensures bounds { OnOk result (AreBounds (package_of of.now.unit) bounds.new.list.items bounds.new.of.items) }
+    requires index { IsIndexOf (package_of of.now.pkg) of.now.index.now }
+    requires bounds { AreMeanings (package_of of.now.pkg) bounds.old.list.items bounds.old.of.items }
+    requires definitions { HaveDefinitions (package_of of.now.pkg) of.now.definitions.now }
+    requires in_range { file < length of.now.pkg.files.now }
+    requires one { HasOneWorld (package_of of.now.pkg) }
+    ensures faults { OnOk result (AddsFaults typed.old.faults.items typed.new.faults.items (IsTypeFaultIn (package_of of.now.pkg) file)) }
+    ensures members { OnOk result (AddsFile (package_of of.now.pkg) file typed.old.members.items typed.new.members.items) }
+    ensures bounds { OnOk result (AreMeanings (package_of of.now.pkg) bounds.new.list.items bounds.new.of.items) }
 {
     let checked = check_source(alloc, of, bounds, file)?;
     typed.add(file, checked)
@@ -129,30 +129,30 @@ fn add_file(
 /// `bounds`.
 pub fn type_faults(
     alloc: Global,
-    unit: Package<'_>,
+    pkg: Package<'_>,
     index: &Index<'_>,
-    bounds: &mut Bounds,
+    bounds: &mut MeaningTable,
     definitions: &[Definition],
 ) -> Result<Typed, AllocError>
-    requires index { IsIndexOf (package_of unit) index.now }
-    requires bounds { AreBounds (package_of unit) bounds.old.list.items bounds.old.of.items }
-    requires definitions { HaveDefinitions (package_of unit) definitions.now }
-    ensures listed { IfOk result (λ t. Lists (IsTypeFault (package_of unit.entry)) t.faults.items) }
+    requires index { IsIndexOf (package_of pkg) index.now }
+    requires bounds { AreMeanings (package_of pkg) bounds.old.list.items bounds.old.of.items }
+    requires definitions { HaveDefinitions (package_of pkg) definitions.now }
+    ensures listed { IfOk result (λ t. HoldsExactly (IsTypeFault (package_of pkg.entry)) t.faults.items) }
     ensures order { IfOk result (λ t. IsStrictlySortedBy order.ghosts.cmp t.faults.items) }
-    ensures members { IfOk result (λ t. AreMemberUses (package_of unit.entry) (map uses_in t.members.items)) }
-    ensures bounds { OnOk result (AreBounds (package_of unit.entry) bounds.new.list.items bounds.new.of.items) }
+    ensures members { IfOk result (λ t. AreMemberUses (package_of pkg.entry) (map uses_in t.members.items)) }
+    ensures bounds { OnOk result (AreMeanings (package_of pkg.entry) bounds.new.list.items bounds.new.of.items) }
 {
-    one_world(unit);
+    has_one_world(pkg);
     let mut typed = Typed {
         faults: Vec::new(alloc),
         members: Vec::new(alloc),
     };
     let of = Judging {
-        unit,
+        pkg,
         index,
         definitions,
     };
-    for file in 0..unit.files.len() {
+    for file in 0..pkg.files.len() {
         add_file(alloc, &of, bounds, &mut typed, file)?;
     }
     sort(&mut typed.faults);

@@ -13,22 +13,22 @@ use types_expr::world::{Bound, Definition, Name, World};
 
 /// The world that a file is checked in.
 pub fn file_world<'w>(
-    unit: Package<'w>,
+    pkg: Package<'w>,
     names: &'w [Name<'w>],
     bounds: &'w [Bound],
     definitions: &'w [Definition],
     file: usize,
 ) -> World<'w>
-    requires names { AreNames (package_of unit) file bounds.now names.now }
-    requires definitions { HaveDefinitions (package_of unit) definitions.now }
-    ensures world { (s : SourceFile) → slice_get (package_of unit.entry).files file ≡ Some s → IsWorldOf (package_of unit.entry) file s (world_of result) }
-    ensures init { (s : SourceFile) → slice_get (package_of unit.entry).files file ≡ Some s → is_init_in result ≡ is_init s }
+    requires names { AreNames (package_of pkg) file bounds.now names.now }
+    requires definitions { HaveDefinitions (package_of pkg) definitions.now }
+    ensures world { (s : SourceFile) → slice_get (package_of pkg.entry).files file ≡ Some s → IsWorldOf (package_of pkg.entry) file s (world_of result) }
+    ensures init { (s : SourceFile) → slice_get (package_of pkg.entry).files file ≡ Some s → is_init_in result ≡ is_init s }
 {
     World {
-        package: unit.path,
+        package: pkg.path,
         names,
         bounds,
         own: definitions,
-        imported: unit.interfaces.definitions(),
+        imported: pkg.export_table.definitions(),
     }
 }

@@ -4,11 +4,11 @@ use Rattle.std.specs.Prelude.{Option, Some, None}
 use Rattle.std.proofs.lemmas.Bool.{cases_lt, cases_order, true≢false}
 use Rattle.std.proofs.lemmas.Option.{slice_get_past}
 use Rattle.go_scope.specs.Bindings.{Layout, Names, IsBoundTo, use_bound, own, may_declare}
-use Rattle.go_scope.specs.Site.{Site, found_site, sites_layout}
-use Rattle.go_scope.specs.Table.{IsFirstOf, IsFoundAt, StandsAt}
+use Rattle.go_scope.specs.Site.{Site, or_blank, sites_layout}
+use Rattle.go_scope.specs.Table.{IsFirstOf, IsFoundAt, LiesAt}
 use Rattle.types_declared.specs.Package.{Package}
 use Rattle.types_declared.specs.Written.{BindsToken}
-use Rattle.types_declared.specs.ByToken.{IsFirstBelow}
+use Rattle.go_scope.specs.ByToken.{IsFirstBelow}
 
 pub one_first : (P : ℕ → Type 0) (n u v : ℕ) → IsFirstOf P n u → IsFirstOf P n v → u ≡ v
 one_first P n u v h k = elim (cases_order u v) [
@@ -18,23 +18,23 @@ one_first P n u v h k = elim (cases_order u v) [
 
 -- a token without an identifier is bound to no declaration
 pub bound_nowhere : (p : Package) (file token : ℕ) (o : Option ℕ) → o ≡ None →
-    IsFirstBelow (StandsAt p.layout (record { file = file; index = token })) p.size o →
+    IsFirstBelow (LiesAt p.layout (record { file = file; index = token })) p.size o →
     (d : ℕ) → BindsToken p file token d → ⊥
 bound_nowhere p file token o e h d b =
-    let none : (u : ℕ) → u < p.size → StandsAt p.layout (record { file = file; index = token }) u → ⊥ =
-    subst (IsFirstBelow (StandsAt p.layout (record { file = file; index = token })) p.size) e h in
+    let none : (u : ℕ) → u < p.size → LiesAt p.layout (record { file = file; index = token }) u → ⊥ =
+    subst (IsFirstBelow (LiesAt p.layout (record { file = file; index = token })) p.size) e h in
     none b.identifier b.found.within b.found.holds
 
 -- the binding of the identifier found at a token
 pub found_at : (p : Package) (file token u : ℕ) (o : Option ℕ) → o ≡ Some u →
-    IsFirstBelow (StandsAt p.layout (record { file = file; index = token })) p.size o →
+    IsFirstBelow (LiesAt p.layout (record { file = file; index = token })) p.size o →
     IsFoundAt p.layout p.size (record { file = file; index = token }) u
-found_at p file token u o e h = subst (IsFirstBelow (StandsAt p.layout (record { file = file; index = token })) p.size) e h
+found_at p file token u o e h = subst (IsFirstBelow (LiesAt p.layout (record { file = file; index = token })) p.size) e h
 
 pub same_bound : (p : Package) (file token u d : ℕ) → IsFoundAt p.layout p.size (record { file = file; index = token }) u → BindsToken p file token d →
     IsBoundTo p.layout p.names u d
 same_bound p file token u d found b =
-    subst (λ v. IsBoundTo p.layout p.names v d) (one_first (StandsAt p.layout (record { file = file; index = token })) p.size b.identifier u b.found found)
+    subst (λ v. IsBoundTo p.layout p.names v d) (one_first (LiesAt p.layout (record { file = file; index = token })) p.size b.identifier u b.found found)
     b.bound
 
 pub bound_by : (p : Package) (file token u : ℕ) (o : Option ℕ) → IsFoundAt p.layout p.size (record { file = file; index = token }) u →
@@ -54,7 +54,7 @@ only_by p file token u (Some d) found one h = λ e b. one e d (same_bound p file
 declared_within : (sites : List Site) (d : ℕ) → may_declare ((sites_layout sites).role d) ≡ true → d < length sites
 declared_within sites d may = elim (cases_lt d (length sites)) [
   | inl below ↦ below
-  | inr ge ↦ absurd (true≢false (sym may ∙ ap (λ s. may_declare (found_site s).role) (slice_get_past sites d ge)))
+  | inr ge ↦ absurd (true≢false (sym may ∙ ap (λ s. may_declare (or_blank s).role) (slice_get_past sites d ge)))
 ]
 
 bound_may : (l : Layout) (names : Names) (u d : ℕ) → IsBoundTo l names u d → may_declare (l.role d) ≡ true

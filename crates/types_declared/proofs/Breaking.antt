@@ -11,7 +11,7 @@ use Rattle.types_declared.specs.declared.declared.TypeDef.{TypeDef}
 use Rattle.types_declared.specs.DeclaredView.{type_of}
 use Rattle.types_declared.specs.Package.{Package, PlacedType, package_types}
 use Rattle.types_declared.specs.Written.{IsWrittenIn, IsBroken, by_itself, through, written_types}
-use Rattle.types_declared.specs.Spread.{Leads, IsMarked, IsReached, first, behind, AreLinked}
+use Rattle.types_declared.specs.Reachability.{LinksTo, HasMark, IsReachable, first, behind, AreLinksInRange}
 use Rattle.types_declared.specs.Broken.{IsTarget, nothing, definition, IsTargetOfSome, IsTargetIn, AreMentions, AreBroken, AddsLinks}
 use Rattle.types_declared.proofs.Mentioning.{mention_within}
 
@@ -48,10 +48,10 @@ definition_count p items e = sym (length-map items type_of) ∙ ap length e
 -- the links lead exactly from each target to the definitions below count that contain a type expression with this target
 pub record MentionsBelow (p : Package) (links : List (Vec ℕ)) (count : ℕ) : Type 0 where
   pub size : length links ≡ suc (length (package_types p))
-  pub holds : (a b : ℕ) → b < count → IsTargetIn p b a → Leads links a b
-  pub only : (a b : ℕ) → Leads links a b → IsTargetIn p b a
+  pub holds : (a b : ℕ) → b < count → IsTargetIn p b a → LinksTo links a b
+  pub only : (a b : ℕ) → LinksTo links a b → IsTargetIn p b a
 
-pub none_below : (p : Package) (links : List (Vec ℕ)) → length links ≡ suc (length (package_types p)) → ((a b : ℕ) → Leads links a b → ⊥) →
+pub none_below : (p : Package) (links : List (Vec ℕ)) → length links ≡ suc (length (package_types p)) → ((a b : ℕ) → LinksTo links a b → ⊥) →
     MentionsBelow p links 0
 none_below p links size none = record { size = size; holds = λ a b lt t. absurd (omega arith); only = λ a b l. absurd (none a b l) }
 
@@ -63,7 +63,7 @@ one_more p old new rank d e more h = record {
   holds = λ a b lt t. elim (cases_lt b rank) [
     | inl below ↦ more.keeps a b (h.holds a b below t)
     | inr ge ↦ let same : b ≡ rank = omega arith in
-        subst (λ x. Leads new a x) (sym same) (more.holds a (target_of p rank a d e (subst (λ x. IsTargetIn p x a) same t)))
+        subst (λ x. LinksTo new a x) (sym same) (more.holds a (target_of p rank a d e (subst (λ x. IsTargetIn p x a) same t)))
   ];
   only = λ a b l. elim (more.only a b l) [ inl k ↦ h.only a b k | inr k ↦ subst (λ x. IsTargetIn p x a) (sym k.0) (target_in p rank a d e k.1) ];
 }
@@ -78,15 +78,15 @@ all_mentions p links count e h = record {
   only = h.only;
 }
 
-pub are_linked : (p : Package) (links : List (Vec ℕ)) → AreMentions p links → AreLinked links
+pub are_linked : (p : Package) (links : List (Vec ℕ)) → AreMentions p links → AreLinksInRange links
 are_linked p links m a b l = let lt : b < length (package_types p) = written_within p b a (m.only a b l) in omega (arith, m.size)
 
 -- The numbers from which the search begins
 
-begins_at : (n : ℕ) (begins : List Bool) → begins ≡ replicate n false ++ (true ∷ []) → IsMarked begins n
+begins_at : (n : ℕ) (begins : List Bool) → begins ≡ replicate n false ++ (true ∷ []) → HasMark begins n
 begins_at n begins e = ap (λ bs. get_or bs n false) e ∙ get_or_push (replicate n false) true false n (length-replicate n false)
 
-begins_only : (n : ℕ) (begins : List Bool) (q : ℕ) → begins ≡ replicate n false ++ (true ∷ []) → IsMarked begins q → q ≡ n
+begins_only : (n : ℕ) (begins : List Bool) (q : ℕ) → begins ≡ replicate n false ++ (true ∷ []) → HasMark begins q → q ≡ n
 begins_only n begins q e m = elim (cases_eq q n) [
   | inl same ↦ same
   | inr ne ↦ elim (cases_lt q n) [
@@ -112,14 +112,14 @@ broken_behind p b file a tree w (definition m) h = elim h [
 ]
 
 reached_broken : (p : Package) (links : List (Vec ℕ)) (Begins : ℕ → Type 0) → AreMentions p links → ((q : ℕ) → Begins q → q ≡ length (package_types p)) →
-    (q : ℕ) → IsReached links Begins q →
+    (q : ℕ) → IsReachable links Begins q →
     (q ≡ length (package_types p)) ⊎ IsBroken p q
 reached_broken p links Begins m only q (first b) = inl (only q b)
 reached_broken p links Begins m only q (behind {a} r leads) =
     let t = m.only a q leads in inr (broken_behind p q t.file a t.tree t.written t.target (reached_broken p links Begins m only a r))
 
 broken_reached : (p : Package) (links : List (Vec ℕ)) (Begins : ℕ → Type 0) → AreMentions p links → Begins (length (package_types p)) → (r : ℕ) →
-    IsBroken p r → IsReached links Begins r
+    IsBroken p r → IsReachable links Begins r
 broken_reached p links Begins m begins r (by_itself {file = file} {t = t} w none) =
     behind (first begins) (m.holds (length (package_types p)) r (record { file = file; tree = t; written = w; target = nothing none }))
 broken_reached p links Begins m begins r (through {file = file} {other = other} {t = t} w mentions broken) =
@@ -127,13 +127,13 @@ broken_reached p links Begins m begins r (through {file = file} {other = other} 
 
 pub are_broken : (p : Package) (links : List (Vec ℕ)) (begins marks : List Bool) (n : ℕ) → n ≡ length (package_types p) → AreMentions p links →
     begins ≡ replicate n false ++ (true ∷ []) → length marks ≡ length links →
-    ((q : ℕ) → IsMarked marks q ↔ IsReached links (IsMarked begins) q) → AreBroken p marks
+    ((q : ℕ) → HasMark marks q ↔ IsReachable links (HasMark begins) q) → AreBroken p marks
 are_broken p links begins marks n e m is size h = record {
   all = omega (arith, m.size);
   each = λ r lt. (
-    λ k. elim (reached_broken p links (IsMarked begins) m (λ q b. begins_only n begins q is b ∙ e) r ((h r).0 k))
+    λ k. elim (reached_broken p links (HasMark begins) m (λ q b. begins_only n begins q is b ∙ e) r ((h r).0 k))
         [ inl same ↦ absurd (omega arith) | inr broken ↦ broken ],
-    λ b. (h r).1 (broken_reached p links (IsMarked begins) m (subst (IsMarked begins) e (begins_at n begins is)) r b),
+    λ b. (h r).1 (broken_reached p links (HasMark begins) m (subst (HasMark begins) e (begins_at n begins is)) r b),
   );
 }
 
@@ -142,7 +142,7 @@ are_broken p links begins marks n e m is size h = record {
 no_item : (b : ℕ) → Contains [] b → ⊥
 no_item b c = let lt : c.0 < 0 = c.1 in absurd (omega arith)
 
-pub no_leads : (links : List (Vec ℕ)) (row : Vec ℕ) → row.items ≡ [] → ((a b : ℕ) → Leads links a b → ⊥) → (a b : ℕ) → Leads (links ++ (row ∷ [])) a b → ⊥
+pub no_leads : (links : List (Vec ℕ)) (row : Vec ℕ) → row.items ≡ [] → ((a b : ℕ) → LinksTo links a b → ⊥) → (a b : ℕ) → LinksTo (links ++ (row ∷ [])) a b → ⊥
 no_leads [] row e none zero b l = no_item b (subst (λ xs. Contains xs b) e l)
 no_leads [] row e none (suc a) b l = no_item b l
 no_leads (r ∷ rs) row e none zero b l = none zero b l

@@ -13,7 +13,7 @@ use Rattle.go_ast.specs.declared.tree.File.{File}
 use Rattle.go_ast.specs.declared.tree.Decl.{Decl}
 use Rattle.go_ast.specs.Tree.{DeclTree}
 use Rattle.go_ast.specs.View.{item_view, group_view, type_view}
-use Rattle.go_ast.specs.FileView.{same_place, global_view, type_spec_view, decl_view, file_view}
+use Rattle.go_ast.specs.FileView.{same_index, global_view, type_spec_view, decl_view, file_view}
 use Rattle.go_ast.specs.SourceFile.{FileParts, source_of}
 use Rattle.types_declared.specs.Files.{group_items}
 use Rattle.types_declared.specs.Package.{PlacedVariable, PlacedType, variables_of, placed_type}
@@ -28,7 +28,7 @@ abbrev pub type_part : ℕ → Item TypeSpec → List PlacedType
 type_part file item = placed_type file (type_spec_view item.value) ∷ []
 
 names_of_items : (file : ℕ) (spec : VarSpec) (xs : List (Item ℕ)) →
-    flat_map (name_part file spec) xs ≡ map (λ i. record { file = file; name = i.value; type_use = type_view spec.var_type }) (map (item_view same_place) xs)
+    flat_map (name_part file spec) xs ≡ map (λ i. record { file = file; name = i.value; type_use = type_view spec.var_type }) (map (item_view same_index) xs)
 names_of_items file spec [] = refl
 names_of_items file spec (x ∷ xs) = ap (λ z. record { file = file; name = x.value; type_use = type_view spec.var_type } ∷ z) (names_of_items file spec xs)
 

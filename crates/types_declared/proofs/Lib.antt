@@ -1,7 +1,7 @@
 -- The lemmas of this crate.
 pub mod Listings
-pub mod Each
-pub mod Ranked
+pub mod ItemFaults
+pub mod FileFaults
 pub mod Stages
 pub mod PathParts
 pub mod NameParts
@@ -15,8 +15,8 @@ pub mod Binding
 pub mod WrittenTypes
 pub mod Naming
 pub mod OneUnderlying
-pub mod Spreading
+pub mod ReachableParts
 pub mod Mentioning
 pub mod Items
 pub mod Breaking
-pub mod AddingInterfaces
+pub mod AddingExports

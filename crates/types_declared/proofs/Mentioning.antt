@@ -16,9 +16,9 @@ use Rattle.go_ast.specs.FileView.{field_view}
 use Rattle.go_ast.specs.Tree.{TypeTree}
 use Rattle.types_expr.specs.Types.{PlainType}
 use Rattle.types_declared.specs.Package.{Package, package_types}
-use Rattle.types_declared.specs.Written.{Names, Mentions, by_name, by_pointer, by_slice, defined, pointer, slice}
+use Rattle.types_declared.specs.Written.{DenotesType, Mentions, by_name, by_pointer, by_slice, defined, pointer, slice}
 use Rattle.types_declared.specs.WrittenView.{IsMentionedBy}
-use Rattle.types_declared.specs.Spread.{Leads, row_of}
+use Rattle.types_declared.specs.Reachability.{LinksTo, row_of}
 use Rattle.types_declared.specs.Broken.{AddsLinks, IsTarget, nothing, definition, IsOneTarget, IsTargetOfSome}
 
 pub mention_within : (p : Package) (file : ℕ) (tree : TypeTree) (r : ℕ) → Mentions p file tree r → r < length (package_types p)
@@ -27,29 +27,29 @@ mention_within p file _ r (by_pointer {t = t} m) = mention_within p file t r m
 mention_within p file _ r (by_slice {t = t} m) = mention_within p file t r m
 
 -- a type expression that mentions a definition names a type
-mention_names : (p : Package) (file : ℕ) (tree : TypeTree) (r : ℕ) → Mentions p file tree r → (u : PlainType) × Names p file tree u
+mention_names : (p : Package) (file : ℕ) (tree : TypeTree) (r : ℕ) → Mentions p file tree r → (u : PlainType) × DenotesType p file tree u
 mention_names p file _ r (by_name {d = d} binds declares) = (_, defined {d = d} {rank = r} binds declares)
 mention_names p file _ r (by_pointer {t = t} m) = let n = mention_names p file t r m in (_, pointer n.1)
 mention_names p file _ r (by_slice {t = t} m) = let n = mention_names p file t r m in (_, slice n.1)
 
 -- the only target of a type expression that names no type is the number behind the last rank
-nothing_only : (p : Package) (file : ℕ) (tree : TypeTree) → ((u : PlainType) → Names p file tree u → ⊥) → (b : ℕ) → IsTarget p file tree b →
+nothing_only : (p : Package) (file : ℕ) (tree : TypeTree) → ((u : PlainType) → DenotesType p file tree u → ⊥) → (b : ℕ) → IsTarget p file tree b →
     b ≡ length (package_types p)
 nothing_only p file tree none _ (nothing n) = refl
 nothing_only p file tree none b (definition m) = let n = mention_names p file tree b m in absurd (none n.0 n.1)
 
-pub target_nothing : (p : Package) (file : ℕ) (tree : TypeTree) (n : ℕ) → n ≡ length (package_types p) → ((u : PlainType) → Names p file tree u → ⊥) →
+pub target_nothing : (p : Package) (file : ℕ) (tree : TypeTree) (n : ℕ) → n ≡ length (package_types p) → ((u : PlainType) → DenotesType p file tree u → ⊥) →
     IsOneTarget p file tree (Some n)
 target_nothing p file tree n e none =
     subst (λ k. (k ≤ length (package_types p)) × (IsTarget p file tree k × ((b : ℕ) → IsTarget p file tree b → b ≡ k))) (sym e)
     (omega arith, (nothing none, nothing_only p file tree none))
 
 -- a target of a type expression that names a type is a definition that it mentions
-rank_target : (p : Package) (file : ℕ) (tree : TypeTree) (u : PlainType) → Names p file tree u → (b : ℕ) → IsTarget p file tree b → Mentions p file tree b
+rank_target : (p : Package) (file : ℕ) (tree : TypeTree) (u : PlainType) → DenotesType p file tree u → (b : ℕ) → IsTarget p file tree b → Mentions p file tree b
 rank_target p file tree u names _ (nothing none) = absurd (none u names)
 rank_target p file tree u names b (definition m) = m
 
-pub target_named : (p : Package) (file : ℕ) (tree : TypeTree) (u : PlainType) (o : Option ℕ) → Names p file tree u → IsMentionedBy p file tree o →
+pub target_named : (p : Package) (file : ℕ) (tree : TypeTree) (u : PlainType) (o : Option ℕ) → DenotesType p file tree u → IsMentionedBy p file tree o →
     IsOneTarget p file tree o
 target_named p file tree u None names h = λ a t. h a (rank_target p file tree u names a t)
 target_named p file tree u (Some r) names h = (
@@ -99,21 +99,21 @@ pub adds_one : (links : List (Vec ℕ)) (to rank : ℕ) (row new : Vec ℕ) → 
 adds_one links to rank row new lt is e =
     let before : slice_get links to ≡ Some row = slice_get-get_or links to row lt ∙ ap Some (sym is) in
     let after : slice_get (set links to new) to ≡ Some new = get_set_same links to new lt in
-    let at : (a b : ℕ) → a ≡ to → Contains new.items b → Leads (set links to new) a b = λ a b same c.
+    let at : (a b : ℕ) → a ≡ to → Contains new.items b → LinksTo (set links to new) a b = λ a b same c.
     subst (λ z. Contains (row_of (slice_get (set links to new) z)) b) (sym same) (subst (λ o. Contains (row_of o) b) (sym after) c) in
     record {
       size = length-set links to new;
       keeps = λ a b l. elim (cases_eq a to) [
         | inl same ↦ at a b same (subst (λ xs. Contains xs b) (sym e)
-            (Contains-append_left row.items (rank ∷ []) b (subst (λ o. Contains (row_of o) b) before (subst (λ z. Leads links z b) same l))))
+            (Contains-append_left row.items (rank ∷ []) b (subst (λ o. Contains (row_of o) b) before (subst (λ z. LinksTo links z b) same l))))
         | inr ne ↦ subst (λ o. Contains (row_of o) b) (sym (get_set_other links to a new ne)) l
       ];
       holds = λ a same. at a rank same (subst (λ xs. Contains xs rank) (sym e) (Contains-push row.items rank));
       only = λ a b l. elim (cases_eq a to) [
         | inl same ↦ (let c : Contains (row.items ++ (rank ∷ [])) b =
-            subst (λ xs. Contains xs b) e (subst (λ o. Contains (row_of o) b) after (subst (λ z. Leads (set links to new) z b) same l)) in
+            subst (λ xs. Contains xs b) e (subst (λ o. Contains (row_of o) b) after (subst (λ z. LinksTo (set links to new) z b) same l)) in
             elim (Contains-push_cases row.items rank b c) [
-              | inl old ↦ inl (subst (λ z. Leads links z b) (sym same) (subst (λ o. Contains (row_of o) b) (sym before) old))
+              | inl old ↦ inl (subst (λ z. LinksTo links z b) (sym same) (subst (λ o. Contains (row_of o) b) (sym before) old))
               | inr eq ↦ inr (sym eq, same)
             ])
         | inr ne ↦ inl (subst (λ o. Contains (row_of o) b) (get_set_other links to a new ne) l)

@@ -13,7 +13,7 @@ use Rattle.types_expr.specs.declared.types.Basic.TheVariants as basic
 use Rattle.types_expr.specs.Types.{PlainType, BasicType, Defined, Meaning, TypeName}
 use Rattle.types_expr.specs.Types.{Pointer as PointerType, Slice as SliceType}
 use Rattle.types_declared.specs.Package.{Package, Export, type_place, package_types, laid_of, symbol_in, spelled}
-use Rattle.types_declared.specs.Written.{BindsToken, ImportsPath, IsExportOf, IsExportAt, NamesExport, basic_name, Names, predeclared, defined, imported}
+use Rattle.types_declared.specs.Written.{BindsToken, ImportsPath, IsExportOf, IsExportAt, NamesExport, basic_name, DenotesType, predeclared, defined, imported}
 use Rattle.types_declared.specs.Written.{pointer, slice}
 use Rattle.types_declared.specs.WrittenView.{DeclaresPlain}
 use Rattle.types_declared.specs.WrittenView as found
@@ -31,7 +31,7 @@ one_import_path p d v w a b = one_path one_string_value p.files (laid_of p) d v 
 -- a qualified identifier denotes at most one export
 one_export_of : (p : Package) (d file name : ℕ) (e f : Export) → IsExportOf p d file name e → IsExportOf p d file name f → e ≡ f
 one_export_of p d file name e f a b =
-    same_Some e f (sym a.exported ∙ ap (λ v. (p.interface_of v).exported (spelled p file name)) (one_import_path p d a.path b.path a.imports b.imports) ∙
+    same_Some e f (sym a.exported ∙ ap (λ v. (p.export_data_of v).exported (spelled p file name)) (one_import_path p d a.path b.path a.imports b.imports) ∙
     b.exported)
 
 pub one_export : (p : Package) → WellFormed p.layout → (file qualifier name : ℕ) (e f : Export) → IsExportAt p file qualifier name e →
@@ -62,26 +62,26 @@ one_declared p d _ _ (found.defined {rank = r} x) (found.defined {rank = s} y) =
 
 -- The type that each form of type expression names
 
-by_declaration : (p : Package) (file n : ℕ) (t : PlainType) → Names p file (Local n) t → (d : ℕ) × (BindsToken p file n d × DeclaresPlain p d t)
+by_declaration : (p : Package) (file n : ℕ) (t : PlainType) → DenotesType p file (Local n) t → (d : ℕ) × (BindsToken p file n d × DeclaresPlain p d t)
 by_declaration p file n _ (predeclared {d = d} b binds is) = (d, (binds, found.predeclared b is))
 by_declaration p file n _ (defined {d = d} {rank = r} binds is) = (d, (binds, found.defined {rank = r} is))
 
-by_export : (p : Package) (file q dot n : ℕ) (t : PlainType) → Names p file (Imported q dot n) t → NamesExport p file q n t
+by_export : (p : Package) (file q dot n : ℕ) (t : PlainType) → DenotesType p file (Imported q dot n) t → NamesExport p file q n t
 by_export p file q dot n t (imported e) = e
 
-by_target : (p : Package) (file s : ℕ) (tree : TypeTree) (t : PlainType) → Names p file (Pointer s tree) t → (v : PlainType) ×
-    ((t ≡ PointerType v) × Names p file tree v)
+by_target : (p : Package) (file s : ℕ) (tree : TypeTree) (t : PlainType) → DenotesType p file (Pointer s tree) t → (v : PlainType) ×
+    ((t ≡ PointerType v) × DenotesType p file tree v)
 by_target p file s tree _ (pointer {t = v} names) = (v, (refl, names))
 
-by_element : (p : Package) (file o c : ℕ) (tree : TypeTree) (t : PlainType) → Names p file (Slice o c tree) t → (v : PlainType) ×
-    ((t ≡ SliceType v) × Names p file tree v)
+by_element : (p : Package) (file o c : ℕ) (tree : TypeTree) (t : PlainType) → DenotesType p file (Slice o c tree) t → (v : PlainType) ×
+    ((t ≡ SliceType v) × DenotesType p file tree v)
 by_element p file o c tree _ (slice {t = v} names) = (v, (refl, names))
 
 abbrev type_or : PlainType → Meaning → PlainType
 type_or t (TypeName u) = u
 type_or t m = t
 
-one_local : (p : Package) → WellFormed p.layout → (file n : ℕ) (t u : PlainType) → Names p file (Local n) t → Names p file (Local n) u → t ≡ u
+one_local : (p : Package) → WellFormed p.layout → (file n : ℕ) (t u : PlainType) → DenotesType p file (Local n) t → DenotesType p file (Local n) u → t ≡ u
 one_local p w file n t u a b =
     let x = by_declaration p file n t a in
     let y = by_declaration p file n u b in
@@ -92,7 +92,7 @@ one_imported p w file q n t u a b =
     ap (type_or t) (sym a.is_type ∙ ap (λ e. e.meaning) (one_export p w file q n a.export b.export a.exported b.exported) ∙ b.is_type)
 
 -- a type expression names at most one type
-pub one_named : (p : Package) → WellFormed p.layout → (file : ℕ) (tree : TypeTree) (t u : PlainType) → Names p file tree t → Names p file tree u → t ≡ u
+pub one_named : (p : Package) → WellFormed p.layout → (file : ℕ) (tree : TypeTree) (t u : PlainType) → DenotesType p file tree t → DenotesType p file tree u → t ≡ u
 one_named p w file (Local n) t u a b = one_local p w file n t u a b
 one_named p w file (Imported q dot n) t u a b = one_imported p w file q n t u (by_export p file q dot n t a) (by_export p file q dot n u b)
 one_named p w file (Pointer s tree) t u a b =

@@ -8,14 +8,14 @@ use Rattle.types_expr.specs.declared.symbol.Symbol.{Symbol}
 use Rattle.types_expr.specs.Types.{PlainType, BasicType, Defined, Pointer, Slice, Underlying, Plain, PointerTo, SliceOf}
 use Rattle.types_expr.specs.Types.{Struct as StructOf}
 use Rattle.types_declared.specs.Package.{Package, PlacedType, package_types, symbol_in}
-use Rattle.types_declared.specs.Written.{Names}
+use Rattle.types_declared.specs.Written.{DenotesType}
 use Rattle.types_declared.specs.Definitions.{HasUnderlying, basic, pointer, slice, struct, named, imported}
 use Rattle.types_declared.proofs.Naming.{one_named}
 
 -- a definition of the package with this body has the underlying type
 abbrev pub BodyHas : Package → (rank : ℕ) → PlacedType → BodyTree → Underlying → Type 0
 BodyHas p rank d (Struct k o fs c) u = u ≡ StructOf (symbol_in p rank)
-BodyHas p rank d (Other tree) u = (t : PlainType) × (Names p d.file tree t × HasUnderlying p t u)
+BodyHas p rank d (Other tree) u = (t : PlainType) × (DenotesType p d.file tree t × HasUnderlying p t u)
 
 pub record OwnHas (p : Package) (rank : ℕ) (u : Underlying) : Type 0 where
   pub definition : PlacedType
@@ -24,7 +24,7 @@ pub record OwnHas (p : Package) (rank : ℕ) (u : Underlying) : Type 0 where
 
 pub record ImportedHas (p : Package) (s : Symbol) (u : Underlying) : Type 0 where
   pub other : s.package ≡ p.path → ⊥
-  pub is : u ≡ ((p.interface_of s.package).definition s.rank).underlying
+  pub is : u ≡ ((p.export_data_of s.package).definition s.rank).underlying
 
 abbrev pub TypeHas : Package → PlainType → Underlying → Type 0
 TypeHas p (BasicType b) u = u ≡ Plain b
@@ -46,7 +46,7 @@ own_has : (p : Package) (s : Symbol) (u : Underlying) → s.package ≡ p.path �
 own_has p s u e h = elim h [ inl own ↦ own.1 | inr i ↦ absurd (i.other e) ]
 
 imported_has : (p : Package) (s : Symbol) (u : Underlying) → (s.package ≡ p.path → ⊥) → TypeHas p (Defined s) u →
-    u ≡ ((p.interface_of s.package).definition s.rank).underlying
+    u ≡ ((p.export_data_of s.package).definition s.rank).underlying
 imported_has p s u ne h = elim h [ inl own ↦ absurd (ne own.0) | inr i ↦ i.is ]
 
 -- the underlying type of a definition, by its body

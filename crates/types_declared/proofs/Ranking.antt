@@ -8,9 +8,9 @@ use Rattle.std.proofs.lemmas.Bool.{true≢false, cases_lt, cases_order}
 use Rattle.std.proofs.lemmas.Option.{slice_get_within, slice_get-map, none-some}
 use Rattle.go_scope.specs.declared.model.Position.{Position}
 use Rattle.go_scope.specs.Bindings.{Layout, is_implied}
-use Rattle.go_scope.specs.Table.{StandsAt}
+use Rattle.go_scope.specs.Table.{LiesAt}
 use Rattle.types_declared.specs.Package.{IsRanked}
-use Rattle.types_declared.specs.ByToken.{Numbers, IsFirstBelow, AreRanksOf, number_if, number_of, number_in}
+use Rattle.go_scope.specs.ByToken.{Numbers, IsFirstBelow, AreRanksOf, number_if, number_at_place_of, row_number}
 use Rattle.types_declared.specs.RanksView.{IsRankOf, AreRanks}
 use Rattle.go_scope.proofs.TokenRows.{place_or}
 
@@ -18,7 +18,7 @@ use Rattle.go_scope.proofs.TokenRows.{place_or}
 abbrev own_place : Layout → ℕ → Position
 own_place l d = record { file = (l.place d).file; index = (l.place d).index }
 
-same_place : (l : Layout) (d : ℕ) (p : Position) → StandsAt l p d → p ≡ own_place l d
+same_place : (l : Layout) (d : ℕ) (p : Position) → LiesAt l p d → p ≡ own_place l d
 same_place l d p s = ap₂ (λ f i. record { file = f; index = i }) (sym s.1) (sym s.2)
 
 -- the rank found at a token is the rank of its position in the list
@@ -35,7 +35,7 @@ rank_at places l d false e (Some rank) h = record {
 
 pub ranks_from : (places : List Position) (l : Layout) (numbers : Numbers) (size : ℕ) (ranks : List (Option ℕ)) →
     AreRanksOf places (length places) numbers → length ranks ≡ size →
-    ((k : ℕ) → k < size → number_in ranks k ≡ number_of l numbers k) → AreRanks (λ p. p) places l size ranks
+    ((k : ℕ) → k < size → row_number ranks k ≡ number_at_place_of l numbers k) → AreRanks (λ p. p) places l size ranks
 ranks_from places l numbers size ranks h all each = record {
   all = all;
   each = λ d lt. subst (IsRankOf (λ p. p) places l d) (sym (each d lt))
@@ -54,7 +54,7 @@ ranked_item f xs l d rank r =
     record {
       item = found.0;
       has_rank = found.1.0;
-      stands = subst (λ p. StandsAt l p d) (sym found.1.1) r.stands;
+      stands = subst (λ p. LiesAt l p d) (sym found.1.1) r.stands;
       first = λ k x lt e s. r.first k (f x) lt (slice_get-map f xs k ∙ ap (option_map f) e) s;
     }
 
@@ -64,7 +64,7 @@ ranked_place f xs l d rank r = record {
   has_rank = slice_get-map f xs rank ∙ ap (option_map f) r.has_rank;
   stands = r.stands;
   first = λ k p lt e s. let found = item_from f (slice_get xs k) p (sym (slice_get-map f xs k) ∙ e) in
-      r.first k found.0 lt found.1.0 (subst (λ q. StandsAt l q d) (sym found.1.1) s);
+      r.first k found.0 lt found.1.0 (subst (λ q. LiesAt l q d) (sym found.1.1) s);
 }
 
 rank_of_item : {X : Type 0} (f : X → Position) (xs : List X) (l : Layout) (d : ℕ) (o : Option ℕ) → IsRankOf (λ p. p) (map f xs) l d o → IsRankOf f xs l d o
@@ -76,17 +76,17 @@ pub ranks_of_items : {X : Type 0} (f : X → Position) (xs : List X) (l : Layout
     AreRanks (λ p. p) places l size ranks → AreRanks f xs l size ranks
 ranks_of_items f xs l size places ranks e h = record {
   all = h.all;
-  each = λ d lt. rank_of_item f xs l d (number_in ranks d) (subst (λ ps. IsRankOf (λ p. p) ps l d (number_in ranks d)) e (h.each d lt));
+  each = λ d lt. rank_of_item f xs l d (row_number ranks d) (subst (λ ps. IsRankOf (λ p. p) ps l d (row_number ranks d)) e (h.each d lt));
 }
 
 -- one more rank is pushed
 pub push_each : (f : ℕ → Option ℕ) (xs ys : List (Option ℕ)) (d : ℕ) (x : Option ℕ) → ys ≡ xs ++ (x ∷ []) → length xs ≡ d → x ≡ f d →
-    ((k : ℕ) → k < d → number_in xs k ≡ f k) →
-    (k : ℕ) → k < d + 1 → number_in ys k ≡ f k
+    ((k : ℕ) → k < d → row_number xs k ≡ f k) →
+    (k : ℕ) → k < d + 1 → row_number ys k ≡ f k
 push_each f xs ys d x e len is each k lt = elim (cases_lt k d) [
-  | inl below ↦ ap (λ z. number_in z k) e ∙ get_or-append xs (x ∷ []) None k (subst (λ n. k < n) (sym len) below) ∙ each k below
+  | inl below ↦ ap (λ z. row_number z k) e ∙ get_or-append xs (x ∷ []) None k (subst (λ n. k < n) (sym len) below) ∙ each k below
   | inr ge ↦ let same : k ≡ length xs = omega (arith, len) in
-      ap (λ z. number_in z k) e ∙ ap (number_in (xs ++ (x ∷ []))) same ∙ get_or-append_seam xs x [] None ∙ is ∙ ap f (sym len ∙ sym same)
+      ap (λ z. row_number z k) e ∙ ap (row_number (xs ++ (x ∷ []))) same ∙ get_or-append_seam xs x [] None ∙ is ∙ ap f (sym len ∙ sym same)
 ]
 
 -- an identifier has at most one rank

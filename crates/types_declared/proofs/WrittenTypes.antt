@@ -5,15 +5,15 @@ use Rattle.std.specs.Borrow.{Bor}
 use Rattle.std.proofs.lemmas.Option.{none-some}
 use Rattle.types_expr.specs.declared.types.GoType.{GoType}
 use Rattle.types_expr.specs.View.{type_of}
-use Rattle.types_expr.specs.declared.interfaces.Export.{Export}
-use Rattle.types_declared.specs.InterfacesView.{export_of}
+use Rattle.types_expr.specs.declared.exports.Export.{Export}
+use Rattle.types_declared.specs.ExportTablesView.{export_of}
 use Rattle.types_declared.specs.Package as plain
 use Rattle.go_ast.specs.Tree.{TypeTree, Local, Imported, Pointer, Slice}
 use Rattle.types_expr.specs.declared.types.Basic.{Basic}
 use Rattle.types_expr.specs.Types.{PlainType, TypeName}
 use Rattle.types_expr.specs.Types.{Pointer as PointerType, Slice as SliceType}
 use Rattle.types_declared.specs.Package.{Package, type_place, package_types, spelled}
-use Rattle.types_declared.specs.Written.{BindsToken, IsPredeclared, DeclaresType, ImportsPath, IsExportOf, IsExportAt, NamesExport, basic_name, Names}
+use Rattle.types_declared.specs.Written.{BindsToken, IsPredeclared, DeclaresType, ImportsPath, IsExportOf, IsExportAt, NamesExport, basic_name, DenotesType}
 use Rattle.types_declared.specs.Written.{predeclared, defined, imported, pointer, slice, Mentions, by_name, by_pointer, by_slice}
 use Rattle.types_declared.specs.WrittenView.{DeclaresPlain, IsTypeDeclared, IsNamedBy, IsMentionedBy, IsOneExport}
 use Rattle.types_declared.specs.WrittenView as found
@@ -28,17 +28,17 @@ declares_none p d basic none _ (found.defined {rank = r} is) = none r is
 
 -- An unqualified name
 
-pub names_nothing : (p : Package) (file name : ℕ) → ((d : ℕ) → BindsToken p file name d → ⊥) → (t : PlainType) → Names p file (Local name) t → ⊥
+pub names_nothing : (p : Package) (file name : ℕ) → ((d : ℕ) → BindsToken p file name d → ⊥) → (t : PlainType) → DenotesType p file (Local name) t → ⊥
 names_nothing p file name none _ (predeclared {d = d} b binds is) = none d binds
 names_nothing p file name none _ (defined {d = d} binds declares) = none d binds
 
-declared_of : (p : Package) (file name d : ℕ) → ((e : ℕ) → BindsToken p file name e → e ≡ d) → (t : PlainType) → Names p file (Local name) t →
+declared_of : (p : Package) (file name d : ℕ) → ((e : ℕ) → BindsToken p file name e → e ≡ d) → (t : PlainType) → DenotesType p file (Local name) t →
     DeclaresPlain p d t
 declared_of p file name d only _ (predeclared {d = e} b binds is) = found.predeclared b (subst (λ x. IsPredeclared p x (basic_name b)) (only e binds) is)
 declared_of p file name d only _ (defined {d = e} {rank = r} binds declares) =
     found.defined {rank = r} (subst (λ x. DeclaresType p x r) (only e binds) declares)
 
-named_of : (p : Package) (file name d : ℕ) → BindsToken p file name d → (t : PlainType) → DeclaresPlain p d t → Names p file (Local name) t
+named_of : (p : Package) (file name d : ℕ) → BindsToken p file name d → (t : PlainType) → DeclaresPlain p d t → DenotesType p file (Local name) t
 named_of p file name d binds _ (found.predeclared b is) = predeclared {d = d} b binds is
 named_of p file name d binds _ (found.defined {rank = r} is) = defined {d = d} {rank = r} binds is
 
@@ -49,7 +49,7 @@ named_by p file name d (Some t) binds only h = named_of p file name d binds t h
 
 -- A qualified identifier
 
-no_import : (p : Package) (file q dot n : ℕ) → ((t : PlainType) → NamesExport p file q n t → ⊥) → (t : PlainType) → Names p file (Imported q dot n) t → ⊥
+no_import : (p : Package) (file q dot n : ℕ) → ((t : PlainType) → NamesExport p file q n t → ⊥) → (t : PlainType) → DenotesType p file (Imported q dot n) t → ⊥
 no_import p file q dot n none t (imported e) = none t e
 
 pub named_import : (p : Package) (file q dot n : ℕ) (o : Option PlainType) →
@@ -60,10 +60,10 @@ named_import p file q dot n (Some t) h = imported h
 
 -- A pointer or slice type
 
-no_pointer : (p : Package) (file s : ℕ) (tree : TypeTree) → ((t : PlainType) → Names p file tree t → ⊥) → (t : PlainType) → Names p file (Pointer s tree) t → ⊥
+no_pointer : (p : Package) (file s : ℕ) (tree : TypeTree) → ((t : PlainType) → DenotesType p file tree t → ⊥) → (t : PlainType) → DenotesType p file (Pointer s tree) t → ⊥
 no_pointer p file s tree none _ (pointer {t = t} names) = none t names
 
-no_slice : (p : Package) (file o c : ℕ) (tree : TypeTree) → ((t : PlainType) → Names p file tree t → ⊥) → (t : PlainType) → Names p file (Slice o c tree) t → ⊥
+no_slice : (p : Package) (file o c : ℕ) (tree : TypeTree) → ((t : PlainType) → DenotesType p file tree t → ⊥) → (t : PlainType) → DenotesType p file (Slice o c tree) t → ⊥
 no_slice p file o c tree none _ (slice {t = t} names) = none t names
 
 pub named_pointer : (p : Package) (file s : ℕ) (tree : TypeTree) (o : Option PlainType) → IsNamedBy p file tree o →
@@ -80,13 +80,13 @@ named_slice p file o c tree (Some t) h = slice h
 
 pub export_by_path : (p : Package) (d file name : ℕ) (path : List ℕ) (o : Option (Bor Export)) → ImportsPath p d path →
     ((other : List ℕ) → ImportsPath p d other → other ≡ path) →
-    option_map (λ e. export_of e.now) o ≡ (p.interface_of path).exported (spelled p file name) → IsOneExport (IsExportOf p d file name) o
+    option_map (λ e. export_of e.now) o ≡ (p.export_data_of path).exported (spelled p file name) → IsOneExport (IsExportOf p d file name) o
 export_by_path p d file name path None is only e = λ x h.
-    none-some x (e ∙ sym (ap (λ v. (p.interface_of v).exported (spelled p file name)) (only h.path h.imports)) ∙ h.exported)
+    none-some x (e ∙ sym (ap (λ v. (p.export_data_of v).exported (spelled p file name)) (only h.path h.imports)) ∙ h.exported)
 export_by_path p d file name path (Some x) is only e = (
   record { path = path; imports = is; exported = sym e },
   λ other h. ap (λ o. unwrap_or o (export_of x.now))
-      (sym h.exported ∙ ap (λ v. (p.interface_of v).exported (spelled p file name)) (only h.path h.imports) ∙ sym e),
+      (sym h.exported ∙ ap (λ v. (p.export_data_of v).exported (spelled p file name)) (only h.path h.imports) ∙ sym e),
 )
 
 pub export_by_import : (p : Package) (file q name d : ℕ) (o : Option (Bor Export)) → BindsToken p file q d → ((e : ℕ) → BindsToken p file q e → e ≡ d) →

@@ -9,8 +9,8 @@ use Rattle.types_expr.specs.World.{Definition, Field, Method}
 use Rattle.types_expr.specs.WorldView.{no_definition}
 use Rattle.types_declared.specs.Laid.{is_exported}
 use Rattle.types_declared.specs.Package.{Package, PlacedType, PlacedFunction, package_types, package_functions, symbol_in, spelled}
-use Rattle.types_declared.specs.Written.{BindsToken, DeclaresType, Names, IsTypeOf}
-use Rattle.types_declared.specs.Bound.{HasSignature}
+use Rattle.types_declared.specs.Written.{BindsToken, DeclaresType, DenotesType, IsTypeOf}
+use Rattle.types_declared.specs.MeaningOf.{HasSignature}
 
 -- The underlying type of a type, of this package or of an imported one (the Go specification, "Underlying types"). It is found through
 -- definitions, broken or not, up to a predeclared type, a pointer, a slice or a struct. A struct is identified by the definition that
@@ -22,10 +22,10 @@ pub data HasUnderlying (p : Package) : PlainType → Underlying → Type 0 where
   struct : {rank : ℕ} {d : PlacedType} {k o c : ℕ} {fs : _} → slice_get (package_types p) rank ≡ Some d → d.spec.body ≡ Struct k o fs c →
       HasUnderlying p (Defined (symbol_in p rank)) (StructOf (symbol_in p rank))
   named : {rank : ℕ} {d : PlacedType} {tree : TypeTree} {t : PlainType} {u : Underlying} → slice_get (package_types p) rank ≡ Some d →
-      d.spec.body ≡ Other tree → Names p d.file tree t →
+      d.spec.body ≡ Other tree → DenotesType p d.file tree t →
       HasUnderlying p t u → HasUnderlying p (Defined (symbol_in p rank)) u
   imported : {path : List ℕ} {rank : ℕ} → (path ≡ p.path → ⊥) →
-      HasUnderlying p (Defined (record { «package» = path; rank = rank })) (((p.interface_of path).definition rank).underlying)
+      HasUnderlying p (Defined (record { «package» = path; rank = rank })) (((p.export_data_of path).definition rank).underlying)
 
 -- Fields: each name of each struct, in the order of path and offset; the rank of a field is its index in this list
 
@@ -90,7 +90,7 @@ pub data HasFieldNamed (p : Package) (definition : ℕ) (name : List ℕ) : Type
       IsFieldOf p rank name field f → HasFieldNamed p definition name
   of_imported : {path : List ℕ} {rank : ℕ} {f : Field} →
       HasUnderlying p (Defined (symbol_in p definition)) (StructOf (record { «package» = path; rank = rank })) → (path ≡ p.path → ⊥) →
-      ((p.interface_of path).definition rank).field name ≡ Some f → f.exported ≡ true → HasFieldNamed p definition name
+      ((p.export_data_of path).definition rank).field name ≡ Some f → f.exported ≡ true → HasFieldNamed p definition name
 
 -- the method f counts: no field of the type has its name, and no earlier method of the definition has it
 pub record IsCountingMethod (p : Package) (definition : ℕ) (name : List ℕ) (rank : ℕ) (f : PlacedFunction) : Type 0 where
@@ -101,20 +101,20 @@ pub record IsCountingMethod (p : Package) (definition : ℕ) (name : List ℕ) (
 -- Definitions as expressions see them. A definition with a broken field type is broken, and no rule looks at its fields.
 
 -- the definition's field of this name, with its type; none where no field of this name counts or its type is broken
-abbrev pub IsField : Package → ℕ → List ℕ → Option Field → Type 0
-IsField p definition name None = (rank : ℕ) (f : PlacedField) (t : PlainType) → IsCountingField p definition name rank f → IsTypeOf p f.file f.type_use t → ⊥
-IsField p definition name (Some x) = (f : PlacedField) × (IsCountingField p definition name x.symbol.rank f × IsTypeOf p f.file f.type_use x.type_of
+abbrev pub IsFoundField : Package → ℕ → List ℕ → Option Field → Type 0
+IsFoundField p definition name None = (rank : ℕ) (f : PlacedField) (t : PlainType) → IsCountingField p definition name rank f → IsTypeOf p f.file f.type_use t → ⊥
+IsFoundField p definition name (Some x) = (f : PlacedField) × (IsCountingField p definition name x.symbol.rank f × IsTypeOf p f.file f.type_use x.type_of
     × (x.symbol ≡ symbol_in p x.symbol.rank) × (x.exported ≡ is_exported name))
 
 -- the signature of the function f; none where a type expression in it is broken
-abbrev pub IsSignature : Package → PlacedFunction → Option Signature → Type 0
-IsSignature p f None = (s : Signature) → HasSignature p f s → ⊥
-IsSignature p f (Some s) = HasSignature p f s
+abbrev pub IsFoundSignature : Package → PlacedFunction → Option Signature → Type 0
+IsFoundSignature p f None = (s : Signature) → HasSignature p f s → ⊥
+IsFoundSignature p f (Some s) = HasSignature p f s
 
 -- the definition's method of this name, with its signature and kind of receiver; none where no method of this name counts
-abbrev pub IsMethod : Package → ℕ → List ℕ → Option Method → Type 0
-IsMethod p definition name None = (rank : ℕ) (f : PlacedFunction) → IsCountingMethod p definition name rank f → ⊥
-IsMethod p definition name (Some x) = (f : PlacedFunction) × (c : IsCountingMethod p definition name x.symbol.rank f) × IsSignature p f x.signature
+abbrev pub IsFoundMethod : Package → ℕ → List ℕ → Option Method → Type 0
+IsFoundMethod p definition name None = (rank : ℕ) (f : PlacedFunction) → IsCountingMethod p definition name rank f → ⊥
+IsFoundMethod p definition name (Some x) = (f : PlacedFunction) × (c : IsCountingMethod p definition name x.symbol.rank f) × IsFoundSignature p f x.signature
     × (x.on_pointer ≡ is_on_pointer c.is_method.receiver) × (x.symbol ≡ symbol_in p x.symbol.rank) × (x.exported ≡ is_exported name)
 
 -- the underlying type of the definition of this rank; where it has none, a struct of its own
@@ -125,12 +125,12 @@ pub data IsUnderlyingOf (p : Package) (rank : ℕ) : Underlying → Type 0 where
 -- d has the underlying type, the fields and the methods of the definition of this rank
 pub record IsDefinition (p : Package) (rank : ℕ) (d : Definition) : Type 0 where
   pub underlying : IsUnderlyingOf p rank d.underlying
-  pub fields : (name : List ℕ) → IsField p rank name (d.field name)
-  pub methods : (name : List ℕ) → IsMethod p rank name (d.method name)
+  pub fields : (name : List ℕ) → IsFoundField p rank name (d.field name)
+  pub methods : (name : List ℕ) → IsFoundMethod p rank name (d.method name)
 
 -- the function gives the definition of each symbol, of this package and of imported ones; there is at most one such function
 pub record AreDefinitions (p : Package) (definition : Symbol → Definition) : Type 0 where
   pub own : (rank : ℕ) (d : PlacedType) → slice_get (package_types p) rank ≡ Some d → IsDefinition p rank (definition (symbol_in p rank))
   pub beyond : (rank : ℕ) → slice_get (package_types p) rank ≡ None → definition (symbol_in p rank) ≡ no_definition (symbol_in p rank)
   pub imported : (path : List ℕ) (rank : ℕ) → (path ≡ p.path → ⊥) →
-      definition (record { «package» = path; rank = rank }) ≡ (p.interface_of path).definition rank
+      definition (record { «package» = path; rank = rank }) ≡ (p.export_data_of path).definition rank

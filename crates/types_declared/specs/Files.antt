@@ -9,12 +9,12 @@ use Rattle.go_ast.specs.Tree.{Group, single, several, ImportTree, FileTree}
 use Rattle.go_ast.specs.SourceFile.{SourceFile, spelling_of}
 
 -- a file with its rank
-abbrev pub Ranked : Type 0
-Ranked = ℕ × SourceFile
+abbrev pub RankedSource : Type 0
+RankedSource = ℕ × SourceFile
 
 -- the files, each with its rank
-abbrev pub ranked : List SourceFile → List Ranked
-ranked files = enumerate_from 0 files
+abbrev pub ranked_files : List SourceFile → List RankedSource
+ranked_files files = enumerate_from 0 files
 
 -- the specifications of a declaration: the single one, or those in its parentheses
 abbrev pub group_items : {X : Type 0} → Group X → List X

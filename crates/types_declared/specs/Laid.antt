@@ -7,7 +7,7 @@ use Rattle.go_ast.specs.SourceFile.{SourceFile}
 use Rattle.go_scope.specs.declared.model.Role.{Role}
 use Rattle.go_scope.specs.declared.model.Role.TheVariants.{NotLexical}
 use Rattle.go_scope.specs.declared.model.Purpose.TheVariants as purpose
-use Rattle.go_scope.specs.Scoped.{ScopedPackage, layout_in, names_in}
+use Rattle.go_scope.specs.Packages.{ScopedPackage, layout_in, names_in}
 use Rattle.go_scope.specs.Bindings.{Layout, Names}
 use Rattle.types_declared.specs.Files.{HasLiteral}
 

@@ -6,14 +6,13 @@ pub mod Files
 pub mod Laid
 pub mod PackageNames
 pub mod Appending
-pub use Rattle.go_scope.specs.ByToken
-pub mod Spread
+pub mod Reachability
 pub mod Package
 pub mod DeclaredView
 pub mod RanksView
-pub mod InterfacesView
+pub mod ExportTablesView
 pub mod Written
-pub mod Bound
+pub mod MeaningOf
 pub mod Definitions
 pub mod PackageView
 pub mod WrittenView

@@ -6,8 +6,8 @@ use Rattle.go_ast.specs.Tree.{TypeTree, GlobalTree, TypeSpecTree, FuncTree, Decl
 use Rattle.go_ast.specs.SourceFile.{SourceFile, spelling_of}
 use Rattle.go_scope.specs.declared.model.Position.{Position}
 use Rattle.go_scope.specs.Bindings.{Layout, Names}
-use Rattle.go_scope.specs.Table.{StandsAt}
-use Rattle.types_declared.specs.Files.{Ranked, ranked, group_items}
+use Rattle.go_scope.specs.Table.{LiesAt}
+use Rattle.types_declared.specs.Files.{RankedSource, ranked_files, group_items}
 use Rattle.types_declared.specs.Laid.{Laid}
 use Rattle.types_expr.specs.declared.symbol.Symbol.{Symbol}
 use Rattle.types_expr.specs.Types.{Meaning}
@@ -19,20 +19,20 @@ pub record Export : Type 0 where
 
 -- The export data of a package: its name, its exported package-level names, and its type definitions by rank. Each definition has its
 -- underlying type, its fields and its methods.
-pub record Interface : Type 0 where
+pub record ExportData : Type 0 where
   pub name : List ℕ
   pub exported : List ℕ → Option Export
   pub definition : ℕ → Definition
 
 -- A package to check. In its layout and names each import without a name declares the name of the imported package. Its size is the number
--- of its identifiers, and interface_of gives the export data of the package at a path.
+-- of its identifiers, and export_data_of gives the export data of the package at a path.
 pub record Package : Type 0 where
   pub path : List ℕ
   pub files : List SourceFile
   pub layout : Layout
   pub names : Names
   pub size : ℕ
-  pub interface_of : List ℕ → Interface
+  pub export_data_of : List ℕ → ExportData
 
 -- the laid out identifiers of a package
 abbrev pub laid_of : Package → Laid
@@ -83,28 +83,28 @@ decl_functions file (TypeDecl p g s) = []
 decl_functions file (FuncDecl p f s) = record { file = file; function = f } ∷ []
 
 -- the variables of a file
-abbrev pub variables_in : Ranked → List PlacedVariable
+abbrev pub variables_in : RankedSource → List PlacedVariable
 variables_in r = flat_map (decl_variables r.0) r.1.tree.decls
 
 -- the type definitions of a file
-abbrev pub types_in : Ranked → List PlacedType
+abbrev pub types_in : RankedSource → List PlacedType
 types_in r = flat_map (decl_types r.0) r.1.tree.decls
 
 -- the functions of a file
-abbrev pub functions_in : Ranked → List PlacedFunction
+abbrev pub functions_in : RankedSource → List PlacedFunction
 functions_in r = flat_map (decl_functions r.0) r.1.tree.decls
 
 -- the package-level variables of files; the rank of one is its index in this list
 abbrev pub declared_variables : List SourceFile → List PlacedVariable
-declared_variables files = flat_map variables_in (ranked files)
+declared_variables files = flat_map variables_in (ranked_files files)
 
 -- the type definitions of files; the rank of one is its index in this list
 abbrev pub declared_types : List SourceFile → List PlacedType
-declared_types files = flat_map types_in (ranked files)
+declared_types files = flat_map types_in (ranked_files files)
 
 -- the functions, methods and functions `init` of files; the rank of one is its index in this list
 abbrev pub declared_functions : List SourceFile → List PlacedFunction
-declared_functions files = flat_map functions_in (ranked files)
+declared_functions files = flat_map functions_in (ranked_files files)
 
 -- the package-level variables of a package, by rank
 abbrev pub package_variables : Package → List PlacedVariable
@@ -136,8 +136,8 @@ function_place f = record { file = f.file; index = f.function.name }
 pub record IsRanked {X : Type 0} (place_of : X → Position) (xs : List X) (l : Layout) (d rank : ℕ) : Type 0 where
   pub item : X
   pub has_rank : slice_get xs rank ≡ Some item
-  pub stands : StandsAt l (place_of item) d
-  pub first : (r : ℕ) (x : X) → r < rank → slice_get xs r ≡ Some x → StandsAt l (place_of x) d → ⊥
+  pub stands : LiesAt l (place_of item) d
+  pub first : (r : ℕ) (x : X) → r < rank → slice_get xs r ≡ Some x → LiesAt l (place_of x) d → ⊥
 
 -- the symbol of the type definition of this rank: the package's path and the rank
 abbrev pub symbol_in : Package → ℕ → Symbol

@@ -1,8 +1,8 @@
 -- The names of imported packages, and the scope table in which imports without a name declare them.
 use Rattle.std.specs.Prelude.{ℕ, ◌≡◌, ◌<◌, true, List, Option, None}
 use Rattle.go_ast.specs.SourceFile.{SourceFile}
-use Rattle.go_scope.specs.Named.{is_unnamed_import, named}
-use Rattle.go_scope.specs.Scoped.{ScopedPackage}
+use Rattle.go_scope.specs.Named.{is_unnamed_import, with_names}
+use Rattle.go_scope.specs.Packages.{ScopedPackage}
 use Rattle.types_declared.specs.Laid.{Laid, laid_in, IsPathOf}
 
 -- name is the name of the package that the import u imports; none where it isn't known or u has no path
@@ -18,4 +18,4 @@ ArePackageNames files name_of p names = (u : ℕ) → u < p.size → is_unnamed_
 pub record IsLaidOver (files : List SourceFile) (name_of : (path : List ℕ) → Option (List ℕ)) (plain laid : ScopedPackage) : Type 0 where
   pub names : ℕ → Option (List ℕ)
   pub are_names : ArePackageNames files name_of (laid_in plain) names
-  pub is_named : laid ≡ named names plain
+  pub is_named : laid ≡ with_names names plain

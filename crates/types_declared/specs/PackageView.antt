@@ -2,16 +2,16 @@
 use Rattle.std.specs.Prelude.{ℕ, ◌≡◌, ◌<◌, List, Option, Some, None, length, map, slice_get, MatchOption}
 use Rattle.std.specs.Global.{Vec}
 use Rattle.go_ast.specs.SourceFile.{source_of}
-use Rattle.go_scope.specs.Scoped.{layout_in, names_in}
-use Rattle.types_declared.specs.declared.unit.Package.{Package}
-use Rattle.types_declared.specs.declared.unit.Index.{Index}
+use Rattle.go_scope.specs.Packages.{layout_in, names_in}
+use Rattle.types_declared.specs.declared.index.Package.{Package}
+use Rattle.types_declared.specs.declared.index.Index.{Index}
 use Rattle.types_declared.specs.Package as plain
 use Rattle.types_declared.specs.Package.{package_variables, package_types, package_functions, variable_place, type_place, function_place}
 use Rattle.types_declared.specs.Written.{ImportsPath}
-use Rattle.types_declared.specs.ByToken.{number_at, AreIdentifiers}
+use Rattle.go_scope.specs.ByToken.{numbers_in, AreIdentifiers}
 use Rattle.types_declared.specs.DeclaredView.{variable_of, type_of, function_of}
 use Rattle.types_declared.specs.RanksView.{AreRanks}
-use Rattle.types_declared.specs.InterfacesView.{interface_in}
+use Rattle.types_declared.specs.ExportTablesView.{export_data_in}
 
 -- the program's package, as the definitions see it
 abbrev pub package_of : Package → plain.Package
@@ -21,7 +21,7 @@ package_of p = record {
   layout = layout_in p.table.now;
   names = names_in p.table.now;
   size = length p.table.now.sites;
-  interface_of = interface_in p.interfaces.now;
+  export_data_of = export_data_in p.export_table.now;
 }
 
 -- the path at an index of a list of paths; none where there is none
@@ -43,5 +43,5 @@ pub record IsIndexOf (p : plain.Package) (index : Index) : Type 0 where
   pub variable_ranks : AreRanks variable_place (package_variables p) p.layout p.size index.ranks.variables.items
   pub type_ranks : AreRanks type_place (package_types p) p.layout p.size index.ranks.types.items
   pub function_ranks : AreRanks function_place (package_functions p) p.layout p.size index.ranks.functions.items
-  pub identifiers : AreIdentifiers p.layout p.size (number_at index.identifiers)
+  pub identifiers : AreIdentifiers p.layout p.size (numbers_in index.identifiers)
   pub paths : ArePaths p p.size index.paths.items

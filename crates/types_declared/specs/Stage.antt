@@ -3,9 +3,9 @@ use Rattle.std.specs.Prelude.{◌⊎◌}
 use Rattle.types_declared.specs.declared.fault.Fault.{Fault}
 
 -- the stage P has no fault
-abbrev pub HasNone : (Fault → Type 0) → Type 0
-HasNone P = (f : Fault) → P f → ⊥
+abbrev pub HasNoFault : (Fault → Type 0) → Type 0
+HasNoFault P = (f : Fault) → P f → ⊥
 
 -- f is a fault of the stage P, or where P has none, a fault of the later stages
 abbrev pub FirstOf : (Fault → Type 0) → (Fault → Type 0) → Fault → Type 0
-FirstOf P later f = P f ⊎ (HasNone P × later f)
+FirstOf P later f = P f ⊎ (HasNoFault P × later f)

@@ -43,7 +43,7 @@ basic_name basic.String = codes "string"
 pub record IsExportOf (p : Package) (d file name : ℕ) (e : Export) : Type 0 where
   pub path : List ℕ
   pub imports : ImportsPath p d path
-  pub exported : (p.interface_of path).exported (spelled p file name) ≡ Some e
+  pub exported : (p.export_data_of path).exported (spelled p file name) ≡ Some e
 
 -- the qualified identifier `p.N` denotes the export e: p is bound to an import whose package exports e as N
 pub record IsExportAt (p : Package) (file qualifier name : ℕ) (e : Export) : Type 0 where
@@ -58,12 +58,12 @@ pub record NamesExport (p : Package) (file qualifier name : ℕ) (t : PlainType)
   pub is_type : export.meaning ≡ TypeName t
 
 -- the type expression names the type t, whether or not the definition of t is broken
-pub data Names (p : Package) (file : ℕ) : TypeTree → PlainType → Type 0 where
-  predeclared : {n d : ℕ} (b : Basic) → BindsToken p file n d → IsPredeclared p d (basic_name b) → Names p file (Local n) (BasicType b)
-  defined : {n d rank : ℕ} → BindsToken p file n d → DeclaresType p d rank → Names p file (Local n) (Defined (symbol_in p rank))
-  imported : {q d n : ℕ} {t : PlainType} → NamesExport p file q n t → Names p file (Imported q d n) t
-  pointer : {s : ℕ} {tree : TypeTree} {t : PlainType} → Names p file tree t → Names p file (Pointer s tree) (PointerType t)
-  slice : {o c : ℕ} {tree : TypeTree} {t : PlainType} → Names p file tree t → Names p file (Slice o c tree) (SliceType t)
+pub data DenotesType (p : Package) (file : ℕ) : TypeTree → PlainType → Type 0 where
+  predeclared : {n d : ℕ} (b : Basic) → BindsToken p file n d → IsPredeclared p d (basic_name b) → DenotesType p file (Local n) (BasicType b)
+  defined : {n d rank : ℕ} → BindsToken p file n d → DeclaresType p d rank → DenotesType p file (Local n) (Defined (symbol_in p rank))
+  imported : {q d n : ℕ} {t : PlainType} → NamesExport p file q n t → DenotesType p file (Imported q d n) t
+  pointer : {s : ℕ} {tree : TypeTree} {t : PlainType} → DenotesType p file tree t → DenotesType p file (Pointer s tree) (PointerType t)
+  slice : {o c : ℕ} {tree : TypeTree} {t : PlainType} → DenotesType p file tree t → DenotesType p file (Slice o c tree) (SliceType t)
 
 -- the type expressions of a definition: its type, or the types of its struct's fields
 abbrev pub written_types : BodyTree → List TypeTree
@@ -90,10 +90,10 @@ pub record IsWrittenIn (p : Package) (rank file : ℕ) (t : TypeTree) : Type 0 w
 --   type B struct { a *A }
 --   type C []B
 pub data IsBroken (p : Package) : ℕ → Type 0 where
-  by_itself : {rank file : ℕ} {t : TypeTree} → IsWrittenIn p rank file t → ((u : PlainType) → Names p file t u → ⊥) → IsBroken p rank
+  by_itself : {rank file : ℕ} {t : TypeTree} → IsWrittenIn p rank file t → ((u : PlainType) → DenotesType p file t u → ⊥) → IsBroken p rank
   through : {rank file other : ℕ} {t : TypeTree} → IsWrittenIn p rank file t → Mentions p file t other → IsBroken p other → IsBroken p rank
 
 -- t is the type of the type expression, which mentions no broken definition
 pub record IsTypeOf (p : Package) (file : ℕ) (tree : TypeTree) (t : PlainType) : Type 0 where
-  pub names : Names p file tree t
+  pub names : DenotesType p file tree t
   pub whole : (rank : ℕ) → Mentions p file tree rank → IsBroken p rank → ⊥

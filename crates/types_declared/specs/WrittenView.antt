@@ -4,11 +4,11 @@ use Rattle.go_ast.specs.Tree.{TypeTree}
 use Rattle.types_expr.specs.declared.types.Basic.{Basic}
 use Rattle.types_expr.specs.Types.{PlainType, BasicType, Defined}
 use Rattle.std.specs.Borrow.{Bor}
-use Rattle.types_expr.specs.declared.interfaces.Export.{Export}
-use Rattle.types_declared.specs.InterfacesView.{export_of}
+use Rattle.types_expr.specs.declared.exports.Export.{Export}
+use Rattle.types_declared.specs.ExportTablesView.{export_of}
 use Rattle.types_declared.specs.Package.{Package, symbol_in}
 use Rattle.types_declared.specs.Package as plain
-use Rattle.types_declared.specs.Written.{IsPredeclared, DeclaresType, basic_name, Names, Mentions, IsBroken, IsTypeOf}
+use Rattle.types_declared.specs.Written.{IsPredeclared, DeclaresType, basic_name, DenotesType, Mentions, IsBroken, IsTypeOf}
 
 -- the declaration d declares this type: a predeclared one, or a definition of the package
 pub data DeclaresPlain (p : Package) (d : ℕ) : PlainType → Type 0 where
@@ -21,7 +21,7 @@ IsTypeDeclared p d found = MatchOption found ((t : PlainType) → DeclaresPlain 
 
 -- named is the type that the type expression names, or none where it names none
 abbrev pub IsNamedBy : Package → ℕ → TypeTree → Option PlainType → Type 0
-IsNamedBy p file tree named = MatchOption named ((t : PlainType) → Names p file tree t → ⊥) (λ t. Names p file tree t)
+IsNamedBy p file tree named = MatchOption named ((t : PlainType) → DenotesType p file tree t → ⊥) (λ t. DenotesType p file tree t)
 
 -- mentioned is the rank of the only definition that the type expression mentions, or none where it mentions none
 abbrev pub IsMentionedBy : Package → ℕ → TypeTree → Option ℕ → Type 0

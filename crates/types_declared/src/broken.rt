@@ -4,13 +4,13 @@ ghost use Rattle.go_ast.specs.View.{type_view, list_view};
 ghost use Rattle.go_ast.specs.FileView.{field_view, body_view};
 ghost use Rattle.types_declared.specs.Package.{package_types};
 ghost use Rattle.types_declared.specs.Written.{written_types};
-ghost use Rattle.types_declared.specs.Spread.{Leads};
+ghost use Rattle.types_declared.specs.Reachability.{LinksTo};
 ghost use Rattle.types_declared.specs.Broken.{AddsLinks, IsTarget, IsOneTarget, IsTargetOfSome, NamesSome, AreMentions, AreBroken};
 ghost use Rattle.types_declared.specs.PackageView.{package_of, IsIndexOf};
 
 use crate::declared::TypeDef;
-use crate::spread::reached;
-use crate::unit::{Index, Package};
+use crate::index::{Index, Package};
+use crate::reachability::reached;
 use crate::written::{mentioned, named_type};
 use go_ast::tree::{FieldDecl, Item, TypeBody, TypeExpr};
 use std::alloc::{AllocError, Global};
@@ -27,31 +27,31 @@ pub fn note(links: &mut Vec<Vec<usize>>, to: usize, rank: usize) -> Result<(), A
 /// Whether a type expression names a type.
 fn names_type(
     alloc: Global,
-    unit: Package<'_>,
+    pkg: Package<'_>,
     index: &Index<'_>,
     file: usize,
     written: &TypeExpr,
 ) -> Result<bool, AllocError>
-    requires { IsIndexOf (package_of unit) index.now }
-    ensures { IfOk result (λ found. IsTrue found ↔ NamesSome (package_of unit.entry) file (type_view written.now)) }
+    requires { IsIndexOf (package_of pkg) index.now }
+    ensures { IfOk result (λ found. IsTrue found ↔ NamesSome (package_of pkg.entry) file (type_view written.now)) }
 {
-    let named = named_type(alloc, unit, index, file, written)?;
+    let named = named_type(alloc, pkg, index, file, written)?;
     Ok(named.is_some())
 }
 
 /// The target of a type expression: the rank of the definition that it mentions, or the number of definitions where it names no type.
 fn target(
     alloc: Global,
-    unit: Package<'_>,
+    pkg: Package<'_>,
     index: &Index<'_>,
     file: usize,
     written: &TypeExpr,
 ) -> Result<Option<usize>, AllocError>
-    requires { IsIndexOf (package_of unit) index.now }
-    ensures { IfOk result (IsOneTarget (package_of unit.entry) file (type_view written.now)) }
+    requires { IsIndexOf (package_of pkg) index.now }
+    ensures { IfOk result (IsOneTarget (package_of pkg.entry) file (type_view written.now)) }
 {
-    if names_type(alloc, unit, index, file, written)? {
-        Ok(mentioned(unit, index, file, written))
+    if names_type(alloc, pkg, index, file, written)? {
+        Ok(mentioned(pkg, index, file, written))
     } else {
         Ok(Some(index.declared.types.len()))
     }
@@ -67,17 +67,17 @@ struct DefinitionPlace {
 /// Links the target of one type expression to the definition that contains it.
 fn note_type(
     alloc: Global,
-    unit: Package<'_>,
+    pkg: Package<'_>,
     index: &Index<'_>,
     links: &mut Vec<Vec<usize>>,
     at: DefinitionPlace,
     written: &TypeExpr,
 ) -> Result<(), AllocError>
-    requires index { IsIndexOf (package_of unit) index.now }
-    requires size { length links.old.items ≡ suc (length (package_types (package_of unit))) }
-    ensures { OnOk result (AddsLinks links.old.items links.new.items at.rank (IsTarget (package_of unit.entry) at.file (type_view written.now))) }
+    requires index { IsIndexOf (package_of pkg) index.now }
+    requires size { length links.old.items ≡ suc (length (package_types (package_of pkg))) }
+    ensures { OnOk result (AddsLinks links.old.items links.new.items at.rank (IsTarget (package_of pkg.entry) at.file (type_view written.now))) }
 {
-    match target(alloc, unit, index, at.file, written)? {
+    match target(alloc, pkg, index, at.file, written)? {
         None => Ok(()),
         Some(to) => note(links, to, at.rank),
     }
@@ -86,18 +86,18 @@ fn note_type(
 /// Links the targets of the fields' type expressions to the definition that contains them.
 fn note_fields(
     alloc: Global,
-    unit: Package<'_>,
+    pkg: Package<'_>,
     index: &Index<'_>,
     links: &mut Vec<Vec<usize>>,
     at: DefinitionPlace,
     fields: &[Item<FieldDecl>],
 ) -> Result<(), AllocError>
-    requires index { IsIndexOf (package_of unit) index.now }
-    requires size { length links.old.items ≡ suc (length (package_types (package_of unit))) }
-    ensures { OnOk result (AddsLinks links.old.items links.new.items at.rank (IsTargetOfSome (package_of unit.entry) at.file (map (λ f. f.value.type_use) (list_view field_view fields.now)))) }
+    requires index { IsIndexOf (package_of pkg) index.now }
+    requires size { length links.old.items ≡ suc (length (package_types (package_of pkg))) }
+    ensures { OnOk result (AddsLinks links.old.items links.new.items at.rank (IsTargetOfSome (package_of pkg.entry) at.file (map (λ f. f.value.type_use) (list_view field_view fields.now)))) }
 {
     for field in fields {
-        note_type(alloc, unit, index, links, at, &field.value.field_type)?;
+        note_type(alloc, pkg, index, links, at, &field.value.field_type)?;
     }
     Ok(())
 }
@@ -106,28 +106,28 @@ fn note_fields(
 #[tactic(auto, unfolding(go_ast::specs::FileView::type_spec_view))]
 fn note_definition(
     alloc: Global,
-    unit: Package<'_>,
+    pkg: Package<'_>,
     index: &Index<'_>,
     links: &mut Vec<Vec<usize>>,
     rank: usize,
     definition: &TypeDef<'_>,
 ) -> Result<(), AllocError>
-    requires index { IsIndexOf (package_of unit) index.now }
-    requires size { length links.old.items ≡ suc (length (package_types (package_of unit))) }
-    ensures { OnOk result (AddsLinks links.old.items links.new.items rank (IsTargetOfSome (package_of unit.entry) definition.now.file (written_types (body_view definition.now.spec.now.body)))) }
+    requires index { IsIndexOf (package_of pkg) index.now }
+    requires size { length links.old.items ≡ suc (length (package_types (package_of pkg))) }
+    ensures { OnOk result (AddsLinks links.old.items links.new.items rank (IsTargetOfSome (package_of pkg.entry) definition.now.file (written_types (body_view definition.now.spec.now.body)))) }
 {
     let file = definition.file;
     let at = DefinitionPlace { rank, file };
     match &definition.spec.body {
-        TypeBody::Type(written) => note_type(alloc, unit, index, links, at, written),
-        TypeBody::Struct { fields, .. } => note_fields(alloc, unit, index, links, at, fields),
+        TypeBody::Type(written) => note_type(alloc, pkg, index, links, at, written),
+        TypeBody::Struct { fields, .. } => note_fields(alloc, pkg, index, links, at, fields),
     }
 }
 
 /// Returns `size + 1` empty rows of links.
 pub fn no_links(alloc: Global, size: usize) -> Result<Vec<Vec<usize>>, AllocError>
     ensures size { IfOk result (λ links. length links.items ≡ suc size) }
-    ensures none { IfOk result (λ links. (a b : ℕ) → Leads links.items a b → ⊥) }
+    ensures none { IfOk result (λ links. (a b : ℕ) → LinksTo links.items a b → ⊥) }
 {
     let mut links = Vec::new(alloc);
     for _number in 0..size {
@@ -141,16 +141,16 @@ pub fn no_links(alloc: Global, size: usize) -> Result<Vec<Vec<usize>>, AllocErro
 /// no type.
 fn mentions(
     alloc: Global,
-    unit: Package<'_>,
+    pkg: Package<'_>,
     index: &Index<'_>,
 ) -> Result<Vec<Vec<usize>>, AllocError>
-    requires { IsIndexOf (package_of unit) index.now }
-    ensures { IfOk result (λ links. AreMentions (package_of unit.entry) links.items) }
+    requires { IsIndexOf (package_of pkg) index.now }
+    ensures { IfOk result (λ links. AreMentions (package_of pkg.entry) links.items) }
 {
     let types = &index.declared.types;
     let mut links = no_links(alloc, types.len())?;
     for rank in 0..types.len() {
-        note_definition(alloc, unit, index, &mut links, rank, &types[rank])?;
+        note_definition(alloc, pkg, index, &mut links, rank, &types[rank])?;
     }
     Ok(links)
 }
@@ -158,13 +158,13 @@ fn mentions(
 /// Marks the broken type definitions of a package, by rank. The list has one more entry behind the last rank, which is marked.
 pub fn broken_definitions(
     alloc: Global,
-    unit: Package<'_>,
+    pkg: Package<'_>,
     index: &Index<'_>,
 ) -> Result<Vec<bool>, AllocError>
-    requires { IsIndexOf (package_of unit) index.now }
-    ensures { IfOk result (λ broken. AreBroken (package_of unit.entry) broken.items) }
+    requires { IsIndexOf (package_of pkg) index.now }
+    ensures { IfOk result (λ broken. AreBroken (package_of pkg.entry) broken.items) }
 {
-    let links = mentions(alloc, unit, index)?;
+    let links = mentions(alloc, pkg, index)?;
     let mut begins = vec![in alloc; false; index.declared.types.len()]?;
     begins.push(true)?;
     let broken = reached(alloc, &links, &begins)?;

@@ -2,14 +2,14 @@
 ghost use Rattle.std.specs.Prelude.{◌≡◌, true, Any, Contains, IsTrue, OnOk};
 ghost use Rattle.std.specs.List.Sorted.{IsStrictlySortedBy};
 ghost use Rattle.types_declared.specs.contracts.fault.FaultOrd.TheImpl as order;
-ghost use Rattle.types_declared.specs.Listing.{Adds, HoldsSame};
+ghost use Rattle.types_declared.specs.Listing.{AddsFaults, HaveSameFaults};
 
 use crate::fault::Fault;
 use std::alloc::AllocError;
 
 /// Appends a fault.
 pub fn push(found: &mut Vec<Fault>, fault: Fault) -> Result<(), AllocError>
-    ensures { OnOk result (Adds found.old.items found.new.items (λ f. f ≡ fault)) }
+    ensures { OnOk result (AddsFaults found.old.items found.new.items (λ f. f ≡ fault)) }
 {
     found.push(fault)?;
     Ok(())
@@ -17,7 +17,7 @@ pub fn push(found: &mut Vec<Fault>, fault: Fault) -> Result<(), AllocError>
 
 /// Appends a fault if `test` is true.
 pub fn push_if(found: &mut Vec<Fault>, test: bool, fault: Fault) -> Result<(), AllocError>
-    ensures { OnOk result (Adds found.old.items found.new.items (λ f. IsTrue test × (f ≡ fault))) }
+    ensures { OnOk result (AddsFaults found.old.items found.new.items (λ f. IsTrue test × (f ≡ fault))) }
 {
     if test {
         return push(found, fault);
@@ -37,7 +37,7 @@ fn sort_strictly<T: Ord + Drop>(values: &mut Vec<T>)
 
 /// Sorts faults by file, token and kind, and drops repetitions.
 pub fn sort(found: &mut Vec<Fault>)
-    ensures same { HoldsSame found.old.items found.new.items }
+    ensures same { HaveSameFaults found.old.items found.new.items }
     ensures order { IsStrictlySortedBy order.ghosts.cmp found.new.items }
 {
     sort_strictly(found);

@@ -1,13 +1,13 @@
 //! The ranks of a package's declarations, by the numbers of their declaring identifiers in a scope table.
 ghost use Rattle.std.specs.Prelude.{◌≡◌, ◌<◌, length, map, IfOk};
-ghost use Rattle.go_scope.specs.Scoped.{layout_in};
+ghost use Rattle.go_scope.specs.Packages.{layout_in};
 ghost use Rattle.types_declared.specs.Package.{variable_place, type_place, function_place};
 ghost use Rattle.types_declared.specs.DeclaredView.{variable_of, type_of, function_of};
-ghost use Rattle.types_declared.specs.ByToken.{number_at, number_of, number_in};
+ghost use Rattle.go_scope.specs.ByToken.{numbers_in, number_at_place_of, row_number};
 ghost use Rattle.types_declared.specs.RanksView.{AreRanks};
 
-use crate::by_token::{ByToken, ranks_by_token};
 use crate::declared::{Declared, Function, TypeDef, Variable};
+use crate::token_ranks::{ByToken, ranks_by_token};
 use go_scope::model::Position;
 use go_scope::table::ScopeTable;
 use std::alloc::{AllocError, Global};
@@ -21,9 +21,9 @@ pub struct Ranks {
 }
 
 /// The number that a table has for the token of the identifier `d`; none for a declaration without a token.
-fn number_of(table: &ScopeTable, numbers: &ByToken, d: usize) -> Option<usize>
+fn number_at_place_of(table: &ScopeTable, numbers: &ByToken, d: usize) -> Option<usize>
     requires { d < length table.now.sites }
-    ensures { result ≡ number_of (layout_in table.now) (number_at numbers.now) d }
+    ensures { result ≡ number_at_place_of (layout_in table.now) (numbers_in numbers.now) d }
 {
     if table.role(d).is_implied() {
         None
@@ -43,7 +43,7 @@ fn ranks_of(
     let found = ranks_by_token(alloc, places)?;
     let mut ranks = Vec::with_capacity(alloc, table.len())?;
     for d in 0..table.len() {
-        ranks.push(number_of(table, &found, d))?;
+        ranks.push(number_at_place_of(table, &found, d))?;
     }
     Ok(ranks)
 }
@@ -115,21 +115,21 @@ impl Ranks {
 
     /// The rank of the variable that `d` declares; none where it declares none.
     pub fn variable(&self, d: usize) -> Option<usize>
-        ensures { result ≡ number_in self.now.variables.items d }
+        ensures { result ≡ row_number self.now.variables.items d }
     {
         *self.variables.get(d)?
     }
 
     /// The rank of the type definition that `d` declares; none where it declares none.
     pub fn definition(&self, d: usize) -> Option<usize>
-        ensures { result ≡ number_in self.now.types.items d }
+        ensures { result ≡ row_number self.now.types.items d }
     {
         *self.types.get(d)?
     }
 
     /// The rank of the function that `d` declares; none where it declares none.
     pub fn function(&self, d: usize) -> Option<usize>
-        ensures { result ≡ number_in self.now.functions.items d }
+        ensures { result ≡ row_number self.now.functions.items d }
     {
         *self.functions.get(d)?
     }

@@ -8,36 +8,36 @@ ghost use Rattle.go_ast.specs.Tree.{Local};
 ghost use Rattle.types_declared.specs.Package.{symbol_in};
 ghost use Rattle.types_declared.specs.Written.{IsPredeclared, IsExportOf, IsExportAt, NamesExport, basic_name};
 ghost use Rattle.types_declared.specs.WrittenView.{IsTypeDeclared, IsNamedBy, IsMentionedBy, IsOneExport};
-ghost use Rattle.types_declared.specs.InterfacesView.{export_of};
+ghost use Rattle.types_declared.specs.ExportTablesView.{export_of};
 ghost use Rattle.types_declared.specs.PackageView.{package_of, IsIndexOf};
 
-use crate::unit::{Index, Package};
+use crate::index::{Index, Package};
 use go_ast::tree::TypeExpr;
 use go_scope::model::Block;
 use std::alloc::{AllocError, Global};
-use types_expr::interfaces::{Export, ExportMeaning};
+use types_expr::exports::{Export, ExportMeaning};
 use types_expr::symbol::Symbol;
 use types_expr::types::{Basic, GoType};
 
 /// Whether `d` is the predeclared declaration of a name.
-fn is_predeclared(unit: Package<'_>, d: usize, name: &[u8]) -> bool
-    requires { d < length unit.table.now.sites }
-    ensures { IsTrue result ↔ IsPredeclared (package_of unit.entry) d name.now }
+fn is_predeclared(pkg: Package<'_>, d: usize, name: &[u8]) -> bool
+    requires { d < length pkg.table.now.sites }
+    ensures { IsTrue result ↔ IsPredeclared (package_of pkg.entry) d name.now }
 {
-    let role = unit.table.role(d);
-    role.is_implied() && role.block().same(Block::Universe) && unit.table.name(d) == name
+    let role = pkg.table.role(d);
+    role.is_implied() && role.block().same(Block::Universe) && pkg.table.name(d) == name
 }
 
 /// The predeclared type that `d` declares: `bool`, `int` or `string`; none otherwise.
-fn basic_type(unit: Package<'_>, d: usize) -> Option<Basic>
-    requires { d < length unit.table.now.sites }
-    ensures { MatchOption result ((b : Basic) → IsPredeclared (package_of unit.entry) d (basic_name b) → ⊥) (λ b. IsPredeclared (package_of unit.entry) d (basic_name b)) }
+fn basic_type(pkg: Package<'_>, d: usize) -> Option<Basic>
+    requires { d < length pkg.table.now.sites }
+    ensures { MatchOption result ((b : Basic) → IsPredeclared (package_of pkg.entry) d (basic_name b) → ⊥) (λ b. IsPredeclared (package_of pkg.entry) d (basic_name b)) }
 {
-    if is_predeclared(unit, d, b"bool".as_slice()) {
+    if is_predeclared(pkg, d, b"bool".as_slice()) {
         Some(Basic::Bool)
-    } else if is_predeclared(unit, d, b"int".as_slice()) {
+    } else if is_predeclared(pkg, d, b"int".as_slice()) {
         Some(Basic::Int)
-    } else if is_predeclared(unit, d, b"string".as_slice()) {
+    } else if is_predeclared(pkg, d, b"string".as_slice()) {
         Some(Basic::String)
     } else {
         None
@@ -46,85 +46,85 @@ fn basic_type(unit: Package<'_>, d: usize) -> Option<Basic>
 
 /// The type of the type definition of this rank.
 #[tactic(auto, unfolding(types_expr::specs::View::type_of))]
-pub fn defined_type(unit: Package<'_>, rank: usize) -> Result<GoType, AllocError>
-    ensures { IfOk result (λ t. type_of t ≡ Defined (symbol_in (package_of unit.entry) rank)) }
+pub fn defined_type(pkg: Package<'_>, rank: usize) -> Result<GoType, AllocError>
+    ensures { IfOk result (λ t. type_of t ≡ Defined (symbol_in (package_of pkg.entry) rank)) }
 {
-    let package = unit.path.clone()?;
+    let package = pkg.path.clone()?;
     Ok(GoType::Defined(Symbol { package, rank }))
 }
 
 /// The type that `d` declares, predeclared or defined in the package; none where it declares none.
 fn declared_type(
-    unit: Package<'_>,
+    pkg: Package<'_>,
     index: &Index<'_>,
     d: usize,
 ) -> Result<Option<GoType>, AllocError>
-    requires index { IsIndexOf (package_of unit) index.now }
-    requires in_range { d < length unit.table.now.sites }
-    ensures { IfOk result (λ t. IsTypeDeclared (package_of unit.entry) d (option_map type_of t)) }
+    requires index { IsIndexOf (package_of pkg) index.now }
+    requires in_range { d < length pkg.table.now.sites }
+    ensures { IfOk result (λ t. IsTypeDeclared (package_of pkg.entry) d (option_map type_of t)) }
 {
-    if let Some(basic) = basic_type(unit, d) {
+    if let Some(basic) = basic_type(pkg, d) {
         return Ok(Some(GoType::Basic(basic)));
     }
-    match index.definition(unit, d) {
+    match index.definition(pkg, d) {
         None => Ok(None),
-        Some(rank) => Ok(Some(defined_type(unit, rank)?)),
+        Some(rank) => Ok(Some(defined_type(pkg, rank)?)),
     }
 }
 
 /// The type that the unqualified name at a token names; none where it names no type.
 fn local_type(
-    unit: Package<'_>,
+    pkg: Package<'_>,
     index: &Index<'_>,
     file: usize,
     name: usize,
 ) -> Result<Option<GoType>, AllocError>
-    requires { IsIndexOf (package_of unit) index.now }
-    ensures { IfOk result (λ t. IsNamedBy (package_of unit.entry) file (Local name) (option_map type_of t)) }
+    requires { IsIndexOf (package_of pkg) index.now }
+    ensures { IfOk result (λ t. IsNamedBy (package_of pkg.entry) file (Local name) (option_map type_of t)) }
 {
-    match index.binding(unit, file, name) {
+    match index.binding(pkg, file, name) {
         None => Ok(None),
-        Some(d) => declared_type(unit, index, d),
+        Some(d) => declared_type(pkg, index, d),
     }
 }
 
 /// The export that the package of the import `d` has under the name spelled at a token.
 fn export_of_import<'a>(
-    unit: Package<'a>,
+    pkg: Package<'a>,
     index: &Index<'_>,
     d: usize,
     file: usize,
     name: usize,
 ) -> Option<&'a Export>
-    requires index { IsIndexOf (package_of unit) index.now }
-    requires in_range { d < length unit.table.now.sites }
-    ensures { IsOneExport (IsExportOf (package_of unit.entry) d file name) result }
+    requires index { IsIndexOf (package_of pkg) index.now }
+    requires in_range { d < length pkg.table.now.sites }
+    ensures { IsOneExport (IsExportOf (package_of pkg.entry) d file name) result }
 {
-    match index.path(unit, d) {
+    match index.path(pkg, d) {
         None => None,
-        Some(path) => unit.interfaces.export(path, unit.spelling(file, name)),
+        Some(path) => pkg.export_table.export(path, pkg.spelling(file, name)),
     }
 }
 
 /// The export that a qualified identifier `p.N` denotes; none where `p` is no import name or the package doesn't export `N`.
 pub fn export_at<'a>(
-    unit: Package<'a>,
+    pkg: Package<'a>,
     index: &Index<'_>,
     file: usize,
     qualifier: usize,
     name: usize,
 ) -> Option<&'a Export>
-    requires { IsIndexOf (package_of unit) index.now }
-    ensures { IsOneExport (IsExportAt (package_of unit.entry) file qualifier name) result }
+    requires { IsIndexOf (package_of pkg) index.now }
+    ensures { IsOneExport (IsExportAt (package_of pkg.entry) file qualifier name) result }
 {
-    match index.binding(unit, file, qualifier) {
+    match index.binding(pkg, file, qualifier) {
         None => None,
-        Some(d) => export_of_import(unit, index, d, file, name),
+        Some(d) => export_of_import(pkg, index, d, file, name),
     }
 }
 
 /// The type that an export names; none where it is a variable or a function.
-#[tactic(auto, unfolding(crate::specs::InterfacesView::meaning_of))]
+#[tactic(auto, unfolding(crate::specs::ExportTablesView::meaning_of))]
 fn exported_type(export: &Export) -> Option<&GoType>
     ensures { MatchOption result ((t : PlainType) → (export_of export.now).meaning ≡ TypeName t → ⊥) (λ t. (export_of export.now).meaning ≡ TypeName (type_of t.now)) }
 {
@@ -136,16 +136,16 @@ fn exported_type(export: &Export) -> Option<&GoType>
 
 /// The type that a qualified identifier `p.T` names; none where it names no type.
 fn imported_type<'a>(
-    unit: Package<'a>,
+    pkg: Package<'a>,
     index: &Index<'_>,
     file: usize,
     qualifier: usize,
     name: usize,
 ) -> Option<&'a GoType>
-    requires { IsIndexOf (package_of unit) index.now }
-    ensures { MatchOption result ((t : PlainType) → NamesExport (package_of unit.entry) file qualifier name t → ⊥) (λ t. NamesExport (package_of unit.entry) file qualifier name (type_of t.now)) }
+    requires { IsIndexOf (package_of pkg) index.now }
+    ensures { MatchOption result ((t : PlainType) → NamesExport (package_of pkg.entry) file qualifier name t → ⊥) (λ t. NamesExport (package_of pkg.entry) file qualifier name (type_of t.now)) }
 {
-    match export_at(unit, index, file, qualifier, name) {
+    match export_at(pkg, index, file, qualifier, name) {
         None => None,
         Some(export) => exported_type(export),
     }
@@ -154,27 +154,27 @@ fn imported_type<'a>(
 /// The type that a type expression names, whether or not its definition is broken; none where it names no type.
 pub fn named_type(
     alloc: Global,
-    unit: Package<'_>,
+    pkg: Package<'_>,
     index: &Index<'_>,
     file: usize,
     written: &TypeExpr,
 ) -> Result<Option<GoType>, AllocError>
-    requires { IsIndexOf (package_of unit) index.now }
-    ensures { IfOk result (λ t. IsNamedBy (package_of unit.entry) file (type_view written.now) (option_map type_of t)) }
+    requires { IsIndexOf (package_of pkg) index.now }
+    ensures { IfOk result (λ t. IsNamedBy (package_of pkg.entry) file (type_view written.now) (option_map type_of t)) }
 {
     match written {
-        TypeExpr::Local(name) => local_type(unit, index, file, *name),
+        TypeExpr::Local(name) => local_type(pkg, index, file, *name),
         TypeExpr::Imported { package, name, .. } => {
-            match imported_type(unit, index, file, *package, *name) {
+            match imported_type(pkg, index, file, *package, *name) {
                 None => Ok(None),
                 Some(own) => Ok(Some(own.copy(alloc)?)),
             }
         }
-        TypeExpr::Pointer { target, .. } => match named_type(alloc, unit, index, file, target)? {
+        TypeExpr::Pointer { target, .. } => match named_type(alloc, pkg, index, file, target)? {
             None => Ok(None),
             Some(target) => Ok(Some(GoType::Pointer(Box::new(alloc, target)?))),
         },
-        TypeExpr::Slice { element, .. } => match named_type(alloc, unit, index, file, element)? {
+        TypeExpr::Slice { element, .. } => match named_type(alloc, pkg, index, file, element)? {
             None => Ok(None),
             Some(element) => Ok(Some(GoType::Slice(Box::new(alloc, element)?))),
         },
@@ -183,34 +183,34 @@ pub fn named_type(
 
 /// The rank of the type definition that an unqualified name is bound to; none where it is bound to no definition of the package.
 pub fn local_definition(
-    unit: Package<'_>,
+    pkg: Package<'_>,
     index: &Index<'_>,
     file: usize,
     name: usize,
 ) -> Option<usize>
-    requires { IsIndexOf (package_of unit) index.now }
-    ensures { IsMentionedBy (package_of unit.entry) file (Local name) result }
+    requires { IsIndexOf (package_of pkg) index.now }
+    ensures { IsMentionedBy (package_of pkg.entry) file (Local name) result }
 {
-    match index.binding(unit, file, name) {
+    match index.binding(pkg, file, name) {
         None => None,
-        Some(d) => index.definition(unit, d),
+        Some(d) => index.definition(pkg, d),
     }
 }
 
 /// The rank of the package's type definition that a type expression mentions, itself or under pointers and slices.
 pub fn mentioned(
-    unit: Package<'_>,
+    pkg: Package<'_>,
     index: &Index<'_>,
     file: usize,
     written: &TypeExpr,
 ) -> Option<usize>
-    requires { IsIndexOf (package_of unit) index.now }
-    ensures { IsMentionedBy (package_of unit.entry) file (type_view written.now) result }
+    requires { IsIndexOf (package_of pkg) index.now }
+    ensures { IsMentionedBy (package_of pkg.entry) file (type_view written.now) result }
 {
     match written {
-        TypeExpr::Local(name) => local_definition(unit, index, file, *name),
+        TypeExpr::Local(name) => local_definition(pkg, index, file, *name),
         TypeExpr::Imported { .. } => None,
-        TypeExpr::Pointer { target, .. } => mentioned(unit, index, file, target),
-        TypeExpr::Slice { element, .. } => mentioned(unit, index, file, element),
+        TypeExpr::Pointer { target, .. } => mentioned(pkg, index, file, target),
+        TypeExpr::Slice { element, .. } => mentioned(pkg, index, file, element),
     }
 }

@@ -14,25 +14,25 @@ use Rattle.go_ast.specs.View.{type_view, expr_view, link_view, literal_view, key
 use Rattle.types_expr.specs.declared.types.Basic.TheVariants as basic
 use Rattle.types_expr.specs.declared.found.FoundInFile.{FoundInFile}
 use Rattle.types_expr.specs.Lists.{links_in, operands_in, arguments_in, elements_in}
-use Rattle.types_expr.specs.Places.{first_token, first_of_type, place_of, place_behind}
+use Rattle.types_expr.specs.Places.{first_token, first_of_type, place_of, place_after_link}
 use Rattle.types_expr.specs.Types.{Meaning, Value, Untyped, Broken, PlainType}
 use Rattle.types_expr.specs.World.{World, Locals, name_meaning}
-use Rattle.types_expr.specs.Judge.{Judged, JudgedList, Argued, Seen, none_seen, judge, judge_value, judge_links, judge_link, judge_operands, judge_arguments}
+use Rattle.types_expr.specs.Judge.{Judged, JudgedList, ListValue, Seen, none_seen, judge, judge_value, judge_links, judge_link, judge_operands, judge_arguments}
 use Rattle.types_expr.specs.Judge.{judge_literal, judge_elements, judge_type, means, select, followed, operation, value_before, prefix_of, address_of}
-use Rattle.types_expr.specs.Judge.{index_rule, call_rule, element_then, element_key, seen_after, literal_of}
-use Rattle.types_expr.specs.Found.{Adds, AddsList}
+use Rattle.types_expr.specs.Judge.{index_rule, call_rule, with_element, element_key, seen_after, literal_of}
+use Rattle.types_expr.specs.Found.{AddsJudged, AddsJudgedList}
 use Rattle.types_expr.proofs.Trees.{chain_tree, binary_tree, call_tree, literal_tree}
 
 pub ok_map : {X E : Type 0} {P Q : X → Type 0} (r : Result X E) → ((x : X) → P x → Q x) → IfOk r P → IfOk r Q
 ok_map (Ok x) f p = f x p
 ok_map (Err e) f p = tt
 
-pub adds_as : {j k : Judged} {old new : FoundInFile} {m : Meaning} → j ≡ k → Adds k old new m → Adds j old new m
-adds_as {j} {k} {old} {new} {m} e a = subst (λ (x : Judged). Adds x old new m) (sym e) a
+pub adds_as : {j k : Judged} {old new : FoundInFile} {m : Meaning} → j ≡ k → AddsJudged k old new m → AddsJudged j old new m
+adds_as {j} {k} {old} {new} {m} e a = subst (λ (x : Judged). AddsJudged x old new m) (sym e) a
 
-pub list_as : {j k : JudgedList} {vs us : List Argued} {old new : FoundInFile} → j ≡ k → vs ≡ us → AddsList k old new us → AddsList j old new vs
-list_as {j} {k} {vs} {us} {old} {new} e f a = subst (λ (x : JudgedList). AddsList x old new vs) (sym e)
-    (subst (λ (x : List Argued). AddsList k old new x) (sym f) a)
+pub list_as : {j k : JudgedList} {vs us : List ListValue} {old new : FoundInFile} → j ≡ k → vs ≡ us → AddsJudgedList k old new us → AddsJudgedList j old new vs
+list_as {j} {k} {vs} {us} {old} {new} e f a = subst (λ (x : JudgedList). AddsJudgedList x old new vs) (sym e)
+    (subst (λ (x : List ListValue). AddsJudgedList k old new x) (sym f) a)
 
 -- the forms as which an expression was matched
 
@@ -128,7 +128,7 @@ call_judged w locals s p o xs c m is items h = ap (λ x. judge_link w locals s p
 -- the parts of a list in turn
 
 pub links_step : (w : World) (locals : Locals) (s p : ℕ) (k : Judged) (l : Link) (rest : List Link) →
-    judge_links w locals s p k (links_in (l ∷ rest)) ≡ judge_links w locals s (place_behind s (link_view l tree.no_link))
+    judge_links w locals s p k (links_in (l ∷ rest)) ≡ judge_links w locals s (place_after_link s (link_view l tree.no_link))
     (followed k (judge_link w locals s p (link_view l tree.no_link))) (links_in rest)
 unfolding judge_links judge_link links_in link_view
 links_step w locals s p k (link.Selector d n) rest = refl
@@ -160,7 +160,7 @@ unfolding judge_arguments arguments_in
 arguments_end w locals = refl
 
 pub elements_step : (w : World) (locals : Locals) (t : Option PlainType) (seen : Seen) (x : Element) (rest : List Element) →
-    judge_elements w locals t seen (elements_in (x ∷ rest)) ≡ element_then w (element_key w t seen (key_view x.key)) (place_of (expr_view x.value))
+    judge_elements w locals t seen (elements_in (x ∷ rest)) ≡ with_element w (element_key w t seen (key_view x.key)) (place_of (expr_view x.value))
     (judge_value w locals (expr_view x.value)) (judge_elements w locals t (seen_after w t seen (key_view x.key)) (elements_in rest))
 unfolding judge_elements elements_in
 elements_step w locals t seen x rest = refl

@@ -1,5 +1,5 @@
 -- The lemmas of this crate.
-pub mod Adding
+pub mod AddedJudgements
 pub mod Equations
 pub mod Examples
 pub mod Items

@@ -1,12 +1,12 @@
 -- The progress of loops that compare the values of a list with types.
 use Rattle.std.proofs.Common.{ℕ, ◌≡◌, ◌∷◌, [], List, Bool, true, ◌&&◌, ap, sym, refl, map, ◌++◌, append_assoc, append-nil, option_map, ◌∙◌}
-use Rattle.types_expr.specs.declared.meaning.Argued.{Argued}
+use Rattle.types_expr.specs.declared.meaning.ListValue.{ListValue}
 use Rattle.types_expr.specs.declared.found.FoundInFile.{FoundInFile}
 use Rattle.types_expr.specs.declared.types.GoType.{GoType}
-use Rattle.types_expr.specs.Judge.{is_empty, misfit, misfits, all_misfits, Argued as PlainArgued}
+use Rattle.types_expr.specs.Judge.{is_empty, misfit, misfits, all_misfits, ListValue as PlainArgued}
 use Rattle.types_expr.specs.Types.{PlainType}
 use Rattle.types_expr.specs.World.{World}
-use Rattle.types_expr.specs.Found.{argued_of, AddsPlaces}
+use Rattle.types_expr.specs.Found.{list_value, AddsMisfits}
 use Rattle.types_expr.specs.View.{kind_of, type_of}
 
 both_empty : (a b : List ℕ) → (is_empty a && is_empty b) ≡ is_empty (a ++ b)
@@ -16,14 +16,14 @@ both_empty (x ∷ a) b = refl
 -- the faults so far and those of the values still to come give the whole
 pub record Compared (total rest : List ℕ) (old new : FoundInFile) (fits : Bool) : Type 0 where
   pub so_far : List ℕ
-  pub adds : AddsPlaces so_far old new fits
+  pub adds : AddsMisfits so_far old new fits
   pub goes_on : so_far ++ rest ≡ total
 
 pub compared_start : (total : List ℕ) {f : FoundInFile} → Compared total total f f true
 compared_start total = record { so_far = []; adds = record { faults = sym (append-nil _); uses = refl; none = refl }; goes_on = refl }
 
 pub compared_step : {total rest more : List ℕ} (places : List ℕ) {old now new : FoundInFile} {a b : Bool} → Compared total rest old now a →
-    AddsPlaces places now new b → rest ≡ places ++ more → Compared total more old new (a && b)
+    AddsMisfits places now new b → rest ≡ places ++ more → Compared total more old new (a && b)
 compared_step {total} {rest} {more} places {old} {now} {new} {a} {b} c d e = record {
   so_far = c.so_far ++ places;
   adds = record {
@@ -34,13 +34,13 @@ compared_step {total} {rest} {more} places {old} {now} {new} {a} {b} c d e = rec
   goes_on = append_assoc c.so_far places more ∙ (ap (λ x. c.so_far ++ x) (sym e) ∙ c.goes_on);
 }
 
-pub compared_end : {total rest : List ℕ} {old new : FoundInFile} {a : Bool} → Compared total rest old new a → rest ≡ [] → AddsPlaces total old new a
+pub compared_end : {total rest : List ℕ} {old new : FoundInFile} {a : Bool} → Compared total rest old new a → rest ≡ [] → AddsMisfits total old new a
 compared_end {total} {rest} {old} {new} {a} c e =
     let t : c.so_far ≡ total = sym (append-nil c.so_far) ∙ (ap (λ x. c.so_far ++ x) (sym e) ∙ c.goes_on) in
     record { faults = c.adds.faults ∙ ap (λ x. old.faults.items ++ x) t; uses = c.adds.uses; none = c.adds.none ∙ ap is_empty t }
 
-pub misfits_step : (w : World) (v : Argued) (vs : List Argued) (t : GoType) (ts : List GoType) →
-    misfits w (map argued_of (v ∷ vs)) (map type_of (t ∷ ts)) ≡ misfit w v.place (option_map kind_of v.kind) (type_of t) ++ misfits w (map argued_of vs)
+pub misfits_step : (w : World) (v : ListValue) (vs : List ListValue) (t : GoType) (ts : List GoType) →
+    misfits w (map list_value (v ∷ vs)) (map type_of (t ∷ ts)) ≡ misfit w v.place (option_map kind_of v.kind) (type_of t) ++ misfits w (map list_value vs)
     (map type_of ts)
 unfolding misfits
 misfits_step w v vs t ts = refl
@@ -54,8 +54,8 @@ unfolding misfits
 misfits_no_types w [] = refl
 misfits_no_types w (v ∷ vs) = refl
 
-pub all_misfits_step : (w : World) (v : Argued) (vs : List Argued) (t : PlainType) →
-    all_misfits w (map argued_of (v ∷ vs)) t ≡ misfit w v.place (option_map kind_of v.kind) t ++ all_misfits w (map argued_of vs) t
+pub all_misfits_step : (w : World) (v : ListValue) (vs : List ListValue) (t : PlainType) →
+    all_misfits w (map list_value (v ∷ vs)) t ≡ misfit w v.place (option_map kind_of v.kind) t ++ all_misfits w (map list_value vs) t
 unfolding all_misfits
 all_misfits_step w v vs t = refl
 

@@ -11,7 +11,7 @@ use Rattle.go_ast.specs.declared.tree.CompositeLit.{items-the_row-Element, items
 use Rattle.go_ast.specs.Tree as tree
 use Rattle.go_ast.specs.View.{type_view, expr_view, literal_view, link_view, links_view, operands_view, arguments_view, elements_view, key_view}
 use Rattle.types_expr.specs.Lists.{links_in, operands_in, arguments_in, elements_in}
-use Rattle.types_expr.specs.Places.{first_of_type, first_of_literal, place_behind, place_of, place_of_links, first_token}
+use Rattle.types_expr.specs.Places.{first_of_type, first_of_literal, place_after_link, place_of, place_of_links, first_token}
 
 link_row : {n : _} (row : Row_of-Link n) → links_view row ≡ links_in (items-the_row-Link n row)
 unfolding links_view links_in
@@ -65,7 +65,7 @@ unfolding place_of
 chain_stands first links = ap place_of (chain_tree first links)
 
 pub place_step : (start here : ℕ) (l : Link) (rest : tree.LinkTrees) →
-    place_of_links start here (link_view l rest) ≡ place_of_links start (place_behind start (link_view l tree.no_link)) rest
+    place_of_links start here (link_view l rest) ≡ place_of_links start (place_after_link start (link_view l tree.no_link)) rest
 unfolding place_of_links link_view
 place_step start here (link.Selector d n) rest = refl
 place_step start here (link.Index o e c) rest = refl

@@ -6,7 +6,7 @@ use Rattle.std.specs.Ordering.{nat_cmp}
 use Rattle.types_expr.specs.declared.locals.Locals.{Locals}
 use Rattle.types_expr.specs.declared.meaning.Meaning.{Meaning}
 use Rattle.types_expr.specs.declared.meaning.Meaning.TheVariants as meaning
-use Rattle.types_expr.specs.declared.meaning.Argued.{Argued}
+use Rattle.types_expr.specs.declared.meaning.ListValue.{ListValue}
 use Rattle.types_expr.specs.declared.found.MemberUse.{MemberUse}
 use Rattle.types_expr.specs.declared.found.FoundInFile.{FoundInFile}
 use Rattle.types_expr.specs.declared.keys.SeenFields.{SeenFields}
@@ -44,28 +44,28 @@ key_of key.Wrong = judge.WrongKey
 abbrev pub use_of : MemberUse → judge.MemberUse
 use_of u = record { place = u.place; before = type_of u.before; member = u.member }
 
-abbrev pub argued_of : Argued → judge.Argued
-argued_of v = record { place = v.place; kind = option_map kind_of v.kind }
+abbrev pub list_value : ListValue → judge.ListValue
+list_value v = record { place = v.place; kind = option_map kind_of v.kind }
 
 -- A call appended the faults and member uses of the judgement j to those found before, and returned m, the meaning of j.
-pub record Adds (j : judge.Judged) (old new : FoundInFile) (m : types.Meaning) : Type 0 where
+pub record AddsJudged (j : judge.Judged) (old new : FoundInFile) (m : types.Meaning) : Type 0 where
   pub meaning : m ≡ j.meaning
   pub faults : new.faults.items ≡ old.faults.items ++ j.faults
   pub uses : map use_of new.uses.items ≡ map use_of old.uses.items ++ j.uses
 
 -- A call judged a list of expressions: it appended the faults and member uses of j, and returned vs, the values of j.
-pub record AddsList (j : judge.JudgedList) (old new : FoundInFile) (vs : List judge.Argued) : Type 0 where
+pub record AddsJudgedList (j : judge.JudgedList) (old new : FoundInFile) (vs : List judge.ListValue) : Type 0 where
   pub values : vs ≡ j.values
   pub faults : new.faults.items ≡ old.faults.items ++ j.faults
   pub uses : map use_of new.uses.items ≡ map use_of old.uses.items ++ j.uses
 
 -- A call went on from an operand of meaning m. Whatever judgement j with that meaning was appended before the call, both together append
 -- `rule j`, of which the call returned the meaning r.
-pub record Continues (rule : judge.Judged → judge.Judged) (m : types.Meaning) (old new : FoundInFile) (r : types.Meaning) : Type 0 where
-  pub after : (j : judge.Judged) (before : FoundInFile) → Adds j before old m → Adds (rule j) before new r
+pub record AddsByRule (rule : judge.Judged → judge.Judged) (m : types.Meaning) (old new : FoundInFile) (r : types.Meaning) : Type 0 where
+  pub after : (j : judge.Judged) (before : FoundInFile) → AddsJudged j before old m → AddsJudged (rule j) before new r
 
 -- A call appended faults at `places` and no member use. `fits` says whether `places` is empty.
-pub record AddsPlaces (places : List ℕ) (old new : FoundInFile) (fits : Bool) : Type 0 where
+pub record AddsMisfits (places : List ℕ) (old new : FoundInFile) (fits : Bool) : Type 0 where
   pub faults : new.faults.items ≡ old.faults.items ++ places
   pub uses : new.uses.items ≡ old.uses.items
   pub none : fits ≡ judge.is_empty places

@@ -107,13 +107,13 @@ select w locals place name m = wrong place
 -- Lists of values
 
 -- a value of a list: the token of its faults, and its kind, none where it is broken
-pub record Argued : Type 0 where
+pub record ListValue : Type 0 where
   pub place : ℕ
   pub kind : Option Kind
 
 -- the judgement of a list of expressions: their values, faults and member uses
 pub record JudgedList : Type 0 where
-  pub values : List Argued
+  pub values : List ListValue
   pub faults : List ℕ
   pub uses : List MemberUse
 
@@ -123,7 +123,7 @@ is_whole None = false
 is_whole (Some k) = true
 
 -- whether no value of the list is broken
-unfoldable pub all_whole : List Argued → Bool
+unfoldable pub all_whole : List ListValue → Bool
 all_whole [] = true
 all_whole (v ∷ vs) = is_whole v.kind && all_whole vs
 
@@ -133,13 +133,13 @@ misfit w place None t = []
 misfit w place (Some k) t = if fits w k t then [] else place ∷ []
 
 -- the faults of the values that do not fit the types at their positions
-unfoldable pub misfits : World → List Argued → List PlainType → List ℕ
+unfoldable pub misfits : World → List ListValue → List PlainType → List ℕ
 misfits w [] ts = []
 misfits w (v ∷ vs) [] = []
 misfits w (v ∷ vs) (t ∷ ts) = misfit w v.place v.kind t ++ misfits w vs ts
 
 -- the faults of the values that do not fit one type
-unfoldable pub all_misfits : World → List Argued → PlainType → List ℕ
+unfoldable pub all_misfits : World → List ListValue → PlainType → List ℕ
 all_misfits w [] t = []
 all_misfits w (v ∷ vs) t = misfit w v.place v.kind t ++ all_misfits w vs t
 
@@ -161,7 +161,7 @@ wrong_if_whole true place = wrong place
 wrong_if_whole false place = means Broken
 
 -- The call of a function. An argument that does not fit its parameter is a fault of its own; a wrong count is a fault at `start`.
-unfoldable pub call_function : World → ℕ → Signature → List Argued → Judged
+unfoldable pub call_function : World → ℕ → Signature → List ListValue → Judged
 call_function w start s vs =
     if length vs == length s.parameters then unless_faults (misfits w vs s.parameters) (all_whole vs) (result_meaning s.results)
     else wrong_if_whole (all_whole vs) start
@@ -172,22 +172,22 @@ convert_one w start t None = means Broken
 convert_one w start t (Some k) = if converts w k t then means (Value (Typed t) false) else wrong start
 
 -- the conversion `T(x)` to type t, which takes exactly one value
-unfoldable pub convert : World → ℕ → PlainType → List Argued → Judged
+unfoldable pub convert : World → ℕ → PlainType → List ListValue → Judged
 convert w start t (v ∷ []) = convert_one w start t v.kind
 convert w start t vs = wrong_if_whole (all_whole vs) start
 
 -- the call of `append` whose first argument has kind k, with elements of the given type, if it is a slice
-abbrev pub append_to : World → ℕ → Kind → Option PlainType → List Argued → Judged
+abbrev pub append_to : World → ℕ → Kind → Option PlainType → List ListValue → Judged
 append_to w start k None vs = wrong_if_whole (all_whole vs) start
 append_to w start k (Some t) vs = unless_faults (all_misfits w vs t) (all_whole vs) (Value k false)
 
 -- the call of `append` whose first argument has the given kind, none where it is broken
-abbrev pub append_first : World → ℕ → Option Kind → List Argued → Judged
+abbrev pub append_first : World → ℕ → Option Kind → List ListValue → Judged
 append_first w start None vs = means Broken
 append_first w start (Some k) vs = append_to w start k (element_of_kind w k) vs
 
 -- the call of `append`
-unfoldable pub append : World → ℕ → List Argued → Judged
+unfoldable pub append : World → ℕ → List ListValue → Judged
 append w start [] = wrong start
 append w start (v ∷ vs) = append_first w start v.kind vs
 
@@ -197,7 +197,7 @@ len_value w None = true
 len_value w (Some k) = has_length (class_of w k)
 
 -- whether the arguments are as `len` takes them: one value that has a length, or is broken
-abbrev pub len_fits : World → List Argued → Bool
+abbrev pub len_fits : World → List ListValue → Bool
 len_fits w (v ∷ []) = len_value w v.kind
 len_fits w vs = false
 
@@ -207,16 +207,16 @@ is_printed_value w None = true
 is_printed_value w (Some k) = is_printed (class_of w k)
 
 -- whether `print` and `println` take all the values
-unfoldable pub all_printed : World → List Argued → Bool
+unfoldable pub all_printed : World → List ListValue → Bool
 all_printed w [] = true
 all_printed w (v ∷ vs) = is_printed_value w v.kind && all_printed w vs
 
 -- the call of a builtin: meaning m where `fine` is true, else a fault at `start`; Broken where an argument is broken
-abbrev pub call_when : Bool → List Argued → ℕ → Meaning → Judged
+abbrev pub call_when : Bool → List ListValue → ℕ → Meaning → Judged
 call_when fine vs start m = if all_whole vs then (if fine then means m else wrong start) else means Broken
 
 -- the call of a predeclared function
-unfoldable pub call_builtin : World → ℕ → Builtin → List Argued → Judged
+unfoldable pub call_builtin : World → ℕ → Builtin → List ListValue → Judged
 call_builtin w start builtin.Append vs = append w start vs
 call_builtin w start builtin.Len vs = call_when (len_fits w vs) vs start (Value (Typed (BasicType basic.Int)) false)
 call_builtin w start builtin.Panic vs = call_when (length vs == 1) vs start (Results [])
@@ -224,7 +224,7 @@ call_builtin w start builtin.Print vs = call_when (all_printed w vs) vs start (R
 call_builtin w start builtin.Println vs = call_when (all_printed w vs) vs start (Results [])
 
 -- the call of an operand that reports its faults at `place`, in a chain whose first token is `start`
-unfoldable pub call_of : World → (start place : ℕ) → List Argued → Meaning → Judged
+unfoldable pub call_of : World → (start place : ℕ) → List ListValue → Meaning → Judged
 call_of w start place vs (Function s) = call_function w start s vs
 call_of w start place vs (TypeName t) = convert w start t vs
 call_of w start place vs (BuiltinName b) = call_builtin w start b vs
@@ -233,7 +233,7 @@ call_of w start place vs Broken = means Broken
 call_of w start place vs m = wrong place
 
 -- the judgement of a list of values, followed by that of a rule for these values
-abbrev pub with_values : JudgedList → (List Argued → Judged) → Judged
+abbrev pub with_values : JudgedList → (List ListValue → Judged) → Judged
 with_values vs rule = record { meaning = (rule vs.values).meaning; faults = vs.faults ++ (rule vs.values).faults; uses = vs.uses ++ (rule vs.values).uses }
 
 -- Indexes and operators
@@ -377,9 +377,9 @@ seen_with k seen = seen
 
 -- The type that the value after a key has to fit: the field's type. In a slice literal it is the element type, though a key is a fault
 -- there.
-abbrev pub wanted_behind : Key → Underlying → Option PlainType
-wanted_behind (FieldKey rank t) u = Some t
-wanted_behind k u = element_of u
+abbrev pub wanted_after_key : Key → Underlying → Option PlainType
+wanted_after_key (FieldKey rank t) u = Some t
+wanted_after_key k u = element_of u
 
 -- the judgement of a literal's elements: whether none has a fault or is broken, whether one has no key, and their faults and member uses
 pub record JudgedElements : Type 0 where
@@ -419,7 +419,7 @@ abbrev pub judge_key : World → PlainType → ℕ → Key → JudgedKey
 judge_key w t place k = record {
   whole = is_whole_key k;
   unkeyed = false;
-  wanted = wanted_behind k (underlying w t);
+  wanted = wanted_after_key k (underlying w t);
   faults = key_faults k place;
   uses = record { place = place; before = t; member = member_in (underlying w t) (w.member place t) } ∷ [];
 }
@@ -440,8 +440,8 @@ seen_after w (Some t) seen (Some k) = seen_with (key_at w seen t k.0) seen
 seen_after w t seen k = seen
 
 -- an element before the others (`rest`): its key, then its value, judged as j with faults at `place`, then whether the value fits
-abbrev pub element_then : World → JudgedKey → ℕ → Judged → JudgedElements → JudgedElements
-element_then w k place j rest = record {
+abbrev pub with_element : World → JudgedKey → ℕ → Judged → JudgedElements → JudgedElements
+with_element w k place j rest = record {
   whole = k.whole && (is_whole (value_kind j.meaning) && (is_empty (misfit_if w place (value_kind j.meaning) k.wanted) && rest.whole));
   unkeyed = k.unkeyed || rest.unkeyed;
   faults = k.faults ++ (j.faults ++ (misfit_if w place (value_kind j.meaning) k.wanted ++ rest.faults));
@@ -450,17 +450,17 @@ element_then w k place j rest = record {
 
 -- A literal of type t with the given underlying type, by whether its elements are whole and whether one has no key. A struct literal with
 -- an element without a key is a fault, and so is a literal of any other type but a slice.
-abbrev pub literal_ends : ℕ → PlainType → Underlying → (whole unkeyed : Bool) → Judged
-literal_ends start t (Struct s) true true = wrong start
-literal_ends start t (Struct s) true false = means (Value (Typed t) false)
-literal_ends start t (SliceOf e) true unkeyed = means (Value (Typed t) false)
-literal_ends start t u true unkeyed = wrong start
-literal_ends start t u false unkeyed = means Broken
+abbrev pub literal_result : ℕ → PlainType → Underlying → (whole unkeyed : Bool) → Judged
+literal_result start t (Struct s) true true = wrong start
+literal_result start t (Struct s) true false = means (Value (Typed t) false)
+literal_result start t (SliceOf e) true unkeyed = means (Value (Typed t) false)
+literal_result start t u true unkeyed = wrong start
+literal_result start t u false unkeyed = means Broken
 
 -- the literal of the given type, none where that is broken
 abbrev pub literal_meaning : World → ℕ → Option PlainType → (whole unkeyed : Bool) → Judged
 literal_meaning w start None whole unkeyed = means Broken
-literal_meaning w start (Some t) whole unkeyed = literal_ends start t (underlying w t) whole unkeyed
+literal_meaning w start (Some t) whole unkeyed = literal_result start t (underlying w t) whole unkeyed
 
 -- the judgement of a literal, by those of its type and elements
 abbrev pub literal_of : World → ℕ → TypeJudged → JudgedElements → Judged
@@ -530,7 +530,7 @@ unfoldable mutual
   pub judge_elements : World → Locals → Option PlainType → Seen → ElementTrees → JudgedElements
   judge_elements w locals t seen no_element = record { whole = true; unkeyed = false; faults = []; uses = [] }
   judge_elements w locals t seen (element k e c rest) =
-      element_then w (element_key w t seen k) (place_of e) (value_at e (judge w locals e)) (judge_elements w locals t (seen_after w t seen k) rest)
+      with_element w (element_key w t seen k) (place_of e) (value_at e (judge w locals e)) (judge_elements w locals t (seen_after w t seen k) rest)
 
 -- the judgement of an expression where a value is required
 abbrev pub judge_value : World → Locals → ExprTree → Judged

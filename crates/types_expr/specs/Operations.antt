@@ -5,8 +5,8 @@ use Rattle.go_ast.specs.declared.syntax.BinaryOp.TheVariants as op
 use Rattle.go_ast.specs.declared.syntax.PrefixOp.{PrefixOp}
 use Rattle.go_ast.specs.declared.syntax.PrefixOp.TheVariants as prefix
 use Rattle.types_expr.specs.declared.types.Basic.TheVariants as basic
-use Rattle.types_expr.specs.declared.classes.TypeClass.{TypeClass}
-use Rattle.types_expr.specs.declared.classes.TypeClass.TheVariants as class
+use Rattle.types_expr.specs.declared.classes.ValueClass.{ValueClass}
+use Rattle.types_expr.specs.declared.classes.ValueClass.TheVariants as class
 use Rattle.types_expr.specs.declared.classes.Family.{Family}
 use Rattle.types_expr.specs.declared.classes.Family.TheVariants as family
 use Rattle.types_expr.specs.Types.{PlainType, Underlying, Plain, PointerTo, SliceOf, Struct, Kind, Typed, Untyped, Nil, Meaning, Value, same_basic, same_type}
@@ -40,47 +40,47 @@ is_nil Nil = true
 is_nil v = false
 
 -- the class of the values of an underlying type
-abbrev pub class_of_underlying : Underlying → TypeClass
+abbrev pub class_of_underlying : Underlying → ValueClass
 class_of_underlying (Plain b) = class.Of b
 class_of_underlying (PointerTo t) = class.Pointer
 class_of_underlying (SliceOf t) = class.Slice
 class_of_underlying (Struct s) = class.Struct
 
 -- the class of the values of a kind
-unfoldable pub class_of : World → Kind → TypeClass
+unfoldable pub class_of : World → Kind → ValueClass
 class_of w (Typed t) = class_of_underlying (underlying w t)
 class_of w (Untyped b) = class.Of b
 class_of w Nil = class.Nil
 
 -- whether `==` and `!=` compare values of the class; with_nil: one of the two operands is nil
-abbrev pub compares : Bool → TypeClass → Bool
+abbrev pub compares : Bool → ValueClass → Bool
 compares with_nil (class.Of b) = true
 compares with_nil class.Pointer = true
 compares with_nil class.Slice = with_nil
 compares with_nil c = false
 
-abbrev pub is_int : TypeClass → Bool
+abbrev pub is_int : ValueClass → Bool
 is_int (class.Of basic.Int) = true
 is_int c = false
 
-abbrev pub is_bool : TypeClass → Bool
+abbrev pub is_bool : ValueClass → Bool
 is_bool (class.Of basic.Bool) = true
 is_bool c = false
 
 -- whether `<`, `<=`, `>`, `>=` and `+` take values of the class: ints and strings
-abbrev pub is_ordered : TypeClass → Bool
+abbrev pub is_ordered : ValueClass → Bool
 is_ordered (class.Of basic.Int) = true
 is_ordered (class.Of basic.String) = true
 is_ordered c = false
 
 -- whether `len` takes values of the class: strings and slices
-abbrev pub has_length : TypeClass → Bool
+abbrev pub has_length : ValueClass → Bool
 has_length (class.Of basic.String) = true
 has_length class.Slice = true
 has_length c = false
 
 -- whether `print` and `println` take values of the class: bools, ints and strings
-abbrev pub is_printed : TypeClass → Bool
+abbrev pub is_printed : ValueClass → Bool
 is_printed (class.Of b) = true
 is_printed c = false
 
@@ -104,7 +104,7 @@ abbrev pub when : {A : Type 0} → Bool → A → Option A
 when test a = if test then Some a else None
 
 -- the kind of an operation on operands of class c and common kind k, none where the class has no such operation
-unfoldable pub result_of : Family → Bool → TypeClass → Kind → Option Kind
+unfoldable pub result_of : Family → Bool → ValueClass → Kind → Option Kind
 result_of family.Arithmetic with_nil c k = when (is_int c) k
 result_of family.Addition with_nil c k = when (is_ordered c) k
 result_of family.Equality with_nil c k = when (compares with_nil c) (Untyped basic.Bool)

@@ -36,11 +36,11 @@ place_of_links start here (index o e c rest) = place_of_links start start rest
 place_of_links start here (call o xs c rest) = place_of_links start start rest
 
 -- the token at which a chain reports its faults that begins at `start` and ends in the first of these links
-abbrev pub place_behind : (start : ℕ) → LinkTrees → ℕ
-place_behind start no_link = start
-place_behind start (selector d n rest) = n
-place_behind start (index o e c rest) = start
-place_behind start (call o args c rest) = start
+abbrev pub place_after_link : (start : ℕ) → LinkTrees → ℕ
+place_after_link start no_link = start
+place_after_link start (selector d n rest) = n
+place_after_link start (index o e c rest) = start
+place_after_link start (call o args c rest) = start
 
 -- The token at which an expression reports its own faults: the name after the dot of a selection, else its first token.
 unfoldable pub place_of : ExprTree → ℕ

@@ -93,8 +93,8 @@ struct_or_target definition (PointerTo t) = struct_of (underlying_by definition 
 struct_or_target definition u = struct_of u
 
 -- the struct whose fields the values of a type have: the type's own, or that of the values to which they point
-unfoldable pub struct_behind : (Symbol → Underlying) → PlainType → Option Symbol
-struct_behind definition t = struct_or_target definition (underlying_by definition t)
+unfoldable pub field_owner : (Symbol → Underlying) → PlainType → Option Symbol
+field_owner definition t = struct_or_target definition (underlying_by definition t)
 
 -- the definition whose methods the values of a type have: T for T and `*T`
 unfoldable pub owner : PlainType → Option Symbol
@@ -139,5 +139,5 @@ first_member None (Some m) = Some (a_method m.symbol m.on_pointer m.signature)
 -- The member that `name`, written in the package `own`, denotes for the type t before it: a field of the struct, else a method of the
 -- definition.
 unfoldable pub member_by : (Symbol → Definition) → (own name : List ℕ) → PlainType → Option Member
-member_by definition own name t = first_member (field_of definition own name (struct_behind (λ s. (definition s).underlying) t))
+member_by definition own name t = first_member (field_of definition own name (field_owner (λ s. (definition s).underlying) t))
     (method_of definition own name (owner t))

@@ -11,7 +11,7 @@ use Rattle.std.specs.declared.sync.Arc.{Arc}
 use Rattle.types_expr.specs.declared.types.Basic.TheVariants as basic
 use Rattle.base_files.specs.Workspace.{path_cmp}
 use Rattle.types_expr.specs.declared.symbol.Symbol.{Symbol}
-use Rattle.types_expr.specs.declared.interfaces.Interface.{Interface}
+use Rattle.types_expr.specs.declared.exports.ExportData.{ExportData}
 use Rattle.types_expr.specs.declared.world.Bound.{Bound}
 use Rattle.types_expr.specs.declared.world.Bound.TheVariants as bound
 use Rattle.types_expr.specs.declared.world.Name.{Name}
@@ -58,8 +58,8 @@ shape_of (shape.Struct s) = types.Struct s.now
 abbrev pub field_of : Field → plain.Field
 field_of f = record { symbol = f.symbol; exported = f.exported; type_of = type_of f.field_type }
 
-abbrev pub method_of : Method → plain.Method
-method_of m = record { symbol = m.symbol; exported = m.exported; on_pointer = m.on_pointer; signature = option_map signature_of m.signature }
+abbrev pub plain_method_of : Method → plain.Method
+plain_method_of m = record { symbol = m.symbol; exported = m.exported; on_pointer = m.on_pointer; signature = option_map signature_of m.signature }
 
 unfoldable pub member_of : Member → plain.Member
 member_of (member.Field f) = plain.AField f.now.symbol (type_of f.now.field_type)
@@ -69,7 +69,7 @@ abbrev pub definition_of : Definition → plain.Definition
 definition_of d = record {
   underlying = underlying_of d.underlying;
   field = λ name. option_map field_of (get_by (λ key. slice_cmp nat_cmp name key.items) d.fields);
-  method = λ name. option_map method_of (get_by (λ key. slice_cmp nat_cmp name key.items) d.methods);
+  method = λ name. option_map plain_method_of (get_by (λ key. slice_cmp nat_cmp name key.items) d.methods);
 }
 
 -- a definition that is not known: a struct of its own, without fields and methods
@@ -86,18 +86,18 @@ ranked None rank = None
 ranked (Some ds) rank = slice_get ds rank
 
 -- the export data of the package at a path, as it is shared
-abbrev pub held_at : Definitions → List ℕ → Option (Arc Interface Global)
-held_at ds path = option_flatten (find path_cmp path ds.packages)
+abbrev pub shared_at : Definitions → List ℕ → Option (Arc ExportData Global)
+shared_at ds path = option_flatten (find path_cmp path ds.packages)
 
-abbrev pub shared_interface : Option (Arc Interface Global) → Option Interface
-shared_interface held = option_map (λ (i : Arc Interface Global). arc_value i) held
+abbrev pub shared_export_data : Option (Arc ExportData Global) → Option ExportData
+shared_export_data held = option_map (λ (i : Arc ExportData Global). arc_value i) held
 
 -- the export data of the package at a path, if it is known
-abbrev pub known_at : Definitions → List ℕ → Option Interface
-known_at ds path = shared_interface (held_at ds path)
+abbrev pub known_at : Definitions → List ℕ → Option ExportData
+known_at ds path = shared_export_data (shared_at ds path)
 
-abbrev pub definitions_listed : Option Interface → Option (List Definition)
-definitions_listed known = option_map (λ (i : Interface). i.definitions.items) known
+abbrev pub definitions_listed : Option ExportData → Option (List Definition)
+definitions_listed known = option_map (λ (i : ExportData). i.definitions.items) known
 
 -- the type definitions of the package at a path, if they are known
 abbrev pub definitions_at : Definitions → List ℕ → Option (List Definition)

@@ -5,10 +5,10 @@ ghost use Rattle.types_expr.specs.Operations.{element_of_kind};
 ghost use Rattle.types_expr.specs.Judge.{call_of, call_function, call_builtin, call_when, convert, append, append_to, misfit, misfits, all_misfits, all_whole, all_printed, is_printed_value, len_fits, wrong_if_whole};
 ghost use Rattle.types_expr.specs.View.{type_of, kind_of, signature_of};
 ghost use Rattle.types_expr.specs.WorldView.{world_of};
-ghost use Rattle.types_expr.specs.Found.{meaning_of, argued_of, Adds, AddsPlaces};
+ghost use Rattle.types_expr.specs.Found.{meaning_of, list_value, AddsJudged, AddsMisfits};
 
 use crate::found::FoundInFile;
-use crate::meaning::{Argued, Meaning, all_whole, result_meaning};
+use crate::meaning::{ListValue, Meaning, all_whole, result_meaning};
 use crate::places::FaultPlaces;
 use crate::types::{Basic, Builtin, GoType, Signature, ValueKind};
 use crate::world::World;
@@ -26,7 +26,7 @@ impl World<'_> {
     }
 
     /// Whether each value passes `prints_value`.
-    fn prints_each(&self, values: &[Argued]) -> bool
+    fn prints_each(&self, values: &[ListValue]) -> bool
         ensures { result ≡ list_all (λ v. is_printed_value (world_of self.now) (option_map kind_of v.kind)) values.now }
     {
         values.iter().all(|value| self.prints_value(&value.kind))
@@ -34,15 +34,15 @@ impl World<'_> {
 
     /// Whether `print` and `println` take all the values.
     #[tactic(auto, using(crate::proofs::Values::printed_found))]
-    fn prints_all(&self, values: &[Argued]) -> bool
-        ensures { result ≡ all_printed (world_of self.now) (map argued_of values.now) }
+    fn prints_all(&self, values: &[ListValue]) -> bool
+        ensures { result ≡ all_printed (world_of self.now) (map list_value values.now) }
     {
         self.prints_each(values)
     }
 
     /// Whether the values are the arguments of `len`: one value, which has a length or is broken.
-    fn measures(&self, values: &[Argued]) -> bool
-        ensures { result ≡ len_fits (world_of self.now) (map argued_of values.now) }
+    fn takes_len(&self, values: &[ListValue]) -> bool
+        ensures { result ≡ len_fits (world_of self.now) (map list_value values.now) }
     {
         match values {
             [value] => match &value.kind {
@@ -60,9 +60,9 @@ impl FoundInFile {
     fn wrong_if_whole<'w>(
         &mut self,
         start: usize,
-        values: &[Argued],
+        values: &[ListValue],
     ) -> Result<Meaning<'w>, AllocError>
-        ensures { IfOk result (λ m. Adds (wrong_if_whole (all_whole (map argued_of values.now)) start) self.old self.new (meaning_of m)) }
+        ensures { IfOk result (λ m. AddsJudged (wrong_if_whole (all_whole (map list_value values.now)) start) self.old self.new (meaning_of m)) }
     {
         if all_whole(values) {
             self.wrong(start)
@@ -76,10 +76,10 @@ impl FoundInFile {
     pub fn misfit(
         &mut self,
         world: &World<'_>,
-        value: &Argued,
+        value: &ListValue,
         wanted: &GoType,
     ) -> Result<bool, AllocError>
-        ensures { IfOk result (λ none. AddsPlaces (misfit (world_of world.now) value.now.place (option_map kind_of value.now.kind) (type_of wanted.now)) self.old self.new none) }
+        ensures { IfOk result (λ none. AddsMisfits (misfit (world_of world.now) value.now.place (option_map kind_of value.now.kind) (type_of wanted.now)) self.old self.new none) }
     {
         let Some(kind) = &value.kind else {
             return Ok(true);
@@ -95,10 +95,10 @@ impl FoundInFile {
     fn misfits(
         &mut self,
         world: &World<'_>,
-        values: &[Argued],
+        values: &[ListValue],
         types: &[GoType],
     ) -> Result<bool, AllocError>
-        ensures { IfOk result (λ none. AddsPlaces (misfits (world_of world.now) (map argued_of values.now) (map type_of types.now)) self.old self.new none) }
+        ensures { IfOk result (λ none. AddsMisfits (misfits (world_of world.now) (map list_value values.now) (map type_of types.now)) self.old self.new none) }
     {
         let mut none = true;
         let mut i = 0;
@@ -114,10 +114,10 @@ impl FoundInFile {
     fn all_misfits(
         &mut self,
         world: &World<'_>,
-        values: &[Argued],
+        values: &[ListValue],
         wanted: &GoType,
     ) -> Result<bool, AllocError>
-        ensures { IfOk result (λ none. AddsPlaces (all_misfits (world_of world.now) (map argued_of values.now) (type_of wanted.now)) self.old self.new none) }
+        ensures { IfOk result (λ none. AddsMisfits (all_misfits (world_of world.now) (map list_value values.now) (type_of wanted.now)) self.old self.new none) }
     {
         let mut none = true;
         for value in values {
@@ -135,9 +135,9 @@ impl FoundInFile {
         world: &World<'w>,
         start: usize,
         signature: &'w Signature,
-        values: &[Argued],
+        values: &[ListValue],
     ) -> Result<Meaning<'w>, AllocError>
-        ensures { IfOk result (λ m. Adds (call_function (world_of world.now) start (signature_of signature.now) (map argued_of values.now)) self.old self.new (meaning_of m)) }
+        ensures { IfOk result (λ m. AddsJudged (call_function (world_of world.now) start (signature_of signature.now) (map list_value values.now)) self.old self.new (meaning_of m)) }
     {
         if values.len() != signature.parameters.len() {
             return self.wrong_if_whole(start, values);
@@ -157,9 +157,9 @@ impl FoundInFile {
         world: &World<'w>,
         start: usize,
         wanted: &GoType,
-        values: &[Argued],
+        values: &[ListValue],
     ) -> Result<Meaning<'w>, AllocError>
-        ensures { IfOk result (λ m. Adds (convert (world_of world.now) start (type_of wanted.now) (map argued_of values.now)) self.old self.new (meaning_of m)) }
+        ensures { IfOk result (λ m. AddsJudged (convert (world_of world.now) start (type_of wanted.now) (map list_value values.now)) self.old self.new (meaning_of m)) }
     {
         let [value] = values else {
             return self.wrong_if_whole(start, values);
@@ -181,9 +181,9 @@ impl FoundInFile {
         world: &World<'w>,
         start: usize,
         slice: &ValueKind,
-        values: &[Argued],
+        values: &[ListValue],
     ) -> Result<Meaning<'w>, AllocError>
-        ensures { IfOk result (λ m. Adds (append_to (world_of world.now) start (kind_of slice.now) (element_of_kind (world_of world.now) (kind_of slice.now)) (map argued_of values.now)) self.old self.new (meaning_of m)) }
+        ensures { IfOk result (λ m. AddsJudged (append_to (world_of world.now) start (kind_of slice.now) (element_of_kind (world_of world.now) (kind_of slice.now)) (map list_value values.now)) self.old self.new (meaning_of m)) }
     {
         let Some(element) = world.element_of(slice) else {
             return self.wrong_if_whole(start, values);
@@ -202,9 +202,9 @@ impl FoundInFile {
         alloc: Global,
         world: &World<'w>,
         start: usize,
-        values: &[Argued],
+        values: &[ListValue],
     ) -> Result<Meaning<'w>, AllocError>
-        ensures { IfOk result (λ m. Adds (append (world_of world.now) start (map argued_of values.now)) self.old self.new (meaning_of m)) }
+        ensures { IfOk result (λ m. AddsJudged (append (world_of world.now) start (map list_value values.now)) self.old self.new (meaning_of m)) }
     {
         let [slice, rest @ ..] = values else {
             return self.wrong(start);
@@ -220,11 +220,11 @@ impl FoundInFile {
     fn call_when<'w>(
         &mut self,
         fine: bool,
-        values: &[Argued],
+        values: &[ListValue],
         start: usize,
         meaning: Meaning<'w>,
     ) -> Result<Meaning<'w>, AllocError>
-        ensures { IfOk result (λ m. Adds (call_when fine (map argued_of values.now) start (meaning_of meaning.entry)) self.old self.new (meaning_of m)) }
+        ensures { IfOk result (λ m. AddsJudged (call_when fine (map list_value values.now) start (meaning_of meaning.entry)) self.old self.new (meaning_of m)) }
     {
         if !all_whole(values) {
             return Ok(Meaning::Broken);
@@ -240,14 +240,14 @@ impl FoundInFile {
         world: &World<'w>,
         start: usize,
         builtin: Builtin,
-        values: &[Argued],
+        values: &[ListValue],
     ) -> Result<Meaning<'w>, AllocError>
-        ensures { IfOk result (λ m. Adds (call_builtin (world_of world.now) start builtin (map argued_of values.now)) self.old self.new (meaning_of m)) }
+        ensures { IfOk result (λ m. AddsJudged (call_builtin (world_of world.now) start builtin (map list_value values.now)) self.old self.new (meaning_of m)) }
     {
         match builtin {
             Builtin::Append => self.append(alloc, world, start, values),
             Builtin::Len => self.call_when(
-                world.measures(values),
+                world.takes_len(values),
                 values,
                 start,
                 Meaning::value(ValueKind::Typed(GoType::Basic(Basic::Int))),
@@ -281,10 +281,10 @@ impl FoundInFile {
         alloc: Global,
         world: &World<'w>,
         at: FaultPlaces,
-        values: &[Argued],
+        values: &[ListValue],
         meaning: Meaning<'w>,
     ) -> Result<Meaning<'w>, AllocError>
-        ensures { IfOk result (λ m. Adds (call_of (world_of world.now) at.start at.place (map argued_of values.now) (meaning_of meaning.entry)) self.old self.new (meaning_of m)) }
+        ensures { IfOk result (λ m. AddsJudged (call_of (world_of world.now) at.start at.place (map list_value values.now) (meaning_of meaning.entry)) self.old self.new (meaning_of m)) }
     {
         let start = at.start;
         match meaning {

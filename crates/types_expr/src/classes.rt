@@ -3,7 +3,7 @@ use crate::types::Basic;
 
 /// The class of the values of one underlying type or kind, as operators tell them apart.
 #[derive(Clone, Copy, PartialEq, Eq, Debug)]
-pub enum TypeClass {
+pub enum ValueClass {
     Of(Basic),
     Pointer,
     Slice,

@@ -5,7 +5,7 @@ ghost use Rattle.types_expr.specs.Types.{Typed, Value};
 ghost use Rattle.types_expr.specs.World.{World as PlainWorld, a_method, member_symbol, name_meaning, variable};
 ghost use Rattle.types_expr.specs.View.{signature_of, type_of};
 ghost use Rattle.types_expr.specs.WorldView.{member_of, world_of};
-ghost use Rattle.types_expr.specs.Found.{locals_of, meaning_of, use_of, Adds};
+ghost use Rattle.types_expr.specs.Found.{locals_of, meaning_of, use_of, AddsJudged};
 
 use crate::locals::Locals;
 use crate::meaning::Meaning;
@@ -32,7 +32,7 @@ pub struct FoundInFile {
 
 /// What an expression is judged by: the world of its file, and the locals that are declared before it.
 #[derive(Clone, Copy)]
-pub struct LocalNames<'w> {
+pub struct LocalScope<'w> {
     pub world: &'w World<'w>,
     pub locals: &'w Locals,
 }
@@ -102,7 +102,7 @@ impl FoundInFile {
     /// Notes a fault at a token.
     #[tactic(auto, unfolding(crate::specs::Found::meaning_of))]
     pub fn wrong<'w>(&mut self, place: usize) -> Result<Meaning<'w>, AllocError>
-        ensures { IfOk result (λ m. Adds (wrong place) self.old self.new (meaning_of m)) }
+        ensures { IfOk result (λ m. AddsJudged (wrong place) self.old self.new (meaning_of m)) }
     {
         self.faults.push(place)?;
         Ok(Meaning::Broken)
@@ -115,7 +115,7 @@ impl FoundInFile {
         place: usize,
         meaning: Meaning<'w>,
     ) -> Result<Meaning<'w>, AllocError>
-        ensures { IfOk result (λ m. Adds (as_value place (meaning_of meaning.entry)) self.old self.new (meaning_of m)) }
+        ensures { IfOk result (λ m. AddsJudged (as_value place (meaning_of meaning.entry)) self.old self.new (meaning_of m)) }
     {
         match meaning {
             Meaning::Value { .. } | Meaning::Broken => Ok(meaning),
@@ -149,7 +149,7 @@ impl FoundInFile {
         place: usize,
         meaning: Option<Meaning<'w>>,
     ) -> Result<Meaning<'w>, AllocError>
-        ensures { IfOk result (λ m. Adds (means_or_wrong (option_map meaning_of meaning.entry) place) self.old self.new (meaning_of m)) }
+        ensures { IfOk result (λ m. AddsJudged (means_or_wrong (option_map meaning_of meaning.entry) place) self.old self.new (meaning_of m)) }
     {
         match meaning {
             Some(meaning) => Ok(meaning),
@@ -166,7 +166,7 @@ impl FoundInFile {
         before: GoType,
         addressable: bool,
     ) -> Result<Meaning<'w>, AllocError>
-        ensures { IfOk result (λ m. Adds (select_member (world_of world.now) name (type_of before) addressable) self.old self.new (meaning_of m)) }
+        ensures { IfOk result (λ m. AddsJudged (select_member (world_of world.now) name (type_of before) addressable) self.old self.new (meaning_of m)) }
     {
         let member = world.member(name, &before);
         let meaning = world.member_meaning(alloc, &before, addressable, member)?;
@@ -180,12 +180,12 @@ impl FoundInFile {
     pub(crate) fn select<'w>(
         &mut self,
         alloc: Global,
-        scope: LocalNames<'w>,
+        scope: LocalScope<'w>,
         place: usize,
         name: usize,
         meaning: Meaning<'w>,
     ) -> Result<Meaning<'w>, AllocError>
-        ensures { IfOk result (λ m. Adds (select (world_of scope.entry.world.now) (locals_of scope.entry.locals.now) place name (meaning_of meaning.entry)) self.old self.new (meaning_of m)) }
+        ensures { IfOk result (λ m. AddsJudged (select (world_of scope.entry.world.now) (locals_of scope.entry.locals.now) place name (meaning_of meaning.entry)) self.old self.new (meaning_of m)) }
     {
         match meaning {
             Meaning::Value { kind, addressable } => match kind {
@@ -205,7 +205,7 @@ impl FoundInFile {
     }
 }
 
-impl<'w> LocalNames<'w> {
+impl<'w> LocalScope<'w> {
     /// Returns the meaning of the local that a token declares; it is broken where the local has no type.
     #[tactic(auto, unfolding(crate::specs::Found::meaning_of, crate::specs::View::kind_of))]
     fn local_meaning(&self, alloc: Global, place: usize) -> Result<Meaning<'w>, AllocError>

@@ -6,13 +6,13 @@ ghost use Rattle.types_expr.specs.Judge.{judge, judge_value, judge_link, judge_l
 ghost use Rattle.types_expr.specs.View.{type_of};
 ghost use Rattle.types_expr.specs.WorldView.{world_of};
 ghost use Rattle.types_expr.specs.Lists.{links_in, operands_in, arguments_in, elements_in};
-ghost use Rattle.types_expr.specs.Found.{locals_of, meaning_of, argued_of, Adds, AddsList, AddsElements, Continues};
+ghost use Rattle.types_expr.specs.Found.{locals_of, meaning_of, list_value, AddsJudged, AddsJudgedList, AddsElements, AddsByRule};
 
-use crate::found::{FoundInFile, LocalNames};
+use crate::found::{FoundInFile, LocalScope};
 use crate::keys::SeenFields;
 use crate::literals::Elements;
-use crate::meaning::{Argued, Meaning};
-use crate::places::{FaultPlaces, first_of_type, first_token, place_behind, place_of};
+use crate::meaning::{ListValue, Meaning};
+use crate::places::{FaultPlaces, first_of_type, first_token, place_after_link, place_of};
 use crate::types::{Basic, GoType, ValueKind};
 use go_ast::tree::{CompositeLit, Element, Expr, ExprItem, Link, Operand};
 use std::alloc::{AllocError, Global};
@@ -21,11 +21,11 @@ use std::alloc::{AllocError, Global};
 #[cycle(judging)]
 pub fn judge<'w>(
     alloc: Global,
-    scope: LocalNames<'w>,
+    scope: LocalScope<'w>,
     e: &Expr,
     found: &mut FoundInFile,
 ) -> Result<Meaning<'w>, AllocError>
-    ensures { IfOk result (λ m. Adds (judge (world_of scope.entry.world.now) (locals_of scope.entry.locals.now) (expr_view e.now)) found.old found.new (meaning_of m)) }
+    ensures { IfOk result (λ m. AddsJudged (judge (world_of scope.entry.world.now) (locals_of scope.entry.locals.now) (expr_view e.now)) found.old found.new (meaning_of m)) }
 {
     match e {
         Expr::Number(_) => Ok(Meaning::value(ValueKind::Untyped(Basic::Int))),
@@ -60,11 +60,11 @@ pub fn judge<'w>(
 #[cycle(judging)]
 pub fn judge_value<'w>(
     alloc: Global,
-    scope: LocalNames<'w>,
+    scope: LocalScope<'w>,
     e: &Expr,
     found: &mut FoundInFile,
 ) -> Result<Meaning<'w>, AllocError>
-    ensures { IfOk result (λ m. Adds (judge_value (world_of scope.entry.world.now) (locals_of scope.entry.locals.now) (expr_view e.now)) found.old found.new (meaning_of m)) }
+    ensures { IfOk result (λ m. AddsJudged (judge_value (world_of scope.entry.world.now) (locals_of scope.entry.locals.now) (expr_view e.now)) found.old found.new (meaning_of m)) }
 {
     let meaning = judge(alloc, scope, e, found)?;
     found.as_value(place_of(e), meaning)
@@ -74,13 +74,13 @@ pub fn judge_value<'w>(
 #[cycle(judging)]
 pub fn chain<'w>(
     alloc: Global,
-    scope: LocalNames<'w>,
+    scope: LocalScope<'w>,
     at: FaultPlaces,
     meaning: Meaning<'w>,
     links: &[Link],
     found: &mut FoundInFile,
 ) -> Result<Meaning<'w>, AllocError>
-    ensures { IfOk result (λ m. Continues (λ j. judge_links (world_of scope.entry.world.now) (locals_of scope.entry.locals.now) at.start at.place j (links_in links.now)) (meaning_of meaning.entry) found.old found.new (meaning_of m)) }
+    ensures { IfOk result (λ m. AddsByRule (λ j. judge_links (world_of scope.entry.world.now) (locals_of scope.entry.locals.now) at.start at.place j (links_in links.now)) (meaning_of meaning.entry) found.old found.new (meaning_of m)) }
 {
     let mut meaning = meaning;
     let start = at.start;
@@ -88,7 +88,7 @@ pub fn chain<'w>(
     for next in links {
         let at = FaultPlaces { start, place };
         meaning = judge_link(alloc, scope, at, meaning, next, found)?;
-        place = place_behind(start, next);
+        place = place_after_link(start, next);
     }
     Ok(meaning)
 }
@@ -97,13 +97,13 @@ pub fn chain<'w>(
 #[cycle(judging)]
 fn binary<'w>(
     alloc: Global,
-    scope: LocalNames<'w>,
+    scope: LocalScope<'w>,
     start: usize,
     meaning: Meaning<'w>,
     rest: &[Operand],
     found: &mut FoundInFile,
 ) -> Result<Meaning<'w>, AllocError>
-    ensures { IfOk result (λ m. Continues (λ j. judge_operands (world_of scope.entry.world.now) (locals_of scope.entry.locals.now) start j (operands_in rest.now)) (meaning_of meaning.entry) found.old found.new (meaning_of m)) }
+    ensures { IfOk result (λ m. AddsByRule (λ j. judge_operands (world_of scope.entry.world.now) (locals_of scope.entry.locals.now) start j (operands_in rest.now)) (meaning_of meaning.entry) found.old found.new (meaning_of m)) }
 {
     let mut meaning = meaning;
     for operand in rest {
@@ -117,13 +117,13 @@ fn binary<'w>(
 #[cycle(judging)]
 pub fn judge_link<'w>(
     alloc: Global,
-    scope: LocalNames<'w>,
+    scope: LocalScope<'w>,
     at: FaultPlaces,
     meaning: Meaning<'w>,
     next: &Link,
     found: &mut FoundInFile,
 ) -> Result<Meaning<'w>, AllocError>
-    ensures { IfOk result (λ m. Adds (judge_link (world_of scope.entry.world.now) (locals_of scope.entry.locals.now) at.start at.place (link_view next.now no_link) (meaning_of meaning.entry)) found.old found.new (meaning_of m)) }
+    ensures { IfOk result (λ m. AddsJudged (judge_link (world_of scope.entry.world.now) (locals_of scope.entry.locals.now) at.start at.place (link_view next.now no_link) (meaning_of meaning.entry)) found.old found.new (meaning_of m)) }
 {
     match next {
         Link::Selector { name, .. } => found.select(alloc, scope, at.place, *name, meaning),
@@ -149,17 +149,17 @@ pub fn judge_link<'w>(
 #[cycle(judging)]
 pub fn arguments<'w>(
     alloc: Global,
-    scope: LocalNames<'w>,
+    scope: LocalScope<'w>,
     list: &[ExprItem],
     found: &mut FoundInFile,
-) -> Result<Vec<Argued>, AllocError>
-    ensures { IfOk result (λ vs. AddsList (judge_arguments (world_of scope.entry.world.now) (locals_of scope.entry.locals.now) (arguments_in list.now)) found.old found.new (map argued_of vs.items)) }
+) -> Result<Vec<ListValue>, AllocError>
+    ensures { IfOk result (λ vs. AddsJudgedList (judge_arguments (world_of scope.entry.world.now) (locals_of scope.entry.locals.now) (arguments_in list.now)) found.old found.new (map list_value vs.items)) }
 {
     let mut values = Vec::new(alloc);
     for argument in list {
         let place = place_of(&argument.value);
         let kind = judge_value(alloc, scope, &argument.value, found)?.into_kind();
-        values.push(Argued { place, kind })?;
+        values.push(ListValue { place, kind })?;
     }
     Ok(values)
 }
@@ -168,11 +168,11 @@ pub fn arguments<'w>(
 #[cycle(judging)]
 fn literal<'w>(
     alloc: Global,
-    scope: LocalNames<'w>,
+    scope: LocalScope<'w>,
     lit: &CompositeLit,
     found: &mut FoundInFile,
 ) -> Result<Meaning<'w>, AllocError>
-    ensures { IfOk result (λ m. Adds (judge_literal (world_of scope.entry.world.now) (locals_of scope.entry.locals.now) (literal_view lit.now)) found.old found.new (meaning_of m)) }
+    ensures { IfOk result (λ m. AddsJudged (judge_literal (world_of scope.entry.world.now) (locals_of scope.entry.locals.now) (literal_view lit.now)) found.old found.new (meaning_of m)) }
 {
     let own = found.judge_type(alloc, scope.world, &lit.literal_type)?;
     let elements = elements(alloc, scope, &lit.elements, &own, found)?;
@@ -184,7 +184,7 @@ fn literal<'w>(
 #[cycle(judging)]
 fn elements<'w>(
     alloc: Global,
-    scope: LocalNames<'w>,
+    scope: LocalScope<'w>,
     list: &[Element],
     own: &Option<GoType>,
     found: &mut FoundInFile,
@@ -200,7 +200,7 @@ fn elements<'w>(
         let key = found.element_key(alloc, scope.world, own, &mut seen, &element.key)?;
         let place = place_of(&element.value);
         let kind = judge_value(alloc, scope, &element.value, found)?.into_kind();
-        let value = Argued { place, kind };
+        let value = ListValue { place, kind };
         let fits = found.misfit_if(scope.world, &value, key.wanted)?;
         elements = elements.with(key, &value, fits);
     }

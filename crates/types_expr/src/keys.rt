@@ -1,7 +1,7 @@
 //! Keys of composite literals.
 ghost use Rattle.std.specs.Prelude.{◌≡◌, IfOk, OnOk, option_map, map, ◌++◌, ◌∷◌, []};
 ghost use Rattle.go_ast.specs.View.{key_view};
-ghost use Rattle.types_expr.specs.Judge.{none_seen, seen_with, key_at, element_key, seen_after, key_faults, is_whole_key, wanted_behind, member_in};
+ghost use Rattle.types_expr.specs.Judge.{none_seen, seen_with, key_at, element_key, seen_after, key_faults, is_whole_key, wanted_after_key, member_in};
 ghost use Rattle.types_expr.specs.World.{underlying};
 ghost use Rattle.types_expr.specs.Types.{element_of};
 ghost use Rattle.types_expr.specs.View.{type_of};
@@ -132,12 +132,12 @@ impl<'w> World<'w> {
 
     /// Returns the type that the value after a key has to fit.
     #[tactic(auto, unfolding(crate::specs::Found::key_of))]
-    fn wanted_behind<'a>(
+    fn wanted_after_key<'a>(
         &'a self,
         key: LiteralKey<'a>,
         literal_type: &'a GoType,
     ) -> Option<&'a GoType>
-        ensures { option_map (λ t. type_of t.now) result ≡ wanted_behind (key_of key.entry) (underlying (world_of self.now) (type_of literal_type.now)) }
+        ensures { option_map (λ t. type_of t.now) result ≡ wanted_after_key (key_of key.entry) (underlying (world_of self.now) (type_of literal_type.now)) }
     {
         match key {
             LiteralKey::Field { field_type, .. } => Some(field_type),
@@ -202,7 +202,7 @@ impl FoundInFile {
         Ok(ElementKey {
             whole: found.is_whole(),
             unkeyed: false,
-            wanted: world.wanted_behind(found, literal_type),
+            wanted: world.wanted_after_key(found, literal_type),
         })
     }
 }

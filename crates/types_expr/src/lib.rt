@@ -3,8 +3,8 @@
 
 pub mod calls;
 pub mod classes;
+pub mod exports;
 pub mod found;
-pub mod interfaces;
 pub mod judge;
 pub mod keys;
 pub mod literals;

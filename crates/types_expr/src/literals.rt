@@ -3,11 +3,11 @@ ghost use Rattle.std.specs.Prelude.{◌≡◌, ◌&&◌, ◌||◌, IfOk, option_
 ghost use Rattle.types_expr.specs.Judge.{literal_meaning, misfit_if, is_whole};
 ghost use Rattle.types_expr.specs.View.{type_of, kind_of};
 ghost use Rattle.types_expr.specs.WorldView.{world_of};
-ghost use Rattle.types_expr.specs.Found.{meaning_of, Adds, AddsPlaces};
+ghost use Rattle.types_expr.specs.Found.{meaning_of, AddsJudged, AddsMisfits};
 
 use crate::found::FoundInFile;
 use crate::keys::ElementKey;
-use crate::meaning::{Argued, Meaning};
+use crate::meaning::{ListValue, Meaning};
 use crate::types::{GoType, ValueKind};
 use crate::world::{Shape, World};
 use std::alloc::AllocError;
@@ -22,7 +22,7 @@ pub struct Elements {
 impl Elements {
     /// Returns these elements with one more, of that key and value. `fits`: whether the value fits or is broken.
     #[tactic(auto, unfolding(crate::specs::View::kind_of))]
-    pub fn with(self, key: ElementKey<'_>, value: &Argued, fits: bool) -> Elements
+    pub fn with(self, key: ElementKey<'_>, value: &ListValue, fits: bool) -> Elements
         ensures whole { result.whole ≡ (self.whole && (key.entry.whole && (is_whole (option_map kind_of value.now.kind) && fits))) }
         ensures unkeyed { result.unkeyed ≡ (self.unkeyed || key.entry.unkeyed) }
     {
@@ -38,10 +38,10 @@ impl FoundInFile {
     pub(crate) fn misfit_if(
         &mut self,
         world: &World<'_>,
-        value: &Argued,
+        value: &ListValue,
         wanted: Option<&GoType>,
     ) -> Result<bool, AllocError>
-        ensures { IfOk result (λ fits. AddsPlaces (misfit_if (world_of world.now) value.now.place (option_map kind_of value.now.kind) (option_map (λ t. type_of t.now) wanted.entry)) self.old self.new fits) }
+        ensures { IfOk result (λ fits. AddsMisfits (misfit_if (world_of world.now) value.now.place (option_map kind_of value.now.kind) (option_map (λ t. type_of t.now) wanted.entry)) self.old self.new fits) }
     {
         match wanted {
             Some(wanted) => self.misfit(world, value, wanted),
@@ -58,7 +58,7 @@ impl FoundInFile {
         own: Option<GoType>,
         elements: Elements,
     ) -> Result<Meaning<'w>, AllocError>
-        ensures { IfOk result (λ m. Adds (literal_meaning (world_of world.now) start (option_map type_of own) elements.whole elements.unkeyed) self.old self.new (meaning_of m)) }
+        ensures { IfOk result (λ m. AddsJudged (literal_meaning (world_of world.now) start (option_map type_of own) elements.whole elements.unkeyed) self.old self.new (meaning_of m)) }
     {
         let Some(own) = own else {
             return Ok(Meaning::Broken);

@@ -3,7 +3,7 @@ ghost use Rattle.std.specs.Prelude.{◌≡◌, IfOk, map, option_map, is_some, f
 ghost use Rattle.std.specs.List.{list_all};
 ghost use Rattle.types_expr.specs.Judge.{value_kind, all_whole, result_meaning};
 ghost use Rattle.types_expr.specs.View.{type_of, kind_of};
-ghost use Rattle.types_expr.specs.Found.{meaning_of, argued_of};
+ghost use Rattle.types_expr.specs.Found.{meaning_of, list_value};
 ghost use Rattle.types_expr.specs.Types.{Value};
 
 use crate::types::{Builtin, GoType, Signature, ValueKind};
@@ -24,7 +24,7 @@ pub enum Meaning<'w> {
 
 /// A value of a list: the token of its faults, and its kind, none where it is broken.
 #[derive(Drop)]
-pub struct Argued {
+pub struct ListValue {
     pub place: usize,
     pub kind: Option<ValueKind>,
 }
@@ -79,7 +79,7 @@ pub(crate) fn result_meaning<'w>(
 }
 
 /// Whether each value has a kind.
-fn each_whole(values: &[Argued]) -> bool
+fn each_whole(values: &[ListValue]) -> bool
     ensures { result ≡ list_all (λ v. is_some v.kind) values.now }
 {
     values.iter().all(|value| value.kind.is_some())
@@ -87,8 +87,8 @@ fn each_whole(values: &[Argued]) -> bool
 
 /// Whether none of the values is broken.
 #[tactic(auto, using(crate::proofs::Values::whole_found))]
-pub fn all_whole(values: &[Argued]) -> bool
-    ensures { result ≡ all_whole (map argued_of values.now) }
+pub fn all_whole(values: &[ListValue]) -> bool
+    ensures { result ≡ all_whole (map list_value values.now) }
 {
     each_whole(values)
 }

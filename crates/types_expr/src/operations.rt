@@ -5,7 +5,7 @@ ghost use Rattle.types_expr.specs.Operations.{fits, converts, joined, operate, c
 ghost use Rattle.types_expr.specs.View.{type_of, kind_of};
 ghost use Rattle.types_expr.specs.WorldView.{world_of, shape_of};
 
-use crate::classes::{Family, TypeClass};
+use crate::classes::{Family, ValueClass};
 use crate::types::{Basic, GoType, ValueKind};
 use crate::world::{Shape, World};
 use go_ast::syntax::BinaryOp;
@@ -43,50 +43,50 @@ impl Shape<'_> {
 
     /// Returns the class of its values.
     #[tactic(auto, unfolding(crate::specs::WorldView::shape_of))]
-    fn class(self) -> TypeClass
+    fn class(self) -> ValueClass
         ensures { result ≡ class_of_underlying (shape_of self.entry) }
     {
         match self {
-            Shape::Plain(basic) => TypeClass::Of(basic),
-            Shape::PointerTo(_) => TypeClass::Pointer,
-            Shape::SliceOf(_) => TypeClass::Slice,
-            Shape::Struct(_) => TypeClass::Struct,
+            Shape::Plain(basic) => ValueClass::Of(basic),
+            Shape::PointerTo(_) => ValueClass::Pointer,
+            Shape::SliceOf(_) => ValueClass::Slice,
+            Shape::Struct(_) => ValueClass::Struct,
         }
     }
 }
 
-impl TypeClass {
+impl ValueClass {
     pub fn is_int(self) -> bool
         ensures { result ≡ is_int self }
     {
-        matches!(self, TypeClass::Of(Basic::Int))
+        matches!(self, ValueClass::Of(Basic::Int))
     }
 
     pub fn is_bool(self) -> bool
         ensures { result ≡ is_bool self }
     {
-        matches!(self, TypeClass::Of(Basic::Bool))
+        matches!(self, ValueClass::Of(Basic::Bool))
     }
 
     /// Whether `<`, `<=`, `>`, `>=` and `+` take such a value.
     fn is_ordered(self) -> bool
         ensures { result ≡ is_ordered self }
     {
-        matches!(self, TypeClass::Of(Basic::Int | Basic::String))
+        matches!(self, ValueClass::Of(Basic::Int | Basic::String))
     }
 
     /// Whether `len` takes such a value.
     pub(crate) fn has_length(self) -> bool
         ensures { result ≡ has_length self }
     {
-        matches!(self, TypeClass::Of(Basic::String) | TypeClass::Slice)
+        matches!(self, ValueClass::Of(Basic::String) | ValueClass::Slice)
     }
 
     /// Whether `print` and `println` take such a value.
     pub(crate) fn is_printed(self) -> bool
         ensures { result ≡ is_printed self }
     {
-        matches!(self, TypeClass::Of(_))
+        matches!(self, ValueClass::Of(_))
     }
 
     /// Whether `==` and `!=` take such a value; `with_nil`: one of the two operands is nil.
@@ -94,9 +94,9 @@ impl TypeClass {
         ensures { result ≡ compares with_nil self }
     {
         match self {
-            TypeClass::Of(_) | TypeClass::Pointer => true,
-            TypeClass::Slice => with_nil,
-            TypeClass::Struct | TypeClass::Nil => false,
+            ValueClass::Of(_) | ValueClass::Pointer => true,
+            ValueClass::Slice => with_nil,
+            ValueClass::Struct | ValueClass::Nil => false,
         }
     }
 }
@@ -121,7 +121,12 @@ fn family_of(op: BinaryOp) -> Family
 
 /// Returns the kind of an operation on operands of one class, none where the class has no such operation.
 #[tactic(auto, unfolding(crate::specs::View::kind_of, crate::specs::Operations::result_of))]
-fn result_of(family: Family, with_nil: bool, class: TypeClass, kind: ValueKind) -> Option<ValueKind>
+fn result_of(
+    family: Family,
+    with_nil: bool,
+    class: ValueClass,
+    kind: ValueKind,
+) -> Option<ValueKind>
     ensures { option_map kind_of result ≡ result_of family with_nil class (kind_of kind) }
 {
     let fine = match family {
@@ -188,13 +193,13 @@ impl World<'_> {
 
     /// Returns the class of the values of that kind.
     #[tactic(auto, unfolding(crate::specs::View::kind_of, crate::specs::Operations::class_of))]
-    pub fn class_of(&self, kind: &ValueKind) -> TypeClass
+    pub fn class_of(&self, kind: &ValueKind) -> ValueClass
         ensures { result ≡ class_of (world_of self.now) (kind_of kind.now) }
     {
         match kind {
             ValueKind::Typed(own) => self.underlying(own).class(),
-            ValueKind::Untyped(basic) => TypeClass::Of(*basic),
-            ValueKind::Nil => TypeClass::Nil,
+            ValueKind::Untyped(basic) => ValueClass::Of(*basic),
+            ValueKind::Nil => ValueClass::Nil,
         }
     }
 

@@ -4,7 +4,7 @@ ghost use Rattle.types_expr.specs.Operations.{prefixed, pointee_of_kind, element
 ghost use Rattle.types_expr.specs.Judge.{operation, prefix_of, index_of, address_of, element_meaning, means};
 ghost use Rattle.types_expr.specs.View.{type_of, kind_of};
 ghost use Rattle.types_expr.specs.WorldView.{world_of};
-ghost use Rattle.types_expr.specs.Found.{meaning_of, Adds};
+ghost use Rattle.types_expr.specs.Found.{meaning_of, AddsJudged};
 
 use crate::found::FoundInFile;
 use crate::meaning::Meaning;
@@ -41,13 +41,17 @@ impl World<'_> {
                     Ok(None)
                 }
             }
-            PrefixOp::Deref => self.behind(alloc, kind),
+            PrefixOp::Deref => self.pointee_variable(alloc, kind),
         }
     }
 
     /// Returns the variable that a pointer points to. Of a type that is written as a pointer it takes the target type without copying it.
     #[tactic(auto, unfolding(crate::specs::View::kind_of, crate::specs::View::type_of))]
-    fn behind<'w>(&self, alloc: Global, kind: ValueKind) -> Result<Option<Meaning<'w>>, AllocError>
+    fn pointee_variable<'w>(
+        &self,
+        alloc: Global,
+        kind: ValueKind,
+    ) -> Result<Option<Meaning<'w>>, AllocError>
         ensures { IfOk result (λ m. option_map meaning_of m ≡ pointee_of_kind (world_of self.now) (kind_of kind)) }
     {
         match kind {
@@ -55,13 +59,13 @@ impl World<'_> {
                 let target = ValueKind::Typed(Box::into_inner(target));
                 Ok(Some(Meaning::variable(target)))
             }
-            kind => self.copied_behind(alloc, &kind),
+            kind => self.copied_pointee(alloc, &kind),
         }
     }
 
     /// Returns the variable that a pointer points to, with a copy of its type.
     #[tactic(auto, unfolding(crate::specs::View::kind_of, crate::specs::WorldView::shape_of))]
-    fn copied_behind<'w>(
+    fn copied_pointee<'w>(
         &self,
         alloc: Global,
         kind: &ValueKind,
@@ -92,7 +96,7 @@ impl FoundInFile {
         left: Meaning<'w>,
         right: Meaning<'w>,
     ) -> Result<Meaning<'w>, AllocError>
-        ensures { IfOk result (λ m. Adds (operation (world_of world.now) op start (meaning_of left.entry) (meaning_of right.entry)) self.old self.new (meaning_of m)) }
+        ensures { IfOk result (λ m. AddsJudged (operation (world_of world.now) op start (meaning_of left.entry) (meaning_of right.entry)) self.old self.new (meaning_of m)) }
     {
         let Some(left) = left.into_kind() else {
             return Ok(Meaning::Broken);
@@ -116,7 +120,7 @@ impl FoundInFile {
         place: usize,
         meaning: Meaning<'w>,
     ) -> Result<Meaning<'w>, AllocError>
-        ensures { IfOk result (λ m. Adds (prefix_of (world_of world.now) op place (meaning_of meaning.entry)) self.old self.new (meaning_of m)) }
+        ensures { IfOk result (λ m. AddsJudged (prefix_of (world_of world.now) op place (meaning_of meaning.entry)) self.old self.new (meaning_of m)) }
     {
         match meaning {
             Meaning::Value { kind, .. } => match world.prefixed(alloc, op, kind)? {
@@ -136,7 +140,7 @@ impl FoundInFile {
         start: usize,
         slice: ValueKind,
     ) -> Result<Meaning<'w>, AllocError>
-        ensures { IfOk result (λ m. Adds (element_meaning (element_of_kind (world_of world.now) (kind_of slice)) start) self.old self.new (meaning_of m)) }
+        ensures { IfOk result (λ m. AddsJudged (element_meaning (element_of_kind (world_of world.now) (kind_of slice)) start) self.old self.new (meaning_of m)) }
     {
         match slice {
             ValueKind::Typed(GoType::Slice(element)) => {
@@ -155,7 +159,7 @@ impl FoundInFile {
         start: usize,
         slice: &ValueKind,
     ) -> Result<Meaning<'w>, AllocError>
-        ensures { IfOk result (λ m. Adds (element_meaning (element_of_kind (world_of world.now) (kind_of slice.now)) start) self.old self.new (meaning_of m)) }
+        ensures { IfOk result (λ m. AddsJudged (element_meaning (element_of_kind (world_of world.now) (kind_of slice.now)) start) self.old self.new (meaning_of m)) }
     {
         match world.element_of(slice) {
             Some(element) => {
@@ -176,7 +180,7 @@ impl FoundInFile {
         operand: Meaning<'w>,
         index: Meaning<'w>,
     ) -> Result<Meaning<'w>, AllocError>
-        ensures { IfOk result (λ m. Adds (index_of (world_of world.now) at.start at.place (meaning_of operand.entry) (meaning_of index.entry)) self.old self.new (meaning_of m)) }
+        ensures { IfOk result (λ m. AddsJudged (index_of (world_of world.now) at.start at.place (meaning_of operand.entry) (meaning_of index.entry)) self.old self.new (meaning_of m)) }
     {
         let Some(index) = index.into_kind() else {
             return Ok(Meaning::Broken);

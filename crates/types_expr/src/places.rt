@@ -2,7 +2,7 @@
 ghost use Rattle.std.specs.Prelude.{◌≡◌};
 ghost use Rattle.go_ast.specs.Tree.{no_link};
 ghost use Rattle.go_ast.specs.View.{expr_view, link_view, type_view};
-ghost use Rattle.types_expr.specs.Places.{first_token, first_of_type, place_of, place_behind, place_of_links};
+ghost use Rattle.types_expr.specs.Places.{first_token, first_of_type, place_of, place_after_link, place_of_links};
 ghost use Rattle.types_expr.specs.Lists.{links_in};
 
 use go_ast::tree::{Expr, Link, TypeExpr};
@@ -61,15 +61,15 @@ fn chain_place(start: usize, links: &[Link]) -> usize
 {
     let mut place = start;
     for link in links {
-        place = place_behind(start, link);
+        place = place_after_link(start, link);
     }
     place
 }
 
 /// Returns the token at which a chain that begins at `start` and ends in this link reports its faults.
 #[tactic(auto, unfolding(go_ast::specs::View::link_view))]
-pub fn place_behind(start: usize, link: &Link) -> usize
-    ensures { result ≡ place_behind start (link_view link.now no_link) }
+pub fn place_after_link(start: usize, link: &Link) -> usize
+    ensures { result ≡ place_after_link start (link_view link.now no_link) }
 {
     match link {
         Link::Selector { name, .. } => *name,

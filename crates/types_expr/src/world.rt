@@ -1,11 +1,11 @@
 //! The bindings of a file's names, and the definitions and members of types.
 ghost use Rattle.std.specs.Prelude.{◌≡◌, option_copied, option_map, MatchOption};
 ghost use Rattle.types_expr.specs.Types.{Broken};
-ghost use Rattle.types_expr.specs.World.{underlying, Means, is_seen, seen_field, seen_method, member_symbol, struct_behind, owner};
+ghost use Rattle.types_expr.specs.World.{underlying, Means, is_seen, seen_field, seen_method, member_symbol, field_owner, owner};
 ghost use Rattle.types_expr.specs.View.{type_of};
-ghost use Rattle.types_expr.specs.WorldView.{definition_at, definition_in, definition_of, definitions_at, field_of, held_at, imported_at, known_at, method_of, member_in, member_of, name_in, spelling_of, bound_in, bound_of, shape_of, underlying_of, underlying_in, world_of};
+ghost use Rattle.types_expr.specs.WorldView.{definition_at, definition_in, definition_of, definitions_at, field_of, shared_at, imported_at, known_at, plain_method_of, member_in, member_of, name_in, spelling_of, bound_in, bound_of, shape_of, underlying_of, underlying_in, world_of};
 
-use crate::interfaces::Interface;
+use crate::exports::ExportData;
 use crate::symbol::{SharedPath, Symbol};
 use crate::types::{Basic, Builtin, GoType, Signature};
 use base_files::PathTable;
@@ -76,7 +76,7 @@ pub struct Definition {
 /// that has none here is no known package's.
 #[derive(Drop)]
 pub struct Definitions {
-    pub packages: PathTable<Option<Arc<Interface, Global>>>,
+    pub packages: PathTable<Option<Arc<ExportData, Global>>>,
 }
 
 /// What a file is judged by: the bindings of its names, and the type definitions.
@@ -140,8 +140,8 @@ impl<'w> Member<'w> {
 
 impl Definitions {
     /// Returns the export data of the package at a path, as it is shared.
-    fn held(&self, path: &[u8]) -> Option<&Arc<Interface, Global>>
-        ensures { option_copied result ≡ held_at self.now path.now }
+    fn held(&self, path: &[u8]) -> Option<&Arc<ExportData, Global>>
+        ensures { option_copied result ≡ shared_at self.now path.now }
     {
         match self.packages.get(path) {
             None => None,
@@ -150,7 +150,7 @@ impl Definitions {
     }
 
     /// Returns the export data of the package at a path, if it is known.
-    pub fn interface(&self, path: &[u8]) -> Option<&Interface>
+    pub fn export_data(&self, path: &[u8]) -> Option<&ExportData>
         ensures { option_copied result ≡ known_at self.now path.now }
     {
         match self.held(path) {
@@ -163,9 +163,9 @@ impl Definitions {
     pub fn of(&self, path: &[u8]) -> Option<&[Definition]>
         ensures { option_copied result ≡ definitions_at self.now path.now }
     {
-        match self.interface(path) {
+        match self.export_data(path) {
             None => None,
-            Some(interface) => Some(interface.definitions.as_slice()),
+            Some(export_data) => Some(export_data.definitions.as_slice()),
         }
     }
 
@@ -188,7 +188,7 @@ impl Definition {
 
     /// Returns the method of that name.
     fn method(&self, name: &[u8]) -> Option<&Method>
-        ensures { option_map (λ m. method_of m.now) result ≡ (definition_of self.now).method name.now }
+        ensures { option_map (λ m. plain_method_of m.now) result ≡ (definition_of self.now).method name.now }
     {
         self.methods.get(name)
     }
@@ -251,9 +251,9 @@ impl<'w> World<'w> {
     }
 
     /// Returns the struct type whose fields a value of this type has: its own, or that of the values to which it points.
-    #[tactic(auto, unfolding(crate::specs::View::type_of, crate::specs::WorldView::shape_of, crate::specs::World::struct_behind))]
-    fn struct_behind<'a>(&'a self, of: &'a GoType) -> Option<&'a Symbol>
-        ensures { option_copied result ≡ struct_behind (underlying_in self.now) (type_of of.now) }
+    #[tactic(auto, unfolding(crate::specs::View::type_of, crate::specs::WorldView::shape_of, crate::specs::World::field_owner))]
+    fn field_owner<'a>(&'a self, of: &'a GoType) -> Option<&'a Symbol>
+        ensures { option_copied result ≡ field_owner (underlying_in self.now) (type_of of.now) }
     {
         match self.underlying(of) {
             Shape::Struct(symbol) => Some(symbol),
@@ -289,7 +289,7 @@ impl<'w> World<'w> {
     /// Returns the method of that name of a defined type, if the file's package sees it.
     #[tactic(auto, unfolding(crate::specs::WorldView::definition_in))]
     fn method(&self, of: &Symbol, name: &[u8]) -> Option<&'w Method>
-        ensures { option_map (λ m. method_of m.now) result ≡ seen_method self.now.package.now ((definition_in self.now of.now).method name.now) }
+        ensures { option_map (λ m. plain_method_of m.now) result ≡ seen_method self.now.package.now ((definition_in self.now of.now).method name.now) }
     {
         let method = self.definition(of)?.method(name)?;
         if self.sees(&method.symbol, method.exported) {
@@ -305,7 +305,7 @@ impl<'w> World<'w> {
         ensures { option_map member_of result ≡ member_in self.now place (type_of of.now) }
     {
         let name = self.spelling(place);
-        if let Some(symbol) = self.struct_behind(of) {
+        if let Some(symbol) = self.field_owner(of) {
             if let Some(field) = self.field(symbol, name) {
                 return Some(Member::Field(field));
             }

@@ -10,7 +10,7 @@ use Rattle.go_ast.specs.Tree.{Item, Group, single, several, DeclTree, VarDecl, T
 use Rattle.go_ast.specs.Flatten.{sign, sign_if, tokens_if, all_tokens, item_tokens, list_tokens, group_tokens, name_tokens, global_tokens}
 use Rattle.go_ast.specs.Flatten.{type_spec_tokens, receiver_tokens, func_tokens, imports_tokens, decl_tokens, flatten}
 use Rattle.go_ast.specs.SourceFile.{SourceFile}
-use Rattle.types_declared.specs.Files.{Ranked, ranked, group_items}
+use Rattle.types_declared.specs.Files.{RankedSource, ranked_files, group_items}
 use Rattle.go_scope.specs.Trees.{AreRising}
 use Rattle.go_scope.proofs.Rising.{Rises, rises_le, rises_split, rises_of}
 use Rattle.types_declared.specs.Package.{PlacedVariable, PlacedType, PlacedFunction, variables_of, placed_type, decl_variables, decl_types, decl_functions}
@@ -200,7 +200,7 @@ function_named file (FuncDecl k x s) f h = elim h [
   | inr z ↦ absurd z
 ]
 
-in_ranked : (files : List SourceFile) (sort token file : ℕ) (r : Ranked) (d : DeclTree) → Holds (ranked files) r → Holds r.1.tree.decls d → file ≡ r.0 →
+in_ranked : (files : List SourceFile) (sort token file : ℕ) (r : RankedSource) (d : DeclTree) → Holds (ranked_files files) r → Holds r.1.tree.decls d → file ≡ r.0 →
     DeclNames sort token d → DeclaredAt files sort file token
 in_ranked files sort token file r d hr hd e h =
     let i = holds_ranked 0 files r hr in
@@ -210,14 +210,14 @@ in_ranked files sort token file r d hr hd e h =
 pub variable_at : (files : List SourceFile) (rank : ℕ) (v : PlacedVariable) → slice_get (declared_variables files) rank ≡ Some v →
     DeclaredAt files 0 v.file v.name
 variable_at files rank v e =
-    let r = holds_flat variables_in (ranked files) v (holds_got (declared_variables files) rank v e) in
+    let r = holds_flat variables_in (ranked_files files) v (holds_got (declared_variables files) rank v e) in
     let d = holds_flat (decl_variables r.0.0) r.0.1.tree.decls v r.1.1 in
     let n = variable_named r.0.0 d.0 v d.1.1 in
     in_ranked files 0 v.name v.file r.0 d.0 r.1.0 d.1.0 n.0 n.1
 
 pub type_at : (files : List SourceFile) (rank : ℕ) (t : PlacedType) → slice_get (declared_types files) rank ≡ Some t → DeclaredAt files 1 t.file t.spec.name
 type_at files rank t e =
-    let r = holds_flat types_in (ranked files) t (holds_got (declared_types files) rank t e) in
+    let r = holds_flat types_in (ranked_files files) t (holds_got (declared_types files) rank t e) in
     let d = holds_flat (decl_types r.0.0) r.0.1.tree.decls t r.1.1 in
     let n = type_named r.0.0 d.0 t d.1.1 in
     in_ranked files 1 t.spec.name t.file r.0 d.0 r.1.0 d.1.0 n.0 n.1
@@ -225,7 +225,7 @@ type_at files rank t e =
 pub function_at : (files : List SourceFile) (rank : ℕ) (f : PlacedFunction) → slice_get (declared_functions files) rank ≡ Some f →
     DeclaredAt files 2 f.file f.function.name
 function_at files rank f e =
-    let r = holds_flat functions_in (ranked files) f (holds_got (declared_functions files) rank f e) in
+    let r = holds_flat functions_in (ranked_files files) f (holds_got (declared_functions files) rank f e) in
     let d = holds_flat (decl_functions r.0.0) r.0.1.tree.decls f r.1.1 in
     let n = function_named r.0.0 d.0 f d.1.1 in
     in_ranked files 2 f.function.name f.file r.0 d.0 r.1.0 d.1.0 n.0 n.1

@@ -9,8 +9,8 @@ use Rattle.types_declared.specs.Package.{Package}
 use Rattle.types_declared.specs.Written.{ImportsPath}
 use Rattle.types_info.specs.declared.lists.Qualified.{Qualified}
 use Rattle.types_info.specs.declared.lists.Lists.{Lists}
-use Rattle.types_info.specs.Lists.{IsListed, path_for, AreWithin, AddsDeclaration, AddsUnder}
-use Rattle.types_info.specs.Qualified.{IsBehindPackage, IsOnePath, StandsBehind, AreQualifiedBelow, AreListsBelow, ListsIdentifier}
+use Rattle.types_info.specs.Lists.{IsListedUnder, path_for, AreWithin, AddsDeclaration, AddsUnder}
+use Rattle.types_info.specs.QualifiedIdentifiers.{IsQualifiedByPath, IsOnePath, IsQualifiedAt, AreQualifiedBelow, AreListsBelow, ListsIdentifier}
 use Rattle.types_info.proofs.NamesBefore.{path_is}
 
 -- A list for each import
@@ -35,7 +35,7 @@ next_list p d old new o h size adds one = record {
 
 -- One identifier
 
-pub not_listed : (p : Package) (u : ℕ) (lists : Lists) → AreListsBelow p p.size lists → ((path : List ℕ) → IsBehindPackage p u path → ⊥) →
+pub not_listed : (p : Package) (u : ℕ) (lists : Lists) → AreListsBelow p p.size lists → ((path : List ℕ) → IsQualifiedByPath p u path → ⊥) →
     ListsIdentifier p u lists lists
 not_listed p u lists are none = record {
   lists = are;
@@ -43,7 +43,7 @@ not_listed p u lists are none = record {
 }
 
 pub is_listed : (p : Package) (u d : ℕ) (at : Position) (old new : Lists) → AreListsBelow p p.size old → d < p.size → p.layout.place u ≡ at →
-    ((path : List ℕ) → IsBehindPackage p u path ↔ ImportsPath p d path) → AreWithin new → ((e : ℕ) → path_for new e ≡ path_for old e) →
+    ((path : List ℕ) → IsQualifiedByPath p u path ↔ ImportsPath p d path) → AreWithin new → ((e : ℕ) → path_for new e ≡ path_for old e) →
     AddsUnder old.all.items new.all.items (path_for old d) at → ListsIdentifier p u old new
 is_listed p u d at old new are lt place before within kept adds = record {
   lists = record {
@@ -61,7 +61,7 @@ is_listed p u d at old new are lt place before within kept adds = record {
 
 -- The identifiers before a loop's index
 
-pub none_passed : (p : Package) (all : List Qualified) → ((path : List ℕ) (at : Position) → IsListed all path at → ⊥) → AreQualifiedBelow p 0 all
+pub none_passed : (p : Package) (all : List Qualified) → ((path : List ℕ) (at : Position) → IsListedUnder all path at → ⊥) → AreQualifiedBelow p 0 all
 none_passed p all none path at = (
   (λ h. absurd (none path at h)),
   (λ h. let lt : h.identifier < 0 = h.below in absurd (omega arith)),
@@ -71,7 +71,7 @@ pub one_passed : (p : Package) (u : ℕ) (old new : Lists) → AreQualifiedBelow
     AreQualifiedBelow p (u + 1) new.all.items
 one_passed p u old new h adds path at = (to, from)
   where
-    to : IsListed new.all.items path at → StandsBehind p (u + 1) path at
+    to : IsListedUnder new.all.items path at → IsQualifiedAt p (u + 1) path at
     to is = elim ((adds.listed path at).0 is) [
       | inl earlier ↦
           let b = (h path at).0 earlier in
@@ -79,11 +79,11 @@ one_passed p u old new h adds path at = (to, from)
       | inr last ↦ record { identifier = u; below = omega arith; is_at = last.1; behind = last.0 }
     ]
 
-    from : StandsBehind p (u + 1) path at → IsListed new.all.items path at
+    from : IsQualifiedAt p (u + 1) path at → IsListedUnder new.all.items path at
     from b = (adds.listed path at).1 (elim (cases_lt b.identifier u) [
       | inl lt ↦ inl ((h path at).1 (record { identifier = b.identifier; below = lt; is_at = b.is_at; behind = b.behind }))
       | inr ge ↦
           let lt : b.identifier < u + 1 = b.below in
           let here : b.identifier ≡ u = omega arith in
-          inr (subst (λ v. IsBehindPackage p v path) here b.behind, subst (λ v. p.layout.place v ≡ at) here b.is_at)
+          inr (subst (λ v. IsQualifiedByPath p v path) here b.behind, subst (λ v. p.layout.place v ≡ at) here b.is_at)
     ])

@@ -1,8 +1,8 @@
 -- The lemmas of this crate.
-pub mod WholeTypes
+pub mod ResolvedTypes
 pub mod TypeLists
 pub mod SignatureParts
-pub mod BoundLists
+pub mod MeaningLists
 pub mod Meanings
 pub mod NameParts
 pub mod WorldParts

@@ -11,7 +11,7 @@ use Rattle.go_scope.specs.declared.model.Position.{Position}
 use Rattle.types_declared.proofs.DeclaredPaths.{get_before, get_last}
 use Rattle.types_info.specs.declared.lists.Qualified.{Qualified}
 use Rattle.types_info.specs.declared.lists.Lists.{Lists}
-use Rattle.types_info.specs.Lists.{path_of, IsListed, path_by, AreWithin, AddsList, AddsDeclaration, AddsPlace, AddsUnder}
+use Rattle.types_info.specs.Lists.{list_path, IsListedUnder, listed_path, AreWithin, AddsList, AddsDeclaration, AddsPlace, AddsUnder}
 
 -- an index in a list of indexes after one more was pushed
 number_cases : (xs : List (Option ℕ)) (x : Option ℕ) (d k : ℕ) → get_or (xs ++ (x ∷ [])) d None ≡ Some k →
@@ -29,12 +29,12 @@ number_cases xs x d k e = elim (cases_lt d (length xs)) [
 ]
 
 path_kept : (old new : List Qualified) (x : Qualified) (o : Option ℕ) → new ≡ old ++ (x ∷ []) → ((k : ℕ) → o ≡ Some k → k < length old) →
-    path_by new o ≡ path_by old o
+    listed_path new o ≡ listed_path old o
 path_kept old new x None e within = refl
-path_kept old new x (Some k) e within = ap (option_map path_of) (ap (λ l. slice_get l k) e ∙ get_before old x k (within k refl))
+path_kept old new x (Some k) e within = ap (option_map list_path) (ap (λ l. slice_get l k) e ∙ get_before old x k (within k refl))
 
 -- an added list has no position
-listed_before : (old new : List Qualified) (path : List ℕ) → AddsList old new path → (p : List ℕ) (at : Position) → IsListed new p at → IsListed old p at
+listed_before : (old new : List Qualified) (path : List ℕ) → AddsList old new path → (p : List ℕ) (at : Position) → IsListedUnder new p at → IsListedUnder old p at
 listed_before old new path adds p at h =
     let is = h.1 in
     let has : slice_get (old ++ (adds.list ∷ [])) h.0 ≡ Some is.list = ap (λ l. slice_get l h.0) (sym adds.new_is) ∙ is.has_number in
@@ -72,29 +72,29 @@ added_list old all numbers path k within at adds pushed =
         | inr here ↦ let same : k ≡ j = same_Some k j here in omega arith
       ];
       size = ap length pushed ∙ length_push xs (Some k);
-      here = ap (path_by all.items) (ap (λ l. get_or l (length xs) None) pushed ∙ get_or-append_seam xs (Some k) [] None) ∙
-          ap (option_map path_of) (ap (slice_get all.items) at ∙ ap (λ l. slice_get l (length old.all.items)) adds.new_is ∙
+      here = ap (listed_path all.items) (ap (λ l. get_or l (length xs) None) pushed ∙ get_or-append_seam xs (Some k) [] None) ∙
+          ap (option_map list_path) (ap (slice_get all.items) at ∙ ap (λ l. slice_get l (length old.all.items)) adds.new_is ∙
           get_last old.all.items adds.list) ∙
           ap Some adds.of_path;
       kept = λ d lt.
-          ap (path_by all.items) (ap (λ l. get_or l d None) pushed ∙ get_or_append_left xs (Some k ∷ []) None d lt) ∙
+          ap (listed_path all.items) (ap (λ l. get_or l d None) pushed ∙ get_or_append_left xs (Some k ∷ []) None d lt) ∙
           path_kept old.all.items all.items adds.list (get_or xs d None) adds.new_is (within d);
       listed = listed_before old.all.items all.items path adds;
     }
 
 -- a position was added to a list
-pub added_place : (old new : List Qualified) (k : ℕ) (at : Position) → AddsPlace old new k at → AddsUnder old new (path_by old (Some k)) at
+pub added_place : (old new : List Qualified) (k : ℕ) (at : Position) → AddsPlace old new k at → AddsUnder old new (listed_path old (Some k)) at
 added_place old new k at adds path x = (to, from)
   where
-    its_path : path_by old (Some k) ≡ Some (path_of adds.before)
-    its_path = ap (option_map path_of) adds.was
+    its_path : listed_path old (Some k) ≡ Some (list_path adds.before)
+    its_path = ap (option_map list_path) adds.was
 
-    to : IsListed new path x → IsListed old path x ⊎ ((path_by old (Some k) ≡ Some path) × (at ≡ x))
+    to : IsListedUnder new path x → IsListedUnder old path x ⊎ ((listed_path old (Some k) ≡ Some path) × (at ≡ x))
     to h = elim (cases_eq h.0 k) [
       | inl here ↦
           let is = h.1 in
           let same : adds.after ≡ is.list = same_Some adds.after is.list (sym adds.is ∙ ap (slice_get new) (sym here) ∙ is.has_number) in
-          let of : path_of adds.before ≡ path = sym adds.same_path ∙ ap path_of same ∙ is.of_path in
+          let of : list_path adds.before ≡ path = sym adds.same_path ∙ ap list_path same ∙ is.of_path in
           elim (Contains-push_cases adds.before.places.items at x
           (subst (λ l. Contains l x) (ap (λ (q : Qualified). q.places.items) (sym same) ∙ adds.places) is.holds)) [
             | inl earlier ↦ inl (k, record { list = adds.before; has_number = adds.was; of_path = of; holds = earlier })
@@ -105,7 +105,7 @@ added_place old new k at adds path x = (to, from)
           inl (h.0, record { list = is.list; has_number = sym (adds.elsewhere h.0 apart) ∙ is.has_number; of_path = is.of_path; holds = is.holds })
     ]
 
-    earlier : IsListed old path x → IsListed new path x
+    earlier : IsListedUnder old path x → IsListedUnder new path x
     earlier h = elim (cases_eq h.0 k) [
       | inl here ↦
           let is = h.1 in
@@ -114,7 +114,7 @@ added_place old new k at adds path x = (to, from)
             record {
               list = adds.after;
               has_number = adds.is;
-              of_path = adds.same_path ∙ ap path_of same ∙ is.of_path;
+              of_path = adds.same_path ∙ ap list_path same ∙ is.of_path;
               holds = subst (λ l. Contains l x) (sym adds.places) (Contains-append_left adds.before.places.items (at ∷ []) x
                   (subst (λ (q : Qualified). Contains q.places.items x) (sym same) is.holds));
             },
@@ -124,7 +124,7 @@ added_place old new k at adds path x = (to, from)
           (h.0, record { list = is.list; has_number = adds.elsewhere h.0 apart ∙ is.has_number; of_path = is.of_path; holds = is.holds })
     ]
 
-    from : IsListed old path x ⊎ ((path_by old (Some k) ≡ Some path) × (at ≡ x)) → IsListed new path x
+    from : IsListedUnder old path x ⊎ ((listed_path old (Some k) ≡ Some path) × (at ≡ x)) → IsListedUnder new path x
     from h = elim h [
       | inl old ↦ earlier old
       | inr last ↦ (
@@ -132,7 +132,7 @@ added_place old new k at adds path x = (to, from)
         record {
           list = adds.after;
           has_number = adds.is;
-          of_path = adds.same_path ∙ same_Some (path_of adds.before) path (sym its_path ∙ last.0);
+          of_path = adds.same_path ∙ same_Some (list_path adds.before) path (sym its_path ∙ last.0);
           holds = subst (λ l. Contains l x) (sym adds.places) (subst (Contains (adds.before.places.items ++ (at ∷ []))) last.1
               (Contains-push adds.before.places.items at));
         },

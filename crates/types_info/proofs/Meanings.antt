@@ -20,16 +20,16 @@ use Rattle.go_ast.specs.View.{type_view}
 use Rattle.types_declared.specs.DeclaredView.{variable_of, function_of}
 use Rattle.types_declared.specs.Package.{Package, PlacedVariable, PlacedFunction, package_variables, package_functions}
 use Rattle.types_declared.specs.Written.{DeclaresType, ImportsPath, basic_name}
-use Rattle.types_declared.specs.Bound.{builtin_name, PredeclaredMeans, a_type, a_truth, an_untruth, a_nil, a_function, DeclaresVariable, DeclaresFunction}
-use Rattle.types_declared.specs.Bound.{IsMeantBy, predeclared, import_name, local, variable, broken_variable, function, broken_function, definition}
-use Rattle.types_declared.specs.Bound.{broken_definition}
+use Rattle.types_declared.specs.MeaningOf.{builtin_name, PredeclaredMeans, a_type, a_truth, an_untruth, a_nil, a_function, DeclaresVariable, DeclaresFunction}
+use Rattle.types_declared.specs.MeaningOf.{IsMeaningOf, predeclared, import_name, local, variable, broken_variable, function, broken_function, definition}
+use Rattle.types_declared.specs.MeaningOf.{broken_definition}
 use Rattle.types_declared.specs.WrittenView.{IsTypeFound}
-use Rattle.types_declared.specs.Definitions.{IsSignature}
-use Rattle.types_info.specs.BoundsView.{IsTruthName, IsUniversal, IsUniversalFound, IsValueFound, IsMeaningFound}
+use Rattle.types_declared.specs.Definitions.{IsFoundSignature}
+use Rattle.types_info.specs.MeaningsView.{IsTruthName, IsPredeclaredMeaning, IsPredeclaredFound, IsValueFound, IsMeaningFound}
 
 -- Predeclared names
 
-pub type_named : (name : List ℕ) (b : Basic) → name ≡ basic_name b → IsUniversal name (Stands (TypeName (BasicType b)))
+pub type_named : (name : List ℕ) (b : Basic) → name ≡ basic_name b → IsPredeclaredMeaning name (Stands (TypeName (BasicType b)))
 type_named name b e = record {
   meaning = TypeName (BasicType b);
   means = subst (λ n. PredeclaredMeans n (TypeName (BasicType b))) (sym e) (a_type b);
@@ -37,10 +37,10 @@ type_named name b e = record {
       refl;
 }
 
-pub function_named : (name : List ℕ) (b : Builtin) → name ≡ builtin_name b → IsUniversal name (Stands (BuiltinName b))
+pub function_named : (name : List ℕ) (b : Builtin) → name ≡ builtin_name b → IsPredeclaredMeaning name (Stands (BuiltinName b))
 function_named name b e = record { meaning = BuiltinName b; means = subst (λ n. PredeclaredMeans n (BuiltinName b)) (sym e) (a_function b); at = refl }
 
-pub true_named : (name : List ℕ) → name ≡ codes "true" → IsUniversal name (Stands (Value (Untyped basic.Bool) false))
+pub true_named : (name : List ℕ) → name ≡ codes "true" → IsPredeclaredMeaning name (Stands (Value (Untyped basic.Bool) false))
 true_named name e = record {
   meaning = Value (Untyped basic.Bool) false;
   means =
@@ -48,7 +48,7 @@ true_named name e = record {
   at = refl;
 }
 
-pub false_named : (name : List ℕ) → name ≡ codes "false" → IsUniversal name (Stands (Value (Untyped basic.Bool) false))
+pub false_named : (name : List ℕ) → name ≡ codes "false" → IsPredeclaredMeaning name (Stands (Value (Untyped basic.Bool) false))
 false_named name e = record {
   meaning = Value (Untyped basic.Bool) false;
   means =
@@ -56,10 +56,10 @@ false_named name e = record {
   at = refl;
 }
 
-pub nil_named : (name : List ℕ) → name ≡ codes "nil" → IsUniversal name (Stands (Value Nil false))
+pub nil_named : (name : List ℕ) → name ≡ codes "nil" → IsPredeclaredMeaning name (Stands (Value Nil false))
 nil_named name e = record { meaning = Value Nil false; means = subst (λ n. PredeclaredMeans n (Value Nil false)) (sym e) a_nil; at = refl }
 
-pub truth_named : (name : List ℕ) → IsTruthName name → IsUniversal name (Stands (Value (Untyped basic.Bool) false))
+pub truth_named : (name : List ℕ) → IsTruthName name → IsPredeclaredMeaning name (Stands (Value (Untyped basic.Bool) false))
 truth_named name h = elim h [ inl e ↦ true_named name e | inr e ↦ false_named name e ]
 
 not_predeclared : (name : List ℕ) → ((b : Basic) → name ≡ basic_name b → ⊥) → ((b : Builtin) → name ≡ builtin_name b → ⊥) →
@@ -71,14 +71,14 @@ not_predeclared name types functions values n m e a_nil = values.1 (sym e)
 not_predeclared name types functions values n m e (a_function b) = functions b (sym e)
 
 pub value_else : (name : List ℕ) (found : Option Bound) → ((b : Basic) → name ≡ basic_name b → ⊥) → ((b : Builtin) → name ≡ builtin_name b → ⊥) →
-    IsValueFound name found → IsUniversalFound name found
+    IsValueFound name found → IsPredeclaredFound name found
 value_else name None types functions h = λ m p. not_predeclared name types functions h name m refl p
 value_else name (Some b) types functions h = h
 
 -- A declaration of the universe block
 
-pub universal_only : (p : Package) (d : ℕ) (b : Bound) → block_of (p.layout.role d) ≡ Universe → IsMeantBy p d b → (is_implied (p.layout.role d) ≡ true) ×
-    IsUniversal (p.names d) b
+pub universal_only : (p : Package) (d : ℕ) (b : Bound) → block_of (p.layout.role d) ≡ Universe → IsMeaningOf p d b → (is_implied (p.layout.role d) ≡ true) ×
+    IsPredeclaredMeaning (p.names d) b
 universal_only p d _ e (predeclared {name = n} {m = m} is means) =
     (is.implied, record { meaning = m; means = subst (λ v. PredeclaredMeans v m) (sym is.named) means; at = refl })
 universal_only p d _ e (import_name is) = let q : Universe ≡ File is.is_import.0 = sym e ∙ is.is_import.1 in let z : ⊥ = cc in absurd z
@@ -92,18 +92,18 @@ universal_only p d _ e (broken_definition is r w) = let q : Universe ≡ Package
 
 pub universe_meaning : (p : Package) (d : ℕ) (name : List ℕ) (found : Option Bound) → block_of (p.layout.role d) ≡ Universe →
     is_implied (p.layout.role d) ≡ true → name ≡ p.names d →
-    IsUniversalFound name found → IsMeaningFound p d found
+    IsPredeclaredFound name found → IsMeaningFound p d found
 universe_meaning p d name None e i n h = λ b m. let u = (universal_only p d b e m).1 in h u.meaning (subst (λ v. PredeclaredMeans v u.meaning) (sym n) u.means)
 universe_meaning p d name (Some b) e i n h =
-    subst (IsMeantBy p d) (sym h.at) (predeclared {name = name} {m = h.meaning} (record { implied = i; universe = e; named = sym n }) h.means)
+    subst (IsMeaningOf p d) (sym h.at) (predeclared {name = name} {m = h.meaning} (record { implied = i; universe = e; named = sym n }) h.means)
 
 pub no_universe_meaning : (p : Package) (d : ℕ) → block_of (p.layout.role d) ≡ Universe → is_implied (p.layout.role d) ≡ false → (b : Bound) →
-    IsMeantBy p d b → ⊥
+    IsMeaningOf p d b → ⊥
 no_universe_meaning p d e i b m = true≢false (sym (universal_only p d b e m).0 ∙ i)
 
 -- A declaration of a file's block
 
-pub imported_only : (p : Package) (d file : ℕ) (b : Bound) → block_of (p.layout.role d) ≡ File file → IsMeantBy p d b →
+pub imported_only : (p : Package) (d file : ℕ) (b : Bound) → block_of (p.layout.role d) ≡ File file → IsMeaningOf p d b →
     ((path : List ℕ) × ImportsPath p d path) × (b ≡ Stands PackageName)
 imported_only p d file _ e (predeclared is means) = let q : Universe ≡ File file = sym is.universe ∙ e in let z : ⊥ = cc in absurd z
 imported_only p d file _ e (import_name {path = path} is) = ((path, is), refl)
@@ -116,14 +116,14 @@ imported_only p d file _ e (definition is r w) = let q : File file ≡ PackageBl
 imported_only p d file _ e (broken_definition is r w) = let q : File file ≡ PackageBlock = sym e ∙ is in let z : ⊥ = cc in absurd z
 
 pub no_import_meaning : (p : Package) (d file : ℕ) → block_of (p.layout.role d) ≡ File file → ((path : List ℕ) → ImportsPath p d path → ⊥) → (b : Bound) →
-    IsMeantBy p d b → ⊥
+    IsMeaningOf p d b → ⊥
 no_import_meaning p d file e none b m = let found = (imported_only p d file b e m).0 in none found.0 found.1
 
 -- A declaration of the package block
 
 pub no_meaning : (p : Package) (d : ℕ) → IsPackageLevel p.layout d → ((r : ℕ) → DeclaresVariable p d r → ⊥) → ((r : ℕ) → DeclaresFunction p d r → ⊥) →
     ((r : ℕ) → DeclaresType p d r → ⊥) →
-    (b : Bound) → IsMeantBy p d b → ⊥
+    (b : Bound) → IsMeaningOf p d b → ⊥
 no_meaning p d e vs fs ts _ (predeclared is means) = let q : PackageBlock ≡ Universe = sym e ∙ is.universe in let z : ⊥ = cc in z
 no_meaning p d e vs fs ts _ (import_name is) = let q : PackageBlock ≡ File is.is_import.0 = sym e ∙ is.is_import.1 in let z : ⊥ = cc in z
 no_meaning p d e vs fs ts _ (local {file = f} {from = a} {to = b} is) = let q : PackageBlock ≡ Inner f a b = sym e ∙ is in let z : ⊥ = cc in z
@@ -155,19 +155,19 @@ function_bound (Some s) = Stands (Function s)
 
 pub variable_means : (p : Package) (d rank : ℕ) (v : PlacedVariable) (found : Option PlainType) → IsPackageLevel p.layout d → DeclaresVariable p d rank →
     slice_get (package_variables p) rank ≡ Some v →
-    IsTypeFound p v.file v.type_use found → IsMeantBy p d (variable_bound found)
+    IsTypeFound p v.file v.type_use found → IsMeaningOf p d (variable_bound found)
 variable_means p d rank v None level r at h = broken_variable {v = v} (level, (rank, (r, at))) h
 variable_means p d rank v (Some t) level r at h = variable {v = v} (level, (rank, (r, at))) h
 
 pub function_means : (p : Package) (d rank : ℕ) (f : PlacedFunction) (found : Option Signature) → IsPackageLevel p.layout d → DeclaresFunction p d rank →
     slice_get (package_functions p) rank ≡ Some f →
-    IsSignature p f found → IsMeantBy p d (function_bound found)
+    IsFoundSignature p f found → IsMeaningOf p d (function_bound found)
 function_means p d rank f None level r at h = broken_function {f = f} (level, (rank, (r, at))) h
 function_means p d rank f (Some s) level r at h = function {f = f} (level, (rank, (r, at))) h
 
 pub variable_found : (p : Package) (items : List Variable) (d rank : ℕ) (x : Variable) (found : Option PlainType) →
     map variable_of items ≡ package_variables p → IsPackageLevel p.layout d → DeclaresVariable p d rank →
-    x ≡ get_or items rank x → IsTypeFound p x.file (type_view x.var_type.now) found → IsMeantBy p d (variable_bound found)
+    x ≡ get_or items rank x → IsTypeFound p x.file (type_view x.var_type.now) found → IsMeaningOf p d (variable_bound found)
 variable_found p items d rank x found e level r is h =
     let lt : rank < length items = rank_within variable_of items (package_variables p) rank r.item e r.has_rank in
     let same : r.item ≡ variable_of x = item_at variable_of items (package_variables p) rank x r.item e lt is r.has_rank in
@@ -175,8 +175,8 @@ variable_found p items d rank x found e level r is h =
 
 pub function_found : (p : Package) (items : List Func) (d rank : ℕ) (x : Func) (found : Option Signature) → map function_of items ≡ package_functions p →
     IsPackageLevel p.layout d → DeclaresFunction p d rank →
-    x ≡ get_or items rank x → IsSignature p (function_of x) found → IsMeantBy p d (function_bound found)
+    x ≡ get_or items rank x → IsFoundSignature p (function_of x) found → IsMeaningOf p d (function_bound found)
 function_found p items d rank x found e level r is h =
     let lt : rank < length items = rank_within function_of items (package_functions p) rank r.item e r.has_rank in
     let same : r.item ≡ function_of x = item_at function_of items (package_functions p) rank x r.item e lt is r.has_rank in
-    function_means p d rank r.item found level r r.has_rank (subst (λ v. IsSignature p v found) (sym same) h)
+    function_means p d rank r.item found level r r.has_rank (subst (λ v. IsFoundSignature p v found) (sym same) h)

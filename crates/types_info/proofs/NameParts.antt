@@ -8,24 +8,24 @@ use Rattle.go_scanner.specs.CutText.{tokens_in}
 use Rattle.go_ast.specs.SourceFile.{SourceFile, spelling_at}
 use Rattle.go_scope.specs.declared.model.Role.TheVariants.{NotLexical}
 use Rattle.go_scope.specs.declared.model.Purpose.TheVariants as purpose
-use Rattle.go_scope.specs.Table.{StandsAt, IsFoundAt}
+use Rattle.go_scope.specs.Table.{LiesAt, IsFoundAt}
 use Rattle.types_expr.specs.declared.world.Bound.{Bound}
 use Rattle.types_expr.specs.declared.world.Name.{Name}
 use Rattle.types_expr.specs.World as plain
 use Rattle.types_expr.specs.World.{Means as Stands}
 use Rattle.types_expr.specs.WorldView.{bound_of, bound_at, bound_or_broken, bound_index, spelling_of}
-use Rattle.types_expr.specs.declared.interfaces.Export.{Export}
+use Rattle.types_expr.specs.declared.exports.Export.{Export}
 use Rattle.types_declared.specs.Package.{Package, spelled, spelled_at}
 use Rattle.types_declared.specs.Package as seen
 use Rattle.types_declared.specs.Written.{BindsToken, IsExportAt}
 use Rattle.types_declared.specs.WrittenView.{IsOneExport}
-use Rattle.types_declared.specs.Bound.{IsMeantBy}
-use Rattle.types_declared.specs.ByToken.{IsFirstBelow}
-use Rattle.types_info.specs.BoundsView.{Extends}
-use Rattle.types_info.specs.Worlds.{IsSelected, IsBoundAt, by_scope, by_package, IsName, is_bound, is_unbound}
-use Rattle.types_info.specs.NamesView.{tokens_at, bound_by, IsBehindDot, IsBoundInScope, IsScopeFound, IsPlaced, IsNameAt, AreNames}
+use Rattle.types_declared.specs.MeaningOf.{IsMeaningOf}
+use Rattle.go_scope.specs.ByToken.{IsFirstBelow}
+use Rattle.types_info.specs.MeaningsView.{Extends}
+use Rattle.types_info.specs.Worlds.{DenotesExport, IsBoundAt, by_scope, by_package, IsName, is_bound, is_unbound}
+use Rattle.types_info.specs.NamesView.{tokens_at, bound_by, IsNameAfterDot, IsBoundInScope, IsScopeFound, IsPlaced, IsNameAt, AreNames}
 use Rattle.types_declared.proofs.Binding.{one_first}
-use Rattle.types_info.proofs.BoundLists.{bound_stays, slice_get_some}
+use Rattle.types_info.proofs.MeaningLists.{bound_stays, slice_get_some}
 use Rattle.types_declared.proofs.DeclaredPaths.{get_before, get_last}
 
 -- the names are those at the tokens below n
@@ -35,40 +35,40 @@ pub record AreNamesBelow (p : Package) (file n : ℕ) (list : List Bound) (names
 
 -- Names after dots
 
-pub no_dot : (p : Package) (file token : ℕ) (o : Option ℕ) → o ≡ None → IsFirstBelow (StandsAt p.layout (record { file = file; index = token })) p.size o →
-    IsBehindDot p file token → ⊥
+pub no_dot : (p : Package) (file token : ℕ) (o : Option ℕ) → o ≡ None → IsFirstBelow (LiesAt p.layout (record { file = file; index = token })) p.size o →
+    IsNameAfterDot p file token → ⊥
 no_dot p file token o e h b =
-    let none : (u : ℕ) → u < p.size → StandsAt p.layout (record { file = file; index = token }) u → ⊥ =
-    subst (IsFirstBelow (StandsAt p.layout (record { file = file; index = token })) p.size) e h in
+    let none : (u : ℕ) → u < p.size → LiesAt p.layout (record { file = file; index = token }) u → ⊥ =
+    subst (IsFirstBelow (LiesAt p.layout (record { file = file; index = token })) p.size) e h in
     none b.identifier b.found.within b.found.holds
 
-pub role_behind : (p : Package) (file token u : ℕ) → IsFoundAt p.layout p.size (record { file = file; index = token }) u → IsBehindDot p file token →
+pub role_behind : (p : Package) (file token u : ℕ) → IsFoundAt p.layout p.size (record { file = file; index = token }) u → IsNameAfterDot p file token →
     p.layout.role u ≡ NotLexical purpose.Selected
 role_behind p file token u found b =
-    ap p.layout.role (one_first (StandsAt p.layout (record { file = file; index = token })) p.size u b.identifier found b.found) ∙ b.selected
+    ap p.layout.role (one_first (LiesAt p.layout (record { file = file; index = token })) p.size u b.identifier found b.found) ∙ b.selected
 
-selected_behind : (p : Package) (file token : ℕ) (e : seen.Export) → IsSelected p file token e → IsBehindDot p file token
+selected_behind : (p : Package) (file token : ℕ) (e : seen.Export) → DenotesExport p file token e → IsNameAfterDot p file token
 selected_behind p file token e s = record { identifier = s.identifier; found = s.found; selected = s.selected }
 
-pub exported_before : (p : Package) (file token before : ℕ) (e : seen.Export) → token ≡ suc (suc before) → IsSelected p file token e →
+pub exported_before : (p : Package) (file token before : ℕ) (e : seen.Export) → token ≡ suc (suc before) → DenotesExport p file token e →
     IsExportAt p file before token e
 exported_before p file token before e is s =
     let same : s.before ≡ before = let h : token ≡ suc (suc s.before) = s.behind_dot in omega arith in
     subst (λ b. IsExportAt p file b token e) same s.exported
 
-pub selected_by : (p : Package) (file token before : ℕ) (o : Option (Bor Export)) → token ≡ suc (suc before) → IsBehindDot p file token →
+pub selected_by : (p : Package) (file token before : ℕ) (o : Option (Bor Export)) → token ≡ suc (suc before) → IsNameAfterDot p file token →
     IsOneExport (IsExportAt p file before token) o →
-    IsOneExport (IsSelected p file token) o
+    IsOneExport (DenotesExport p file token) o
 selected_by p file token before None is b h = λ e s. h e (exported_before p file token before e is s)
 selected_by p file token before (Some x) is b h = (
   record { before = before; behind_dot = is; identifier = b.identifier; found = b.found; selected = b.selected; exported = h.0 },
   λ other s. h.1 other (exported_before p file token before other is s),
 )
 
-pub selected_late : (p : Package) (file token : ℕ) (e : seen.Export) → IsSelected p file token e → 2 ≤ token
+pub selected_late : (p : Package) (file token : ℕ) (e : seen.Export) → DenotesExport p file token e → 2 ≤ token
 selected_late p file token e s = let h : token ≡ suc (suc s.before) = s.behind_dot in omega arith
 
-pub not_selected : (p : Package) (file token : ℕ) → (IsBehindDot p file token → ⊥) → (e : seen.Export) → IsSelected p file token e → ⊥
+pub not_selected : (p : Package) (file token : ℕ) → (IsNameAfterDot p file token → ⊥) → (e : seen.Export) → DenotesExport p file token e → ⊥
 not_selected p file token none e s = none (selected_behind p file token e s)
 
 -- Names bound by scopes
@@ -77,30 +77,30 @@ pub no_scope : (p : Package) (file token : ℕ) → ((d : ℕ) → BindsToken p 
 no_scope p file token none b s = none s.declaration s.binds
 
 pub scope_found : (p : Package) (file token d : ℕ) (o : Option Bound) → BindsToken p file token d → ((e : ℕ) → BindsToken p file token e → e ≡ d) →
-    MatchOption o ((b : plain.Bound) → IsMeantBy p d b → ⊥) (λ b. IsMeantBy p d (bound_of b)) → IsScopeFound p file token (option_map bound_of o)
-scope_found p file token d None binds only h = λ b s. h b (subst (λ e. IsMeantBy p e b) (only s.declaration s.binds) s.means)
+    MatchOption o ((b : plain.Bound) → IsMeaningOf p d b → ⊥) (λ b. IsMeaningOf p d (bound_of b)) → IsScopeFound p file token (option_map bound_of o)
+scope_found p file token d None binds only h = λ b s. h b (subst (λ e. IsMeaningOf p e b) (only s.declaration s.binds) s.means)
 scope_found p file token d (Some b) binds only h = record { declaration = d; binds = binds; means = h }
 
 -- The meaning of the name at a token
 
-neither : (p : Package) (file token : ℕ) → ((b : plain.Bound) → IsBoundInScope p file token b → ⊥) → ((e : seen.Export) → IsSelected p file token e → ⊥) →
+neither : (p : Package) (file token : ℕ) → ((b : plain.Bound) → IsBoundInScope p file token b → ⊥) → ((e : seen.Export) → DenotesExport p file token e → ⊥) →
     (b : plain.Bound) → IsBoundAt p file token b → ⊥
 neither p file token scope selected b (by_scope {declaration = d} binds means) = scope b (record { declaration = d; binds = binds; means = means })
 neither p file token scope selected _ (by_package {e = e} s) = selected e s
 
 name_in_scope : (p : Package) (file token : ℕ) (o : Option Bound) → IsScopeFound p file token (option_map bound_of o) →
-    ((e : seen.Export) → IsSelected p file token e → ⊥) →
+    ((e : seen.Export) → DenotesExport p file token e → ⊥) →
     IsName p file token (bound_or_broken o)
 name_in_scope p file token None h selected = is_unbound (neither p file token h selected)
 name_in_scope p file token (Some b) h selected = is_bound (by_scope h.binds h.means)
 
 pub placed_in_scope : (p : Package) (file token : ℕ) (list : List Bound) (place : Option ℕ) →
     IsScopeFound p file token (option_map bound_of (bound_at list place)) →
-    ((i : ℕ) → place ≡ Some i → i < length list) → ((e : seen.Export) → IsSelected p file token e → ⊥) → IsPlaced p file token list place
+    ((i : ℕ) → place ≡ Some i → i < length list) → ((e : seen.Export) → DenotesExport p file token e → ⊥) → IsPlaced p file token list place
 placed_in_scope p file token list place h within selected = record { bound = name_in_scope p file token (bound_at list place) h selected; within = within }
 
 pub placed_behind : (p : Package) (file token : ℕ) (list : List Bound) (i : ℕ) (b : Bound) (e : seen.Export) → slice_get list i ≡ Some b →
-    bound_of b ≡ Stands e.meaning → IsSelected p file token e →
+    bound_of b ≡ Stands e.meaning → DenotesExport p file token e →
     IsPlaced p file token list (Some i)
 placed_behind p file token list i b e at is s = record {
   bound = is_bound (subst (IsBoundAt p file token) (sym (ap bound_or_broken at ∙ is)) (by_package s));
@@ -145,11 +145,11 @@ no_names p file list names e = record { all = ap length e; each = λ token name 
 
 -- a token without an identifier has no name
 pub nothing_past : (p : Package) (file token : ℕ) (o : Option ℕ) → o ≡ None →
-    IsFirstBelow (StandsAt p.layout (record { file = file; index = token })) p.size o → (b : plain.Bound) →
+    IsFirstBelow (LiesAt p.layout (record { file = file; index = token })) p.size o → (b : plain.Bound) →
     IsBoundAt p file token b → ⊥
 nothing_past p file token o e h b (by_scope {declaration = d} binds means) =
-    let none : (u : ℕ) → u < p.size → StandsAt p.layout (record { file = file; index = token }) u → ⊥ =
-    subst (IsFirstBelow (StandsAt p.layout (record { file = file; index = token })) p.size) e h in
+    let none : (u : ℕ) → u < p.size → LiesAt p.layout (record { file = file; index = token }) u → ⊥ =
+    subst (IsFirstBelow (LiesAt p.layout (record { file = file; index = token })) p.size) e h in
     none binds.identifier binds.found.within binds.found.holds
 nothing_past p file token o e h _ (by_package {e = x} s) = no_dot p file token o e h (selected_behind p file token x s)
 

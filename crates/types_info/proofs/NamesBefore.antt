@@ -8,9 +8,9 @@ use Rattle.go_scope.specs.declared.model.Purpose.TheVariants as purpose
 use Rattle.go_scope.specs.Named.{name_value}
 use Rattle.types_declared.specs.Package.{Package}
 use Rattle.types_declared.specs.Written.{BindsToken, ImportsPath}
-use Rattle.types_info.specs.Qualified.{NamesPackage, IsBehindPackage, IsOnePath, IsDeclarationBefore}
+use Rattle.types_info.specs.QualifiedIdentifiers.{NamesPackage, IsQualifiedByPath, IsOnePath, IsQualifierFound}
 
-before_is : (p : Package) (u before : ℕ) (path : List ℕ) → (p.layout.place u).index ≡ suc (suc before) → IsBehindPackage p u path →
+before_is : (p : Package) (u before : ℕ) (path : List ℕ) → (p.layout.place u).index ≡ suc (suc before) → IsQualifiedByPath p u path →
     NamesPackage p (p.layout.place u).file before path
 before_is p u before path e h =
     let same : h.before ≡ before = let k : (p.layout.place u).index ≡ suc (suc h.before) = h.behind_dot in omega arith in
@@ -20,7 +20,7 @@ before_is p u before path e h =
 pub bound_before : (p : Package) (u before : ℕ) (o : Option ℕ) → p.layout.role u ≡ NotLexical purpose.Selected →
     (p.layout.place u).index ≡ suc (suc before) →
     MatchOption o ((d : ℕ) → BindsToken p (p.layout.place u).file before d → ⊥) (λ d. BindsToken p (p.layout.place u).file before d) →
-    MatchOption o (Unit {0}) (λ d. (e : ℕ) → BindsToken p (p.layout.place u).file before e → e ≡ d) → IsDeclarationBefore p u o
+    MatchOption o (Unit {0}) (λ d. (e : ℕ) → BindsToken p (p.layout.place u).file before e → e ≡ d) → IsQualifierFound p u o
 bound_before p u before None role e bound only = λ path b. let n = before_is p u before path e b in bound n.import n.binds
 bound_before p u before (Some d) role e bound only = λ path. (
   (λ b. let n = before_is p u before path e b in subst (λ i. ImportsPath p i path) (only n.import n.binds) n.imports),
@@ -28,13 +28,13 @@ bound_before p u before (Some d) role e bound only = λ path. (
 )
 
 -- the first two tokens of a file are qualified by no package
-pub not_behind : (p : Package) (u : ℕ) (path : List ℕ) → (p.layout.place u).index < 2 → IsBehindPackage p u path → ⊥
+pub not_behind : (p : Package) (u : ℕ) (path : List ℕ) → (p.layout.place u).index < 2 → IsQualifiedByPath p u path → ⊥
 not_behind p u path lt h = let k : (p.layout.place u).index ≡ suc (suc h.before) = h.behind_dot in absurd (omega arith)
 
 -- the path of the import to which that name is bound
-pub path_before : (p : Package) (u d : ℕ) (o : Option (Bor (List ℕ))) → ((path : List ℕ) → IsBehindPackage p u path ↔ ImportsPath p d path) →
+pub path_before : (p : Package) (u d : ℕ) (o : Option (Bor (List ℕ))) → ((path : List ℕ) → IsQualifiedByPath p u path ↔ ImportsPath p d path) →
     MatchOption o ((v : List ℕ) → ImportsPath p d v → ⊥) (λ v. ImportsPath p d v.now × ((other : List ℕ) → ImportsPath p d other → other ≡ v.now)) →
-    IsOnePath (IsBehindPackage p u) o
+    IsOnePath (IsQualifiedByPath p u) o
 path_before p u d None same h = λ path b. h path ((same path).0 b)
 path_before p u d (Some v) same h = ((same v.now).1 h.0, λ other b. h.1 other ((same other).0 b))
 

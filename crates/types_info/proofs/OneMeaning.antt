@@ -13,7 +13,7 @@ use Rattle.go_scope.specs.declared.model.Block.TheVariants.{Package as PackageBl
 use Rattle.go_scope.specs.declared.model.Role.TheVariants.{NotLexical}
 use Rattle.go_scope.specs.declared.model.Purpose.TheVariants as purpose
 use Rattle.go_scope.specs.Bindings.{Layout, Names, IsPackageLevel, IsBoundTo, use_bound, own, may_declare, is_use, is_left_name, block_of}
-use Rattle.go_scope.specs.Table.{StandsAt}
+use Rattle.go_scope.specs.Table.{LiesAt}
 use Rattle.go_scope.specs.WellFormed.{WellFormed}
 use Rattle.types_expr.specs.declared.types.Basic.TheVariants as basic
 use Rattle.types_expr.specs.declared.types.Builtin.TheVariants as builtin
@@ -24,13 +24,13 @@ use Rattle.types_declared.specs.Package.{Package, PlacedVariable, PlacedFunction
 use Rattle.types_declared.specs.Package.{function_place, type_place, symbol_in}
 use Rattle.types_declared.specs.Written.{BindsToken, DeclaresType, IsBroken, IsTypeOf}
 use Rattle.types_declared.specs.WrittenView.{IsTypeFound}
-use Rattle.types_declared.specs.Bound.{PredeclaredMeans, a_type, a_truth, an_untruth, a_nil, a_function, AreTypesOf, parameter_types, result_types}
-use Rattle.types_declared.specs.Bound.{HasSignature, IsVariable, IsFunction, IsMeantBy, predeclared, import_name, local, variable, broken_variable, function}
-use Rattle.types_declared.specs.Bound.{broken_function, definition, broken_definition}
-use Rattle.types_declared.specs.Definitions.{IsSignature}
-use Rattle.types_info.specs.BoundsView.{IsUniversal}
-use Rattle.types_info.specs.Uniqueness.{AreInOrder}
-use Rattle.types_info.specs.Worlds.{IsSelected, IsBoundAt, by_scope, by_package, IsName, is_bound, is_unbound}
+use Rattle.types_declared.specs.MeaningOf.{PredeclaredMeans, a_type, a_truth, an_untruth, a_nil, a_function, AreTypesOf, parameter_types, result_types}
+use Rattle.types_declared.specs.MeaningOf.{HasSignature, IsVariable, IsFunction, IsMeaningOf, predeclared, import_name, local, variable, broken_variable, function}
+use Rattle.types_declared.specs.MeaningOf.{broken_function, definition, broken_definition}
+use Rattle.types_declared.specs.Definitions.{IsFoundSignature}
+use Rattle.types_info.specs.MeaningsView.{IsPredeclaredMeaning}
+use Rattle.types_info.specs.Uniqueness.{TokensRise}
+use Rattle.types_info.specs.Worlds.{DenotesExport, IsBoundAt, by_scope, by_package, IsName, is_bound, is_unbound}
 use Rattle.types_declared.proofs.Ranking.{one_rank}
 use Rattle.types_declared.proofs.Binding.{one_first}
 use Rattle.types_declared.proofs.Naming.{one_binding, one_export, one_named}
@@ -68,7 +68,7 @@ named_meaning _ _ (a_function builtin.Panic) = refl
 named_meaning _ _ (a_function builtin.Print) = refl
 named_meaning _ _ (a_function builtin.Println) = refl
 
-one_universal : (n : List ℕ) (b c : Bound) → IsUniversal n b → IsUniversal n c → b ≡ c
+one_universal : (n : List ℕ) (b c : Bound) → IsPredeclaredMeaning n b → IsPredeclaredMeaning n c → b ≡ c
 one_universal n b c x y = x.at ∙ ap Stands (same_Some x.meaning y.meaning (sym (named_meaning n x.meaning x.means) ∙ named_meaning n y.meaning y.means)) ∙
     sym y.at
 
@@ -100,12 +100,12 @@ one_found P one None (Some y) a b = absurd (a y b)
 one_found P one (Some x) None a b = absurd (b x a)
 one_found P one (Some x) (Some y) a b = ap Some (one x y a b)
 
-signature_match : (p : Package) (f : PlacedFunction) (o : Option Signature) → IsSignature p f o →
+signature_match : (p : Package) (f : PlacedFunction) (o : Option Signature) → IsFoundSignature p f o →
     MatchOption o ((s : Signature) → HasSignature p f s → ⊥) (λ s. HasSignature p f s)
 signature_match p f None h = h
 signature_match p f (Some s) h = h
 
-pub one_signature_found : (p : Package) → WellFormed p.layout → (f : PlacedFunction) (o u : Option Signature) → IsSignature p f o → IsSignature p f u → o ≡ u
+pub one_signature_found : (p : Package) → WellFormed p.layout → (f : PlacedFunction) (o u : Option Signature) → IsFoundSignature p f o → IsFoundSignature p f u → o ≡ u
 one_signature_found p w f o u a b = one_found (HasSignature p f) (one_signature p w f) o u (signature_match p f o a) (signature_match p f u b)
 
 -- Declarations of the package block
@@ -121,10 +121,10 @@ definition_bound p rank false = Stands (TypeName (Defined (symbol_in p rank)))
 data IsGlobal (p : Package) (d : ℕ) (b : Bound) : Type 0 where
   as_variable : {v : PlacedVariable} (found : Option PlainType) → IsVariable p d v → IsTypeFound p v.file v.type_use found → b ≡ variable_bound found →
       IsGlobal p d b
-  as_function : {f : PlacedFunction} (found : Option Signature) → IsFunction p d f → IsSignature p f found → b ≡ function_bound found → IsGlobal p d b
+  as_function : {f : PlacedFunction} (found : Option Signature) → IsFunction p d f → IsFoundSignature p f found → b ≡ function_bound found → IsGlobal p d b
   as_definition : {rank : ℕ} (broken : Bool) → DeclaresType p d rank → IsDefinitionFound p rank broken → b ≡ definition_bound p rank broken → IsGlobal p d b
 
-global_only : (p : Package) (d : ℕ) (b : Bound) → IsPackageLevel p.layout d → IsMeantBy p d b → IsGlobal p d b
+global_only : (p : Package) (d : ℕ) (b : Bound) → IsPackageLevel p.layout d → IsMeaningOf p d b → IsGlobal p d b
 global_only p d _ e (predeclared is means) = let q : PackageBlock ≡ Universe = sym e ∙ is.universe in let z : ⊥ = cc in absurd z
 global_only p d _ e (import_name is) = let q : PackageBlock ≡ File is.is_import.0 = sym e ∙ is.is_import.1 in let z : ⊥ = cc in absurd z
 global_only p d _ e (local {file = f} {from = a} {to = b} is) = let q : PackageBlock ≡ Inner f a b = sym e ∙ is in let z : ⊥ = cc in absurd z
@@ -137,7 +137,7 @@ global_only p d _ e (broken_definition {rank = r} is declares h) = as_definition
 
 -- The token at which d stands
 
-at_place : (files : List SourceFile) (l : Layout) (sort d : ℕ) (place : Position) → StandsAt l place d → DeclaredAt files sort place.file place.index →
+at_place : (files : List SourceFile) (l : Layout) (sort d : ℕ) (place : Position) → LiesAt l place d → DeclaredAt files sort place.file place.index →
     DeclaredAt files sort (l.place d).file (l.place d).index
 at_place files l sort d place s h = subst (λ i. DeclaredAt files sort (l.place d).file i) (sym s.2)
     (subst (λ f. DeclaredAt files sort f place.index) (sym s.1) h)
@@ -151,7 +151,7 @@ function_stands p d f is = let r = is.1.1.0 in at_place p.files p.layout 2 d (fu
 type_stands : (p : Package) (d rank : ℕ) → DeclaresType p d rank → DeclaredAt p.files 1 (p.layout.place d).file (p.layout.place d).index
 type_stands p d rank r = at_place p.files p.layout 1 d (type_place r.item) r.stands (type_at p.files rank r.item r.has_rank)
 
-apart : (p : Package) → AreInOrder p.files → (d j k : ℕ) → (j ≡ k → ⊥) → DeclaredAt p.files j (p.layout.place d).file (p.layout.place d).index →
+apart : (p : Package) → TokensRise p.files → (d j k : ℕ) → (j ≡ k → ⊥) → DeclaredAt p.files j (p.layout.place d).file (p.layout.place d).index →
     DeclaredAt p.files k (p.layout.place d).file (p.layout.place d).index → ⊥
 apart p rising d j k ne a b = ne (one_kind p.files rising j k (p.layout.place d).file (p.layout.place d).index a b)
 
@@ -171,7 +171,7 @@ same_definition p r true false a b = absurd (b a)
 same_definition p r false true a b = absurd (a b)
 same_definition p r false false a b = refl
 
-one_global : (p : Package) → WellFormed p.layout → AreInOrder p.files → (d : ℕ) (b c : Bound) → IsGlobal p d b → IsGlobal p d c → b ≡ c
+one_global : (p : Package) → WellFormed p.layout → TokensRise p.files → (d : ℕ) (b c : Bound) → IsGlobal p d b → IsGlobal p d c → b ≡ c
 one_global p w rising d b c (as_variable {v = v} o x h e) (as_variable {v = u} q y k g) =
     let same : u ≡ v = one_variable p d u v y x in
     e ∙ ap variable_bound (one_found (IsTypeOf p v.file v.type_use) (one_type p w v.file v.type_use) o q h
@@ -184,7 +184,7 @@ one_global p w rising d b c (as_function {f = f} o x h e) (as_variable {v = v} q
     absurd (apart p rising d 2 0 (λ n. let z : ⊥ = omega (arith, n) in z) (function_stands p d f x) (variable_stands p d v y))
 one_global p w rising d b c (as_function {f = f} o x h e) (as_function {f = f'} q y k g) =
     let same : f' ≡ f = one_function p d f' f y x in
-    e ∙ ap function_bound (one_signature_found p w f o q h (subst (λ z. IsSignature p z q) same k)) ∙ sym g
+    e ∙ ap function_bound (one_signature_found p w f o q h (subst (λ z. IsFoundSignature p z q) same k)) ∙ sym g
 one_global p w rising d b c (as_function {f = f} o x h e) (as_definition {rank = r} q y k g) =
     absurd (apart p rising d 2 1 (λ n. let z : ⊥ = omega (arith, n) in z) (function_stands p d f x) (type_stands p d r y))
 one_global p w rising d b c (as_definition {rank = r} o x h e) (as_variable {v = v} q y k g) =
@@ -197,7 +197,7 @@ one_global p w rising d b c (as_definition {rank = r} o x h e) (as_definition {r
 
 -- Any declaration
 
-local_only : (p : Package) (d f a b : ℕ) (c : Bound) → block_of (p.layout.role d) ≡ Inner f a b → IsMeantBy p d c → c ≡ Local (p.layout.place d).index
+local_only : (p : Package) (d f a b : ℕ) (c : Bound) → block_of (p.layout.role d) ≡ Inner f a b → IsMeaningOf p d c → c ≡ Local (p.layout.place d).index
 local_only p d f a b _ e (predeclared is means) = let q : Inner f a b ≡ Universe = sym e ∙ is.universe in let z : ⊥ = cc in absurd z
 local_only p d f a b _ e (import_name is) = let q : Inner f a b ≡ File is.is_import.0 = sym e ∙ is.is_import.1 in let z : ⊥ = cc in absurd z
 local_only p d f a b _ e (local is) = refl
@@ -208,15 +208,15 @@ local_only p d f a b _ e (broken_function is s) = let q : Inner f a b ≡ Packag
 local_only p d f a b _ e (definition is r w) = let q : Inner f a b ≡ PackageBlock = sym e ∙ is in let z : ⊥ = cc in absurd z
 local_only p d f a b _ e (broken_definition is r w) = let q : Inner f a b ≡ PackageBlock = sym e ∙ is in let z : ⊥ = cc in absurd z
 
-by_block : (p : Package) → WellFormed p.layout → AreInOrder p.files → (d : ℕ) (b c : Bound) → IsMeantBy p d b → IsMeantBy p d c → (k : Block) →
+by_block : (p : Package) → WellFormed p.layout → TokensRise p.files → (d : ℕ) (b c : Bound) → IsMeaningOf p d b → IsMeaningOf p d c → (k : Block) →
     block_of (p.layout.role d) ≡ k → b ≡ c
 by_block p w rising d b c x y Universe e = one_universal (p.names d) b c (universal_only p d b e x).1 (universal_only p d c e y).1
 by_block p w rising d b c x y (File f) e = (imported_only p d f b e x).1 ∙ sym (imported_only p d f c e y).1
 by_block p w rising d b c x y (Inner f i j) e = local_only p d f i j b e x ∙ sym (local_only p d f i j c e y)
 by_block p w rising d b c x y PackageBlock e = one_global p w rising d b c (global_only p d b e x) (global_only p d c e y)
 
-pub one_meaning : (p : Package) → WellFormed p.layout → AreInOrder p.files → (d : ℕ) (b c : Bound) → IsMeantBy p d b → IsMeantBy p d c → b ≡ c
-one_meaning p w rising d b c x y = by_block p w rising d b c x y (block_of (p.layout.role d)) refl
+pub has_one_meaning : (p : Package) → WellFormed p.layout → TokensRise p.files → (d : ℕ) (b c : Bound) → IsMeaningOf p d b → IsMeaningOf p d c → b ≡ c
+has_one_meaning p w rising d b c x y = by_block p w rising d b c x y (block_of (p.layout.role d)) refl
 
 -- The name at a token
 
@@ -227,23 +227,23 @@ lexical l names u d e (use_bound is b) = elim is [
 ]
 lexical l names u d e (own same counts) = false≢true (sym (ap may_declare e) ∙ ap (λ v. may_declare (l.role v)) same ∙ counts.declares.may)
 
-scope_or_package : (p : Package) (file token d : ℕ) (e : Export) → BindsToken p file token d → IsSelected p file token e → ⊥
+scope_or_package : (p : Package) (file token d : ℕ) (e : Export) → BindsToken p file token d → DenotesExport p file token e → ⊥
 scope_or_package p file token d e b s =
-    let same : b.identifier ≡ s.identifier = one_first (StandsAt p.layout (record { file = file; index = token })) p.size b.identifier s.identifier b.found
+    let same : b.identifier ≡ s.identifier = one_first (LiesAt p.layout (record { file = file; index = token })) p.size b.identifier s.identifier b.found
     s.found in
     lexical p.layout p.names b.identifier d (ap p.layout.role same ∙ s.selected) b.bound
 
-one_selected : (p : Package) → WellFormed p.layout → (file token : ℕ) (e f : Export) → IsSelected p file token e → IsSelected p file token f → e ≡ f
+one_selected : (p : Package) → WellFormed p.layout → (file token : ℕ) (e f : Export) → DenotesExport p file token e → DenotesExport p file token f → e ≡ f
 one_selected p w file token e f a b = one_export p w file a.before token e f a.exported (exported_before p file token a.before f a.behind_dot b)
 
-one_at : (p : Package) → WellFormed p.layout → AreInOrder p.files → (file token : ℕ) (b c : Bound) → IsBoundAt p file token b → IsBoundAt p file token c → b ≡ c
+one_at : (p : Package) → WellFormed p.layout → TokensRise p.files → (file token : ℕ) (b c : Bound) → IsBoundAt p file token b → IsBoundAt p file token c → b ≡ c
 one_at p w rising file token b c (by_scope {declaration = d} binds means) (by_scope {declaration = e} binds' means') =
-    one_meaning p w rising d b c means (subst (λ z. IsMeantBy p z c) (one_binding p w file token e d binds' binds) means')
+    has_one_meaning p w rising d b c means (subst (λ z. IsMeaningOf p z c) (one_binding p w file token e d binds' binds) means')
 one_at p w rising file token b _ (by_scope {declaration = d} binds means) (by_package {e = e} s) = absurd (scope_or_package p file token d e binds s)
 one_at p w rising file token _ c (by_package {e = e} s) (by_scope {declaration = d} binds means) = absurd (scope_or_package p file token d e binds s)
 one_at p w rising file token _ _ (by_package {e = e} s) (by_package {e = f} k) = ap (λ z. Stands z.meaning) (one_selected p w file token e f s k)
 
-pub one_name : (p : Package) → WellFormed p.layout → AreInOrder p.files → (file token : ℕ) (b c : Bound) → IsName p file token b → IsName p file token c → b ≡ c
+pub one_name : (p : Package) → WellFormed p.layout → TokensRise p.files → (file token : ℕ) (b c : Bound) → IsName p file token b → IsName p file token c → b ≡ c
 one_name p w rising file token b c (is_bound x) (is_bound y) = one_at p w rising file token b c x y
 one_name p w rising file token b _ (is_bound x) (is_unbound none) = absurd (none b x)
 one_name p w rising file token _ c (is_unbound none) (is_bound y) = absurd (none c y)

@@ -13,10 +13,10 @@ use Rattle.types_expr.specs.Types.{Defined, Underlying, same_path}
 use Rattle.types_expr.specs.World.{World, Definition, Field, Method, member_by}
 use Rattle.types_declared.specs.Package.{Package, PlacedType, PlacedFunction, package_types, package_functions, symbol_in}
 use Rattle.types_declared.specs.Written.{IsTypeOf}
-use Rattle.types_declared.specs.Definitions.{PlacedField, package_fields, IsCountingField, IsCountingMethod, is_on_pointer, IsField, IsMethod, IsSignature}
+use Rattle.types_declared.specs.Definitions.{PlacedField, package_fields, IsCountingField, IsCountingMethod, is_on_pointer, IsFoundField, IsFoundMethod, IsFoundSignature}
 use Rattle.types_declared.specs.Definitions.{IsUnderlyingOf, has, has_none, IsDefinition, AreDefinitions}
 use Rattle.types_info.specs.Worlds.{IsWorldOf}
-use Rattle.types_info.specs.Uniqueness.{AreInOrder}
+use Rattle.types_info.specs.Uniqueness.{TokensRise}
 use Rattle.types_declared.proofs.OneUnderlying.{one_underlying}
 use Rattle.types_info.proofs.OneMeaning.{one_type, one_signature_found, one_name}
 
@@ -29,8 +29,8 @@ counting_rank p definition name r s f g a b = elim (cases_order r s) [
   | inr o ↦ elim o [ inl less ↦ absurd (b.first r f less a.is_field) | inr more ↦ absurd (a.first s g more b.is_field) ]
 ]
 
-one_field : (p : Package) → WellFormed p.layout → (definition : ℕ) (name : List ℕ) (o u : Option Field) → IsField p definition name o →
-    IsField p definition name u → o ≡ u
+one_field : (p : Package) → WellFormed p.layout → (definition : ℕ) (name : List ℕ) (o u : Option Field) → IsFoundField p definition name o →
+    IsFoundField p definition name u → o ≡ u
 one_field p w definition name None None a b = refl
 one_field p w definition name None (Some y) a b = absurd (a y.symbol.rank b.0 y.type_of b.1.0 b.1.1)
 one_field p w definition name (Some x) None a b = absurd (b x.symbol.rank a.0 x.type_of a.1.0 a.1.1)
@@ -58,8 +58,8 @@ abbrev pointer_or : Option ReceiverTree → Bool
 pointer_or None = false
 pointer_or (Some r) = is_on_pointer r
 
-one_method : (p : Package) → WellFormed p.layout → (definition : ℕ) (name : List ℕ) (o u : Option Method) → IsMethod p definition name o →
-    IsMethod p definition name u → o ≡ u
+one_method : (p : Package) → WellFormed p.layout → (definition : ℕ) (name : List ℕ) (o u : Option Method) → IsFoundMethod p definition name o →
+    IsFoundMethod p definition name u → o ≡ u
 one_method p w definition name None None a b = refl
 one_method p w definition name None (Some y) a b = absurd (a y.symbol.rank b.0 b.1)
 one_method p w definition name (Some x) None a b = absurd (b x.symbol.rank a.0 a.1)
@@ -67,7 +67,7 @@ one_method p w definition name (Some x) (Some y) a b =
     let rank : x.symbol.rank ≡ y.symbol.rank = counting_method p definition name x.symbol.rank y.symbol.rank a.0 b.0 a.1 b.1 in
     let place : b.0 ≡ a.0 = same_Some b.0 a.0 (sym b.1.is_method.has_rank ∙ ap (slice_get (package_functions p)) (sym rank) ∙ a.1.is_method.has_rank) in
     let symbols : x.symbol ≡ y.symbol = a.4 ∙ ap (symbol_in p) rank ∙ sym b.4 in
-    let signatures : x.signature ≡ y.signature = one_signature_found p w a.0 x.signature y.signature a.2 (subst (λ f. IsSignature p f y.signature) place b.2) in
+    let signatures : x.signature ≡ y.signature = one_signature_found p w a.0 x.signature y.signature a.2 (subst (λ f. IsFoundSignature p f y.signature) place b.2) in
     let pointers : is_on_pointer a.1.is_method.receiver ≡ is_on_pointer b.1.is_method.receiver =
     ap pointer_or (sym a.1.is_method.received ∙ ap (λ f. f.function.receiver) (sym place) ∙ b.1.is_method.received) in
     ap Some (
@@ -112,9 +112,9 @@ one_definitions p w c d a b = fun_ext (λ s. in_package p w c d a b s (same_path
 
 -- worlds
 
-pub one_world : (p : Package) → WellFormed p.layout → AreInOrder p.files → (file : ℕ) (s : SourceFile) (v w : World) → IsWorldOf p file s v →
+pub has_one_world : (p : Package) → WellFormed p.layout → TokensRise p.files → (file : ℕ) (s : SourceFile) (v w : World) → IsWorldOf p file s v →
     IsWorldOf p file s w → v ≡ w
-one_world p formed rising file s v w a b =
+has_one_world p formed rising file s v w a b =
     let same = one_definitions p formed a.definitions b.definitions a.are_definitions b.are_definitions in
     let bounds : v.bound ≡ w.bound = fun_ext (λ token. one_name p formed rising file token (v.bound token) (w.bound token) (a.names token) (b.names token)) in
     let members : v.member ≡ w.member =

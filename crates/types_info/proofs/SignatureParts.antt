@@ -9,7 +9,7 @@ use Rattle.go_ast.specs.declared.tree.TypeExpr.{TypeExpr}
 use Rattle.go_ast.specs.Tree.{TypeTree}
 use Rattle.go_ast.specs.View.{item_view, ident_view, list_view, type_view}
 use Rattle.go_ast.specs.FileView.{param_view}
-use Rattle.types_declared.specs.Bound.{parameter_types}
+use Rattle.types_declared.specs.MeaningOf.{parameter_types}
 
 abbrev pub ident_part : TypeExpr → Item Ident → List TypeTree
 ident_part t name = type_view t ∷ []

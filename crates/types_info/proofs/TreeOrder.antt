@@ -8,7 +8,7 @@ use Rattle.go_ast.specs.Flatten.{flatten}
 use Rattle.go_ast.specs.SourceFile.{SourceFile, FileParts, IsSourceFile, source_of}
 use Rattle.go_scope.specs.Trees.{AreRising}
 use Rattle.go_scope.proofs.Declared.{file_numbered}
-use Rattle.types_info.specs.Uniqueness.{AreInOrder}
+use Rattle.types_info.specs.Uniqueness.{TokensRise}
 
 abbrev pub InOrderBelow : List FileParts → ℕ → Type 0
 InOrderBelow files n = (file : ℕ) (s : SourceFile) → file < n → slice_get (map source_of files) file ≡ Some s → AreRising 0 (flatten s.tree)
@@ -28,7 +28,7 @@ next_in_order files n x lt ex is h file s below at = elim (cases_lt file n) [
       subst (λ z. AreRising 0 (flatten z.tree)) (same_Some (source_of x) s (sym here ∙ at)) (file_numbered x is).rising
 ]
 
-pub all_in_order : (files : List FileParts) (n : ℕ) → n ≡ length files → InOrderBelow files n → AreInOrder (map source_of files)
+pub all_in_order : (files : List FileParts) (n : ℕ) → n ≡ length files → InOrderBelow files n → TokensRise (map source_of files)
 all_in_order files n e h = λ file s at.
     let lt : file < length (map source_of files) = slice_get_within (map source_of files) file s at in
     let size : length (map source_of files) ≡ length files = length-map files source_of in

@@ -8,7 +8,7 @@ use Rattle.go_ast.specs.Tree.{TypeTree}
 use Rattle.types_expr.specs.Types.{PlainType}
 use Rattle.types_declared.specs.Package.{Package}
 use Rattle.types_declared.specs.Written.{IsTypeOf}
-use Rattle.types_declared.specs.Bound.{AreTypesOf}
+use Rattle.types_declared.specs.MeaningOf.{AreTypesOf}
 
 are_push : (p : Package) (file : ℕ) (xs : List TypeTree) (ts : List PlainType) (x : TypeTree) (t : PlainType) → AreTypesOf p file xs ts →
     IsTypeOf p file x t → AreTypesOf p file (xs ++ (x ∷ [])) (ts ++ (t ∷ []))

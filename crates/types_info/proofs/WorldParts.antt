@@ -19,7 +19,7 @@ use Rattle.types_declared.specs.Definitions.{IsDefinition, AreDefinitions}
 use Rattle.types_info.specs.DefinitionsView.{HaveDefinitions}
 use Rattle.types_info.specs.Worlds.{IsWorldOf, is_init}
 use Rattle.types_info.specs.NamesView.{AreNames}
-use Rattle.types_info.proofs.BoundLists.{slice_get_some, none_past}
+use Rattle.types_info.proofs.MeaningLists.{slice_get_some, none_past}
 
 -- Definitions
 
@@ -40,7 +40,7 @@ at_other w s n =
 
 pub world_definitions : (p : Package) (w : World) → w.package.now ≡ p.path → HaveDefinitions p w.own.now →
     ((path : List ℕ) (rank : ℕ) → definition_or_none (record { «package» = path; rank = rank })
-    (imported_at w.imported.now (record { «package» = path; rank = rank })) ≡ (p.interface_of path).definition rank) →
+    (imported_at w.imported.now (record { «package» = path; rank = rank })) ≡ (p.export_data_of path).definition rank) →
     AreDefinitions p (definition_in w)
 world_definitions p w here own imported = record {
   own = λ rank d at.

@@ -1,5 +1,5 @@
 -- The definitions of this crate.
-pub mod BoundsView
+pub mod MeaningsView
 pub mod SignatureView
 pub mod NamesView
 pub mod MemberUses
@@ -8,4 +8,4 @@ pub mod Worlds
 pub mod Uniqueness
 pub mod DefinitionsView
 pub mod Lists
-pub mod Qualified
+pub mod QualifiedIdentifiers

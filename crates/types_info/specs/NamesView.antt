@@ -12,7 +12,7 @@ use Rattle.types_expr.specs.World as plain
 use Rattle.types_expr.specs.WorldView.{bound_at, bound_index, bound_or_broken, spelling_of}
 use Rattle.types_declared.specs.Package.{Package, spelled}
 use Rattle.types_declared.specs.Written.{BindsToken}
-use Rattle.types_declared.specs.Bound.{IsMeantBy}
+use Rattle.types_declared.specs.MeaningOf.{IsMeaningOf}
 use Rattle.types_info.specs.Worlds.{IsName}
 
 -- the tokens of a file; none where there is no file
@@ -25,7 +25,7 @@ abbrev pub bound_by : List Bound → Option ℕ → plain.Bound
 bound_by list place = bound_or_broken (bound_at list place)
 
 -- the token is a name after a dot
-pub record IsBehindDot (p : Package) (file token : ℕ) : Type 0 where
+pub record IsNameAfterDot (p : Package) (file token : ℕ) : Type 0 where
   pub identifier : ℕ
   pub found : IsFoundAt p.layout p.size (record { file = file; index = token }) identifier
   pub selected : p.layout.role identifier ≡ NotLexical purpose.Selected
@@ -34,7 +34,7 @@ pub record IsBehindDot (p : Package) (file token : ℕ) : Type 0 where
 pub record IsBoundInScope (p : Package) (file token : ℕ) (b : plain.Bound) : Type 0 where
   pub declaration : ℕ
   pub binds : BindsToken p file token declaration
-  pub means : IsMeantBy p declaration b
+  pub means : IsMeaningOf p declaration b
 
 -- found is the meaning to which scopes bind the name at the token, or none where there is none
 abbrev pub IsScopeFound : Package → (file token : ℕ) → Option plain.Bound → Type 0

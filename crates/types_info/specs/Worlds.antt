@@ -12,11 +12,11 @@ use Rattle.types_expr.specs.World.{World, Bound, Definition, member_by}
 use Rattle.types_expr.specs.World.{Means as Stands}
 use Rattle.types_declared.specs.Package.{Package, Export}
 use Rattle.types_declared.specs.Written.{BindsToken, IsExportAt}
-use Rattle.types_declared.specs.Bound.{IsMeantBy}
+use Rattle.types_declared.specs.MeaningOf.{IsMeaningOf}
 use Rattle.types_declared.specs.Definitions.{AreDefinitions}
 
 -- the token is the name N of a qualified identifier `p.N` that denotes the export e
-pub record IsSelected (p : Package) (file token : ℕ) (e : Export) : Type 0 where
+pub record DenotesExport (p : Package) (file token : ℕ) (e : Export) : Type 0 where
   pub before : ℕ
   pub behind_dot : token ≡ suc (suc before)
   pub identifier : ℕ
@@ -26,8 +26,8 @@ pub record IsSelected (p : Package) (file token : ℕ) (e : Export) : Type 0 whe
 
 -- the name at the token has this meaning: by scopes, or as the name of a qualified identifier
 pub data IsBoundAt (p : Package) (file token : ℕ) : Bound → Type 0 where
-  by_scope : {declaration : ℕ} {b : Bound} → BindsToken p file token declaration → IsMeantBy p declaration b → IsBoundAt p file token b
-  by_package : {e : Export} → IsSelected p file token e → IsBoundAt p file token (Stands e.meaning)
+  by_scope : {declaration : ℕ} {b : Bound} → BindsToken p file token declaration → IsMeaningOf p declaration b → IsBoundAt p file token b
+  by_package : {e : Export} → DenotesExport p file token e → IsBoundAt p file token (Stands e.meaning)
 
 -- the meaning of the name at the token; Broken where it has none
 pub data IsName (p : Package) (file token : ℕ) : Bound → Type 0 where

@@ -3,7 +3,7 @@ ghost use Rattle.std.specs.Prelude.{◌≡◌, map, IfOk};
 ghost use Rattle.types_expr.specs.World.{Means};
 ghost use Rattle.types_expr.specs.View.{type_of, signature_of};
 ghost use Rattle.types_expr.specs.WorldView.{bound_of};
-ghost use Rattle.types_declared.specs.InterfacesView.{meaning_of};
+ghost use Rattle.types_declared.specs.ExportTablesView.{meaning_of};
 
 use std::alloc::{AllocError, Global};
 use types_declared::ExportMeaning;
@@ -34,7 +34,7 @@ pub fn copy_signature(alloc: Global, signature: &Signature) -> Result<Signature,
 }
 
 /// The meaning, in an importing package, of a qualified identifier that denotes this export.
-#[tactic(auto, unfolding(types_expr::specs::WorldView::bound_of, types_declared::specs::InterfacesView::meaning_of))]
+#[tactic(auto, unfolding(types_expr::specs::WorldView::bound_of, types_declared::specs::ExportTablesView::meaning_of))]
 pub fn exported_bound(alloc: Global, meaning: &ExportMeaning) -> Result<Bound, AllocError>
     ensures { IfOk result (λ b. bound_of b ≡ Means (meaning_of meaning.now)) }
 {

@@ -1,23 +1,23 @@
 //! The meanings of a package's declarations and names, and its qualified identifiers.
 #![tactic(auto)]
 
-mod behind;
-mod bounds;
 mod copies;
-mod gathering;
+mod file_names;
 mod lists;
-mod names;
+mod meanings;
 mod predeclared;
+mod qualified;
+mod qualifiers;
+mod resolved_types;
 mod signatures;
 mod uniqueness;
-mod whole_types;
 
-pub use behind::package_before;
-pub use bounds::{Bounds, bounds_of};
 pub use copies::copy_signature;
-pub use gathering::qualified_identifiers;
+pub use file_names::{file_names, is_name_after_dot};
 pub use lists::Qualified;
-pub use names::{file_names, is_behind_dot};
+pub use meanings::{MeaningTable, meanings_of};
+pub use qualified::qualified_identifiers;
+pub use qualifiers::qualifying_path;
+pub use resolved_types::valid_type;
 pub use signatures::signature;
-pub use uniqueness::{one_meaning, one_world};
-pub use whole_types::whole_type;
+pub use uniqueness::{has_one_meaning, has_one_world};

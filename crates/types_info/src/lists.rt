@@ -2,7 +2,7 @@
 ghost use Rattle.std.specs.Prelude.{ℕ, ◌≡◌, ◌<◌, List, None, length, slice_index_or, OnOk};
 ghost use Rattle.go_scope.specs.Named.{name_value};
 ghost use Rattle.go_scope.specs.declared.model.Position.{Position as Place};
-ghost use Rattle.types_info.specs.Lists.{IsListed, path_for, AreWithin, AddsDeclaration, AddsList, AddsUnder, AddsPlace};
+ghost use Rattle.types_info.specs.Lists.{IsListedUnder, path_for, AreWithin, AddsDeclaration, AddsList, AddsUnder, AddsPlace};
 
 use go_scope::model::Position;
 use std::alloc::{AllocError, Global};
@@ -47,7 +47,7 @@ impl Lists {
     pub(crate) fn new(alloc: Global) -> Lists
         ensures within { AreWithin result }
         ensures size { length result.numbers.items ≡ 0 }
-        ensures listed { (path : List ℕ) → (at : Place) → IsListed result.all.items path at → ⊥ }
+        ensures listed { (path : List ℕ) → (at : Place) → IsListedUnder result.all.items path at → ⊥ }
     {
         Lists {
             all: Vec::new(alloc),

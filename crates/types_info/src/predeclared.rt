@@ -4,8 +4,8 @@ ghost use Rattle.types_expr.specs.declared.types.Basic.{Basic};
 ghost use Rattle.types_expr.specs.declared.types.Builtin.{Builtin};
 ghost use Rattle.types_expr.specs.WorldView.{bound_of};
 ghost use Rattle.types_declared.specs.Written.{basic_name};
-ghost use Rattle.types_declared.specs.Bound.{builtin_name};
-ghost use Rattle.types_info.specs.BoundsView.{IsTruthName, IsUniversalFound, IsValueFound};
+ghost use Rattle.types_declared.specs.MeaningOf.{builtin_name};
+ghost use Rattle.types_info.specs.MeaningsView.{IsTruthName, IsPredeclaredFound, IsValueFound};
 
 use types_expr::types::{Basic, Builtin, GoType};
 use types_expr::world::Bound;
@@ -80,7 +80,7 @@ fn value_of(name: &[u8]) -> Option<Bound>
 /// The meaning of a name that is no predeclared type; none where it isn't predeclared.
 fn operand_of(name: &[u8]) -> Option<Bound>
     requires { (b : Basic) → name.now ≡ basic_name b → ⊥ }
-    ensures { IsUniversalFound name.now (option_map bound_of result) }
+    ensures { IsPredeclaredFound name.now (option_map bound_of result) }
 {
     match builtin_of(name) {
         None => value_of(name),
@@ -90,7 +90,7 @@ fn operand_of(name: &[u8]) -> Option<Bound>
 
 /// The meaning of a predeclared name; none where it isn't predeclared.
 pub fn predeclared(name: &[u8]) -> Option<Bound>
-    ensures { IsUniversalFound name.now (option_map bound_of result) }
+    ensures { IsPredeclaredFound name.now (option_map bound_of result) }
 {
     match basic_of(name) {
         None => operand_of(name),

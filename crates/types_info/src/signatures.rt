@@ -3,36 +3,36 @@ ghost use Rattle.std.specs.Prelude.{◌≡◌, map, option_map, IfOk, OnOk};
 ghost use Rattle.go_ast.specs.View.{list_view};
 ghost use Rattle.go_ast.specs.FileView.{param_view, results_view};
 ghost use Rattle.types_declared.specs.Appending.{Appends};
-ghost use Rattle.types_declared.specs.Bound.{parameter_types, result_types};
-ghost use Rattle.types_info.specs.SignatureView.{AreTypesFound, tree_of, types_in};
+ghost use Rattle.types_declared.specs.MeaningOf.{parameter_types, result_types};
+ghost use Rattle.types_info.specs.SignatureView.{AreTypesFound, tree_of, plain_types};
 ghost use Rattle.types_expr.specs.View.{signature_of};
-ghost use Rattle.types_declared.specs.Definitions.{IsSignature};
+ghost use Rattle.types_declared.specs.Definitions.{IsFoundSignature};
 ghost use Rattle.types_declared.specs.DeclaredView.{function_of};
 ghost use Rattle.types_declared.specs.Broken.{AreBroken};
 ghost use Rattle.types_declared.specs.PackageView.{package_of, IsIndexOf};
 
-use crate::whole_types::whole_type;
+use crate::resolved_types::valid_type;
 use go_ast::tree::{Item, Param, Results, TypeExpr};
 use std::alloc::{AllocError, Global};
 use types_declared::{Function, Index, Package};
 use types_expr::types::{GoType, Signature};
 
 /// The types of type expressions, in order; none where one of them names no type or mentions a broken definition.
-pub fn whole_types(
+pub fn valid_types(
     alloc: Global,
-    unit: Package<'_>,
+    pkg: Package<'_>,
     index: &Index<'_>,
     broken: &[bool],
     file: usize,
     written: &[&TypeExpr],
 ) -> Result<Option<Vec<GoType>>, AllocError>
-    requires index { IsIndexOf (package_of unit) index.now }
-    requires broken { AreBroken (package_of unit) broken.now }
-    ensures { IfOk result (λ types. AreTypesFound (package_of unit.entry) file (map tree_of written.now) (option_map types_in types)) }
+    requires index { IsIndexOf (package_of pkg) index.now }
+    requires broken { AreBroken (package_of pkg) broken.now }
+    ensures { IfOk result (λ types. AreTypesFound (package_of pkg.entry) file (map tree_of written.now) (option_map plain_types types)) }
 {
     let mut types = Vec::new(alloc);
     for one in written {
-        match whole_type(alloc, unit, index, broken, file, one)? {
+        match valid_type(alloc, pkg, index, broken, file, one)? {
             None => return Ok(None),
             Some(own) => types.push(own)?,
         }
@@ -88,23 +88,23 @@ fn add_results<'a>(found: &mut Vec<&'a TypeExpr>, results: &'a Results) -> Resul
 #[tactic(auto, unfolding(go_ast::specs::FileView::func_view))]
 pub fn signature(
     alloc: Global,
-    unit: Package<'_>,
+    pkg: Package<'_>,
     index: &Index<'_>,
     broken: &[bool],
     function: Function<'_>,
 ) -> Result<Option<Signature>, AllocError>
-    requires index { IsIndexOf (package_of unit) index.now }
-    requires broken { AreBroken (package_of unit) broken.now }
-    ensures { IfOk result (λ s. IsSignature (package_of unit.entry) (function_of function.entry) (option_map signature_of s)) }
+    requires index { IsIndexOf (package_of pkg) index.now }
+    requires broken { AreBroken (package_of pkg) broken.now }
+    ensures { IfOk result (λ s. IsFoundSignature (package_of pkg.entry) (function_of function.entry) (option_map signature_of s)) }
 {
     let file = function.file;
     let params = param_types(alloc, &function.func.params)?;
     let mut written = Vec::new(alloc);
     add_results(&mut written, &function.func.results)?;
-    let Some(parameters) = whole_types(alloc, unit, index, broken, file, &params)? else {
+    let Some(parameters) = valid_types(alloc, pkg, index, broken, file, &params)? else {
         return Ok(None);
     };
-    let Some(results) = whole_types(alloc, unit, index, broken, file, &written)? else {
+    let Some(results) = valid_types(alloc, pkg, index, broken, file, &written)? else {
         return Ok(None);
     };
     Ok(Some(Signature {

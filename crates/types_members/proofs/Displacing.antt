@@ -6,11 +6,11 @@ use Rattle.std.proofs.lemmas.Option.{same_Some, slice_get_within}
 use Rattle.go_scope.specs.WellFormed.{WellFormed}
 use Rattle.base_files.specs.declared.fault_kind.FaultKind.TheVariants as kind
 use Rattle.types_declared.specs.declared.fault.Fault.{Fault}
-use Rattle.types_declared.specs.Listing.{Adds, Below}
+use Rattle.types_declared.specs.Listing.{AddsFaults, IsFaultBelow}
 use Rattle.types_declared.proofs.Listings.{adds_as, adds_then, make}
 use Rattle.types_declared.specs.Package.{Package, PlacedType, PlacedFunction, package_types, package_functions, spelled}
 use Rattle.types_declared.specs.Definitions.{PlacedField, package_fields, IsCountingField, IsMethodOf, IsCountingMethod}
-use Rattle.types_members.specs.Members.{Holds, IsRepeatedField, IsRepeatedMethod, IsRecursive}
+use Rattle.types_members.specs.MemberFaults.{ContainsType, IsRepeatedField, IsRepeatedMethod, IsRecursive}
 use Rattle.types_members.specs.MembersView.{CountsAsField, IsMethodOn, CountsAsMethod}
 use Rattle.types_members.proofs.FieldNames.{one_name}
 use Rattle.types_members.proofs.Owning.{HasOwner}
@@ -35,14 +35,14 @@ pub record IsMethodFault (p : Package) (rank : ℕ) (f : Fault) : Type 0 where
 pub record IsRecursionFault (p : Package) (rank : ℕ) (f : Fault) : Type 0 where
   pub definition : PlacedType
   pub has_rank : slice_get (package_types p) rank ≡ Some definition
-  pub holds_itself : Holds p rank rank
+  pub holds_itself : ContainsType p rank rank
   pub at : f ≡ record { file = definition.file; token = definition.spec.name; kind = kind.Recursive }
 
 -- A fault that a test adds
 
-pub by_test : (old new : List Fault) (test : Bool) (fault : Fault) (P : Fault → Type 0) → Adds old new (λ f. IsTrue test × (f ≡ fault)) →
+pub by_test : (old new : List Fault) (test : Bool) (fault : Fault) (P : Fault → Type 0) → AddsFaults old new (λ f. IsTrue test × (f ≡ fault)) →
     (test ≡ true → P fault) → ((f : Fault) → P f → (test ≡ true) × (f ≡ fault)) →
-    Adds old new P
+    AddsFaults old new P
 by_test old new test fault P h to from = adds_as old new (λ f. IsTrue test × (f ≡ fault)) P h (λ f k. subst P (sym k.1) (to k.0)) (λ f k. from f k)
 
 -- fields
@@ -83,10 +83,10 @@ fault_of_field p f k = record {
   at = k.at;
 }
 
-pub all_field_faults : (p : Package) (old new : List Fault) (count : ℕ) → count ≡ length (package_fields p) → Adds old new (Below (IsFieldFault p) count) →
-    Adds old new (IsRepeatedField p)
+pub all_field_faults : (p : Package) (old new : List Fault) (count : ℕ) → count ≡ length (package_fields p) → AddsFaults old new (IsFaultBelow (IsFieldFault p) count) →
+    AddsFaults old new (IsRepeatedField p)
 all_field_faults p old new count e h =
-    adds_as old new (Below (IsFieldFault p) count) (IsRepeatedField p) h (λ f k. repeated_field p k.0 f k.2)
+    adds_as old new (IsFaultBelow (IsFieldFault p) count) (IsRepeatedField p) h (λ f k. repeated_field p k.0 f k.2)
     (λ f k. (k.rank, subst (λ n. k.rank < n) (sym e) (slice_get_within (package_fields p) k.rank k.field k.is_field.has_rank), fault_of_field p f k))
 
 -- methods
@@ -146,20 +146,20 @@ fault_of_method p w f k = record {
 }
 
 pub all_method_faults : (p : Package) → WellFormed p.layout → (old new : List Fault) (count : ℕ) → count ≡ length (package_functions p) →
-    Adds old new (Below (IsMethodFault p) count) →
-    Adds old new (IsRepeatedMethod p)
+    AddsFaults old new (IsFaultBelow (IsMethodFault p) count) →
+    AddsFaults old new (IsRepeatedMethod p)
 all_method_faults p w old new count e h =
-    adds_as old new (Below (IsMethodFault p) count) (IsRepeatedMethod p) h (λ f k. repeated_method p k.0 f k.2)
+    adds_as old new (IsFaultBelow (IsMethodFault p) count) (IsRepeatedMethod p) h (λ f k. repeated_method p k.0 f k.2)
     (λ f k. (k.rank, subst (λ n. k.rank < n) (sym e) (slice_get_within (package_functions p) k.rank k.method k.is_method.has_rank), fault_of_method p w f k))
 
 -- recursive definitions
 
-pub recursion_fault : (p : Package) (rank : ℕ) (x : PlacedType) (b : Bool) → slice_get (package_types p) rank ≡ Some x → (b ≡ true) ↔ Holds p rank rank →
+pub recursion_fault : (p : Package) (rank : ℕ) (x : PlacedType) (b : Bool) → slice_get (package_types p) rank ≡ Some x → (b ≡ true) ↔ ContainsType p rank rank →
     b ≡ true →
     IsRecursionFault p rank (record { file = x.file; token = x.spec.name; kind = kind.Recursive })
 recursion_fault p rank x b e h t = record { definition = x; has_rank = e; holds_itself = h.0 t; at = refl }
 
-pub of_recursion_fault : (p : Package) (rank : ℕ) (x : PlacedType) (b : Bool) → slice_get (package_types p) rank ≡ Some x → (b ≡ true) ↔ Holds p rank rank →
+pub of_recursion_fault : (p : Package) (rank : ℕ) (x : PlacedType) (b : Bool) → slice_get (package_types p) rank ≡ Some x → (b ≡ true) ↔ ContainsType p rank rank →
     (f : Fault) → IsRecursionFault p rank f →
     (b ≡ true) × (f ≡ record { file = x.file; token = x.spec.name; kind = kind.Recursive })
 of_recursion_fault p rank x b e h f k =
@@ -167,9 +167,9 @@ of_recursion_fault p rank x b e h f k =
     (h.1 k.holds_itself, k.at ∙ ap (λ z. make z.file z.spec.name kind.Recursive) same)
 
 pub all_recursion_faults : (p : Package) (old new : List Fault) (count : ℕ) → count ≡ length (package_types p) →
-    Adds old new (Below (IsRecursionFault p) count) → Adds old new (IsRecursive p)
+    AddsFaults old new (IsFaultBelow (IsRecursionFault p) count) → AddsFaults old new (IsRecursive p)
 all_recursion_faults p old new count e h =
-    adds_as old new (Below (IsRecursionFault p) count) (IsRecursive p) h
+    adds_as old new (IsFaultBelow (IsRecursionFault p) count) (IsRecursive p) h
     (λ f k. record { rank = k.0; definition = k.2.definition; has_rank = k.2.has_rank; holds_itself = k.2.holds_itself; at = k.2.at })
     (λ f k. (
       k.rank,
@@ -178,5 +178,5 @@ all_recursion_faults p old new count e h =
     ))
 
 -- the faults of three properties are added
-pub three_added : (P Q R : Fault → Type 0) (a b c : List Fault) → Adds [] a P → Adds a b Q → Adds b c R → Adds [] c (λ f. P f ⊎ (Q f ⊎ R f))
+pub three_added : (P Q R : Fault → Type 0) (a b c : List Fault) → AddsFaults [] a P → AddsFaults a b Q → AddsFaults b c R → AddsFaults [] c (λ f. P f ⊎ (Q f ⊎ R f))
 three_added P Q R a b c h k l = adds_then [] a c P (λ f. Q f ⊎ R f) h (adds_then a b c Q R k l)

@@ -7,7 +7,7 @@ use Rattle.go_ast.specs.declared.tree.FieldDecl.{FieldDecl}
 use Rattle.go_ast.specs.declared.tree.TypeBody.{TypeBody}
 use Rattle.go_ast.specs.declared.tree.TypeBody.TheVariants as body
 use Rattle.go_ast.specs.View.{item_view, list_view, type_view}
-use Rattle.go_ast.specs.FileView.{same_place, field_view, body_view}
+use Rattle.go_ast.specs.FileView.{same_index, field_view, body_view}
 use Rattle.types_declared.specs.Package.{PlacedType}
 use Rattle.types_declared.specs.Definitions.{PlacedField, body_fields, fields_from}
 use Rattle.types_members.specs.FieldsView.{field_names}
@@ -23,7 +23,7 @@ ranked_part r = body_fields r.0 r.1.file r.1.spec.body
 
 names_of_items : (definition file : ℕ) (field : FieldDecl) (xs : List (Item ℕ)) →
     flat_map (name_part definition file field) xs ≡ map
-    (λ n. record { definition = definition; file = file; name = n.value; type_use = type_view field.field_type }) (map (item_view same_place) xs)
+    (λ n. record { definition = definition; file = file; name = n.value; type_use = type_view field.field_type }) (map (item_view same_index) xs)
 names_of_items definition file field [] = refl
 names_of_items definition file field (x ∷ xs) =
     ap (λ z. record { definition = definition; file = file; name = x.value; type_use = type_view field.field_type } ∷ z)

@@ -34,7 +34,7 @@ own_has p b noted s name is h e = (
 
 -- a struct of another package
 pub other_has : (p : Package) (b : Bool) (s : Symbol) (name : List ℕ) → (s.package ≡ p.path → ⊥) →
-    b ≡ exported_field (((p.interface_of s.package).definition s.rank).field name) → (b ≡ true) ↔ StructHas p s name
+    b ≡ exported_field (((p.export_data_of s.package).definition s.rank).field name) → (b ≡ true) ↔ StructHas p s name
 other_has p b s name ne e = (
   (λ t. imported ne (sym e ∙ t)),
   (λ has. elim has [
@@ -80,7 +80,7 @@ named_if p definition u name is h =
       | own {field} {f} same at ↦ of_own {rank = h.symbol.rank} {field = field} {f = f}
           (subst (λ s. HasUnderlying p (Defined (symbol_in p definition)) (StructOf s)) (symbol_from h.symbol p.path same) known) at
       | imported other exported ↦ (
-          let known_field = field_exported (((p.interface_of h.symbol.package).definition h.symbol.rank).field name) exported in
+          let known_field = field_exported (((p.export_data_of h.symbol.package).definition h.symbol.rank).field name) exported in
           of_imported {path = h.symbol.package} {rank = h.symbol.rank} {f = known_field.0} known other known_field.1.0 known_field.1.1)
     ]
 

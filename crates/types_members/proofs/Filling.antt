@@ -14,10 +14,10 @@ use Rattle.types_expr.specs.Types as types
 use Rattle.types_members.specs.declared.underlying.Step.{Step}
 use Rattle.types_members.specs.declared.underlying.Step.TheVariants.{Ends, Continues, Nothing}
 use Rattle.types_declared.specs.Package.{Package, PlacedType, package_types, symbol_in}
-use Rattle.types_declared.specs.Written.{Names}
+use Rattle.types_declared.specs.Written.{DenotesType}
 use Rattle.types_declared.specs.Definitions.{HasUnderlying, basic, pointer, slice, struct, named, imported}
 use Rattle.types_members.specs.MembersView.{IsUnderlyingFound, AreUnderlying}
-use Rattle.types_members.specs.Steps.{NamesDefinition, IsStep, AreSteps, IsBehind, IsInOrder, IsStepOrder, taken}
+use Rattle.types_members.specs.Steps.{NamesDefinition, IsStep, AreSteps, ComesAfterTarget, IsInOrder, IsStepOrder, reached_type}
 use Rattle.types_declared.proofs.Naming.{one_named}
 
 -- found has the underlying types of the first count definitions of the order
@@ -40,7 +40,7 @@ abbrev Sound : Package → List (Option Underlying) → Type 0
 Sound p found = (rank : ℕ) (u : Underlying) → get_or found rank None ≡ Some u → HasUnderlying p (Defined (symbol_in p rank)) (underlying_of u)
 
 taken_sound : (p : Package) (rank : ℕ) (s : Step) (found : List (Option Underlying)) (u : types.Underlying) → Sound p found → IsStep p rank s →
-    taken s found ≡ Some u → HasUnderlying p (Defined (symbol_in p rank)) u
+    reached_type s found ≡ Some u → HasUnderlying p (Defined (symbol_in p rank)) u
 taken_sound p rank (Ends w) found u sound step e = subst (HasUnderlying p (Defined (symbol_in p rank))) (same_Some (underlying_of w) u e) step
 taken_sound p rank (Continues to) found u sound step e =
     let at = mapped_some underlying_of (get_or found to None) u e in
@@ -48,7 +48,7 @@ taken_sound p rank (Continues to) found u sound step e =
 taken_sound p rank Nothing found u sound step e = absurd (none-some u e)
 
 taken_there : (p : Package) (order : List ℕ) (count : ℕ) (s : Step) (found : List (Option Underlying)) → AreFilled p order count found →
-    IsBehind s order count → taken s found ≡ None → ⊥
+    ComesAfterTarget s order count → reached_type s found ≡ None → ⊥
 taken_there p order count (Ends w) found h behind e = none-some (underlying_of w) (sym e)
 taken_there p order count (Continues to) found h behind e =
     h.filled behind.0 behind.1.0 (ap (λ k. get_or found k None) behind.1.1 ∙ mapped_none underlying_of (get_or found to None) e)
@@ -66,14 +66,14 @@ none_filled p order found size none = record {
 -- the underlying type of the next definition of the order is set
 pub next_filled : (p : Package) (steps : List Step) (order : List ℕ) (count rank : ℕ) (s : Step) (found : List (Option Underlying))
     (v : Option Underlying) → AreSteps p steps → IsStepOrder steps order →
-    count < length order → rank ≡ get_or order count 0 → slice_get steps rank ≡ Some s → option_map underlying_of v ≡ taken s found →
+    count < length order → rank ≡ get_or order count 0 → slice_get steps rank ≡ Some s → option_map underlying_of v ≡ reached_type s found →
     AreFilled p order count found → AreFilled p order (count + 1) (set found rank v)
 next_filled p steps order count rank s found v are o lt at is e h =
     let within : rank < length found = let k : rank < length steps = slice_get_within steps rank s is in omega (arith, are.all, h.size) in
     let here : get_or (set found rank v) rank None ≡ v = get_or-set_same found rank v None within in
     let place = o.each count lt in
     let same_step : place.0 ≡ s = same_Some place.0 s (sym place.1.0 ∙ (ap (slice_get steps) (sym at) ∙ is)) in
-    let behind : IsBehind s order count = subst (λ x. IsBehind x order count) same_step place.1.1 in
+    let behind : ComesAfterTarget s order count = subst (λ x. ComesAfterTarget x order count) same_step place.1.1 in
     record {
       size = length-set found rank v ∙ h.size;
       sound = λ r u k. elim (cases_eq r rank) [
@@ -124,11 +124,11 @@ tree_or t b = t
 
 names_as : (p : Package) (rank to : ℕ) (d : PlacedType) (tree : TypeTree) → slice_get (package_types p) rank ≡ Some d → d.spec.body ≡ Other tree →
     NamesDefinition p rank to →
-    Names p d.file tree (Defined (symbol_in p to))
+    DenotesType p d.file tree (Defined (symbol_in p to))
 names_as p rank to d tree is written n =
     let same : n.definition ≡ d = same_Some n.definition d (sym n.has_rank ∙ is) in
     let same_tree : n.tree ≡ tree = ap (tree_or n.tree) (sym n.written ∙ (ap (λ x. x.spec.body) same ∙ written)) in
-    subst (λ x. Names p d.file x (Defined (symbol_in p to))) same_tree (subst (λ x. Names p x.file n.tree (Defined (symbol_in p to))) same n.names)
+    subst (λ x. DenotesType p d.file x (Defined (symbol_in p to))) same_tree (subst (λ x. DenotesType p x.file n.tree (Defined (symbol_in p to))) same n.names)
 
 no_name : (p : Package) (rank to : ℕ) (d : PlacedType) (k o c : ℕ) (fs : _) → slice_get (package_types p) rank ≡ Some d → d.spec.body ≡ Struct k o fs c →
     NamesDefinition p rank to → ⊥

@@ -5,14 +5,14 @@ use Rattle.std.specs.Global.{Vec}
 use Rattle.std.proofs.Math.ListN.{set, replicate}
 use Rattle.std.proofs.lemmas.Bool.{cases_lt, cases_eq, false≢true}
 use Rattle.std.proofs.lemmas.List.{get_or-set_same, length-set, length-replicate, get_or-replicate, get_or_read, get_or_append_left, get_or_push, length_push}
-use Rattle.types_declared.specs.Spread.{IsMarked, Leads, IsReached, first, behind}
+use Rattle.types_declared.specs.Reachability.{HasMark, LinksTo, IsReachable, first, behind}
 use Rattle.types_members.specs.Cycles.{IsOnCycle}
-use Rattle.types_declared.proofs.Spreading.{marked_within, marked_stays, marked_before, IsPassed, passed_next, passed_more, passed_held, passed_all}
+use Rattle.types_declared.proofs.ReachableParts.{marked_within, marked_stays, marked_before, IsPassed, passed_next, passed_more, passed_held, passed_all}
 
 -- the list marks exactly the items below count with the property P
 pub record MarksBelow (P : ℕ → Type 0) (marks : List Bool) (count : ℕ) : Type 0 where
   pub all : length marks ≡ count
-  pub each : (item : ℕ) → item < count → IsMarked marks item ↔ P item
+  pub each : (item : ℕ) → item < count → HasMark marks item ↔ P item
 
 pub marks_none : (P : ℕ → Type 0) (marks : List Bool) → marks ≡ [] → MarksBelow P marks 0
 marks_none P marks e = record { all = ap length e; each = λ i lt. absurd (omega arith) }
@@ -36,31 +36,31 @@ marks_next P old new count b e is h =
     }
 
 -- a list of false values marks no number
-unmarked : (n : ℕ) (marks : List Bool) → marks ≡ replicate n false → (q : ℕ) → IsMarked marks q → ⊥
+unmarked : (n : ℕ) (marks : List Bool) → marks ≡ replicate n false → (q : ℕ) → HasMark marks q → ⊥
 unmarked n marks e q m =
     let lt : q < length (replicate n false) = subst (λ xs. q < length xs) e (marked_within marks q m) in
     false≢true (sym (ap (λ xs. get_or xs q false) e ∙ get_or-replicate n q false false (subst (λ k. q < k) (length-replicate n false) lt)) ∙ m)
 
 -- A search from the numbers that a number links to
 
-reached_as : (links : List (Vec ℕ)) (B C : ℕ → Type 0) (q : ℕ) → ((x : ℕ) → B x → C x) → IsReached links B q → IsReached links C q
+reached_as : (links : List (Vec ℕ)) (B C : ℕ → Type 0) (q : ℕ) → ((x : ℕ) → B x → C x) → IsReachable links B q → IsReachable links C q
 reached_as links B C q to (first b) = first (to q b)
 reached_as links B C q to (behind {a = a} reached leads) = behind (reached_as links B C a to reached) leads
 
 pub cycle_found : (links : List (Vec ℕ)) (given begins marks : List Bool) (n : ℕ) (b : Bool) → given ≡ begins →
-    ((q : ℕ) → IsMarked begins q ↔ Leads links n q) →
-    ((q : ℕ) → IsMarked marks q ↔ IsReached links (IsMarked given) q) → n < length marks → b ≡ get_or marks n b → (b ≡ true) ↔ IsOnCycle links n
+    ((q : ℕ) → HasMark begins q ↔ LinksTo links n q) →
+    ((q : ℕ) → HasMark marks q ↔ IsReachable links (HasMark given) q) → n < length marks → b ≡ get_or marks n b → (b ≡ true) ↔ IsOnCycle links n
 cycle_found links given begins marks n b e led found lt is =
     let same : b ≡ get_or marks n false = get_or_read marks n b lt is false in
-    let led_by : (q : ℕ) → IsMarked given q ↔ Leads links n q = λ q. subst (λ xs. IsMarked xs q ↔ Leads links n q) (sym e) (led q) in (
-      (λ t. reached_as links (IsMarked given) (Leads links n) n (λ x m. (led_by x).0 m) ((found n).0 (sym same ∙ t))),
-      (λ k. same ∙ (found n).1 (reached_as links (Leads links n) (IsMarked given) n (λ x l. (led_by x).1 l) k)),
+    let led_by : (q : ℕ) → HasMark given q ↔ LinksTo links n q = λ q. subst (λ xs. HasMark xs q ↔ LinksTo links n q) (sym e) (led q) in (
+      (λ t. reached_as links (HasMark given) (LinksTo links n) n (λ x m. (led_by x).0 m) ((found n).0 (sym same ∙ t))),
+      (λ k. same ∙ (found n).1 (reached_as links (LinksTo links n) (HasMark given) n (λ x l. (led_by x).1 l) k)),
     )
 
 -- the list marks exactly the first count numbers of the row
 pub record MarksPassed (row : List ℕ) (count size : ℕ) (marks : List Bool) : Type 0 where
   pub all : length marks ≡ size
-  pub each : (q : ℕ) → IsMarked marks q ↔ IsPassed row count q
+  pub each : (q : ℕ) → HasMark marks q ↔ IsPassed row count q
 
 pub passed_none : (row : List ℕ) (n size : ℕ) (marks : List Bool) → n ≡ size → marks ≡ replicate n false → MarksPassed row 0 size marks
 passed_none row n size marks es e = record {
@@ -79,10 +79,10 @@ passed_mark row i n size marks here within h = record {
     ]),
     (λ p. elim (passed_next row i q p) [
       | inl before ↦ marked_stays marks n q within ((h.each q).1 before)
-      | inr last ↦ subst (IsMarked (set marks n true)) (here ∙ sym last) (get_or-set_same marks n true false within)
+      | inr last ↦ subst (HasMark (set marks n true)) (here ∙ sym last) (get_or-set_same marks n true false within)
     ]),
   );
 }
 
-pub passed_row : (row : List ℕ) (i size : ℕ) (marks : List Bool) → i ≡ length row → MarksPassed row i size marks → (q : ℕ) → IsMarked marks q ↔ Contains row q
+pub passed_row : (row : List ℕ) (i size : ℕ) (marks : List Bool) → i ≡ length row → MarksPassed row i size marks → (q : ℕ) → HasMark marks q ↔ Contains row q
 passed_row row i size marks e h q = ((λ m. passed_held row i q e ((h.each q).0 m)), (λ c. (h.each q).1 (passed_all row i q e c)))

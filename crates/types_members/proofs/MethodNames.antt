@@ -7,9 +7,9 @@ use Rattle.go_scope.specs.WellFormed.{WellFormed}
 use Rattle.types_declared.specs.Package.{Package, PlacedFunction, package_functions, package_types, type_place, spelled}
 use Rattle.types_declared.specs.Written.{BindsToken, DeclaresType}
 use Rattle.types_declared.specs.Definitions.{IsMethodOf, HasFieldNamed}
-use Rattle.types_members.specs.MemberNames.{NotesName, AreNamesBelow}
+use Rattle.types_members.specs.MemberNames.{AddsMemberName, AreNamesBelow}
 use Rattle.types_members.specs.MembersView.{IsMethodOn, CountsAsMethod, AreCountingMethods}
-use Rattle.types_members.specs.MethodsView.{NotesMethod, no_method, method}
+use Rattle.types_members.specs.MethodsView.{AddsMethodName, no_method, method}
 use Rattle.types_declared.proofs.Naming.{one_binding}
 use Rattle.types_declared.proofs.Ranking.{one_rank}
 use Rattle.types_members.proofs.Marking.{MarksBelow}
@@ -59,7 +59,7 @@ method_here p rank d f e m =
 
 pub names_after : (p : Package) → WellFormed p.layout → (rank : ℕ) (f : PlacedFunction) (o : Option ℕ) (old new : ℕ → List ℕ → Bool) (counts : Bool) →
     slice_get (package_functions p) rank ≡ Some f →
-    HasOwner p rank o → NotesMethod p f o old new counts → AreNamesBelow (IsMethodNamed p) rank old → AreNamesBelow (IsMethodNamed p) (rank + 1) new
+    HasOwner p rank o → AddsMethodName p f o old new counts → AreNamesBelow (IsMethodNamed p) rank old → AreNamesBelow (IsMethodNamed p) (rank + 1) new
 names_after p w rank f o old new counts e has (no_method none same fails) h =
     let no : (d : ℕ) → IsMethodOn p rank d → ⊥ = subst (HasOwner p rank) none has in
     names_skip (IsMethodNamed p) rank new (λ d n k. no d (record { name = n; method = k.method; is_method = k.is_method })) (record {
@@ -75,7 +75,7 @@ names_after p w rank f o old new counts e has (method {definition = d} some note
 
 pub counts_here : (p : Package) → WellFormed p.layout → (rank : ℕ) (f : PlacedFunction) (o : Option ℕ) (old new : ℕ → List ℕ → Bool) (counts : Bool) →
     slice_get (package_functions p) rank ≡ Some f →
-    HasOwner p rank o → NotesMethod p f o old new counts → AreNamesBelow (IsMethodNamed p) rank old → (counts ≡ true) ↔ CountsAsMethod p rank
+    HasOwner p rank o → AddsMethodName p f o old new counts → AreNamesBelow (IsMethodNamed p) rank old → (counts ≡ true) ↔ CountsAsMethod p rank
 counts_here p w rank f o old new counts e has (no_method none same fails) h =
     let no : (d : ℕ) → IsMethodOn p rank d → ⊥ = subst (HasOwner p rank) none has in (
       (λ t. absurd (false≢true (sym fails ∙ t))),
@@ -115,9 +115,9 @@ are_counting_methods p marks count e h = record { all = h.all ∙ e; each = λ r
 -- a method whose name was added
 pub noted_method : (p : Package) (f : PlacedFunction) (o : Option ℕ) (d : ℕ) (name : List ℕ) (old new : ℕ → List ℕ → Bool) (counts : Bool) → o ≡ Some d →
     name ≡ spelled p f.file f.function.name →
-    NotesName old new d name → ((counts ≡ true) ↔ ((old d name ≡ false) × (HasFieldNamed p d name → ⊥))) → NotesMethod p f o old new counts
+    AddsMemberName old new d name → ((counts ≡ true) ↔ ((old d name ≡ false) × (HasFieldNamed p d name → ⊥))) → AddsMethodName p f o old new counts
 noted_method p f o d name old new counts some e notes says =
-    method {definition = d} some (subst (NotesName old new d) e notes) (subst (λ n. (counts ≡ true) ↔ ((old d n ≡ false) × (HasFieldNamed p d n → ⊥))) e says)
+    method {definition = d} some (subst (AddsMemberName old new d) e notes) (subst (λ n. (counts ≡ true) ↔ ((old d n ≡ false) × (HasFieldNamed p d n → ⊥))) e says)
 
 -- whether a method whose name was added counts
 pub counts_if : (p : Package) (d : ℕ) (name : List ℕ) (noted is_new has : Bool) → is_new ≡ not noted → is_new ≡ true → (has ≡ true) ↔ HasFieldNamed p d name →

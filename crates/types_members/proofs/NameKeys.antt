@@ -10,7 +10,7 @@ use Rattle.std.specs.Cmp.Lexicographic.{slice_cmp}
 use Rattle.std.specs.Ordering.{nat_cmp, is_eq, eq_by_cmp}
 use Rattle.std.proofs.lemmas.Bool.{cases_Bool, cases_eq}
 use Rattle.std.proofs.Math.ListN.{set}
-use Rattle.types_members.specs.MemberNames.{has_name, row_has, SetsName, NotesName}
+use Rattle.types_members.specs.MemberNames.{has_name, row_has, SetsName, AddsMemberName}
 use Rattle.types_declared.proofs.ByteKeys.{same_bytes}
 use Rattle.types_declared.proofs.Mentioning.{get_set_same, get_set_other}
 
@@ -36,7 +36,7 @@ sets_name old new key u = record { here = u.1; elsewhere = λ n ne. u.3 (is_at (
 -- a name is added to the set of a definition
 pub notes_in_row : (rows : List (BTreeSet (Bor (List ℕ)))) (definition : ℕ) (old new : BTreeSet (Bor (List ℕ))) (name : List ℕ) → definition < length rows →
     slice_get rows definition ≡ Some old →
-    SetsName (has_name old) (has_name new) name → NotesName (λ d n. row_has (slice_get rows d) n) (λ d n. row_has (slice_get (set rows definition new) d) n)
+    SetsName (has_name old) (has_name new) name → AddsMemberName (λ d n. row_has (slice_get rows d) n) (λ d n. row_has (slice_get (set rows definition new) d) n)
     definition name
 notes_in_row rows definition old new name lt is s =
     let at : slice_get (set rows definition new) definition ≡ Some new = get_set_same rows definition new lt in

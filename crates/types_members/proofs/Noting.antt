@@ -2,22 +2,22 @@
 use Rattle.std.proofs.Common.{ℕ, ◌≡◌, ◌+◌, ◌<◌, inl, inr, Bool, true, false, not, List, sym, subst, ◌∙◌, arith}
 use Rattle.std.specs.Prelude.{◌↔◌}
 use Rattle.std.proofs.lemmas.Bool.{cases_lt, cases_eq, true≢false, false≢true, not-true, not_from_false, false_from_ne_true}
-use Rattle.types_members.specs.MemberNames.{Naming, NotesName, AreNamesBelow}
+use Rattle.types_members.specs.MemberNames.{NameRelation, AddsMemberName, AreNamesBelow}
 use Rattle.types_declared.proofs.ByteKeys.{cases_bytes}
 
 -- no earlier item has the item's name in its definition
-pub record IsFirstNamed (K : Naming) (item : ℕ) : Type 0 where
+pub record IsFirstNamed (K : NameRelation) (item : ℕ) : Type 0 where
   pub definition : ℕ
   pub name : List ℕ
   pub named : K item definition name
   pub first : (other : ℕ) → other < item → K other definition name → ⊥
 
-pub names_none : (K : Naming) (noted : ℕ → List ℕ → Bool) → ((d : ℕ) (n : List ℕ) → noted d n ≡ false) → AreNamesBelow K 0 noted
+pub names_none : (K : NameRelation) (noted : ℕ → List ℕ → Bool) → ((d : ℕ) (n : List ℕ) → noted d n ≡ false) → AreNamesBelow K 0 noted
 names_none K noted none = record { holds = λ i d n lt k. absurd (omega arith); only = λ d n e. absurd (false≢true (sym (none d n) ∙ e)) }
 
 -- one more item has exactly this name
-pub names_next : (K : Naming) (count d : ℕ) (n : List ℕ) (old new : ℕ → List ℕ → Bool) → K count d n →
-    ((e : ℕ) (m : List ℕ) → K count e m → (e ≡ d) × (m ≡ n)) → NotesName old new d n →
+pub names_next : (K : NameRelation) (count d : ℕ) (n : List ℕ) (old new : ℕ → List ℕ → Bool) → K count d n →
+    ((e : ℕ) (m : List ℕ) → K count e m → (e ≡ d) × (m ≡ n)) → AddsMemberName old new d n →
     AreNamesBelow K count old → AreNamesBelow K (count + 1) new
 names_next K count d n old new is only notes h = record {
   holds = λ i e m lt k. elim (cases_lt i count) [
@@ -42,7 +42,7 @@ names_next K count d n old new is only notes h = record {
 }
 
 -- one more item has no name
-pub names_skip : (K : Naming) (count : ℕ) (noted : ℕ → List ℕ → Bool) → ((e : ℕ) (m : List ℕ) → K count e m → ⊥) → AreNamesBelow K count noted →
+pub names_skip : (K : NameRelation) (count : ℕ) (noted : ℕ → List ℕ → Bool) → ((e : ℕ) (m : List ℕ) → K count e m → ⊥) → AreNamesBelow K count noted →
     AreNamesBelow K (count + 1) noted
 names_skip K count noted none h = record {
   holds = λ i e m lt k. elim (cases_lt i count) [
@@ -53,7 +53,7 @@ names_skip K count noted none h = record {
 }
 
 -- an item whose name is new is the first of its name
-pub first_if_new : (K : Naming) (count d : ℕ) (n : List ℕ) (noted : ℕ → List ℕ → Bool) (added : Bool) → K count d n →
+pub first_if_new : (K : NameRelation) (count d : ℕ) (n : List ℕ) (noted : ℕ → List ℕ → Bool) (added : Bool) → K count d n →
     ((e : ℕ) (m : List ℕ) → K count e m → (e ≡ d) × (m ≡ n)) → added ≡ not (noted d n) →
     AreNamesBelow K count noted → (added ≡ true) ↔ IsFirstNamed K count
 first_if_new K count d n noted added is only e h = (

@@ -16,11 +16,11 @@ use Rattle.types_expr.specs.Types as types
 use Rattle.types_members.specs.declared.underlying.Step.{Step}
 use Rattle.types_members.specs.declared.underlying.Step.TheVariants.{Ends, Continues, Nothing}
 use Rattle.types_declared.specs.Package.{Package, PlacedType, package_types, symbol_in}
-use Rattle.types_declared.specs.Written.{Names}
+use Rattle.types_declared.specs.Written.{DenotesType}
 use Rattle.types_declared.specs.Definitions.{HasUnderlying, struct, named, imported}
-use Rattle.types_declared.specs.Spread.{Leads, IsMarked, IsReached, first, behind, IsOrderOf}
+use Rattle.types_declared.specs.Reachability.{LinksTo, HasMark, IsReachable, first, behind, IsReachOrder}
 use Rattle.types_declared.specs.Broken.{AddsLinks}
-use Rattle.types_members.specs.Steps.{IsStepFrom, IsStepBy, IsStep, AreSteps, AreStepLinks, IsBehind, IsStepOrder, is_end}
+use Rattle.types_members.specs.Steps.{IsStepFrom, IsStepBy, IsStep, AreSteps, AreStepLinks, ComesAfterTarget, IsStepOrder, is_last_step}
 use Rattle.types_declared.proofs.Naming.{one_named}
 use Rattle.types_declared.proofs.DeclaredPaths.{get_before, get_last}
 use Rattle.types_declared.proofs.OneUnderlying.{BodyHas, of_body, none_beyond}
@@ -28,7 +28,7 @@ use Rattle.types_declared.proofs.OneUnderlying.{BodyHas, of_body, none_beyond}
 -- The step from a definition of this package or another
 
 pub from_imported : (p : Package) (s : Symbol) (u : types.Underlying) → (s.package ≡ p.path → ⊥) →
-    u ≡ ((p.interface_of s.package).definition s.rank).underlying → HasUnderlying p (Defined s) u
+    u ≡ ((p.export_data_of s.package).definition s.rank).underlying → HasUnderlying p (Defined s) u
 from_imported p s u other e = subst (HasUnderlying p (Defined s)) (sym e) (imported {path = s.package} {rank = s.rank} other)
 
 pub own_beyond : (p : Package) (rank : ℕ) → length (package_types p) ≤ rank → (u : types.Underlying) → HasUnderlying p (Defined (symbol_in p rank)) u → ⊥
@@ -43,13 +43,13 @@ from_own p s e step h = subst (λ t. IsStepFrom p t step) (sym (own_symbol p s e
 
 -- The step from a definition whose body is a type expression
 
-pub by_nothing : (p : Package) (file : ℕ) (tree : TypeTree) → ((t : PlainType) → Names p file tree t → ⊥) → IsStepBy p file tree Nothing
+pub by_nothing : (p : Package) (file : ℕ) (tree : TypeTree) → ((t : PlainType) → DenotesType p file tree t → ⊥) → IsStepBy p file tree Nothing
 by_nothing p file tree none = λ t u names h. none t names
 
-pub by_type : (p : Package) → WellFormed p.layout → (file : ℕ) (tree : TypeTree) (t : PlainType) → Names p file tree t → (s : Step) → IsStepFrom p t s →
+pub by_type : (p : Package) → WellFormed p.layout → (file : ℕ) (tree : TypeTree) (t : PlainType) → DenotesType p file tree t → (s : Step) → IsStepFrom p t s →
     IsStepBy p file tree s
 by_type p w file tree t names (Ends u) h = (t, (names, h))
-by_type p w file tree t names (Continues to) h = (subst (Names p file tree) h.0 names, h.1)
+by_type p w file tree t names (Continues to) h = (subst (DenotesType p file tree) h.0 names, h.1)
 by_type p w file tree t names Nothing h = λ v u other k. h u (subst (λ x. HasUnderlying p x u) (one_named p w file tree v t other names) k)
 
 pub of_type : (p : Package) (rank : ℕ) (d : PlacedType) (tree : TypeTree) → slice_get (package_types p) rank ≡ Some d → d.spec.body ≡ Other tree →
@@ -84,10 +84,10 @@ each_push P old new n x is size each last r y h =
 
 pub record LinksBelow (steps : List Step) (links : List (Vec ℕ)) (count : ℕ) : Type 0 where
   pub size : length links ≡ suc (length steps)
-  pub holds : (to rank : ℕ) → rank < count → slice_get steps rank ≡ Some (Continues to) → Leads links to rank
-  pub only : (to rank : ℕ) → Leads links to rank → slice_get steps rank ≡ Some (Continues to)
+  pub holds : (to rank : ℕ) → rank < count → slice_get steps rank ≡ Some (Continues to) → LinksTo links to rank
+  pub only : (to rank : ℕ) → LinksTo links to rank → slice_get steps rank ≡ Some (Continues to)
 
-pub no_link : (steps : List Step) (links : List (Vec ℕ)) → length links ≡ suc (length steps) → ((a b : ℕ) → Leads links a b → ⊥) → LinksBelow steps links 0
+pub no_link : (steps : List Step) (links : List (Vec ℕ)) → length links ≡ suc (length steps) → ((a b : ℕ) → LinksTo links a b → ⊥) → LinksBelow steps links 0
 no_link steps links size none = record { size = size; holds = λ to rank lt e. absurd (omega arith); only = λ to rank l. absurd (none to rank l) }
 
 pub next_link : (steps : List Step) (old new : List (Vec ℕ)) (rank : ℕ) (s : Step) → slice_get steps rank ≡ Some s →
@@ -98,7 +98,7 @@ next_link steps old new rank s is more h = record {
   holds = λ to r lt e. elim (cases_lt r rank) [
     | inl below ↦ more.keeps to r (h.holds to r below e)
     | inr ge ↦ (let same : rank ≡ r = omega arith in
-        subst (Leads new to) same (more.holds to (same_Some s (Continues to) (sym is ∙ (ap (slice_get steps) same ∙ e)))))
+        subst (LinksTo new to) same (more.holds to (same_Some s (Continues to) (sym is ∙ (ap (slice_get steps) same ∙ e)))))
   ];
   only = λ to r l. elim (more.only to r l) [ inl k ↦ h.only to r k | inr k ↦ ap (slice_get steps) k.0 ∙ (is ∙ ap Some k.1) ];
 }
@@ -110,22 +110,22 @@ all_links steps links count e h = record {
   only = h.only;
 }
 
-pub links_within : (steps : List Step) (links : List (Vec ℕ)) → AreStepLinks steps links → (a b : ℕ) → Leads links a b → b < length links
+pub links_within : (steps : List Step) (links : List (Vec ℕ)) → AreStepLinks steps links → (a b : ℕ) → LinksTo links a b → b < length links
 links_within steps links h a b l = let lt : b < length steps = slice_get_within steps b (Continues a) (h.only a b l) in omega (arith, h.size)
 
 -- The marks of steps that end
 
 abbrev ends_at : Option Step → Bool
 ends_at None = false
-ends_at (Some s) = is_end s
+ends_at (Some s) = is_last_step s
 
-end_mark : (steps : List Step) (rank : ℕ) → get_or (map is_end steps ++ (false ∷ [])) rank false ≡ ends_at (slice_get steps rank)
+end_mark : (steps : List Step) (rank : ℕ) → get_or (map is_last_step steps ++ (false ∷ [])) rank false ≡ ends_at (slice_get steps rank)
 end_mark [] zero = refl
 end_mark [] (suc rank) = refl
 end_mark (s ∷ steps) zero = refl
 end_mark (s ∷ steps) (suc rank) = end_mark steps rank
 
-end_there : (s : Step) → is_end s ≡ true → (u : Underlying) × (s ≡ Ends u)
+end_there : (s : Step) → is_last_step s ≡ true → (u : Underlying) × (s ≡ Ends u)
 end_there (Ends u) e = (u, refl)
 end_there (Continues to) e = absurd (false≢true e)
 end_there Nothing e = absurd (false≢true e)
@@ -137,8 +137,8 @@ end_found (Some s) e = let found = end_there s e in (found.0, ap Some found.1)
 -- The order of steps
 
 step_at : (steps : List Step) (links : List (Vec ℕ)) (marks : List Bool) (order : List ℕ) → AreStepLinks steps links →
-    marks ≡ map is_end steps ++ (false ∷ []) → IsOrderOf links (IsMarked marks) order →
-    (i : ℕ) → i < length order → (s : Step) × ((slice_get steps (get_or order i 0) ≡ Some s) × IsBehind s order i)
+    marks ≡ map is_last_step steps ++ (false ∷ []) → IsReachOrder links (HasMark marks) order →
+    (i : ℕ) → i < length order → (s : Step) × ((slice_get steps (get_or order i 0) ≡ Some s) × ComesAfterTarget s order i)
 step_at steps links marks order l m o i lt = elim (o.ordered i lt) [
   | inl begins ↦ (let found = end_found (slice_get steps (get_or order i 0))
       (sym (end_mark steps (get_or order i 0)) ∙ (ap (λ ms. get_or ms (get_or order i 0) false) (sym m) ∙ begins)) in
@@ -147,20 +147,20 @@ step_at steps links marks order l m o i lt = elim (o.ordered i lt) [
 ]
 
 pub step_order : (steps : List Step) (links : List (Vec ℕ)) (marks : List Bool) (order : List ℕ) → AreStepLinks steps links →
-    marks ≡ map is_end steps ++ (false ∷ []) → IsOrderOf links (IsMarked marks) order →
+    marks ≡ map is_last_step steps ++ (false ∷ []) → IsReachOrder links (HasMark marks) order →
     IsStepOrder steps order
 step_order steps links marks order l m o = record {
   each = step_at steps links marks order l m o;
   ends = λ rank u e. o.places rank (first (ap (λ ms. get_or ms rank false) m ∙ (end_mark steps rank ∙ ap ends_at e)));
-  continues = λ rank to e at. o.places rank (behind (subst (IsReached links (IsMarked marks)) at.1.1 (o.reached at.0 at.1.0)) (l.holds to rank e));
+  continues = λ rank to e at. o.places rank (behind (subst (IsReachable links (HasMark marks)) at.1.1 (o.reached at.0 at.1.0)) (l.holds to rank e));
 }
 
-pub ends_size : (steps : List Step) (links : List (Vec ℕ)) (marks : List Bool) → AreStepLinks steps links → marks ≡ map is_end steps ++ (false ∷ []) →
+pub ends_size : (steps : List Step) (links : List (Vec ℕ)) (marks : List Bool) → AreStepLinks steps links → marks ≡ map is_last_step steps ++ (false ∷ []) →
     length marks ≡ length links
 ends_size steps links marks l m =
-    let len : length (map is_end steps ++ (false ∷ [])) ≡ length (map is_end steps) + 1 = length_push (map is_end steps) false in
-    let same : length (map is_end steps) ≡ length steps = length-map steps is_end in
-    let e : length marks ≡ length (map is_end steps ++ (false ∷ [])) = ap length m in
+    let len : length (map is_last_step steps ++ (false ∷ [])) ≡ length (map is_last_step steps) + 1 = length_push (map is_last_step steps) false in
+    let same : length (map is_last_step steps) ≡ length steps = length-map steps is_last_step in
+    let e : length marks ≡ length (map is_last_step steps ++ (false ∷ [])) = ap length m in
     omega (arith, l.size)
 
 -- a step continues only to a definition of the package

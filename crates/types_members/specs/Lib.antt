@@ -1,10 +1,10 @@
 -- The definitions of this crate.
 pub mod Cycles
-pub mod Members
+pub mod MemberFaults
 pub mod FieldsView
 pub mod MemberNames
 pub mod MethodsView
 pub mod Recursion
 pub mod MembersView
-pub mod Found
+pub mod TypeMembers
 pub mod Steps

@@ -25,15 +25,15 @@ pub record SetsName (old new : List ℕ → Bool) (name : List ℕ) : Type 0 whe
   pub elsewhere : (n : List ℕ) → (n ≡ name → ⊥) → new n ≡ old n
 
 -- the name is in the definition's new set, and all else is as before
-pub record NotesName (old new : ℕ → List ℕ → Bool) (definition : ℕ) (name : List ℕ) : Type 0 where
+pub record AddsMemberName (old new : ℕ → List ℕ → Bool) (definition : ℕ) (name : List ℕ) : Type 0 where
   pub here : new definition name ≡ true
   pub elsewhere : (d : ℕ) (n : List ℕ) → (d ≡ definition → n ≡ name → ⊥) → new d n ≡ old d n
 
 -- A relation between items by number, definitions and names: the item belongs to the definition and has the name.
-abbrev pub Naming : Type 1
-Naming = (item definition : ℕ) → List ℕ → Type 0
+abbrev pub NameRelation : Type 1
+NameRelation = (item definition : ℕ) → List ℕ → Type 0
 
 -- the sets have exactly the names of the items below count
-pub record AreNamesBelow (K : Naming) (count : ℕ) (noted : ℕ → List ℕ → Bool) : Type 0 where
+pub record AreNamesBelow (K : NameRelation) (count : ℕ) (noted : ℕ → List ℕ → Bool) : Type 0 where
   pub holds : (item d : ℕ) (n : List ℕ) → item < count → K item d n → noted d n ≡ true
   pub only : (d : ℕ) (n : List ℕ) → noted d n ≡ true → (item : ℕ) × ((item < count) × K item d n)

@@ -6,7 +6,7 @@ use Rattle.types_expr.specs.declared.world.Underlying.{Underlying}
 use Rattle.types_expr.specs.WorldView.{underlying_of}
 use Rattle.types_declared.specs.Package.{Package, PlacedFunction, package_types, package_functions, symbol_in}
 use Rattle.types_declared.specs.Definitions.{HasUnderlying, PlacedField, package_fields, IsCountingField, IsMethodOf, IsCountingMethod}
-use Rattle.types_declared.specs.Spread.{IsMarked}
+use Rattle.types_declared.specs.Reachability.{HasMark}
 
 -- found is the underlying type of the definition of this rank, or none where it has none
 abbrev pub IsUnderlyingFound : Package → ℕ → Option types.Underlying → Type 0
@@ -28,7 +28,7 @@ pub record CountsAsField (p : Package) (rank : ℕ) : Type 0 where
 -- the list marks exactly the fields of the package that count, by rank
 pub record AreCountingFields (p : Package) (marks : List Bool) : Type 0 where
   pub all : length marks ≡ length (package_fields p)
-  pub each : (rank : ℕ) → rank < length (package_fields p) → IsMarked marks rank ↔ CountsAsField p rank
+  pub each : (rank : ℕ) → rank < length (package_fields p) → HasMark marks rank ↔ CountsAsField p rank
 
 -- the function of this rank is a method of the definition
 pub record IsMethodOn (p : Package) (rank definition : ℕ) : Type 0 where
@@ -52,4 +52,4 @@ pub record CountsAsMethod (p : Package) (rank : ℕ) : Type 0 where
 -- the list marks exactly the functions of the package that are methods that count, by rank
 pub record AreCountingMethods (p : Package) (marks : List Bool) : Type 0 where
   pub all : length marks ≡ length (package_functions p)
-  pub each : (rank : ℕ) → rank < length (package_functions p) → IsMarked marks rank ↔ CountsAsMethod p rank
+  pub each : (rank : ℕ) → rank < length (package_functions p) → HasMark marks rank ↔ CountsAsMethod p rank

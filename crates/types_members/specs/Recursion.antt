@@ -4,8 +4,8 @@ use Rattle.std.specs.Global.{Vec}
 use Rattle.go_ast.specs.Tree.{TypeTree, Local}
 use Rattle.types_declared.specs.Package.{Package, package_types}
 use Rattle.types_declared.specs.Written.{BindsToken, DeclaresType}
-use Rattle.types_members.specs.Members.{HoldsDirectly, Holds}
-use Rattle.types_declared.specs.Spread.{Leads, IsMarked}
+use Rattle.types_members.specs.MemberFaults.{ContainsDirectly, ContainsType}
+use Rattle.types_declared.specs.Reachability.{LinksTo, HasMark}
 
 -- the items with the property P were added, and no other
 pub record AddsItems (old new : List ℕ) (P : ℕ → Type 0) : Type 0 where
@@ -14,7 +14,7 @@ pub record AddsItems (old new : List ℕ) (P : ℕ → Type 0) : Type 0 where
   pub only : (q : ℕ) → Contains new q → Contains old q ⊎ P q
 
 -- the type expression is an unqualified name that is bound to the definition of this rank
-pub record IsHeldAs (p : Package) (file : ℕ) (tree : TypeTree) (rank : ℕ) : Type 0 where
+pub record IsBareName (p : Package) (file : ℕ) (tree : TypeTree) (rank : ℕ) : Type 0 where
   pub name : ℕ
   pub is_name : tree ≡ Local name
   pub declaration : ℕ
@@ -22,15 +22,15 @@ pub record IsHeldAs (p : Package) (file : ℕ) (tree : TypeTree) (rank : ℕ) : 
   pub names : DeclaresType p declaration rank
 
 -- one of the type expressions is an unqualified name that is bound to the definition of this rank
-abbrev pub IsHeldAsOne : Package → ℕ → List TypeTree → ℕ → Type 0
-IsHeldAsOne p file ts rank = (t : TypeTree) × (Contains ts t × IsHeldAs p file t rank)
+abbrev pub HasBareName : Package → ℕ → List TypeTree → ℕ → Type 0
+HasBareName p file ts rank = (t : TypeTree) × (Contains ts t × IsBareName p file t rank)
 
 -- the links lead exactly from each definition to those that it contains directly
-pub record AreHeld (p : Package) (links : List (Vec ℕ)) : Type 0 where
+pub record AreContained (p : Package) (links : List (Vec ℕ)) : Type 0 where
   pub size : length links ≡ length (package_types p)
-  pub each : (a b : ℕ) → Leads links a b ↔ HoldsDirectly p a b
+  pub each : (a b : ℕ) → LinksTo links a b ↔ ContainsDirectly p a b
 
 -- the list marks exactly the definitions of the package that contain themselves, by rank
 pub record AreRecursive (p : Package) (marks : List Bool) : Type 0 where
   pub all : length marks ≡ length (package_types p)
-  pub each : (rank : ℕ) → rank < length (package_types p) → IsMarked marks rank ↔ Holds p rank rank
+  pub each : (rank : ℕ) → rank < length (package_types p) → HasMark marks rank ↔ ContainsType p rank rank

@@ -1,11 +1,11 @@
 //! Finds the strongly connected components of links by two depth-first searches: against the links, and then along them in the reverse
 //! order in which the first left numbers. That these are the components is not proved: what they say of a number is checked.
 ghost use Rattle.std.specs.Prelude.{IfOk};
-ghost use Rattle.types_declared.specs.Spread.{AreLinked};
-ghost use Rattle.types_members.specs.Cycles.{AreOrigins, IsTurned, Tells};
+ghost use Rattle.types_declared.specs.Reachability.{AreLinksInRange};
+ghost use Rattle.types_members.specs.Cycles.{AreOrigins, IsReversed, AreComponents};
 
 use crate::origins::{numbers, origins};
-use crate::search::{RingSearch, search_from};
+use crate::search::{DepthSearch, search_from};
 use crate::values::falls;
 use std::alloc::{AllocError, Global};
 use types_declared::{no_links, note, row};
@@ -25,8 +25,8 @@ pub(crate) struct Components {
 
 /// Returns the links reversed.
 fn reversed(alloc: Global, links: &[Vec<usize>]) -> Result<Vec<Vec<usize>>, AllocError>
-    requires { AreLinked links.now }
-    ensures { IfOk result (λ back. IsTurned links.now back.items) }
+    requires { AreLinksInRange links.now }
+    ensures { IfOk result (λ back. IsReversed links.now back.items) }
 {
     let mut back = no_links(alloc, links.len())?;
     for from in 0..links.len() {
@@ -42,7 +42,7 @@ fn along(
     alloc: Global,
     links: &[Vec<usize>],
     back: &[Vec<usize>],
-) -> Result<RingSearch, AllocError> {
+) -> Result<DepthSearch, AllocError> {
     let order = numbers(alloc, back.len())?;
     let against = search_from(alloc, back, &order)?;
     search_from(alloc, links, &against.left)
@@ -62,8 +62,8 @@ fn components_of(
     links: &[Vec<usize>],
     back: &[Vec<usize>],
 ) -> Result<Components, AllocError>
-    requires { IsTurned links.now back.now }
-    ensures { IfOk result (λ c. Tells links.now c.turns.items c.falls c.origins.items c.ends.items) }
+    requires { IsReversed links.now back.now }
+    ensures { IfOk result (λ c. AreComponents links.now c.turns.items c.falls c.origins.items c.ends.items) }
 {
     let along = along(alloc, links, back)?;
     let ends = ends(alloc, back, &along.left)?;
@@ -79,8 +79,8 @@ fn components_of(
 
 /// Finds the components of links.
 pub(crate) fn find_components(alloc: Global, links: &[Vec<usize>]) -> Result<Components, AllocError>
-    requires { AreLinked links.now }
-    ensures { IfOk result (λ c. Tells links.now c.turns.items c.falls c.origins.items c.ends.items) }
+    requires { AreLinksInRange links.now }
+    ensures { IfOk result (λ c. AreComponents links.now c.turns.items c.falls c.origins.items c.ends.items) }
 {
     let back = reversed(alloc, links)?;
     components_of(alloc, links, &back)

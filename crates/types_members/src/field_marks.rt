@@ -3,7 +3,7 @@ ghost use Rattle.std.specs.Prelude.{◌≡◌, length, map, not, IfOk, OnOk};
 ghost use Rattle.types_declared.specs.Package.{spelled};
 ghost use Rattle.types_declared.specs.Definitions.{package_fields};
 ghost use Rattle.types_members.specs.FieldsView.{field_of, IsFieldNamed};
-ghost use Rattle.types_members.specs.MemberNames.{is_noted, NotesName, AreNamesBelow};
+ghost use Rattle.types_members.specs.MemberNames.{is_noted, AddsMemberName, AreNamesBelow};
 ghost use Rattle.types_members.specs.MembersView.{AreCountingFields};
 ghost use Rattle.types_declared.specs.PackageView.{package_of};
 
@@ -15,32 +15,32 @@ use types_declared::Package;
 /// Adds the name of a field to those of its definition; returns whether it is new there.
 fn note_field<'a>(
     alloc: Global,
-    unit: Package<'a>,
+    pkg: Package<'a>,
     names: &mut MemberNames<'a>,
     field: &FieldDef<'_>,
 ) -> Result<bool, AllocError>
-    ensures added { IfOk result (λ added. added ≡ not (is_noted names.old field.now.definition (spelled (package_of unit.entry) field.now.file field.now.name))) }
-    ensures noted { OnOk result (NotesName (is_noted names.old) (is_noted names.new) field.now.definition (spelled (package_of unit.entry) field.now.file field.now.name)) }
+    ensures added { IfOk result (λ added. added ≡ not (is_noted names.old field.now.definition (spelled (package_of pkg.entry) field.now.file field.now.name))) }
+    ensures noted { OnOk result (AddsMemberName (is_noted names.old) (is_noted names.new) field.now.definition (spelled (package_of pkg.entry) field.now.file field.now.name)) }
 {
     names.note(
         alloc,
         field.definition,
-        unit.spelling(field.file, field.name),
+        pkg.spelling(field.file, field.name),
     )
 }
 
 /// Collects the names of the fields of each definition.
 pub(crate) fn struct_names<'a>(
     alloc: Global,
-    unit: Package<'a>,
+    pkg: Package<'a>,
     fields: &[FieldDef<'_>],
 ) -> Result<MemberNames<'a>, AllocError>
-    requires { map field_of fields.now ≡ package_fields (package_of unit) }
-    ensures { IfOk result (λ names. AreNamesBelow (IsFieldNamed (package_of unit.entry)) (length (package_fields (package_of unit.entry))) (is_noted names)) }
+    requires { map field_of fields.now ≡ package_fields (package_of pkg) }
+    ensures { IfOk result (λ names. AreNamesBelow (IsFieldNamed (package_of pkg.entry)) (length (package_fields (package_of pkg.entry))) (is_noted names)) }
 {
     let mut names = MemberNames::new(alloc);
     for field in fields {
-        note_field(alloc, unit, &mut names, field)?;
+        note_field(alloc, pkg, &mut names, field)?;
     }
     Ok(names)
 }
@@ -48,16 +48,16 @@ pub(crate) fn struct_names<'a>(
 /// Marks the fields of a package that count, by rank.
 pub fn counting_fields(
     alloc: Global,
-    unit: Package<'_>,
+    pkg: Package<'_>,
     fields: &[FieldDef<'_>],
 ) -> Result<Vec<bool>, AllocError>
-    requires { map field_of fields.now ≡ package_fields (package_of unit) }
-    ensures { IfOk result (λ marks. AreCountingFields (package_of unit.entry) marks.items) }
+    requires { map field_of fields.now ≡ package_fields (package_of pkg) }
+    ensures { IfOk result (λ marks. AreCountingFields (package_of pkg.entry) marks.items) }
 {
     let mut names = MemberNames::new(alloc);
     let mut marks = Vec::new(alloc);
     for field in fields {
-        let counts = note_field(alloc, unit, &mut names, field)?;
+        let counts = note_field(alloc, pkg, &mut names, field)?;
         marks.push(counts)?;
     }
     Ok(marks)

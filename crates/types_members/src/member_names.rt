@@ -1,6 +1,6 @@
 //! Sets of names, one for each type definition.
 ghost use Rattle.std.specs.Prelude.{◌≡◌, ◌<◌, ℕ, List, false, not, length, IfOk, OnOk};
-ghost use Rattle.types_members.specs.MemberNames.{has_name, is_noted, SetsName, NotesName};
+ghost use Rattle.types_members.specs.MemberNames.{has_name, is_noted, SetsName, AddsMemberName};
 
 use std::alloc::{AllocError, Global};
 use std::collections::BTreeSet;
@@ -59,7 +59,7 @@ impl<'a> MemberNames<'a> {
         name: &'a [u8],
     ) -> Result<bool, AllocError>
         ensures added { IfOk result (λ added. added ≡ not (is_noted self.old definition name.now)) }
-        ensures noted { OnOk result (NotesName (is_noted self.old) (is_noted self.new) definition name.now) }
+        ensures noted { OnOk result (AddsMemberName (is_noted self.old) (is_noted self.new) definition name.now) }
     {
         self.reach(alloc, definition)?;
         add_name(&mut self.rows[definition], name)

@@ -5,9 +5,9 @@ ghost use Rattle.types_declared.specs.Package.{package_types};
 ghost use Rattle.types_declared.specs.Definitions.{package_fields, HasFieldNamed};
 ghost use Rattle.types_declared.specs.DeclaredView.{function_of};
 ghost use Rattle.types_members.specs.FieldsView.{field_of, IsFieldNamed};
-ghost use Rattle.types_members.specs.MemberNames.{is_noted, NotesName, AreNamesBelow};
+ghost use Rattle.types_members.specs.MemberNames.{is_noted, AddsMemberName, AreNamesBelow};
 ghost use Rattle.types_members.specs.MembersView.{AreUnderlying, AreOwners, AreCountingMethods};
-ghost use Rattle.types_members.specs.MethodsView.{exported_field, StructHas, UnderlyingHas, NotesMethod};
+ghost use Rattle.types_members.specs.MethodsView.{exported_field, StructHas, UnderlyingHas, AddsMethodName};
 ghost use Rattle.types_declared.specs.PackageView.{package_of, IsIndexOf};
 
 use crate::field_marks::struct_names;
@@ -29,68 +29,68 @@ fn definition_has(definition: &Definition, name: &[u8]) -> bool
 }
 
 /// Whether the struct of another package that `symbol` identifies has an exported field of this name.
-fn imported_has(unit: Package<'_>, symbol: &Symbol, name: &[u8]) -> bool
-    ensures { result ≡ exported_field ((((package_of unit.entry).interface_of symbol.now.package).definition symbol.now.rank).field name.now) }
+fn imported_has(pkg: Package<'_>, symbol: &Symbol, name: &[u8]) -> bool
+    ensures { result ≡ exported_field ((((package_of pkg.entry).export_data_of symbol.now.package).definition symbol.now.rank).field name.now) }
 {
-    match unit.interfaces.definitions().get(symbol) {
+    match pkg.export_table.definitions().get(symbol) {
         None => false,
         Some(definition) => definition_has(definition, name),
     }
 }
 
 /// Whether a symbol is of the package.
-fn is_own(unit: Package<'_>, symbol: &Symbol) -> bool
-    ensures { IsTrue result ↔ (symbol.now.package ≡ unit.entry.path.now) }
+fn is_own(pkg: Package<'_>, symbol: &Symbol) -> bool
+    ensures { IsTrue result ↔ (symbol.now.package ≡ pkg.entry.path.now) }
 {
-    symbol.package.path() == unit.path.path()
+    symbol.package.path() == pkg.path.path()
 }
 
 /// Whether the struct that `symbol` identifies has a field of this name. In another package's struct only exported fields count.
-fn struct_has(unit: Package<'_>, structs: &MemberNames<'_>, symbol: &Symbol, name: &[u8]) -> bool
-    requires { AreNamesBelow (IsFieldNamed (package_of unit)) (length (package_fields (package_of unit))) (is_noted structs.now) }
-    ensures { IsTrue result ↔ StructHas (package_of unit.entry) symbol.now name.now }
+fn struct_has(pkg: Package<'_>, structs: &MemberNames<'_>, symbol: &Symbol, name: &[u8]) -> bool
+    requires { AreNamesBelow (IsFieldNamed (package_of pkg)) (length (package_fields (package_of pkg))) (is_noted structs.now) }
+    ensures { IsTrue result ↔ StructHas (package_of pkg.entry) symbol.now name.now }
 {
-    if is_own(unit, symbol) {
+    if is_own(pkg, symbol) {
         structs.has(symbol.rank, name)
     } else {
-        imported_has(unit, symbol, name)
+        imported_has(pkg, symbol, name)
     }
 }
 
 /// Whether an underlying type is a struct with a field of this name.
 #[tactic(auto, unfolding(types_expr::specs::WorldView::underlying_of))]
 fn underlying_has(
-    unit: Package<'_>,
+    pkg: Package<'_>,
     structs: &MemberNames<'_>,
     underlying: &Underlying,
     name: &[u8],
 ) -> bool
-    requires { AreNamesBelow (IsFieldNamed (package_of unit)) (length (package_fields (package_of unit))) (is_noted structs.now) }
-    ensures { IsTrue result ↔ UnderlyingHas (package_of unit.entry) (underlying_of underlying.now) name.now }
+    requires { AreNamesBelow (IsFieldNamed (package_of pkg)) (length (package_fields (package_of pkg))) (is_noted structs.now) }
+    ensures { IsTrue result ↔ UnderlyingHas (package_of pkg.entry) (underlying_of underlying.now) name.now }
 {
     match underlying {
-        Underlying::Struct(symbol) => struct_has(unit, structs, symbol, name),
+        Underlying::Struct(symbol) => struct_has(pkg, structs, symbol, name),
         Underlying::Plain(_) | Underlying::PointerTo(_) | Underlying::SliceOf(_) => false,
     }
 }
 
 /// Whether the underlying type of a definition is a struct with a field of this name.
 fn has_field(
-    unit: Package<'_>,
+    pkg: Package<'_>,
     structs: &MemberNames<'_>,
     underlying: &[Option<Underlying>],
     definition: usize,
     name: &[u8],
 ) -> bool
-    requires structs { AreNamesBelow (IsFieldNamed (package_of unit)) (length (package_fields (package_of unit))) (is_noted structs.now) }
-    requires underlying { AreUnderlying (package_of unit) underlying.now }
-    requires in_range { definition < length (package_types (package_of unit)) }
-    ensures { IsTrue result ↔ HasFieldNamed (package_of unit.entry) definition name.now }
+    requires structs { AreNamesBelow (IsFieldNamed (package_of pkg)) (length (package_fields (package_of pkg))) (is_noted structs.now) }
+    requires underlying { AreUnderlying (package_of pkg) underlying.now }
+    requires in_range { definition < length (package_types (package_of pkg)) }
+    ensures { IsTrue result ↔ HasFieldNamed (package_of pkg.entry) definition name.now }
 {
-    unit.table.is_well_formed();
+    pkg.table.is_well_formed();
     match &underlying[definition] {
         None => false,
-        Some(own) => underlying_has(unit, structs, own, name),
+        Some(own) => underlying_has(pkg, structs, own, name),
     }
 }
 
@@ -111,21 +111,21 @@ struct OwnedFunction<'a> {
 /// Adds the name of a method to those of its definition; returns whether the method counts.
 fn note_method<'a>(
     alloc: Global,
-    unit: Package<'a>,
+    pkg: Package<'a>,
     names: &mut MemberNames<'a>,
     structs: &MemberNames<'_>,
     underlying: &[Option<Underlying>],
     method: MethodName<'a>,
 ) -> Result<bool, AllocError>
-    requires structs { AreNamesBelow (IsFieldNamed (package_of unit)) (length (package_fields (package_of unit))) (is_noted structs.now) }
-    requires underlying { AreUnderlying (package_of unit) underlying.now }
-    requires in_range { method.definition < length (package_types (package_of unit)) }
-    ensures { IfOk result (λ counts. NotesName (is_noted names.old) (is_noted names.new) method.entry.definition method.entry.name.now ×
-        (IsTrue counts ↔ ((is_noted names.old method.entry.definition method.entry.name.now ≡ false) × (HasFieldNamed (package_of unit.entry) method.entry.definition method.entry.name.now → ⊥)))) }
+    requires structs { AreNamesBelow (IsFieldNamed (package_of pkg)) (length (package_fields (package_of pkg))) (is_noted structs.now) }
+    requires underlying { AreUnderlying (package_of pkg) underlying.now }
+    requires in_range { method.definition < length (package_types (package_of pkg)) }
+    ensures { IfOk result (λ counts. AddsMemberName (is_noted names.old) (is_noted names.new) method.entry.definition method.entry.name.now ×
+        (IsTrue counts ↔ ((is_noted names.old method.entry.definition method.entry.name.now ≡ false) × (HasFieldNamed (package_of pkg.entry) method.entry.definition method.entry.name.now → ⊥)))) }
 {
     let is_new = names.note(alloc, method.definition, method.name)?;
     if is_new {
-        Ok(!has_field(unit, structs, underlying, method.definition, method.name))
+        Ok(!has_field(pkg, structs, underlying, method.definition, method.name))
     } else {
         Ok(false)
     }
@@ -134,24 +134,24 @@ fn note_method<'a>(
 /// Adds the name of a function that is a method; returns whether the function is a method that counts.
 fn note_function<'a>(
     alloc: Global,
-    unit: Package<'a>,
+    pkg: Package<'a>,
     names: &mut MemberNames<'a>,
     structs: &MemberNames<'_>,
     underlying: &[Option<Underlying>],
     owned: OwnedFunction<'_>,
 ) -> Result<bool, AllocError>
-    requires structs { AreNamesBelow (IsFieldNamed (package_of unit)) (length (package_fields (package_of unit))) (is_noted structs.now) }
-    requires underlying { AreUnderlying (package_of unit) underlying.now }
-    requires owner { MatchOption owned.owner (Unit {0}) (λ d. d < length (package_types (package_of unit))) }
-    ensures { IfOk result (NotesMethod (package_of unit.entry) (function_of owned.entry.function) owned.entry.owner (is_noted names.old) (is_noted names.new)) }
+    requires structs { AreNamesBelow (IsFieldNamed (package_of pkg)) (length (package_fields (package_of pkg))) (is_noted structs.now) }
+    requires underlying { AreUnderlying (package_of pkg) underlying.now }
+    requires owner { MatchOption owned.owner (Unit {0}) (λ d. d < length (package_types (package_of pkg))) }
+    ensures { IfOk result (AddsMethodName (package_of pkg.entry) (function_of owned.entry.function) owned.entry.owner (is_noted names.old) (is_noted names.new)) }
 {
     let function = owned.function;
     match owned.owner {
         None => Ok(false),
         Some(definition) => {
-            let name = unit.spelling(function.file, function.func.name);
+            let name = pkg.spelling(function.file, function.func.name);
             let method = MethodName { definition, name };
-            note_method(alloc, unit, names, structs, underlying, method)
+            note_method(alloc, pkg, names, structs, underlying, method)
         }
     }
 }
@@ -159,19 +159,19 @@ fn note_function<'a>(
 /// Marks the functions of a package that are methods that count, by rank, given the names of its fields.
 fn method_marks(
     alloc: Global,
-    unit: Package<'_>,
+    pkg: Package<'_>,
     index: &Index<'_>,
     structs: &MemberNames<'_>,
     owners: &[Option<usize>],
     underlying: &[Option<Underlying>],
 ) -> Result<Vec<bool>, AllocError>
-    requires index { IsIndexOf (package_of unit) index.now }
-    requires structs { AreNamesBelow (IsFieldNamed (package_of unit)) (length (package_fields (package_of unit))) (is_noted structs.now) }
-    requires owners { AreOwners (package_of unit) owners.now }
-    requires underlying { AreUnderlying (package_of unit) underlying.now }
-    ensures { IfOk result (λ marks. AreCountingMethods (package_of unit.entry) marks.items) }
+    requires index { IsIndexOf (package_of pkg) index.now }
+    requires structs { AreNamesBelow (IsFieldNamed (package_of pkg)) (length (package_fields (package_of pkg))) (is_noted structs.now) }
+    requires owners { AreOwners (package_of pkg) owners.now }
+    requires underlying { AreUnderlying (package_of pkg) underlying.now }
+    ensures { IfOk result (λ marks. AreCountingMethods (package_of pkg.entry) marks.items) }
 {
-    unit.table.is_well_formed();
+    pkg.table.is_well_formed();
     let functions = &index.declared.functions;
     let mut names = MemberNames::new(alloc);
     let mut marks = Vec::new(alloc);
@@ -179,7 +179,7 @@ fn method_marks(
         let function = functions[rank];
         let owner = owners[rank];
         let owned = OwnedFunction { function, owner };
-        let counts = note_function(alloc, unit, &mut names, structs, underlying, owned)?;
+        let counts = note_function(alloc, pkg, &mut names, structs, underlying, owned)?;
         marks.push(counts)?;
     }
     Ok(marks)
@@ -188,18 +188,18 @@ fn method_marks(
 /// Marks the functions of a package that are methods that count, by rank.
 pub fn counting_methods(
     alloc: Global,
-    unit: Package<'_>,
+    pkg: Package<'_>,
     index: &Index<'_>,
     fields: &[FieldDef<'_>],
     owners: &[Option<usize>],
     underlying: &[Option<Underlying>],
 ) -> Result<Vec<bool>, AllocError>
-    requires index { IsIndexOf (package_of unit) index.now }
-    requires fields { map field_of fields.now ≡ package_fields (package_of unit) }
-    requires owners { AreOwners (package_of unit) owners.now }
-    requires underlying { AreUnderlying (package_of unit) underlying.now }
-    ensures { IfOk result (λ marks. AreCountingMethods (package_of unit.entry) marks.items) }
+    requires index { IsIndexOf (package_of pkg) index.now }
+    requires fields { map field_of fields.now ≡ package_fields (package_of pkg) }
+    requires owners { AreOwners (package_of pkg) owners.now }
+    requires underlying { AreUnderlying (package_of pkg) underlying.now }
+    ensures { IfOk result (λ marks. AreCountingMethods (package_of pkg.entry) marks.items) }
 {
-    let structs = struct_names(alloc, unit, fields)?;
-    method_marks(alloc, unit, index, &structs, owners, underlying)
+    let structs = struct_names(alloc, pkg, fields)?;
+    method_marks(alloc, pkg, index, &structs, owners, underlying)
 }

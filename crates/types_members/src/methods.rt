@@ -10,30 +10,30 @@ use types_declared::{Function, Index, Package, local_definition};
 
 /// The rank of the definition to which a function's receiver type is bound; none where the function is no method.
 #[tactic(auto, unfolding(go_ast::specs::FileView::func_view, go_ast::specs::FileView::receiver_view))]
-fn owner(unit: Package<'_>, index: &Index<'_>, function: Function<'_>) -> Option<usize>
-    requires { IsIndexOf (package_of unit) index.now }
-    ensures { IsOwnedBy (package_of unit.entry) (function_of function.entry) result }
+fn owner(pkg: Package<'_>, index: &Index<'_>, function: Function<'_>) -> Option<usize>
+    requires { IsIndexOf (package_of pkg) index.now }
+    ensures { IsOwnedBy (package_of pkg.entry) (function_of function.entry) result }
 {
     match &function.func.receiver {
         None => None,
-        Some(receiver) => local_definition(unit, index, function.file, receiver.type_name),
+        Some(receiver) => local_definition(pkg, index, function.file, receiver.type_name),
     }
 }
 
 /// Returns for each function of a package the rank of the definition of which it is a method; none where it is no method.
 pub fn owners(
     alloc: Global,
-    unit: Package<'_>,
+    pkg: Package<'_>,
     index: &Index<'_>,
 ) -> Result<Vec<Option<usize>>, AllocError>
-    requires { IsIndexOf (package_of unit) index.now }
-    ensures { IfOk result (λ owners. AreOwners (package_of unit.entry) owners.items) }
+    requires { IsIndexOf (package_of pkg) index.now }
+    ensures { IfOk result (λ owners. AreOwners (package_of pkg.entry) owners.items) }
 {
     let functions = &index.declared.functions;
     let mut owners = Vec::new(alloc);
     for rank in 0..functions.len() {
         let function = functions[rank];
-        owners.push(owner(unit, index, function))?;
+        owners.push(owner(pkg, index, function))?;
     }
     Ok(owners)
 }

@@ -3,7 +3,7 @@ ghost use Rattle.std.specs.Prelude.{◌≡◌, ◌↔◌, ℕ, map, Contains, If
 ghost use Rattle.go_ast.specs.View.{type_view, list_view};
 ghost use Rattle.go_ast.specs.FileView.{field_view, body_view};
 ghost use Rattle.types_declared.specs.Written.{written_types};
-ghost use Rattle.types_members.specs.Recursion.{AddsItems, IsHeldAs, IsHeldAsOne, AreHeld, AreRecursive};
+ghost use Rattle.types_members.specs.Recursion.{AddsItems, IsBareName, HasBareName, AreContained, AreRecursive};
 ghost use Rattle.types_declared.specs.PackageView.{package_of, IsIndexOf};
 
 use crate::cycles;
@@ -12,13 +12,13 @@ use std::alloc::{AllocError, Global};
 use types_declared::{Index, Package, TypeDef, local_definition};
 
 /// The definition that a type expression is an unqualified name of; none where it is another type expression.
-fn held_as(unit: Package<'_>, index: &Index<'_>, file: usize, written: &TypeExpr) -> Option<usize>
-    requires { IsIndexOf (package_of unit) index.now }
-    ensures { MatchOption result ((r : ℕ) → IsHeldAs (package_of unit.entry) file (type_view written.now) r → ⊥)
-        (λ r. IsHeldAs (package_of unit.entry) file (type_view written.now) r × ((other : ℕ) → IsHeldAs (package_of unit.entry) file (type_view written.now) other → other ≡ r)) }
+fn held_as(pkg: Package<'_>, index: &Index<'_>, file: usize, written: &TypeExpr) -> Option<usize>
+    requires { IsIndexOf (package_of pkg) index.now }
+    ensures { MatchOption result ((r : ℕ) → IsBareName (package_of pkg.entry) file (type_view written.now) r → ⊥)
+        (λ r. IsBareName (package_of pkg.entry) file (type_view written.now) r × ((other : ℕ) → IsBareName (package_of pkg.entry) file (type_view written.now) other → other ≡ r)) }
 {
     match written {
-        TypeExpr::Local(name) => local_definition(unit, index, file, *name),
+        TypeExpr::Local(name) => local_definition(pkg, index, file, *name),
         TypeExpr::Imported { .. } => None,
         TypeExpr::Pointer { .. } => None,
         TypeExpr::Slice { .. } => None,
@@ -28,15 +28,15 @@ fn held_as(unit: Package<'_>, index: &Index<'_>, file: usize, written: &TypeExpr
 /// Adds the definition that a type expression is an unqualified name of, if any.
 fn add_type(
     found: &mut Vec<usize>,
-    unit: Package<'_>,
+    pkg: Package<'_>,
     index: &Index<'_>,
     file: usize,
     written: &TypeExpr,
 ) -> Result<(), AllocError>
-    requires { IsIndexOf (package_of unit) index.now }
-    ensures { OnOk result (AddsItems found.old.items found.new.items (IsHeldAs (package_of unit.entry) file (type_view written.now))) }
+    requires { IsIndexOf (package_of pkg) index.now }
+    ensures { OnOk result (AddsItems found.old.items found.new.items (IsBareName (package_of pkg.entry) file (type_view written.now))) }
 {
-    match held_as(unit, index, file, written) {
+    match held_as(pkg, index, file, written) {
         None => Ok(()),
         Some(rank) => {
             found.push(rank)?;
@@ -48,16 +48,16 @@ fn add_type(
 /// Adds the definitions that the types of fields are unqualified names of.
 fn add_fields(
     found: &mut Vec<usize>,
-    unit: Package<'_>,
+    pkg: Package<'_>,
     index: &Index<'_>,
     file: usize,
     fields: &[Item<FieldDecl>],
 ) -> Result<(), AllocError>
-    requires { IsIndexOf (package_of unit) index.now }
-    ensures { OnOk result (AddsItems found.old.items found.new.items (IsHeldAsOne (package_of unit.entry) file (map (λ f. f.value.type_use) (list_view field_view fields.now)))) }
+    requires { IsIndexOf (package_of pkg) index.now }
+    ensures { OnOk result (AddsItems found.old.items found.new.items (HasBareName (package_of pkg.entry) file (map (λ f. f.value.type_use) (list_view field_view fields.now)))) }
 {
     for field in fields {
-        add_type(found, unit, index, file, &field.value.field_type)?;
+        add_type(found, pkg, index, file, &field.value.field_type)?;
     }
     Ok(())
 }
@@ -65,17 +65,17 @@ fn add_fields(
 /// Adds the definitions that a definition's body contains directly.
 fn add_body(
     found: &mut Vec<usize>,
-    unit: Package<'_>,
+    pkg: Package<'_>,
     index: &Index<'_>,
     file: usize,
     body: &TypeBody,
 ) -> Result<(), AllocError>
-    requires { IsIndexOf (package_of unit) index.now }
-    ensures { OnOk result (AddsItems found.old.items found.new.items (IsHeldAsOne (package_of unit.entry) file (written_types (body_view body.now)))) }
+    requires { IsIndexOf (package_of pkg) index.now }
+    ensures { OnOk result (AddsItems found.old.items found.new.items (HasBareName (package_of pkg.entry) file (written_types (body_view body.now)))) }
 {
     match body {
-        TypeBody::Type(written) => add_type(found, unit, index, file, written),
-        TypeBody::Struct { fields, .. } => add_fields(found, unit, index, file, fields),
+        TypeBody::Type(written) => add_type(found, pkg, index, file, written),
+        TypeBody::Struct { fields, .. } => add_fields(found, pkg, index, file, fields),
     }
 }
 
@@ -83,17 +83,17 @@ fn add_body(
 #[tactic(auto, unfolding(go_ast::specs::FileView::type_spec_view))]
 fn held_by(
     alloc: Global,
-    unit: Package<'_>,
+    pkg: Package<'_>,
     index: &Index<'_>,
     definition: TypeDef<'_>,
 ) -> Result<Vec<usize>, AllocError>
-    requires { IsIndexOf (package_of unit) index.now }
-    ensures { IfOk result (λ found. (r : ℕ) → Contains found.items r ↔ IsHeldAsOne (package_of unit.entry) definition.entry.file (written_types (body_view definition.entry.spec.now.body)) r) }
+    requires { IsIndexOf (package_of pkg) index.now }
+    ensures { IfOk result (λ found. (r : ℕ) → Contains found.items r ↔ HasBareName (package_of pkg.entry) definition.entry.file (written_types (body_view definition.entry.spec.now.body)) r) }
 {
     let mut found = Vec::new(alloc);
     add_body(
         &mut found,
-        unit,
+        pkg,
         index,
         definition.file,
         &definition.spec.body,
@@ -102,15 +102,15 @@ fn held_by(
 }
 
 /// Returns the links from each definition to those that it contains directly.
-fn held(alloc: Global, unit: Package<'_>, index: &Index<'_>) -> Result<Vec<Vec<usize>>, AllocError>
-    requires { IsIndexOf (package_of unit) index.now }
-    ensures { IfOk result (λ links. AreHeld (package_of unit.entry) links.items) }
+fn held(alloc: Global, pkg: Package<'_>, index: &Index<'_>) -> Result<Vec<Vec<usize>>, AllocError>
+    requires { IsIndexOf (package_of pkg) index.now }
+    ensures { IfOk result (λ links. AreContained (package_of pkg.entry) links.items) }
 {
     let types = &index.declared.types;
     let mut links = Vec::new(alloc);
     for rank in 0..types.len() {
         let definition = types[rank];
-        links.push(held_by(alloc, unit, index, definition)?)?;
+        links.push(held_by(alloc, pkg, index, definition)?)?;
     }
     Ok(links)
 }
@@ -118,13 +118,13 @@ fn held(alloc: Global, unit: Package<'_>, index: &Index<'_>) -> Result<Vec<Vec<u
 /// Marks the type definitions of a package that contain themselves, by rank.
 pub fn recursive_definitions(
     alloc: Global,
-    unit: Package<'_>,
+    pkg: Package<'_>,
     index: &Index<'_>,
 ) -> Result<Vec<bool>, AllocError>
-    requires { IsIndexOf (package_of unit) index.now }
-    ensures { IfOk result (λ marks. AreRecursive (package_of unit.entry) marks.items) }
+    requires { IsIndexOf (package_of pkg) index.now }
+    ensures { IfOk result (λ marks. AreRecursive (package_of pkg.entry) marks.items) }
 {
-    let links = held(alloc, unit, index)?;
+    let links = held(alloc, pkg, index)?;
     let marks = cycles(alloc, &links)?;
     Ok(marks)
 }

@@ -11,7 +11,7 @@ pub(crate) struct SearchLink {
 
 /// A depth-first search under way.
 #[derive(Drop)]
-pub(crate) struct RingSearch {
+pub(crate) struct DepthSearch {
     /// For each number the turn in which it was found, counted from 1; 0 for a number not found.
     pub(crate) turns: Vec<usize>,
     /// The links by which numbers were found, in order.
@@ -22,10 +22,10 @@ pub(crate) struct RingSearch {
     path: Vec<SearchLink>,
 }
 
-impl RingSearch {
+impl DepthSearch {
     /// A search over `size` numbers that has found none.
-    fn new(alloc: Global, size: usize) -> Result<RingSearch, AllocError> {
-        Ok(RingSearch {
+    fn new(alloc: Global, size: usize) -> Result<DepthSearch, AllocError> {
+        Ok(DepthSearch {
             turns: vec![in alloc; 0; size]?,
             followed: Vec::new(alloc),
             left: Vec::new(alloc),
@@ -95,8 +95,8 @@ pub(crate) fn search_from(
     alloc: Global,
     links: &[Vec<usize>],
     order: &[usize],
-) -> Result<RingSearch, AllocError> {
-    let mut search = RingSearch::new(alloc, links.len())?;
+) -> Result<DepthSearch, AllocError> {
+    let mut search = DepthSearch::new(alloc, links.len())?;
     for place in 0..order.len() {
         search.begin(links, order[order.len() - 1 - place], place + 1)?;
     }

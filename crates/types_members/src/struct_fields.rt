@@ -77,11 +77,11 @@ fn fields_of<'a>(alloc: Global, types: &[TypeDef<'a>]) -> Result<Vec<FieldDef<'a
 /// Returns the fields of a package's structs, in the order of path and offset. The rank of a field is its index in the list.
 pub fn fields<'a>(
     alloc: Global,
-    unit: Package<'_>,
+    pkg: Package<'_>,
     index: &Index<'a>,
 ) -> Result<Vec<FieldDef<'a>>, AllocError>
-    requires { IsIndexOf (package_of unit) index.now }
-    ensures { IfOk result (λ found. map field_of found.items ≡ package_fields (package_of unit.entry)) }
+    requires { IsIndexOf (package_of pkg) index.now }
+    ensures { IfOk result (λ found. map field_of found.items ≡ package_fields (package_of pkg.entry)) }
 {
     fields_of(alloc, &index.declared.types)
 }

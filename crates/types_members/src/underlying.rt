@@ -7,7 +7,7 @@ ghost use Rattle.go_ast.specs.View.{type_view};
 ghost use Rattle.types_expr.specs.Types.{Defined, Struct};
 ghost use Rattle.types_declared.specs.Package.{package_types, symbol_in};
 ghost use Rattle.types_declared.specs.Broken.{AddsLinks};
-ghost use Rattle.types_members.specs.Steps.{IsStepFrom, IsStepBy, IsStep, AreSteps, AreStepLinks, IsStepOrder, is_end, taken, taken_at};
+ghost use Rattle.types_members.specs.Steps.{IsStepFrom, IsStepBy, IsStep, AreSteps, AreStepLinks, IsStepOrder, is_last_step, reached_type, reached_type_at};
 ghost use Rattle.types_members.specs.declared.underlying.Step.TheVariants.{Continues};
 ghost use Rattle.types_members.specs.MembersView.{AreUnderlying};
 ghost use Rattle.types_declared.specs.PackageView.{package_of, IsIndexOf};
@@ -45,21 +45,21 @@ pub fn copy(alloc: Global, underlying: &Underlying) -> Result<Underlying, AllocE
 #[tactic(auto, unfolding(types_expr::specs::WorldView::underlying_of))]
 fn imported_underlying(
     alloc: Global,
-    unit: Package<'_>,
+    pkg: Package<'_>,
     symbol: &Symbol,
 ) -> Result<Underlying, AllocError>
-    ensures { IfOk result (λ u. underlying_of u ≡ (((package_of unit.entry).interface_of symbol.now.package).definition symbol.now.rank).underlying) }
+    ensures { IfOk result (λ u. underlying_of u ≡ (((package_of pkg.entry).export_data_of symbol.now.package).definition symbol.now.rank).underlying) }
 {
-    match unit.interfaces.definitions().get(symbol) {
+    match pkg.export_table.definitions().get(symbol) {
         None => Ok(Underlying::Struct(symbol.copy()?)),
         Some(definition) => copy(alloc, &definition.underlying),
     }
 }
 
 /// The step to a definition of the package; nothing where it has no such definition.
-fn own_step(unit: Package<'_>, index: &Index<'_>, rank: usize) -> Step
-    requires { IsIndexOf (package_of unit) index.now }
-    ensures { IsStepFrom (package_of unit.entry) (Defined (symbol_in (package_of unit.entry) rank)) result }
+fn own_step(pkg: Package<'_>, index: &Index<'_>, rank: usize) -> Step
+    requires { IsIndexOf (package_of pkg) index.now }
+    ensures { IsStepFrom (package_of pkg.entry) (Defined (symbol_in (package_of pkg.entry) rank)) result }
 {
     if rank < index.declared.types.len() {
         Step::Continues(rank)
@@ -71,17 +71,17 @@ fn own_step(unit: Package<'_>, index: &Index<'_>, rank: usize) -> Step
 /// The step from a defined type, of this package or another.
 fn step_from_defined(
     alloc: Global,
-    unit: Package<'_>,
+    pkg: Package<'_>,
     index: &Index<'_>,
     symbol: &Symbol,
 ) -> Result<Step, AllocError>
-    requires { IsIndexOf (package_of unit) index.now }
-    ensures { IfOk result (IsStepFrom (package_of unit.entry) (Defined symbol.now)) }
+    requires { IsIndexOf (package_of pkg) index.now }
+    ensures { IfOk result (IsStepFrom (package_of pkg.entry) (Defined symbol.now)) }
 {
-    if unit.path.path() == symbol.package.path() {
-        Ok(own_step(unit, index, symbol.rank))
+    if pkg.path.path() == symbol.package.path() {
+        Ok(own_step(pkg, index, symbol.rank))
     } else {
-        Ok(Step::Ends(imported_underlying(alloc, unit, symbol)?))
+        Ok(Step::Ends(imported_underlying(alloc, pkg, symbol)?))
     }
 }
 
@@ -89,45 +89,45 @@ fn step_from_defined(
 #[tactic(auto, unfolding(types_expr::specs::View::type_of, types_expr::specs::WorldView::underlying_of))]
 fn step_from(
     alloc: Global,
-    unit: Package<'_>,
+    pkg: Package<'_>,
     index: &Index<'_>,
     named: &GoType,
 ) -> Result<Step, AllocError>
-    requires { IsIndexOf (package_of unit) index.now }
-    ensures { IfOk result (IsStepFrom (package_of unit.entry) (plain_type named.now)) }
+    requires { IsIndexOf (package_of pkg) index.now }
+    ensures { IfOk result (IsStepFrom (package_of pkg.entry) (plain_type named.now)) }
 {
     match named {
         GoType::Basic(basic) => Ok(Step::Ends(Underlying::Plain(*basic))),
         GoType::Pointer(target) => Ok(Step::Ends(Underlying::PointerTo(target.copy(alloc)?))),
         GoType::Slice(element) => Ok(Step::Ends(Underlying::SliceOf(element.copy(alloc)?))),
-        GoType::Defined(symbol) => step_from_defined(alloc, unit, index, symbol),
+        GoType::Defined(symbol) => step_from_defined(alloc, pkg, index, symbol),
     }
 }
 
 /// The struct that the definition of this rank is identified by.
 #[tactic(auto, unfolding(types_expr::specs::WorldView::underlying_of))]
-pub fn own_struct(unit: Package<'_>, rank: usize) -> Result<Underlying, AllocError>
-    ensures { IfOk result (λ u. underlying_of u ≡ Struct (symbol_in (package_of unit.entry) rank)) }
+pub fn own_struct(pkg: Package<'_>, rank: usize) -> Result<Underlying, AllocError>
+    ensures { IfOk result (λ u. underlying_of u ≡ Struct (symbol_in (package_of pkg.entry) rank)) }
 {
-    let package = unit.path.clone()?;
+    let package = pkg.path.clone()?;
     Ok(Underlying::Struct(Symbol { package, rank }))
 }
 
 /// The step from a definition whose body is a type expression.
 fn step_by(
     alloc: Global,
-    unit: Package<'_>,
+    pkg: Package<'_>,
     index: &Index<'_>,
     file: usize,
     written: &TypeExpr,
 ) -> Result<Step, AllocError>
-    requires { IsIndexOf (package_of unit) index.now }
-    ensures { IfOk result (IsStepBy (package_of unit.entry) file (type_view written.now)) }
+    requires { IsIndexOf (package_of pkg) index.now }
+    ensures { IfOk result (IsStepBy (package_of pkg.entry) file (type_view written.now)) }
 {
-    unit.table.is_well_formed();
-    match named_type(alloc, unit, index, file, written)? {
+    pkg.table.is_well_formed();
+    match named_type(alloc, pkg, index, file, written)? {
         None => Ok(Step::Nothing),
-        Some(named) => step_from(alloc, unit, index, &named),
+        Some(named) => step_from(alloc, pkg, index, &named),
     }
 }
 
@@ -135,30 +135,30 @@ fn step_by(
 #[tactic(auto, unfolding(go_ast::specs::FileView::type_spec_view))]
 fn step_of(
     alloc: Global,
-    unit: Package<'_>,
+    pkg: Package<'_>,
     index: &Index<'_>,
     rank: usize,
     definition: &TypeDef<'_>,
 ) -> Result<Step, AllocError>
-    requires index { IsIndexOf (package_of unit) index.now }
-    requires definition { slice_get (package_types (package_of unit)) rank ≡ Some (type_of definition.now) }
-    ensures { IfOk result (IsStep (package_of unit.entry) rank) }
+    requires index { IsIndexOf (package_of pkg) index.now }
+    requires definition { slice_get (package_types (package_of pkg)) rank ≡ Some (type_of definition.now) }
+    ensures { IfOk result (IsStep (package_of pkg.entry) rank) }
 {
     match &definition.spec.body {
-        TypeBody::Struct { .. } => Ok(Step::Ends(own_struct(unit, rank)?)),
-        TypeBody::Type(written) => step_by(alloc, unit, index, definition.file, written),
+        TypeBody::Struct { .. } => Ok(Step::Ends(own_struct(pkg, rank)?)),
+        TypeBody::Type(written) => step_by(alloc, pkg, index, definition.file, written),
     }
 }
 
 /// Returns the steps from all definitions of a package, by rank.
-fn steps(alloc: Global, unit: Package<'_>, index: &Index<'_>) -> Result<Vec<Step>, AllocError>
-    requires { IsIndexOf (package_of unit) index.now }
-    ensures { IfOk result (λ steps. AreSteps (package_of unit.entry) steps.items) }
+fn steps(alloc: Global, pkg: Package<'_>, index: &Index<'_>) -> Result<Vec<Step>, AllocError>
+    requires { IsIndexOf (package_of pkg) index.now }
+    ensures { IfOk result (λ steps. AreSteps (package_of pkg.entry) steps.items) }
 {
     let types = &index.declared.types;
     let mut steps = Vec::new(alloc);
     for rank in 0..types.len() {
-        steps.push(step_of(alloc, unit, index, rank, &types[rank])?)?;
+        steps.push(step_of(alloc, pkg, index, rank, &types[rank])?)?;
     }
     Ok(steps)
 }
@@ -187,19 +187,19 @@ fn step_links(alloc: Global, steps: &[Step]) -> Result<Vec<Vec<usize>>, AllocErr
 }
 
 /// Whether a step ends at an underlying type.
-fn is_end(step: &Step) -> bool
-    ensures { result ≡ is_end step.now }
+fn is_last_step(step: &Step) -> bool
+    ensures { result ≡ is_last_step step.now }
 {
     matches!(step, Step::Ends(_))
 }
 
 /// Marks the definitions whose step ends at an underlying type, by rank. The list has one more entry, which isn't marked.
 fn ends(alloc: Global, steps: &[Step]) -> Result<Vec<bool>, AllocError>
-    ensures { IfOk result (λ marks. marks.items ≡ map is_end steps.now ++ (false ∷ [])) }
+    ensures { IfOk result (λ marks. marks.items ≡ map is_last_step steps.now ++ (false ∷ [])) }
 {
     let mut marks = Vec::new(alloc);
     for step in steps {
-        marks.push(is_end(step))?;
+        marks.push(is_last_step(step))?;
     }
     marks.push(false)?;
     Ok(marks)
@@ -226,7 +226,7 @@ fn take(
     step: &Step,
     found: &[Option<Underlying>],
 ) -> Result<Option<Underlying>, AllocError>
-    ensures { IfOk result (λ o. option_map underlying_of o ≡ taken step.now found.now) }
+    ensures { IfOk result (λ o. option_map underlying_of o ≡ reached_type step.now found.now) }
 {
     match step {
         Step::Ends(own) => Ok(Some(copy(alloc, own)?)),
@@ -242,7 +242,7 @@ fn take_at(
     rank: usize,
     found: &[Option<Underlying>],
 ) -> Result<Option<Underlying>, AllocError>
-    ensures { IfOk result (λ o. option_map underlying_of o ≡ taken_at (slice_get steps.now rank) found.now) }
+    ensures { IfOk result (λ o. option_map underlying_of o ≡ reached_type_at (slice_get steps.now rank) found.now) }
 {
     match steps.get(rank) {
         None => Ok(None),
@@ -275,15 +275,15 @@ fn step_order(alloc: Global, steps: &[Step]) -> Result<Vec<usize>, AllocError>
 /// Finds the underlying types of definitions in this order.
 fn fill(
     alloc: Global,
-    unit: Package<'_>,
+    pkg: Package<'_>,
     steps: &[Step],
     order: &[usize],
 ) -> Result<Vec<Option<Underlying>>, AllocError>
-    requires steps { AreSteps (package_of unit) steps.now }
+    requires steps { AreSteps (package_of pkg) steps.now }
     requires order { IsStepOrder steps.now order.now }
-    ensures { IfOk result (λ found. AreUnderlying (package_of unit.entry) found.items) }
+    ensures { IfOk result (λ found. AreUnderlying (package_of pkg.entry) found.items) }
 {
-    unit.table.is_well_formed();
+    pkg.table.is_well_formed();
     let mut found = none_found(alloc, steps.len())?;
     for rank in order {
         let own = take_at(alloc, steps, *rank, &found)?;
@@ -295,13 +295,13 @@ fn fill(
 /// Returns the underlying type of each type definition of a package, by rank; none where it has none.
 pub fn underlying_types(
     alloc: Global,
-    unit: Package<'_>,
+    pkg: Package<'_>,
     index: &Index<'_>,
 ) -> Result<Vec<Option<Underlying>>, AllocError>
-    requires { IsIndexOf (package_of unit) index.now }
-    ensures { IfOk result (λ found. AreUnderlying (package_of unit.entry) found.items) }
+    requires { IsIndexOf (package_of pkg) index.now }
+    ensures { IfOk result (λ found. AreUnderlying (package_of pkg.entry) found.items) }
 {
-    let steps = steps(alloc, unit, index)?;
+    let steps = steps(alloc, pkg, index)?;
     let order = step_order(alloc, &steps)?;
-    fill(alloc, unit, &steps, &order)
+    fill(alloc, pkg, &steps, &order)
 }

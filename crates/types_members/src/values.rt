@@ -1,6 +1,6 @@
 //! Comparisons of numbers' values along links.
 ghost use Rattle.std.specs.Prelude.{◌≡◌, ◌↔◌, slice_index_or, IsTrue};
-ghost use Rattle.types_members.specs.Cycles.{AreAtMost, Falls, HasAlike};
+ghost use Rattle.types_members.specs.Cycles.{AreAtMost, NeverRises, HasValueAmong};
 
 use types_declared::row;
 
@@ -28,7 +28,7 @@ fn are_at_most(values: &[usize], numbers: &[usize], most: usize) -> bool
 
 /// Whether no number links to one with a greater value.
 pub(crate) fn falls(links: &[Vec<usize>], values: &[usize]) -> bool
-    ensures { IsTrue result → Falls links.now values.now }
+    ensures { IsTrue result → NeverRises links.now values.now }
 {
     for number in 0..links.len() {
         if !are_at_most(values, row(links, number), value_at(values, number)) {
@@ -39,8 +39,8 @@ pub(crate) fn falls(links: &[Vec<usize>], values: &[usize]) -> bool
 }
 
 /// Whether one of the numbers has this value.
-pub(crate) fn has_alike(values: &[usize], numbers: &[usize], value: usize) -> bool
-    ensures { IsTrue result ↔ HasAlike values.now numbers.now value }
+pub(crate) fn has_value_among(values: &[usize], numbers: &[usize], value: usize) -> bool
+    ensures { IsTrue result ↔ HasValueAmong values.now numbers.now value }
 {
     for number in numbers {
         if value_at(values, *number) == value {

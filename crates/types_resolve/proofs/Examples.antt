@@ -6,7 +6,7 @@ use Rattle.go_ast.specs.Tree.{no_statement, statement, if_tree, no_else}
 use Rattle.base_files.specs.declared.fault_kind.FaultKind.TheVariants as kind
 use Rattle.types_declared.specs.declared.states.ImportState.TheVariants as states
 use Rattle.types_declared.specs.States.{import_fault}
-use Rattle.types_resolve.specs.Marks.{Defines, Stray, statement_marks, statements_marks, block_marks, if_marks, else_marks, simple_marks, for_marks}
+use Rattle.types_resolve.specs.StatementMarks.{Defines, Stray, statement_marks, statements_marks, block_marks, if_marks, else_marks, simple_marks, for_marks}
 
 abbrev lone : StatementTree → BlockTree
 lone s = block 10 (statement s None no_statement) 20

@@ -4,21 +4,21 @@ use Rattle.std.specs.Prelude.{Result, OnOk}
 use Rattle.base_files.specs.declared.fault_kind.FaultKind.{FaultKind}
 use Rattle.go_scanner.specs.StringValues.{HasStringValue}
 use Rattle.types_declared.specs.declared.fault.Fault.{Fault}
-use Rattle.types_declared.specs.Listing.{Adds}
+use Rattle.types_declared.specs.Listing.{AddsFaults}
 use Rattle.types_declared.proofs.Listings.{adds_none, call_adds}
 use Rattle.go_ast.specs.SourceFile.{SourceFile}
 use Rattle.go_scope.specs.Bindings.{IsBoundTo}
 use Rattle.types_declared.proofs.PathParts.{one_path}
-use Rattle.types_resolve.specs.Scoping.{IsUnknown, qualified_fault}
+use Rattle.types_resolve.specs.Scoping.{IsQualifiedFault, qualified_fault}
 use Rattle.types_declared.specs.Laid.{Laid, IsPathOf, is_exported}
-use Rattle.types_resolve.specs.Unknown.{IsFaultOfKind, IsUnknownOf, IsQualifiedBy}
+use Rattle.types_resolve.specs.QualifiedParts.{IsFaultOfKind, IsUnknownOf, IsQualifiedBy}
 
 -- the fault of a name qualified by the package at a path is added
 pub name_added : {E : Type 0} (one : (bytes v w : List ℕ) → HasStringValue bytes v → HasStringValue bytes w → v ≡ w) (files : List SourceFile)
     (exports : (path name : List ℕ) → Bool) (p : Laid) (d u : ℕ)
     (path : List ℕ) (kind : Option FaultKind) (a b : List Fault) (r : Result (Unit {0}) E) → IsPathOf files p d path →
-    kind ≡ qualified_fault (is_exported (p.names u)) (exports path (p.names u)) → OnOk r (Adds a b (IsFaultOfKind p u kind)) →
-    OnOk r (Adds a b (IsUnknownOf files exports p d u))
+    kind ≡ qualified_fault (is_exported (p.names u)) (exports path (p.names u)) → OnOk r (AddsFaults a b (IsFaultOfKind p u kind)) →
+    OnOk r (AddsFaults a b (IsUnknownOf files exports p d u))
 name_added one files exports p d u path kind a b r of_path is k =
     let kind_of : List ℕ → Option FaultKind = λ v. qualified_fault (is_exported (p.names u)) (exports v (p.names u)) in
     call_adds a b (IsFaultOfKind p u kind) (IsUnknownOf files exports p d u) r k
@@ -32,9 +32,9 @@ before_one u a b e h = omega arith
 pub unknown_added : {E : Type 0} (files : List SourceFile) (exports : (path name : List ℕ) → Bool) (p : Laid) (d u : ℕ) (a b : List Fault)
     (r : Result (Unit {0}) E) →
     ((v x y : ℕ) → IsBoundTo p.layout p.names v x → IsBoundTo p.layout p.names v y → x ≡ y) → IsQualifiedBy p u d →
-    OnOk r (Adds a b (IsUnknownOf files exports p d u)) → OnOk r (Adds a b (IsUnknown files exports p u))
+    OnOk r (AddsFaults a b (IsUnknownOf files exports p d u)) → OnOk r (AddsFaults a b (IsQualifiedFault files exports p u))
 unknown_added files exports p d u a b r one q k =
-    call_adds a b (IsUnknownOf files exports p d u) (IsUnknown files exports p u) r k
+    call_adds a b (IsUnknownOf files exports p d u) (IsQualifiedFault files exports p u) r k
     (λ f h. record {
       before = q.0;
       import = d;
@@ -56,5 +56,5 @@ unknown_added files exports p d u a b r one q k =
     })
 
 pub none_unknown : (files : List SourceFile) (exports : (path name : List ℕ) → Bool) (p : Laid) (u : ℕ) (a : List Fault) → ((d : ℕ) → IsQualifiedBy p u d → ⊥) →
-    Adds a a (IsUnknown files exports p u)
-none_unknown files exports p u a none = adds_none a (IsUnknown files exports p u) (λ f h. none h.import (h.before, h.qualified))
+    AddsFaults a a (IsQualifiedFault files exports p u)
+none_unknown files exports p u a none = adds_none a (IsQualifiedFault files exports p u) (λ f h. none h.import (h.before, h.qualified))

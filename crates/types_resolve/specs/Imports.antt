@@ -2,16 +2,16 @@
 use Rattle.std.specs.Prelude.{ℕ, ◌≡◌, List, map, Some}
 use Rattle.std.specs.List.{flat_map}
 use Rattle.types_declared.specs.declared.fault.Fault.{Fault}
-use Rattle.types_declared.specs.Listing.{SomeOf}
+use Rattle.types_declared.specs.Listing.{IsOfSomeItem}
 use Rattle.go_ast.specs.Tree.{ImportTree}
 use Rattle.go_ast.specs.SourceFile.{SourceFile}
 use Rattle.types_declared.specs.declared.states.ImportState.{ImportState}
 use Rattle.types_declared.specs.States.{import_fault}
-use Rattle.types_declared.specs.Files.{Ranked, ranked, imports_in, HasLiteral}
+use Rattle.types_declared.specs.Files.{RankedSource, ranked_files, imports_in, HasLiteral}
 
 -- an import spec, with its file and the file's rank
 abbrev pub PlacedImport : Type 0
-PlacedImport = Ranked × ImportTree
+PlacedImport = RankedSource × ImportTree
 
 -- the fault at a token of an import whose path is in this state
 pub record IsFaultOfState (file token : ℕ) (state : ImportState) (f : Fault) : Type 0 where
@@ -26,9 +26,9 @@ pub record IsFaultOfImport (state : List ℕ → ImportState) (i : PlacedImport)
   pub of_state : IsFaultOfState i.0.0 i.1.path (state path) f
 
 -- the import specs of a file
-abbrev pub placed_imports : Ranked → List PlacedImport
+abbrev pub placed_imports : RankedSource → List PlacedImport
 placed_imports r = map (λ i. (r, i)) (imports_in r.1.tree)
 
 -- a fault of the imports of a package's files
 abbrev pub IsImportFault : (List ℕ → ImportState) → List SourceFile → Fault → Type 0
-IsImportFault state files = SomeOf (IsFaultOfImport state) (flat_map placed_imports (ranked files))
+IsImportFault state files = IsOfSomeItem (IsFaultOfImport state) (flat_map placed_imports (ranked_files files))

@@ -2,6 +2,6 @@
 pub mod Clauses
 pub mod Imports
 pub mod Scoping
-pub mod Unknown
-pub mod Marks
+pub mod QualifiedParts
+pub mod StatementMarks
 pub mod Stages

@@ -7,7 +7,7 @@ use Rattle.types_declared.specs.declared.fault.Fault.{Fault}
 use Rattle.go_ast.specs.SourceFile.{SourceFile}
 use Rattle.go_scope.specs.declared.model.Role.TheVariants.{NotLexical}
 use Rattle.go_scope.specs.declared.model.Purpose.TheVariants as purpose
-use Rattle.types_declared.specs.Listing.{Below}
+use Rattle.types_declared.specs.Listing.{IsFaultBelow}
 use Rattle.go_scope.specs.Bindings.{Layout, IsPackageLevel, IsImport, IsUse, IsBoundTo, Declares, Counts}
 use Rattle.types_declared.specs.Laid.{Laid, init_name, literal_of, is_exported, IsPathOf}
 
@@ -22,13 +22,13 @@ pub record IsUndeclared (p : Laid) (u : ℕ) (f : Fault) : Type 0 where
   pub unbound : (d : ℕ) → IsBoundTo p.layout p.names u d → ⊥
 
 -- u redeclares a name of its block, or is a package-level variable or type named `init`
-abbrev pub IsRepetition : Laid → ℕ → Type 0
-IsRepetition p u = (Declares p.layout p.names u × (Counts p.layout p.names u → ⊥)) ⊎ (IsPackageLevel p.layout u × (p.names u ≡ init_name))
+abbrev pub IsRedeclaration : Laid → ℕ → Type 0
+IsRedeclaration p u = (Declares p.layout p.names u × (Counts p.layout p.names u → ⊥)) ⊎ (IsPackageLevel p.layout u × (p.names u ≡ init_name))
 
 -- the fault of a redeclaration, or of a package-level variable or type named `init`
 pub record IsRepeated (p : Laid) (u : ℕ) (f : Fault) : Type 0 where
   pub at : f ≡ fault_at p.layout u kind.Repeated
-  pub repeats : IsRepetition p u
+  pub repeats : IsRedeclaration p u
 
 -- a use among the identifiers below n is bound to d
 pub record IsUsedBelow (p : Laid) (n d : ℕ) : Type 0 where
@@ -67,7 +67,7 @@ qualified_fault true true = None
 
 -- The fault of a qualified identifier whose name u isn't exported or isn't declared by the package. The argument exports says whether the
 -- package at a path declares an exported name.
-pub record IsUnknown (files : List SourceFile) (exports : (path name : List ℕ) → Bool) (p : Laid) (u : ℕ) (f : Fault) : Type 0 where
+pub record IsQualifiedFault (files : List SourceFile) (exports : (path name : List ℕ) → Bool) (p : Laid) (u : ℕ) (f : Fault) : Type 0 where
   pub before : ℕ
   pub import : ℕ
   pub path : List ℕ
@@ -83,8 +83,8 @@ IsFaultOfIdentifier p u f = IsUndeclared p u f ⊎ (IsRepeated p u f ⊎ IsUnuse
 
 -- f is such a fault of some identifier of the package
 abbrev pub IsScopeFault : Laid → Fault → Type 0
-IsScopeFault p = Below (IsFaultOfIdentifier p) p.size
+IsScopeFault p = IsFaultBelow (IsFaultOfIdentifier p) p.size
 
 -- f is the fault of some qualified identifier of the package
 abbrev pub IsUnknownFault : List SourceFile → ((path name : List ℕ) → Bool) → Laid → Fault → Type 0
-IsUnknownFault files exports p = Below (IsUnknown files exports p) p.size
+IsUnknownFault files exports p = IsFaultBelow (IsQualifiedFault files exports p) p.size

@@ -9,7 +9,7 @@ use Rattle.types_resolve.specs.Clauses.{IsClauseFault}
 use Rattle.types_resolve.specs.Imports.{IsImportFault}
 use Rattle.types_resolve.specs.Scoping.{IsScopeFault, IsUnknownFault}
 use Rattle.types_declared.specs.Laid.{Laid}
-use Rattle.types_resolve.specs.Marks.{IsMarkFault}
+use Rattle.types_resolve.specs.StatementMarks.{IsMarkFault}
 
 -- f is a fault of package clauses, or where there is none, of imports
 abbrev pub IsOuterFault : (List ℕ → ImportState) → List SourceFile → Fault → Type 0

@@ -1,6 +1,6 @@
 //! Finds the faults of package clauses: names that differ from that of the package's first file.
 ghost use Rattle.std.specs.Prelude.{◌≡◌, ◌↔◌, IsTrue, OnOk, map};
-ghost use Rattle.types_declared.specs.Listing.{Adds};
+ghost use Rattle.types_declared.specs.Listing.{AddsFaults};
 ghost use Rattle.go_ast.specs.SourceFile.{source_of};
 ghost use Rattle.types_declared.specs.Files.{clause_name};
 ghost use Rattle.types_resolve.specs.Clauses.{IsFaultOfClause, IsClauseFault};
@@ -24,7 +24,7 @@ fn add_clause(
     rank: usize,
     file: &FileTree,
 ) -> Result<(), AllocError>
-    ensures { OnOk result (Adds found.old.items found.new.items (IsFaultOfClause name.now (rank, source_of file.now))) }
+    ensures { OnOk result (AddsFaults found.old.items found.new.items (IsFaultOfClause name.now (rank, source_of file.now))) }
 {
     if is_named(file, name) {
         return Ok(());
@@ -39,7 +39,7 @@ fn add_clause(
 
 /// Adds the faults of the package clauses of a package's files.
 pub(crate) fn add_clauses(found: &mut Vec<Fault>, files: &[FileTree]) -> Result<(), AllocError>
-    ensures { OnOk result (Adds found.old.items found.new.items (IsClauseFault (map source_of files.now))) }
+    ensures { OnOk result (AddsFaults found.old.items found.new.items (IsClauseFault (map source_of files.now))) }
 {
     let Some(first) = files.first() else {
         return Ok(());

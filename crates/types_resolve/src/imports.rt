@@ -1,6 +1,6 @@
 //! Finds the faults of imports: paths that are missing, on a cycle or of a package with faults.
 ghost use Rattle.std.specs.Prelude.{OnOk, map};
-ghost use Rattle.types_declared.specs.Listing.{Adds, AddsEach};
+ghost use Rattle.types_declared.specs.Listing.{AddsFaults, AddsEach};
 ghost use Rattle.go_ast.specs.FileView.{import_view, imports_view};
 ghost use Rattle.go_ast.specs.SourceFile.{source_of};
 ghost use Rattle.types_declared.specs.Files.{group_items};
@@ -19,7 +19,7 @@ fn add_state(
     token: usize,
     state: ImportState,
 ) -> Result<(), AllocError>
-    ensures { OnOk result (Adds found.old.items found.new.items (IsFaultOfState rank token state)) }
+    ensures { OnOk result (AddsFaults found.old.items found.new.items (IsFaultOfState rank token state)) }
 {
     match state.fault() {
         None => Ok(()),
@@ -43,7 +43,7 @@ fn add_import(
     file: &FileTree,
     spec: &ImportSpec,
 ) -> Result<(), AllocError>
-    ensures { OnOk result (Adds found.old.items found.new.items (IsFaultOfImport (state_in states.now) ((rank, source_of file.now), import_view spec.now))) }
+    ensures { OnOk result (AddsFaults found.old.items found.new.items (IsFaultOfImport (state_in states.now) ((rank, source_of file.now), import_view spec.now))) }
 {
     go_scanner::laws::one_string_value();
     match literal(alloc, file, spec.path)? {
@@ -98,7 +98,7 @@ pub(crate) fn add_imports(
     states: &ImportStates,
     files: &[FileTree],
 ) -> Result<(), AllocError>
-    ensures { OnOk result (Adds found.old.items found.new.items (IsImportFault (state_in states.now) (map source_of files.now))) }
+    ensures { OnOk result (AddsFaults found.old.items found.new.items (IsImportFault (state_in states.now) (map source_of files.now))) }
 {
     for rank in 0..files.len() {
         add_file(alloc, found, states, rank, &files[rank])?;

@@ -3,11 +3,11 @@
 
 mod clauses;
 mod imports;
-mod marks;
+mod qualified;
 mod scoping;
 mod stages;
+mod statements;
 mod table;
-mod unknown;
 mod uses;
 
 pub use stages::{inner_faults, outer_faults};

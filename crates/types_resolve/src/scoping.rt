@@ -1,6 +1,6 @@
 //! Finds the faults of scopes: undeclared names, redeclarations and unused imports.
 ghost use Rattle.std.specs.Prelude.{◌<◌, ◌↔◌, IsTrue, OnOk};
-ghost use Rattle.types_declared.specs.Listing.{Adds};
+ghost use Rattle.types_declared.specs.Listing.{AddsFaults};
 ghost use Rattle.go_scope.specs.Bindings.{IsImport};
 ghost use Rattle.types_resolve.specs.Scoping.{AreUsed, IsUsedBelow, IsUndeclared, IsRepeated, IsUnused, IsFaultOfIdentifier, IsScopeFault};
 ghost use Rattle.types_declared.specs.Laid.{laid_in};
@@ -15,7 +15,7 @@ use types_declared::{Fault, is_import, literal_of, push_if};
 /// Adds the fault of `u`, if it is a use that is bound to no declaration.
 fn add_undeclared(found: &mut Vec<Fault>, table: &ScopeTable, u: usize) -> Result<(), AllocError>
     requires { u < (laid_in table.now).size }
-    ensures { OnOk result (Adds found.old.items found.new.items (IsUndeclared (laid_in table.now) u)) }
+    ensures { OnOk result (AddsFaults found.old.items found.new.items (IsUndeclared (laid_in table.now) u)) }
 {
     let fault = fault_at(table, u, FaultKind::Undeclared);
     push_if(found, is_undeclared(table, u), fault)
@@ -24,7 +24,7 @@ fn add_undeclared(found: &mut Vec<Fault>, table: &ScopeTable, u: usize) -> Resul
 /// Adds the fault of `u`, if it is a redeclaration, or a package-level variable or type named `init`.
 fn add_repeated(found: &mut Vec<Fault>, table: &ScopeTable, u: usize) -> Result<(), AllocError>
     requires { u < (laid_in table.now).size }
-    ensures { OnOk result (Adds found.old.items found.new.items (IsRepeated (laid_in table.now) u)) }
+    ensures { OnOk result (AddsFaults found.old.items found.new.items (IsRepeated (laid_in table.now) u)) }
 {
     let fault = fault_at(table, u, FaultKind::Repeated);
     push_if(found, is_repetition(table, u), fault)
@@ -57,7 +57,7 @@ fn add_unused(
 ) -> Result<(), AllocError>
     requires in_range { d < (laid_in table.now).size }
     requires used { AreUsed (laid_in table.now) (laid_in table.now).size used.now }
-    ensures { OnOk result (Adds found.old.items found.new.items (IsUnused (laid_in table.now) d)) }
+    ensures { OnOk result (AddsFaults found.old.items found.new.items (IsUnused (laid_in table.now) d)) }
 {
     let fault = fault_at(table, literal_of(table, d), FaultKind::Unused);
     push_if(found, is_unused(table, used, d), fault)
@@ -72,7 +72,7 @@ fn add_identifier(
 ) -> Result<(), AllocError>
     requires in_range { u < (laid_in table.now).size }
     requires used { AreUsed (laid_in table.now) (laid_in table.now).size used.now }
-    ensures { OnOk result (Adds found.old.items found.new.items (IsFaultOfIdentifier (laid_in table.now) u)) }
+    ensures { OnOk result (AddsFaults found.old.items found.new.items (IsFaultOfIdentifier (laid_in table.now) u)) }
 {
     add_undeclared(found, table, u)?;
     add_repeated(found, table, u)?;
@@ -85,7 +85,7 @@ pub(crate) fn add_scopes(
     found: &mut Vec<Fault>,
     table: &ScopeTable,
 ) -> Result<(), AllocError>
-    ensures { OnOk result (Adds found.old.items found.new.items (IsScopeFault (laid_in table.now))) }
+    ensures { OnOk result (AddsFaults found.old.items found.new.items (IsScopeFault (laid_in table.now))) }
 {
     let used = uses(alloc, table)?;
     for u in 0..table.len() {

@@ -3,7 +3,7 @@
 ghost use Rattle.std.specs.Prelude.{◌≡◌, ◌↔◌, [], IsTrue, IfOk, map};
 ghost use Rattle.std.specs.List.Sorted.{IsStrictlySortedBy};
 ghost use Rattle.types_declared.specs.contracts.fault.FaultOrd.TheImpl as order;
-ghost use Rattle.types_declared.specs.Listing.{Lists};
+ghost use Rattle.types_declared.specs.Listing.{HoldsExactly};
 ghost use Rattle.go_ast.specs.SourceFile.{source_of};
 ghost use Rattle.types_declared.specs.States.{state_in};
 ghost use Rattle.types_declared.specs.Laid.{laid_in};
@@ -11,9 +11,9 @@ ghost use Rattle.types_resolve.specs.Stages.{IsOuterFault, IsOwnFault, IsInnerFa
 
 use crate::clauses::add_clauses;
 use crate::imports::add_imports;
-use crate::marks::add_marks;
+use crate::qualified::add_unknowns;
 use crate::scoping::add_scopes;
-use crate::unknown::add_unknowns;
+use crate::statements::add_marks;
 use go_ast::FileTree;
 use go_scope::table::ScopeTable;
 use std::alloc::{AllocError, Global};
@@ -32,7 +32,7 @@ fn first_found(
     states: &ImportStates,
     files: &[FileTree],
 ) -> Result<Vec<Fault>, AllocError>
-    ensures { IfOk result (λ found. Lists (IsOuterFault (state_in states.now) (map source_of files.now)) found.items) }
+    ensures { IfOk result (λ found. HoldsExactly (IsOuterFault (state_in states.now) (map source_of files.now)) found.items) }
 {
     let mut found = Vec::new(alloc);
     add_clauses(&mut found, files)?;
@@ -49,7 +49,7 @@ pub fn outer_faults(
     states: &ImportStates,
     files: &[FileTree],
 ) -> Result<Vec<Fault>, AllocError>
-    ensures listed { IfOk result (λ found. Lists (IsOuterFault (state_in states.now) (map source_of files.now)) found.items) }
+    ensures listed { IfOk result (λ found. HoldsExactly (IsOuterFault (state_in states.now) (map source_of files.now)) found.items) }
     ensures order { IfOk result (λ found. IsStrictlySortedBy order.ghosts.cmp found.items) }
 {
     let mut found = first_found(alloc, states, files)?;
@@ -63,7 +63,7 @@ fn own_found(
     table: &ScopeTable,
     files: &[FileTree],
 ) -> Result<Vec<Fault>, AllocError>
-    ensures { IfOk result (λ found. Lists (IsOwnFault (map source_of files.now) (laid_in table.now)) found.items) }
+    ensures { IfOk result (λ found. HoldsExactly (IsOwnFault (map source_of files.now) (laid_in table.now)) found.items) }
 {
     let mut found = Vec::new(alloc);
     add_scopes(alloc, &mut found, table)?;
@@ -78,7 +78,7 @@ fn inner_found<E: Exports>(
     files: &[FileTree],
     exports: &E,
 ) -> Result<Vec<Fault>, AllocError>
-    ensures { IfOk result (λ found. Lists (IsInnerFault (map source_of files.now) (E.exported exports.now) (laid_in table.now)) found.items) }
+    ensures { IfOk result (λ found. HoldsExactly (IsInnerFault (map source_of files.now) (E.exported exports.now) (laid_in table.now)) found.items) }
 {
     let mut found = own_found(alloc, table, files)?;
     add_unknowns(alloc, &mut found, table, files, exports)?;
@@ -93,7 +93,7 @@ pub fn inner_faults<E: Exports>(
     files: &[FileTree],
     exports: &E,
 ) -> Result<Vec<Fault>, AllocError>
-    ensures listed { IfOk result (λ found. Lists (IsInnerFault (map source_of files.now) (E.exported exports.now) (laid_in table.now)) found.items) }
+    ensures listed { IfOk result (λ found. HoldsExactly (IsInnerFault (map source_of files.now) (E.exported exports.now) (laid_in table.now)) found.items) }
     ensures order { IfOk result (λ found. IsStrictlySortedBy order.ghosts.cmp found.items) }
 {
     let mut found = inner_found(alloc, table, files, exports)?;

@@ -1,9 +1,9 @@
 //! Questions about one identifier of a scope table, by its number.
 ghost use Rattle.std.specs.Prelude.{ℕ, ◌≡◌, ◌<◌, ◌↔◌, IsTrue, MatchOption};
 ghost use Rattle.go_scope.specs.Bindings.{IsUse, IsBoundTo, IsPackageLevel, Declares, Counts};
-ghost use Rattle.types_resolve.specs.Scoping.{fault_at, IsRepetition};
+ghost use Rattle.types_resolve.specs.Scoping.{fault_at, IsRedeclaration};
 ghost use Rattle.types_declared.specs.Laid.{laid_in, init_name};
-ghost use Rattle.types_resolve.specs.Marks.{DeclaresAt};
+ghost use Rattle.types_resolve.specs.StatementMarks.{DeclaresAt};
 
 use base_files::FaultKind;
 use go_scope::model::{Block, Position};
@@ -83,7 +83,7 @@ fn is_init(table: &ScopeTable, u: usize) -> bool
 /// Whether `u` redeclares a name of its block, or is a package-level variable or type named `init`.
 pub(crate) fn is_repetition(table: &ScopeTable, u: usize) -> bool
     requires { u < (laid_in table.now).size }
-    ensures { IsTrue result ↔ IsRepetition (laid_in table.now) u }
+    ensures { IsTrue result ↔ IsRedeclaration (laid_in table.now) u }
 {
     is_displaced(table, u) || is_init(table, u)
 }

@@ -6,18 +6,18 @@ use Rattle.go_ast.specs.declared.tree.Expr.{Expr}
 use Rattle.go_ast.specs.declared.tree.Expr.TheVariants as expr
 use Rattle.go_ast.specs.declared.tree.Link.{Link}
 use Rattle.go_ast.specs.declared.tree.Link.TheVariants as link
-use Rattle.types_expr.specs.Places.{first_token, place_of, place_of_links, place_behind}
+use Rattle.types_expr.specs.Places.{first_token, place_of, place_of_links, place_after_link}
 use Rattle.types_expr.specs.World.{World, Locals}
 use Rattle.types_expr.specs.Judge.{Judged, judge, judge_link, judge_value, judge_links, judge_arguments, select, index_rule, call_rule, followed}
 use Rattle.types_expr.specs.Lists.{links_in}
 use Rattle.types_expr.specs.declared.found.FoundInFile.{FoundInFile}
 use Rattle.types_expr.specs.Types.{Meaning}
-use Rattle.types_expr.specs.Found.{Adds}
+use Rattle.types_expr.specs.Found.{AddsJudged}
 use Rattle.types_expr.proofs.Trees.{chain_tree, place_step}
 use Rattle.types_expr.proofs.Equations.{links_step, links_end}
-use Rattle.types_stmt.specs.Simple.{is_end, is_statement, may_stand, ends_in_call, without_last}
-use Rattle.types_expr.proofs.Adding.{adds_then}
-use Rattle.types_stmt.proofs.Growing.{adds_as}
+use Rattle.types_stmt.specs.Simple.{is_end, is_statement, may_be_statement, ends_in_call, without_last}
+use Rattle.types_expr.proofs.AddedJudgements.{adds_then}
+use Rattle.types_stmt.proofs.LoopProgress.{adds_as}
 
 -- links that end in a given link are not empty
 not_end : (xs : List Link) (l : Link) → is_end (links_in (xs ++ (l ∷ []))) ≡ false
@@ -66,13 +66,13 @@ links_append w ls start here j (link.Call' o shape row c ∷ xs) ys =
 
 -- the token at which links report their faults depends on the last link alone
 pub place_behind_last : (start here : ℕ) (xs : List Link) (l : Link) →
-    place_of_links start here (links_in (xs ++ (l ∷ []))) ≡ place_behind start (link_view l no_link)
+    place_of_links start here (links_in (xs ++ (l ∷ []))) ≡ place_after_link start (link_view l no_link)
 unfolding links_in link_view place_of_links
 place_behind_last start here [] (link.Selector d n) = refl
 place_behind_last start here [] (link.Index o e c) = refl
 place_behind_last start here [] (link.Call' o shape row c) = refl
 place_behind_last start here (x ∷ xs) l = place_step start here x (links_in (xs ++ (l ∷ []))) ∙
-    place_behind_last start (place_behind start (link_view x no_link)) xs l
+    place_behind_last start (place_after_link start (link_view x no_link)) xs l
 
 pub no_links : (start here : ℕ) (xs : List Link) → length xs ≡ 0 → here ≡ place_of_links start here (links_in xs)
 unfolding links_in place_of_links
@@ -94,9 +94,9 @@ chain_judged w ls e links = refl
 
 pub chain_adds : (w : World) (ls : Locals) (e : ExprTree) (xs : List Link) (l : Link) {start place behind : ℕ} {old mid new : FoundInFile} {m r : Meaning} →
     start ≡ first_token e → place ≡ place_of e →
-    behind ≡ place_of_links start place (links_in xs) → Adds (judge_links w ls start place (judge w ls e) (links_in xs)) old mid m →
-    Adds (judge_link w ls start behind (link_view l no_link) m) mid new r →
-    Adds (judge w ls (Chain e (links_in (xs ++ (l ∷ []))))) old new r
+    behind ≡ place_of_links start place (links_in xs) → AddsJudged (judge_links w ls start place (judge w ls e) (links_in xs)) old mid m →
+    AddsJudged (judge_link w ls start behind (link_view l no_link) m) mid new r →
+    AddsJudged (judge w ls (Chain e (links_in (xs ++ (l ∷ []))))) old new r
 chain_adds w ls e xs l {start} {place} {behind} is_start is_place is_behind a b =
     adds_as (adds_then (judge_link w ls start behind (link_view l no_link)) a b)
     (ap (λ h. followed (judge_links w ls start place (judge w ls e) (links_in xs)) (judge_link w ls start h (link_view l no_link))) is_behind
@@ -110,7 +110,7 @@ as_if true c = refl
 as_if false c = refl
 
 stands_if : (w : World) (ls : Locals) (e : ExprTree) (links : LinkTrees) →
-    is_statement w ls (Chain e links) ≡ (if ends_in_call links then may_stand (judge w ls (Chain e (without_last links))).meaning else false)
+    is_statement w ls (Chain e links) ≡ (if ends_in_call links then may_be_statement (judge w ls (Chain e (without_last links))).meaning else false)
 unfolding is_statement
 stands_if w ls e links = refl
 
@@ -121,21 +121,21 @@ one_link l = refl
 pub chain_stands : (w : World) (ls : Locals) (e : ExprTree) (xs : List Link) (l : Link) {start place : ℕ} {m : Meaning} → start ≡ first_token e →
     place ≡ place_of e →
     m ≡ (judge_links w ls start place (judge w ls e) (links_in xs)).meaning →
-    (ends_in_call (link_view l no_link) && may_stand m) ≡ is_statement w ls (Chain e (links_in (xs ++ (l ∷ []))))
+    (ends_in_call (link_view l no_link) && may_be_statement m) ≡ is_statement w ls (Chain e (links_in (xs ++ (l ∷ []))))
 chain_stands w ls e xs l {start} {place} {m} is_start is_place is =
     let called : m ≡ (judge w ls (Chain e (links_in xs))).meaning = is ∙ ap (λ j. j.meaning)
     (ap (λ s. judge_links w ls s place (judge w ls e) (links_in xs)) is_start
     ∙ (ap (λ p. judge_links w ls (first_token e) p (judge w ls e) (links_in xs)) is_place ∙ sym (chain_judged w ls e (links_in xs)))) in
-    ap (λ x. ends_in_call (link_view l no_link) && may_stand x) called
-    ∙ (as_if (ends_in_call (link_view l no_link)) (may_stand (judge w ls (Chain e (links_in xs))).meaning)
-    ∙ (ap (λ (b : Bool). if b then may_stand (judge w ls (Chain e (links_in xs))).meaning else false)
+    ap (λ x. ends_in_call (link_view l no_link) && may_be_statement x) called
+    ∙ (as_if (ends_in_call (link_view l no_link)) (may_be_statement (judge w ls (Chain e (links_in xs))).meaning)
+    ∙ (ap (λ (b : Bool). if b then may_be_statement (judge w ls (Chain e (links_in xs))).meaning else false)
     (ap ends_in_call (sym (one_link l)) ∙ sym (ends_as_last xs l))
-    ∙ (ap (λ t. if ends_in_call (links_in (xs ++ (l ∷ []))) then may_stand (judge w ls (Chain e t)).meaning else false) (sym (without_last_links xs l))
+    ∙ (ap (λ t. if ends_in_call (links_in (xs ++ (l ∷ []))) then may_be_statement (judge w ls (Chain e t)).meaning else false) (sym (without_last_links xs l))
     ∙ sym (stands_if w ls e (links_in (xs ++ (l ∷ [])))))))
 
 -- a chain without links
-pub bare_adds : (w : World) (ls : Locals) (e : ExprTree) (xs : List Link) {old new : FoundInFile} {m : Meaning} → xs ≡ [] → Adds (judge w ls e) old new m →
-    Adds (judge w ls (Chain e (links_in xs))) old new m
+pub bare_adds : (w : World) (ls : Locals) (e : ExprTree) (xs : List Link) {old new : FoundInFile} {m : Meaning} → xs ≡ [] → AddsJudged (judge w ls e) old new m →
+    AddsJudged (judge w ls (Chain e (links_in xs))) old new m
 bare_adds w ls e xs is a =
     adds_as a (sym (ap (λ x. judge w ls (Chain e (links_in x))) is ∙
     (chain_judged w ls e (links_in []) ∙ links_end w ls (first_token e) (place_of e) (judge w ls e))))

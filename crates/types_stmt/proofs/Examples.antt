@@ -16,14 +16,14 @@ use Rattle.types_expr.specs.Places.{first_token, place_of, place_of_links}
 use Rattle.types_expr.specs.Judge.{judge, as_value, value_kind, select, select_member, all_whole, misfit, misfits, unless_faults, call_function, convert}
 use Rattle.types_expr.specs.Judge.{call_builtin, call_of, all_printed, judge_type, named_type, imported_type}
 use Rattle.types_stmt.specs.Checked.{Checked}
-use Rattle.types_stmt.specs.Sides.{Wants, rights, values_of, judge_each, given_to, refused, nil_refused, all_refused, assignable, own_type, assigned}
-use Rattle.types_stmt.specs.Sides.{assigned_one, defined, defined_one, no_name, default_type, taken_type, taken, with_locals, defined_name, named, ident_place}
+use Rattle.types_stmt.specs.Sides.{Wants, rhs, values_of, judge_each, given_faults, refused, nil_refused, all_refused, assignable, own_type, assigned}
+use Rattle.types_stmt.specs.Sides.{assigned_one, defined, defined_one, no_name, default_type, inferred_type, inferred, with_locals, defined_name, named, ident_place}
 use Rattle.types_stmt.specs.Sides.{first_of_exprs, first_of_idents}
-use Rattle.types_stmt.specs.Simple.{condition_faults, check_condition, step_faults, update_faults, ends_in_call, without_last, may_stand, is_statement}
-use Rattle.types_stmt.specs.Simple.{stands_faults, check_alone, check_step, check_update, check_assign, check_define, check_simple, check_written}
-use Rattle.types_stmt.specs.Simple.{check_unwritten, check_local}
+use Rattle.types_stmt.specs.Simple.{condition_faults, check_condition, step_faults, update_faults, ends_in_call, without_last, may_be_statement, is_statement}
+use Rattle.types_stmt.specs.Simple.{statement_faults, check_expr_statement, check_step, check_update, check_assign, check_define, check_simple, check_typed_local}
+use Rattle.types_stmt.specs.Simple.{check_untyped_local, check_local}
 use Rattle.types_stmt.specs.Statements.{returned, check_return}
-use Rattle.types_stmt.specs.Headers.{may_receive, receiving, receiver_base, judge_receiver, check_receiver, check_param, is_bad_init}
+use Rattle.types_stmt.specs.Headers.{may_receive, receiver_or_fault, receiver_base, judge_receiver, check_receiver, check_param, is_bad_init}
 use Rattle.types_stmt.specs.Declarations.{first_name, literal_faults, value_faults, global_faults}
 
 abbrev int : PlainType
@@ -96,27 +96,27 @@ t_s = Chain (Name 30) (selector 32 35 no_link)
 
 -- `x := nil`: at nil
 nil_defined : (check_simple w start (Define (item (Name 70) ∷ []) 1 (item (Name 40) ∷ []))).faults ≡ 40 ∷ []
-unfolding check_simple check_define defined defined_one defined_name first_of_exprs with_locals taken taken_type default_type rights values_of given_to
+unfolding check_simple check_define defined defined_one defined_name first_of_exprs with_locals inferred inferred_type default_type rhs values_of given_faults
     all_refused refused nil_refused judge place_of first_token as_value value_kind
 nil_defined = refl
 
 -- `_ = nil`: at nil
 nil_assigned : (check_simple w start (Assign (item (Blank 5) ∷ []) 1 (item (Name 40) ∷ []))).faults ≡ 40 ∷ []
-unfolding check_simple check_assign assigned assigned_one first_of_exprs rights values_of given_to all_refused refused nil_refused judge place_of
+unfolding check_simple check_assign assigned assigned_one first_of_exprs rhs values_of given_faults all_refused refused nil_refused judge place_of
     first_token as_value value_kind
 nil_assigned = refl
 
 -- `x, y := 1, nil`: x is an int, y is broken
 types_taken : found_both (check_simple w start (Define (item (Name 70) ∷ item (Name 72) ∷ []) 1 (item (Number 2) ∷ item (Name 40) ∷ []))) ≡
     (Some int, None, 40 ∷ [])
-unfolding check_simple check_define defined defined_one defined_name first_of_exprs with_locals taken taken_type default_type rights values_of judge_each
-    given_to all_refused refused nil_refused judge place_of first_token as_value value_kind
+unfolding check_simple check_define defined defined_one defined_name first_of_exprs with_locals inferred inferred_type default_type rhs values_of judge_each
+    given_faults all_refused refused nil_refused judge place_of first_token as_value value_kind
 types_taken = refl
 
 -- `x := 1`, `x = "a"`: at the string
 misfit_assigned : (check_simple w (check_simple w start (Define (item (Name 70) ∷ []) 1 (item (Number 2) ∷ [])))
     (Assign (item (Name 71) ∷ []) 3 (item (Text 4) ∷ []))).faults ≡ 4 ∷ []
-unfolding check_simple check_define defined defined_one defined_name first_of_exprs with_locals taken taken_type default_type rights values_of given_to
+unfolding check_simple check_define defined defined_one defined_name first_of_exprs with_locals inferred inferred_type default_type rhs values_of given_faults
     all_refused refused nil_refused judge place_of first_token as_value value_kind assigned assigned_one assignable own_type misfit fits same_underlying
     check_assign
 misfit_assigned = refl
@@ -124,7 +124,7 @@ misfit_assigned = refl
 -- `x := g()`, g without results: at the statement; a use of x is broken and no fault
 nothing_defined : (check_simple w (check_simple w start (Define (item (Name 70) ∷ []) 1 (item g ∷ [])))
     (Assign (item (Name 71) ∷ []) 3 (item (Text 4) ∷ []))).faults ≡ 70 ∷ []
-unfolding check_simple check_define defined defined_one defined_name first_of_exprs with_locals taken rights values_of given_to all_refused refused
+unfolding check_simple check_define defined defined_one defined_name first_of_exprs with_locals inferred rhs values_of given_faults all_refused refused
     nil_refused judge place_of place_of_links first_token as_value value_kind call_of call_function misfits unless_faults all_whole assigned assigned_one
     assignable own_type check_assign
 nothing_defined = refl
@@ -132,32 +132,32 @@ nothing_defined = refl
 -- `x := 1, len(5)`: a wrong count, but of a broken value; the value is looked through
 values_looked_through : (check_simple w start (Define (item (Name 70) ∷ []) 1
     (item (Number 2) ∷ item (Chain (Name 50) (call 4 (argument (Number 5) None no_argument) 6 no_link)) ∷ []))).faults ≡ 50 ∷ []
-unfolding check_simple check_define defined defined_one defined_name first_of_exprs with_locals taken rights judge_each given_to judge place_of
+unfolding check_simple check_define defined defined_one defined_name first_of_exprs with_locals inferred rhs judge_each given_faults judge place_of
     place_of_links first_token as_value value_kind call_of call_builtin all_printed class_of all_whole
 values_looked_through = refl
 
 -- `a, b = two()` with misfits: at the first token of the call
 misfit_results : (check_simple w start (Assign (item (Name 10) ∷ item (Name 11) ∷ []) 1 (item two ∷ []))).faults ≡ 22 ∷ 22 ∷ []
-unfolding check_simple check_assign assigned assigned_one assignable own_type first_of_exprs rights values_of given_to all_refused refused nil_refused
+unfolding check_simple check_assign assigned assigned_one assignable own_type first_of_exprs rhs values_of given_faults all_refused refused nil_refused
     misfit fits same_type same_underlying is_named judge place_of place_of_links first_token as_value call_of call_function misfits unless_faults all_whole
 misfit_results = refl
 
 -- `x, y := two()`
 results_taken : found_both (check_simple w start (Define (item (Name 70) ∷ item (Name 72) ∷ []) 1 (item two ∷ []))) ≡ (Some int, Some text, [])
-unfolding check_simple check_define defined defined_one defined_name first_of_exprs with_locals taken taken_type default_type rights values_of given_to
+unfolding check_simple check_define defined defined_one defined_name first_of_exprs with_locals inferred inferred_type default_type rhs values_of given_faults
     all_refused refused nil_refused judge place_of place_of_links first_token as_value call_of call_function misfits unless_faults all_whole
 results_taken = refl
 
 -- `5 = n`, `f(1) = s`: at the left side
 not_assigned : (check_simple w start (Assign (item (Number 5) ∷ item f ∷ []) 6 (item (Name 11) ∷ item (Name 10) ∷ []))).faults ≡ 5 ∷ 20 ∷ []
-unfolding check_simple check_assign assigned assigned_one assignable own_type first_of_exprs rights judge_each given_to all_refused refused nil_refused
+unfolding check_simple check_assign assigned assigned_one assignable own_type first_of_exprs rhs judge_each given_faults all_refused refused nil_refused
     judge place_of place_of_links first_token as_value value_kind call_of call_function misfits misfit fits same_underlying unless_faults all_whole
 not_assigned = refl
 
 -- `x, t.s := 1, "a"`: no identifier, behind the dot
 no_identifier : (check_simple w start (Define (item (Name 70) ∷ item t_s ∷ []) 1 (item (Number 2) ∷ item (Text 3) ∷ []))).faults ≡ 35 ∷ []
-unfolding check_simple check_define defined defined_one no_name defined_name first_of_exprs with_locals taken taken_type default_type rights judge_each
-    given_to all_refused refused nil_refused judge place_of place_of_links first_token as_value value_kind select select_member
+unfolding check_simple check_define defined defined_one no_name defined_name first_of_exprs with_locals inferred inferred_type default_type rhs judge_each
+    given_faults all_refused refused nil_refused judge place_of place_of_links first_token as_value value_kind select select_member
 no_identifier = refl
 
 -- `var x int = 1, 2`: at x
@@ -167,7 +167,7 @@ local_count : (check_local w start (record {
   values =
       Some (1, item (Number 2) ∷ item (Number 3) ∷ []);
 })).faults ≡ 70 ∷ []
-unfolding check_local check_written check_unwritten first_of_idents ident_place named with_locals rights judge_each given_to all_whole judge judge_type
+unfolding check_local check_typed_local check_untyped_local first_of_idents ident_place named with_locals rhs judge_each given_faults all_whole judge judge_type
     named_type place_of first_token as_value value_kind
 local_count = refl
 
@@ -178,7 +178,7 @@ local_count_of_broken : (check_local w start (record {
   values =
       Some (1, item (Number 2) ∷ item (Number 3) ∷ []);
 })).faults ≡ 11 ∷ []
-unfolding check_local check_written check_unwritten first_of_idents ident_place named with_locals rights judge_each given_to all_whole judge judge_type
+unfolding check_local check_typed_local check_untyped_local first_of_idents ident_place named with_locals rhs judge_each given_faults all_whole judge judge_type
     named_type place_of first_token as_value value_kind
 local_count_of_broken = refl
 
@@ -189,7 +189,7 @@ local_nil : (check_local w start (record {
   values =
       Some (1, item (Name 40) ∷ []);
 })).faults ≡ 40 ∷ []
-unfolding check_local check_written check_unwritten first_of_idents ident_place named with_locals taken taken_type default_type rights values_of given_to
+unfolding check_local check_typed_local check_untyped_local first_of_idents ident_place named with_locals inferred inferred_type default_type rhs values_of given_faults
     all_refused refused nil_refused judge place_of first_token as_value value_kind
 local_nil = refl
 
@@ -228,29 +228,29 @@ update_of_number = refl
 
 -- `t.f`: behind the dot
 value_stands : (check_simple w start (Alone t_f)).faults ≡ 33 ∷ []
-unfolding check_simple check_alone is_statement ends_in_call stands_faults judge place_of place_of_links first_token as_value select select_member
+unfolding check_simple check_expr_statement is_statement ends_in_call statement_faults judge place_of place_of_links first_token as_value select select_member
 value_stands = refl
 
 -- `g()`, `f(1)`, `println(n)`
 calls_stand : (check_simple w (check_simple w (check_simple w start (Alone g)) (Alone f))
     (Alone (Chain (Name 51) (call 2 (argument (Name 11) None no_argument) 3 no_link)))).faults ≡ []
-unfolding check_simple check_alone is_statement ends_in_call without_last may_stand stands_faults judge place_of place_of_links first_token as_value
+unfolding check_simple check_expr_statement is_statement ends_in_call without_last may_be_statement statement_faults judge place_of place_of_links first_token as_value
     value_kind call_of call_function call_builtin all_printed class_of misfits misfit fits same_underlying unless_faults all_whole
 calls_stand = refl
 
 -- `(g())`: at the parenthesis; `len(s)`, `int(n)`: at the first token
 call_in_parentheses : (check_simple w start (Alone (Paren 1 f 4))).faults ≡ 1 ∷ []
-unfolding check_simple check_alone is_statement stands_faults judge place_of place_of_links first_token as_value value_kind call_of call_function misfits
+unfolding check_simple check_expr_statement is_statement statement_faults judge place_of place_of_links first_token as_value value_kind call_of call_function misfits
     misfit fits same_underlying unless_faults all_whole
 call_in_parentheses = refl
 
 length_stands : (check_simple w start (Alone (Chain (Name 50) (call 2 (argument (Name 10) None no_argument) 3 no_link)))).faults ≡ 50 ∷ []
-unfolding check_simple check_alone is_statement ends_in_call without_last may_stand stands_faults judge place_of place_of_links first_token as_value
+unfolding check_simple check_expr_statement is_statement ends_in_call without_last may_be_statement statement_faults judge place_of place_of_links first_token as_value
     value_kind call_of call_builtin all_printed class_of all_whole
 length_stands = refl
 
 conversion_stands : (check_simple w start (Alone (Chain (Name 61) (call 2 (argument (Name 11) None no_argument) 3 no_link)))).faults ≡ 61 ∷ []
-unfolding check_simple check_alone is_statement ends_in_call without_last may_stand stands_faults judge place_of place_of_links first_token as_value
+unfolding check_simple check_expr_statement is_statement ends_in_call without_last may_be_statement statement_faults judge place_of place_of_links first_token as_value
     value_kind call_of convert fits same_type all_whole
 conversion_stands = refl
 
@@ -258,24 +258,24 @@ conversion_stands = refl
 
 -- `return (s)` of an int: at the parenthesis
 misfit_in_parentheses : (check_return w start 80 (Wants (Some int) ∷ []) (item (Paren 81 (Name 10) 82) ∷ [])).faults ≡ 81 ∷ []
-unfolding check_return returned rights values_of all_refused refused nil_refused misfit fits same_type same_underlying is_named judge place_of first_token
+unfolding check_return returned rhs values_of all_refused refused nil_refused misfit fits same_type same_underlying is_named judge place_of first_token
     as_value value_kind
 misfit_in_parentheses = refl
 
 -- `return "a", 1` of one result, also where it is broken: at the `return`
 return_count : (check_return w start 80 (Wants None ∷ []) (item (Text 81) ∷ item (Number 82) ∷ [])).faults ≡ 80 ∷ []
-unfolding check_return returned rights judge_each judge place_of first_token as_value value_kind all_whole
+unfolding check_return returned rhs judge_each judge place_of first_token as_value value_kind all_whole
 return_count = refl
 
 -- `return g()` where neither has results
 nothing_returned : (check_return w start 80 [] (item g ∷ [])).faults ≡ []
-unfolding check_return returned rights values_of all_refused refused nil_refused judge place_of place_of_links first_token as_value call_of call_function
+unfolding check_return returned rhs values_of all_refused refused nil_refused judge place_of place_of_links first_token as_value call_of call_function
     misfits unless_faults all_whole
 nothing_returned = refl
 
 -- `return two()` with a misfit: at the first token of the call
 misfit_returned : (check_return w start 80 (Wants (Some int) ∷ Wants (Some int) ∷ []) (item two ∷ [])).faults ≡ 22 ∷ []
-unfolding check_return returned rights values_of all_refused refused nil_refused misfit fits same_type same_underlying is_named judge place_of
+unfolding check_return returned rhs values_of all_refused refused nil_refused misfit fits same_type same_underlying is_named judge place_of
     place_of_links first_token as_value call_of call_function misfits unless_faults all_whole
 misfit_returned = refl
 
@@ -286,29 +286,29 @@ receiver n star = record { lparen = 1; name = Named 70; star = star; type_name =
 
 -- `(x T)`, `(x *T)`
 struct_receives : found (check_receiver w start (receiver 60 None)) ≡ (Some (Defined structure), [])
-unfolding check_receiver judge_receiver receiver_base receiving may_receive named_type with_locals named
+unfolding check_receiver judge_receiver receiver_base receiver_or_fault may_receive named_type with_locals named
 struct_receives = refl
 
 pointer_receives : found (check_receiver w start (receiver 60 (Some 2))) ≡ (Some (Pointer (Defined structure)), [])
-unfolding check_receiver judge_receiver receiver_base receiving may_receive named_type with_locals named
+unfolding check_receiver judge_receiver receiver_base receiver_or_fault may_receive named_type with_locals named
 pointer_receives = refl
 
 -- `(x int)`, a type whose underlying type is a pointer, a variable: at the name
 int_receives : found (check_receiver w start (receiver 61 None)) ≡ (None, 61 ∷ [])
-unfolding check_receiver judge_receiver receiver_base receiving may_receive named_type with_locals named
+unfolding check_receiver judge_receiver receiver_base receiver_or_fault may_receive named_type with_locals named
 int_receives = refl
 
 pointer_type_receives : found (check_receiver w start (receiver 62 (Some 2))) ≡ (None, 62 ∷ [])
-unfolding check_receiver judge_receiver receiver_base receiving may_receive named_type with_locals named
+unfolding check_receiver judge_receiver receiver_base receiver_or_fault may_receive named_type with_locals named
 pointer_type_receives = refl
 
 variable_receives : found (check_receiver w start (receiver 11 None)) ≡ (None, 11 ∷ [])
-unfolding check_receiver judge_receiver receiver_base receiving may_receive named_type with_locals named
+unfolding check_receiver judge_receiver receiver_base receiver_or_fault may_receive named_type with_locals named
 variable_receives = refl
 
 -- a broken type is no fault again
 broken_type_receives : found (check_receiver w start (receiver 63 None)) ≡ (None, [])
-unfolding check_receiver judge_receiver receiver_base receiving may_receive named_type with_locals named
+unfolding check_receiver judge_receiver receiver_base receiver_or_fault may_receive named_type with_locals named
 broken_type_receives = refl
 
 -- `func F(x F)`: a name that is no type, in the place of one

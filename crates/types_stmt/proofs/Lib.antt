@@ -3,7 +3,7 @@ pub mod Blocks
 pub mod Cases
 pub mod Chains
 pub mod Examples
-pub mod Growing
+pub mod LoopProgress
 pub mod Lists
-pub mod Making
-pub mod Sums
+pub mod CheckedSums
+pub mod ListEquations

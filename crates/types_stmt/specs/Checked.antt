@@ -11,16 +11,16 @@ pub record Checked : Type 0 where
   pub uses : List MemberUse
 
 -- s, after a part that changes the locals to `locals` and has these faults and member uses
-abbrev pub reaching : Checked → Locals → List ℕ → List MemberUse → Checked
-reaching s locals faults uses = record { locals = locals; faults = s.faults ++ faults; uses = s.uses ++ uses }
+abbrev pub with_declared : Checked → Locals → List ℕ → List MemberUse → Checked
+with_declared s locals faults uses = record { locals = locals; faults = s.faults ++ faults; uses = s.uses ++ uses }
 
 -- s, after a part that declares no local and has these faults and member uses
-abbrev pub noting : Checked → List ℕ → List MemberUse → Checked
-noting s faults uses = reaching s s.locals faults uses
+abbrev pub with_found : Checked → List ℕ → List MemberUse → Checked
+with_found s faults uses = with_declared s s.locals faults uses
 
 -- s, after an expression judged as j, with more faults behind its own
-abbrev pub finding : Checked → Judged → List ℕ → Checked
-finding s j faults = noting s (j.faults ++ faults) j.uses
+abbrev pub with_judged : Checked → Judged → List ℕ → Checked
+with_judged s j faults = with_found s (j.faults ++ faults) j.uses
 
 -- a fault at `place`, if `test` is true
 abbrev pub fault_if : Bool → ℕ → List ℕ

@@ -5,8 +5,8 @@ use Rattle.go_ast.specs.Tree.{FuncDecl, FileTree}
 use Rattle.types_expr.specs.declared.types.Basic.TheVariants as basic
 use Rattle.types_expr.specs.Types.{PlainType, Untyped}
 use Rattle.types_expr.specs.World.{World, no_locals}
-use Rattle.types_expr.specs.Judge.{Argued, judge_type}
-use Rattle.types_stmt.specs.Checked.{Checked, noting, check_group}
+use Rattle.types_expr.specs.Judge.{ListValue, judge_type}
+use Rattle.types_stmt.specs.Checked.{Checked, with_found, check_group}
 use Rattle.types_stmt.specs.Sides.{Wants, all_refused}
 use Rattle.types_stmt.specs.Headers.{check_function}
 
@@ -14,7 +14,7 @@ use Rattle.types_stmt.specs.Headers.{check_function}
 -- broken: a broken type does not excuse it.
 
 -- the value of a literal
-abbrev pub literal_value : BasicTree → Argued
+abbrev pub literal_value : BasicTree → ListValue
 literal_value (Integer n) = record { place = n; kind = Some (Untyped basic.Int) }
 literal_value (String n) = record { place = n; kind = Some (Untyped basic.String) }
 
@@ -52,10 +52,10 @@ body_faults w (Struct p o fs c) = field_faults w fs
 -- Declarations and files
 
 abbrev pub check_global : World → Checked → GlobalTree → Checked
-check_global w s g = noting s (global_faults w g) []
+check_global w s g = with_found s (global_faults w g) []
 
 abbrev pub check_type : World → Checked → TypeSpecTree → Checked
-check_type w s t = noting s (body_faults w t.body) []
+check_type w s t = with_found s (body_faults w t.body) []
 
 -- the check of a declaration; is_init: whether the name at a token is `init`
 unfoldable pub check_decl : World → (is_init : ℕ → Bool) → Checked → DeclTree → Checked

@@ -4,7 +4,7 @@ use Rattle.go_ast.specs.Tree.{Item, TypeTree, ReceiverTree, ParamTree, ResultTre
 use Rattle.types_expr.specs.Types.{PlainType, Defined, Pointer, points}
 use Rattle.types_expr.specs.World.{World}
 use Rattle.types_expr.specs.Judge.{TypeJudged, good_type, no_type_at, named_type, judge_type, under}
-use Rattle.types_stmt.specs.Checked.{Checked, reaching, noting, fault_if, check_items}
+use Rattle.types_stmt.specs.Checked.{Checked, with_declared, with_found, fault_if, check_items}
 use Rattle.types_stmt.specs.Sides.{Target, Wants, with_locals, named}
 use Rattle.types_stmt.specs.Simple.{written_locals}
 use Rattle.types_stmt.specs.Statements.{check_block}
@@ -18,13 +18,13 @@ may_receive w (Defined s) = if points (w.definition s) then false else true
 may_receive w t = false
 
 -- a type in a receiver at token `place`, none where it is broken: a fault where methods may not have it
-unfoldable pub receiving : World → ℕ → Option PlainType → TypeJudged
-receiving w place None = record { type_of = None; faults = [] }
-receiving w place (Some t) = if may_receive w t then good_type t else no_type_at place
+unfoldable pub receiver_or_fault : World → ℕ → Option PlainType → TypeJudged
+receiver_or_fault w place None = record { type_of = None; faults = [] }
+receiver_or_fault w place (Some t) = if may_receive w t then good_type t else no_type_at place
 
 -- the type j that a receiver names, with its own faults, and then the fault that no method may have it
 abbrev pub received : World → ℕ → TypeJudged → TypeJudged
-received w place j = record { type_of = (receiving w place j.type_of).type_of; faults = j.faults ++ (receiving w place j.type_of).faults }
+received w place j = record { type_of = (receiver_or_fault w place j.type_of).type_of; faults = j.faults ++ (receiver_or_fault w place j.type_of).faults }
 
 -- the type T of a receiver T or `*T`, by the token of its name
 unfoldable pub receiver_base : World → ℕ → TypeJudged
@@ -42,7 +42,7 @@ judge_receiver w r = starred r.star (receiver_base w r.type_name)
 -- the check of a receiver: it declares its name
 unfoldable pub check_receiver : World → Checked → ReceiverTree → Checked
 check_receiver w s r =
-    reaching s (with_locals s.locals (named r.name ∷ []) ((judge_receiver w r).type_of ∷ [])) (judge_receiver w r).faults []
+    with_declared s (with_locals s.locals (named r.name ∷ []) ((judge_receiver w r).type_of ∷ [])) (judge_receiver w r).faults []
 
 -- the check of the receiver, if there is one
 abbrev pub check_optional_receiver : World → Checked → Option ReceiverTree → Checked
@@ -53,7 +53,7 @@ check_optional_receiver w s (Some r) = check_receiver w s r
 
 -- the check of parameters of one type: they declare their names
 unfoldable pub check_param : World → Checked → ParamTree → Checked
-check_param w s p = reaching s (written_locals s.locals p.names (judge_type w p.type_use).type_of) (judge_type w p.type_use).faults []
+check_param w s p = with_declared s (written_locals s.locals p.names (judge_type w p.type_use).type_of) (judge_type w p.type_use).faults []
 
 -- Results
 
@@ -63,18 +63,18 @@ pub record ResultsJudged : Type 0 where
   pub faults : List ℕ
 
 -- a result before the others
-abbrev pub result_then : TypeJudged → ResultsJudged → ResultsJudged
-result_then t rest = record { wanted = Wants t.type_of ∷ rest.wanted; faults = t.faults ++ rest.faults }
+abbrev pub with_result : TypeJudged → ResultsJudged → ResultsJudged
+with_result t rest = record { wanted = Wants t.type_of ∷ rest.wanted; faults = t.faults ++ rest.faults }
 
 -- the judgement of a list of result types
 unfoldable pub judge_types : World → List (Item TypeTree) → ResultsJudged
 judge_types w [] = record { wanted = []; faults = [] }
-judge_types w (i ∷ is) = result_then (judge_type w i.value) (judge_types w is)
+judge_types w (i ∷ is) = with_result (judge_type w i.value) (judge_types w is)
 
 -- the judgement of a function's results
 unfoldable pub judge_results : World → ResultTree → ResultsJudged
 judge_results w no_result = record { wanted = []; faults = [] }
-judge_results w (one_result t) = result_then (judge_type w t) (record { wanted = []; faults = [] })
+judge_results w (one_result t) = with_result (judge_type w t) (record { wanted = []; faults = [] })
 judge_results w (results o ts c) = judge_types w ts
 
 -- Functions
@@ -92,7 +92,7 @@ is_bad_init is_init f wanted = is_init && (is_none f.receiver && (if is_empty_li
 -- the check of a function's header: what it declares, and its faults
 unfoldable pub check_signature : World → Bool → Checked → FuncTree → Checked
 check_signature w is_init s f =
-    noting (check_items (check_param w) (check_optional_receiver w s f.receiver) f.params)
+    with_found (check_items (check_param w) (check_optional_receiver w s f.receiver) f.params)
     ((judge_results w f.result).faults ++ fault_if (is_bad_init is_init f (judge_results w f.result).wanted) f.name) []
 
 -- the check of a function: its header, then its body

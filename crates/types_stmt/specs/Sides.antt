@@ -6,18 +6,18 @@ use Rattle.go_ast.specs.Tree.{Item, IdentTree, Named, Underscore, ExprTree, Name
 use Rattle.types_expr.specs.Types.{PlainType, BasicType, Kind, Typed, Untyped, Nil, Meaning, Value, Results, Broken}
 use Rattle.types_expr.specs.World.{World, Bound, Local, Locals, declared}
 use Rattle.types_expr.specs.Places.{place_of, first_token}
-use Rattle.types_expr.specs.Judge.{Judged, MemberUse, Argued, JudgedList, judge, judge_value, as_value, value_kind, value_before, misfit, means, wrong}
+use Rattle.types_expr.specs.Judge.{Judged, MemberUse, ListValue, JudgedList, judge, judge_value, as_value, value_kind, value_before, misfit, means, wrong}
 use Rattle.types_expr.specs.Judge.{followed, all_whole}
 use Rattle.types_stmt.specs.Checked.{fault_if}
 
 -- Right sides: a single call with several results, or with none, gives these as its values, each at the place of the call
 
 -- a result of type t of a call that reports its faults at `place`
-abbrev pub result_at : ℕ → PlainType → Argued
+abbrev pub result_at : ℕ → PlainType → ListValue
 result_at place t = record { place = place; kind = Some (Typed t) }
 
 -- the results of a call that reports its faults at `place`
-abbrev pub results_at : ℕ → List PlainType → List Argued
+abbrev pub results_at : ℕ → List PlainType → List ListValue
 results_at place ts = map (result_at place) ts
 
 -- the single value of an expression that reports its faults at `place`
@@ -39,9 +39,9 @@ judge_each w ls [] = record { values = []; faults = []; uses = [] }
 judge_each w ls (i ∷ is) = value_before (place_of i.value) (judge_value w ls i.value) (judge_each w ls is)
 
 -- the judgement of right sides: a single call may give several values
-unfoldable pub rights : World → Locals → List (Item ExprTree) → JudgedList
-rights w ls (i ∷ []) = list_followed (judge w ls i.value) (values_of (place_of i.value))
-rights w ls is = judge_each w ls is
+unfoldable pub rhs : World → Locals → List (Item ExprTree) → JudgedList
+rhs w ls (i ∷ []) = list_followed (judge w ls i.value) (values_of (place_of i.value))
+rhs w ls is = judge_each w ls is
 
 -- A target of a value: a left side, or a result. A new name or `_` takes a value of any type. Any other target wants one that fits its own
 -- type, which is none where it is broken.
@@ -50,14 +50,14 @@ pub data Target : Type 0 where
   Wants : Option PlainType → Target
 
 -- whether a target is not broken
-abbrev pub is_sound : Target → Bool
-is_sound Takes = true
-is_sound (Wants None) = false
-is_sound (Wants (Some t)) = true
+abbrev pub is_unbroken : Target → Bool
+is_unbroken Takes = true
+is_unbroken (Wants None) = false
+is_unbroken (Wants (Some t)) = true
 
 -- whether no target is broken
-abbrev pub all_sound : List Target → Bool
-all_sound ts = list_all is_sound ts
+abbrev pub all_unbroken : List Target → Bool
+all_unbroken ts = list_all is_unbroken ts
 
 -- a fault where nil is given to a new name or `_`: nil has no type that they could take (`x := nil`)
 unfoldable pub nil_refused : ℕ → Option Kind → List ℕ
@@ -71,15 +71,15 @@ refused w place k (Wants (Some t)) = misfit w place k t
 refused w place k Takes = nil_refused place k
 
 -- the faults of the values that the targets at their positions refuse
-unfoldable pub all_refused : World → List Argued → List Target → List ℕ
+unfoldable pub all_refused : World → List ListValue → List Target → List ℕ
 all_refused w [] ts = []
 all_refused w (v ∷ vs) [] = []
 all_refused w (v ∷ vs) (t ∷ ts) = refused w v.place v.kind t ++ all_refused w vs ts
 
 -- The faults of values given to targets. A wrong count is a fault at `place`, where no part is broken. Under a wrong count no value is
 -- compared with a target.
-unfoldable pub given_to : World → ℕ → List Argued → List Target → List ℕ
-given_to w place vs ts = if length vs == length ts then all_refused w vs ts else fault_if (all_whole vs && all_sound ts) place
+unfoldable pub given_faults : World → ℕ → List ListValue → List Target → List ℕ
+given_faults w place vs ts = if length vs == length ts then all_refused w vs ts else fault_if (all_whole vs && all_unbroken ts) place
 
 -- the judgement of left sides: their targets, faults and member uses
 pub record Lefts : Type 0 where
@@ -92,8 +92,8 @@ abbrev pub left_side : Target → Judged → Lefts
 left_side t j = record { targets = t ∷ []; faults = j.faults; uses = j.uses }
 
 -- left sides, followed by others
-abbrev pub lefts_then : Lefts → Lefts → Lefts
-lefts_then a b = record { targets = a.targets ++ b.targets; faults = a.faults ++ b.faults; uses = a.uses ++ b.uses }
+abbrev pub join_lefts : Lefts → Lefts → Lefts
+join_lefts a b = record { targets = a.targets ++ b.targets; faults = a.faults ++ b.faults; uses = a.uses ++ b.uses }
 
 -- an operand that is assigned: any that is not addressable is a fault at `place`
 unfoldable pub assignable : ℕ → Meaning → Judged
@@ -118,7 +118,7 @@ assigned_one w ls e = left_side (Wants (own_type (judge_operand w ls e).meaning)
 -- the judgement of the left sides of `=`
 unfoldable pub assigned : World → Locals → List (Item ExprTree) → Lefts
 assigned w ls [] = record { targets = []; faults = []; uses = [] }
-assigned w ls (i ∷ is) = lefts_then (assigned_one w ls i.value) (assigned w ls is)
+assigned w ls (i ∷ is) = join_lefts (assigned_one w ls i.value) (assigned w ls is)
 
 -- whether the name at token p is bound to the local that it declares itself
 abbrev pub is_own : ℕ → Bound → Bool
@@ -137,19 +137,19 @@ no_name place m = wrong place
 -- a name on the left of `:=` that declares nothing, and so is assigned: the second x here
 --   x := 1
 --   x, y := 2, 3
-abbrev pub renewed : World → Locals → ℕ → Lefts
-renewed w ls p = left_side (Wants (own_type (judge_value w ls (Name p)).meaning)) (judge_value w ls (Name p))
+abbrev pub reassigned : World → Locals → ℕ → Lefts
+reassigned w ls p = left_side (Wants (own_type (judge_value w ls (Name p)).meaning)) (judge_value w ls (Name p))
 
 -- the judgement of a left side of `:=`
 unfoldable pub defined_one : World → Locals → ExprTree → Lefts
 defined_one w ls (Blank p) = left_side Takes (means Broken)
-defined_one w ls (Name p) = if declares w p then left_side Takes (means Broken) else renewed w ls p
+defined_one w ls (Name p) = if declares w p then left_side Takes (means Broken) else reassigned w ls p
 defined_one w ls e = left_side (Wants None) (followed (judge_value w ls e) (no_name (place_of e)))
 
 -- the judgement of the left sides of `:=`
 unfoldable pub defined : World → Locals → List (Item ExprTree) → Lefts
 defined w ls [] = record { targets = []; faults = []; uses = [] }
-defined w ls (i ∷ is) = lefts_then (defined_one w ls i.value) (defined w ls is)
+defined w ls (i ∷ is) = join_lefts (defined_one w ls i.value) (defined w ls is)
 
 -- Locals: declared names, each by its token, with their types at the same positions. A name is none where it declares nothing: `_`, or a
 -- name that is assigned. A type is none where it is broken.
@@ -161,17 +161,17 @@ default_type (Untyped b) = Some (BasicType b)
 default_type Nil = None
 
 -- the type that a local takes from a value, none where the value is broken
-unfoldable pub taken_type : Option Kind → Option PlainType
-taken_type None = None
-taken_type (Some k) = default_type k
+unfoldable pub inferred_type : Option Kind → Option PlainType
+inferred_type None = None
+inferred_type (Some k) = default_type k
 
 -- the types that locals take from values
-abbrev pub taken_types : List Argued → List (Option PlainType)
-taken_types vs = map (λ v. taken_type v.kind) vs
+abbrev pub inferred_types : List ListValue → List (Option PlainType)
+inferred_types vs = map (λ v. inferred_type v.kind) vs
 
 -- the types that `count` locals without a written type take from values; none under a wrong count, so that all are broken
-unfoldable pub taken : ℕ → List Argued → List (Option PlainType)
-taken count vs = if length vs == count then taken_types vs else []
+unfoldable pub inferred : ℕ → List ListValue → List (Option PlainType)
+inferred count vs = if length vs == count then inferred_types vs else []
 
 -- the first type of a list, none of an empty one
 abbrev pub head_or_none : List (Option PlainType) → Option PlainType
@@ -194,8 +194,8 @@ with_locals ls [] ts = ls
 with_locals ls (n ∷ ns) ts = with_locals (declared_if ls n (head_or_none ts)) ns (tail_of ts)
 
 -- the locals, with those of the given names, each of the type that it takes from the value at its position
-abbrev pub with_taken : Locals → List (Option ℕ) → List Argued → Locals
-with_taken ls ns vs = with_locals ls ns (taken (length ns) vs)
+abbrev pub with_inferred : Locals → List (Option ℕ) → List ListValue → Locals
+with_inferred ls ns vs = with_locals ls ns (inferred (length ns) vs)
 
 -- the name that a left side of `:=` declares, by its token
 unfoldable pub defined_name : World → ExprTree → Option ℕ

@@ -13,8 +13,8 @@ use Rattle.types_expr.specs.Places.{place_of, first_token}
 use Rattle.types_expr.specs.declared.types.Builtin.{Builtin}
 use Rattle.types_expr.specs.declared.types.Builtin.TheVariants as builtin
 use Rattle.types_expr.specs.Judge.{JudgedList, TypeJudged, judge, judge_value, judge_type, value_kind}
-use Rattle.types_stmt.specs.Checked.{Checked, reaching, noting, finding}
-use Rattle.types_stmt.specs.Sides.{rights, Target, Takes, Wants, given_to, Lefts, judge_operand, assigned, defined, with_taken, with_locals, defined_names}
+use Rattle.types_stmt.specs.Checked.{Checked, with_declared, with_found, with_judged}
+use Rattle.types_stmt.specs.Sides.{rhs, Target, Takes, Wants, given_faults, Lefts, judge_operand, assigned, defined, with_inferred, with_locals, defined_names}
 use Rattle.types_stmt.specs.Sides.{all_named, first_of_exprs, first_of_idents}
 
 -- Conditions: a value whose underlying type is bool
@@ -26,7 +26,7 @@ condition_faults w place (Some k) = if is_bool (class_of w k) then [] else place
 
 -- the check of the condition of an `if` or `for`
 unfoldable pub check_condition : World → Checked → ExprTree → Checked
-check_condition w s e = finding s (judge_value w s.locals e) (condition_faults w (place_of e) (value_kind (judge_value w s.locals e).meaning))
+check_condition w s e = with_judged s (judge_value w s.locals e) (condition_faults w (place_of e) (value_kind (judge_value w s.locals e).meaning))
 
 -- `++` and `--`: an assignable operand whose underlying type is int
 
@@ -37,7 +37,7 @@ step_faults w place (Some k) = if is_int (class_of w k) then [] else place ∷ [
 
 -- the check of `++` and `--`
 unfoldable pub check_step : World → Checked → ExprTree → Checked
-check_step w s e = finding s (judge_operand w s.locals e) (step_faults w (place_of e) (value_kind (judge_operand w s.locals e).meaning))
+check_step w s e = with_judged s (judge_operand w s.locals e) (step_faults w (place_of e) (value_kind (judge_operand w s.locals e).meaning))
 
 -- `x op= y`: the binary operation `x op y`, the result of which has to fit x
 
@@ -62,7 +62,7 @@ update_faults w start o a b = []
 -- the check of `x op= y`
 unfoldable pub check_update : World → Checked → BinaryOp → ExprTree → ExprTree → Checked
 check_update w s o x y =
-    noting s ((judge_operand w s.locals x).faults ++ ((judge_value w s.locals y).faults
+    with_found s ((judge_operand w s.locals x).faults ++ ((judge_value w s.locals y).faults
     ++ update_faults w (first_token x) o (value_kind (judge_operand w s.locals x).meaning) (value_kind (judge_value w s.locals y).meaning)))
     ((judge_operand w s.locals x).uses ++ (judge_value w s.locals y).uses)
 
@@ -92,62 +92,62 @@ without_last (index o e c rest) = unless_end rest (index o e c (without_last res
 without_last (call o xs c rest) = unless_end rest (call o xs c (without_last rest))
 
 -- whether a call of this builtin may be a statement: all but `append` and `len` (Go specification, "Expression statements")
-abbrev pub may_stand_builtin : Builtin → Bool
-may_stand_builtin builtin.Append = false
-may_stand_builtin builtin.Len = false
-may_stand_builtin b = true
+abbrev pub builtin_may_be_statement : Builtin → Bool
+builtin_may_be_statement builtin.Append = false
+builtin_may_be_statement builtin.Len = false
+builtin_may_be_statement b = true
 
 -- whether a call of an operand that means m may be a statement: a function, a method or such a builtin, but no conversion
 --   f(1)
 --   len(s)   // a fault
 --   int(n)   // a fault
-unfoldable pub may_stand : Meaning → Bool
-may_stand (Function s) = true
-may_stand (BuiltinName b) = may_stand_builtin b
-may_stand m = false
+unfoldable pub may_be_statement : Meaning → Bool
+may_be_statement (Function s) = true
+may_be_statement (BuiltinName b) = builtin_may_be_statement b
+may_be_statement m = false
 
 -- whether an expression is a call that may be a statement
 unfoldable pub is_statement : World → Locals → ExprTree → Bool
-is_statement w ls (Chain e links) = if ends_in_call links then may_stand (judge w ls (Chain e (without_last links))).meaning else false
+is_statement w ls (Chain e links) = if ends_in_call links then may_be_statement (judge w ls (Chain e (without_last links))).meaning else false
 is_statement w ls e = false
 
 -- the fault of an expression that may not be a statement (`false`) and means m; none for a broken one
-unfoldable pub stands_faults : ℕ → Bool → Meaning → List ℕ
-stands_faults place true m = []
-stands_faults place false Broken = []
-stands_faults place false m = place ∷ []
+unfoldable pub statement_faults : ℕ → Bool → Meaning → List ℕ
+statement_faults place true m = []
+statement_faults place false Broken = []
+statement_faults place false m = place ∷ []
 
 -- the check of an expression statement
-unfoldable pub check_alone : World → Checked → ExprTree → Checked
-check_alone w s e = finding s (judge w s.locals e) (stands_faults (place_of e) (is_statement w s.locals e) (judge w s.locals e).meaning)
+unfoldable pub check_expr_statement : World → Checked → ExprTree → Checked
+check_expr_statement w s e = with_judged s (judge w s.locals e) (statement_faults (place_of e) (is_statement w s.locals e) (judge w s.locals e).meaning)
 
 -- Assignments and definitions
 
 -- left sides l given the values r of right sides, where the statement changes the locals to `locals`; a wrong count is a fault at `place`
-abbrev pub giving : World → Checked → ℕ → Locals → Lefts → JudgedList → Checked
-giving w s place locals l r = reaching s locals (l.faults ++ (r.faults ++ given_to w place r.values l.targets)) (l.uses ++ r.uses)
+abbrev pub with_given : World → Checked → ℕ → Locals → Lefts → JudgedList → Checked
+with_given w s place locals l r = with_declared s locals (l.faults ++ (r.faults ++ given_faults w place r.values l.targets)) (l.uses ++ r.uses)
 
 -- the check of `xs = ys`
 unfoldable pub check_assign : World → Checked → List (Item ExprTree) → List (Item ExprTree) → Checked
-check_assign w s xs ys = giving w s (first_of_exprs xs) s.locals (assigned w s.locals xs) (rights w s.locals ys)
+check_assign w s xs ys = with_given w s (first_of_exprs xs) s.locals (assigned w s.locals xs) (rhs w s.locals ys)
 
 -- the check of `xs := ys`
 unfoldable pub check_define : World → Checked → List (Item ExprTree) → List (Item ExprTree) → Checked
 check_define w s xs ys =
-    giving w s (first_of_exprs xs) (with_taken s.locals (defined_names w xs) (rights w s.locals ys).values) (defined w s.locals xs) (rights w s.locals ys)
+    with_given w s (first_of_exprs xs) (with_inferred s.locals (defined_names w xs) (rhs w s.locals ys).values) (defined w s.locals xs) (rhs w s.locals ys)
 
 -- the check of a simple statement
 unfoldable pub check_simple : World → Checked → SimpleTree → Checked
-check_simple w s (Alone e) = check_alone w s e
+check_simple w s (Alone e) = check_expr_statement w s e
 check_simple w s (Step e op p) = check_step w s e
 check_simple w s (Update x o p y) = check_update w s (binary_of o) x y
 check_simple w s (Assign xs p ys) = check_assign w s xs ys
 check_simple w s (Define xs p ys) = check_define w s xs ys
 
 -- the check of a simple statement, if there is one
-abbrev pub check_optional : World → Checked → Option SimpleTree → Checked
-check_optional w s None = s
-check_optional w s (Some a) = check_simple w s a
+abbrev pub check_optional_simple : World → Checked → Option SimpleTree → Checked
+check_optional_simple w s None = s
+check_optional_simple w s (Some a) = check_simple w s a
 
 -- the check of a condition, if there is one
 abbrev pub check_optional_condition : World → Checked → Option ExprTree → Checked
@@ -169,21 +169,21 @@ abbrev pub written_locals : Locals → List (Item IdentTree) → Option PlainTyp
 written_locals ls names t = with_locals ls (all_named names) (map (λ i. t) names)
 
 -- the check of a local declaration with a written type, with or without values
-unfoldable pub check_written : World → Checked → List (Item IdentTree) → TypeJudged → Option (ℕ × List (Item ExprTree)) → Checked
-check_written w s names t None = reaching s (written_locals s.locals names t.type_of) t.faults []
-check_written w s names t (Some v) = giving w s (first_of_idents names) (written_locals s.locals names t.type_of) (written_targets names t)
-    (rights w s.locals v.1)
+unfoldable pub check_typed_local : World → Checked → List (Item IdentTree) → TypeJudged → Option (ℕ × List (Item ExprTree)) → Checked
+check_typed_local w s names t None = with_declared s (written_locals s.locals names t.type_of) t.faults []
+check_typed_local w s names t (Some v) = with_given w s (first_of_idents names) (written_locals s.locals names t.type_of) (written_targets names t)
+    (rhs w s.locals v.1)
 
 -- The check of a local declaration without a written type. It has values: the grammar has no declaration without both.
-unfoldable pub check_unwritten : World → Checked → List (Item IdentTree) → Option (ℕ × List (Item ExprTree)) → Checked
-check_unwritten w s names None = reaching s (with_locals s.locals (all_named names) []) [] []
-check_unwritten w s names (Some v) =
-    giving w s (first_of_idents names) (with_taken s.locals (all_named names) (rights w s.locals v.1).values) (name_targets names Takes) (rights w s.locals v.1)
+unfoldable pub check_untyped_local : World → Checked → List (Item IdentTree) → Option (ℕ × List (Item ExprTree)) → Checked
+check_untyped_local w s names None = with_declared s (with_locals s.locals (all_named names) []) [] []
+check_untyped_local w s names (Some v) =
+    with_given w s (first_of_idents names) (with_inferred s.locals (all_named names) (rhs w s.locals v.1).values) (name_targets names Takes) (rhs w s.locals v.1)
 
 -- the check of a local declaration, with or without a written type
 abbrev pub check_local_of : World → Checked → List (Item IdentTree) → Option TypeTree → Option (ℕ × List (Item ExprTree)) → Checked
-check_local_of w s names (Some t) values = check_written w s names (judge_type w t) values
-check_local_of w s names None values = check_unwritten w s names values
+check_local_of w s names (Some t) values = check_typed_local w s names (judge_type w t) values
+check_local_of w s names None values = check_untyped_local w s names values
 
 -- the check of a declaration of locals
 unfoldable pub check_local : World → Checked → LocalTree → Checked

@@ -5,34 +5,34 @@ use Rattle.go_ast.specs.Tree.{Item, ExprTree, InitTree, ForTree, forever, while,
 use Rattle.go_ast.specs.Tree.{Continue, Return, BlockTree, block, StatementTrees, no_statement, statement, IfTree, if_tree, ElseTree, no_else, else_if}
 use Rattle.go_ast.specs.Tree.{else_block}
 use Rattle.types_expr.specs.World.{World}
-use Rattle.types_expr.specs.Judge.{Argued, JudgedList, all_whole}
-use Rattle.types_stmt.specs.Checked.{Checked, noting, fault_if, check_group}
-use Rattle.types_stmt.specs.Sides.{Target, rights, all_refused}
-use Rattle.types_stmt.specs.Simple.{check_simple, check_optional, check_condition, check_optional_condition, check_local}
+use Rattle.types_expr.specs.Judge.{ListValue, JudgedList, all_whole}
+use Rattle.types_stmt.specs.Checked.{Checked, with_found, fault_if, check_group}
+use Rattle.types_stmt.specs.Sides.{Target, rhs, all_refused}
+use Rattle.types_stmt.specs.Simple.{check_simple, check_optional_simple, check_condition, check_optional_condition, check_local}
 
 -- The faults of the values of a `return`, given to the function's results. A wrong count is a fault at `place`, also where a result is
 -- broken, since results are no part of the statement.
-unfoldable pub returned : World → ℕ → List Argued → List Target → List ℕ
+unfoldable pub returned : World → ℕ → List ListValue → List Target → List ℕ
 returned w place vs ts = if length vs == length ts then all_refused w vs ts else fault_if (all_whole vs) place
 
 -- the check of a `return` whose values are judged as r
 abbrev pub returning : World → Checked → ℕ → List Target → JudgedList → Checked
-returning w s place results r = noting s (r.faults ++ returned w place r.values results) r.uses
+returning w s place results r = with_found s (r.faults ++ returned w place r.values results) r.uses
 
 -- the check of a `return` at token `place`
 unfoldable pub check_return : World → Checked → ℕ → List Target → List (Item ExprTree) → Checked
-check_return w s place results es = returning w s place results (rights w s.locals es)
+check_return w s place results es = returning w s place results (rhs w s.locals es)
 
 -- the check of the statement before the condition of an `if`, if there is one
 abbrev pub check_init : World → Checked → Option InitTree → Checked
 check_init w s None = s
-check_init w s (Some i) = check_optional w s i.simple
+check_init w s (Some i) = check_optional_simple w s i.simple
 
 -- the check of the header of a `for`: the part before its block
-unfoldable pub check_header : World → Checked → ForTree → Checked
-check_header w s forever = s
-check_header w s (while e) = check_condition w s e
-check_header w s (clauses init p condition q post) = check_optional w (check_optional_condition w (check_optional w s init) condition) post
+unfoldable pub check_for_header : World → Checked → ForTree → Checked
+check_for_header w s forever = s
+check_for_header w s (while e) = check_condition w s e
+check_for_header w s (clauses init p condition q post) = check_optional_simple w (check_optional_condition w (check_optional_simple w s init) condition) post
 
 -- results: the targets of the function's returned values
 unfoldable mutual
@@ -42,7 +42,7 @@ unfoldable mutual
   check_statement w results s (Simple a) = check_simple w s a
   check_statement w results s (Inner b) = check_block w results s b
   check_statement w results s (If i) = check_if w results s i
-  check_statement w results s (For p h b) = check_block w results (check_header w s h) b
+  check_statement w results s (For p h b) = check_block w results (check_for_header w s h) b
   check_statement w results s (Break p) = s
   check_statement w results s (Continue p) = s
   check_statement w results s (Return p es) = check_return w s p results es

@@ -39,7 +39,7 @@ pub record AddsResults (j : ResultsJudged) (old new : FoundInFile) (ts : List si
   pub uses : new.uses.items ≡ old.uses.items
 
 -- A call appended faults at `places` and no member use.
-pub record Notes (places : List ℕ) (old new : FoundInFile) : Type 0 where
+pub record AddsFaultsAt (places : List ℕ) (old new : FoundInFile) : Type 0 where
   pub faults : new.faults.items ≡ old.faults.items ++ places
   pub uses : new.uses.items ≡ old.uses.items
 

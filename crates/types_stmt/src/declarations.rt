@@ -1,14 +1,14 @@
 //! The check of package-level declarations of variables and types.
 ghost use Rattle.std.specs.Prelude.{◌≡◌, IfOk, OnOk, map, option_map};
 ghost use Rattle.go_ast.specs.View.{list_view, group_view};
-ghost use Rattle.go_ast.specs.FileView.{same_place, basic_view, global_view, field_view, body_view, type_spec_view};
+ghost use Rattle.go_ast.specs.FileView.{same_index, basic_view, global_view, field_view, body_view, type_spec_view};
 ghost use Rattle.types_expr.specs.View.{type_of};
 ghost use Rattle.types_expr.specs.WorldView.{world_of};
-ghost use Rattle.types_expr.specs.Found.{argued_of};
+ghost use Rattle.types_expr.specs.Found.{list_value};
 ghost use Rattle.types_stmt.specs.Sides.{Wants};
 ghost use Rattle.types_stmt.specs.Checked.{check_group};
 ghost use Rattle.types_stmt.specs.Declarations.{literal_value, first_name, literal_faults, global_faults, field_faults, body_faults, check_global, check_type};
-ghost use Rattle.types_stmt.specs.View.{checked_of, target_of, Notes};
+ghost use Rattle.types_stmt.specs.View.{checked_of, target_of, AddsFaultsAt};
 
 use crate::checked::CheckedBody;
 use crate::locals::copied;
@@ -16,21 +16,21 @@ use crate::sides::{Target, refuse_all};
 use go_ast::tree::{BasicLit, FieldDecl, Group, Item, TypeBody, TypeSpec, VarSpec};
 use std::alloc::{AllocError, Global};
 use types_expr::found::FoundInFile;
-use types_expr::meaning::Argued;
+use types_expr::meaning::ListValue;
 use types_expr::types::{Basic, GoType, ValueKind};
 use types_expr::world::World;
 
 /// Returns the value of a literal.
 #[tactic(auto, unfolding(types_expr::specs::View::kind_of))]
-fn literal_value(literal: &BasicLit) -> Argued
-    ensures { argued_of result ≡ literal_value (basic_view literal.now) }
+fn literal_value(literal: &BasicLit) -> ListValue
+    ensures { list_value result ≡ literal_value (basic_view literal.now) }
 {
     match literal {
-        BasicLit::Number(place) => Argued {
+        BasicLit::Number(place) => ListValue {
             place: *place,
             kind: Some(ValueKind::Untyped(Basic::Int)),
         },
-        BasicLit::Text(place) => Argued {
+        BasicLit::Text(place) => ListValue {
             place: *place,
             kind: Some(ValueKind::Untyped(Basic::String)),
         },
@@ -38,8 +38,8 @@ fn literal_value(literal: &BasicLit) -> Argued
 }
 
 /// Returns the values of literals.
-fn literal_values(alloc: Global, literals: &[Item<BasicLit>]) -> Result<Vec<Argued>, AllocError>
-    ensures { IfOk result (λ vs. map argued_of vs.items ≡ map (λ i. literal_value i.value) (list_view basic_view literals.now)) }
+fn literal_values(alloc: Global, literals: &[Item<BasicLit>]) -> Result<Vec<ListValue>, AllocError>
+    ensures { IfOk result (λ vs. map list_value vs.items ≡ map (λ i. literal_value i.value) (list_view basic_view literals.now)) }
 {
     let mut values = Vec::new(alloc);
     for item in literals {
@@ -54,7 +54,7 @@ fn global_targets(
     names: &[Item<usize>],
     own: &Option<GoType>,
 ) -> Result<Vec<Target>, AllocError>
-    ensures { IfOk result (λ ts. map target_of ts.items ≡ map (λ i. Wants (option_map type_of own.now)) (list_view same_place names.now)) }
+    ensures { IfOk result (λ ts. map target_of ts.items ≡ map (λ i. Wants (option_map type_of own.now)) (list_view same_index names.now)) }
 {
     let mut targets = Vec::new(alloc);
     for _item in names {
@@ -66,7 +66,7 @@ fn global_targets(
 /// Returns the token of the first name, 0 where there is none.
 #[tactic(auto, unfolding(crate::specs::Declarations::first_name))]
 fn first_name(names: &[Item<usize>]) -> usize
-    ensures { result ≡ first_name (list_view same_place names.now) }
+    ensures { result ≡ first_name (list_view same_index names.now) }
 {
     match names {
         [] => 0,
@@ -84,7 +84,7 @@ fn note_value_faults(
     literals: &[Item<BasicLit>],
     found: &mut FoundInFile,
 ) -> Result<(), AllocError>
-    ensures { OnOk result (Notes (literal_faults (world_of world.now) (list_view same_place names.now) (option_map type_of own.now) (list_view basic_view literals.now)) found.old found.new) }
+    ensures { OnOk result (AddsFaultsAt (literal_faults (world_of world.now) (list_view same_index names.now) (option_map type_of own.now) (list_view basic_view literals.now)) found.old found.new) }
 {
     if literals.len() != names.len() {
         found.faults.push(first_name(names))?;
@@ -102,7 +102,7 @@ fn note_global_faults(
     spec: &VarSpec,
     found: &mut FoundInFile,
 ) -> Result<(), AllocError>
-    ensures { OnOk result (Notes (global_faults (world_of world.now) (global_view spec.now)) found.old found.new) }
+    ensures { OnOk result (AddsFaultsAt (global_faults (world_of world.now) (global_view spec.now)) found.old found.new) }
 {
     let own = found.judge_type(alloc, world, &spec.var_type)?;
     match &spec.values {
@@ -118,7 +118,7 @@ fn note_field_faults(
     fields: &[Item<FieldDecl>],
     found: &mut FoundInFile,
 ) -> Result<(), AllocError>
-    ensures { OnOk result (Notes (field_faults (world_of world.now) (list_view field_view fields.now)) found.old found.new) }
+    ensures { OnOk result (AddsFaultsAt (field_faults (world_of world.now) (list_view field_view fields.now)) found.old found.new) }
 {
     for item in fields {
         found.judge_type(alloc, world, &item.value.field_type)?;
@@ -133,7 +133,7 @@ fn note_body_faults(
     body: &TypeBody,
     found: &mut FoundInFile,
 ) -> Result<(), AllocError>
-    ensures { OnOk result (Notes (body_faults (world_of world.now) (body_view body.now)) found.old found.new) }
+    ensures { OnOk result (AddsFaultsAt (body_faults (world_of world.now) (body_view body.now)) found.old found.new) }
 {
     match body {
         TypeBody::Type(own) => {

@@ -30,7 +30,7 @@ fn may_receive(world: &World<'_>, own: &GoType) -> bool
 }
 
 /// Returns the type T of a receiver T or `*T`, none where it is broken. A type that methods may not have is a fault.
-#[tactic(auto, unfolding(crate::specs::Headers::receiver_base, crate::specs::Headers::receiving))]
+#[tactic(auto, unfolding(crate::specs::Headers::receiver_base, crate::specs::Headers::receiver_or_fault))]
 fn receiver_base(
     alloc: Global,
     world: &World<'_>,

@@ -1,7 +1,7 @@
 //! The check of statements, function bodies and declarations: the types of locals, the type faults and the member uses of a file.
 #![tactic(auto)]
 
-mod alone;
+mod call_statements;
 mod checked;
 mod declarations;
 mod files;

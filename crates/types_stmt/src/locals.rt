@@ -3,15 +3,15 @@ ghost use Rattle.std.specs.Prelude.{◌≡◌, [], length, IfOk, OnOk, map, opti
 ghost use Rattle.go_ast.specs.View.{expr_view, exprs_view, list_view, ident_view};
 ghost use Rattle.types_expr.specs.View.{type_of, kind_of};
 ghost use Rattle.types_expr.specs.WorldView.{world_of};
-ghost use Rattle.types_expr.specs.Found.{locals_of, argued_of};
+ghost use Rattle.types_expr.specs.Found.{locals_of, list_value};
 ghost use Rattle.types_expr.specs.Places.{first_token};
-ghost use Rattle.types_stmt.specs.Sides.{declares, taken_type, taken_types, taken, declared_if, with_locals, with_taken, defined_name, defined_names, named, all_named, ident_place, first_of_exprs, first_of_idents};
+ghost use Rattle.types_stmt.specs.Sides.{declares, inferred_type, inferred_types, inferred, declared_if, with_locals, with_inferred, defined_name, defined_names, named, all_named, ident_place, first_of_exprs, first_of_idents};
 ghost use Rattle.types_stmt.specs.Simple.{written_locals};
 
 use go_ast::tree::{Expr, ExprItem, Ident, Item};
 use std::alloc::{AllocError, Global};
 use types_expr::locals::Locals;
-use types_expr::meaning::Argued;
+use types_expr::meaning::ListValue;
 use types_expr::places::first_token;
 use types_expr::types::{GoType, ValueKind};
 use types_expr::world::{Bound, World};
@@ -28,9 +28,9 @@ pub(crate) fn declares(world: &World<'_>, place: usize) -> bool
 }
 
 /// Returns the type that a local takes from a value, none where the value is broken or nil.
-#[tactic(auto, unfolding(crate::specs::Sides::taken_type, crate::specs::Sides::default_type, types_expr::specs::View::kind_of, types_expr::specs::View::type_of))]
-fn taken_type(alloc: Global, kind: &Option<ValueKind>) -> Result<Option<GoType>, AllocError>
-    ensures { IfOk result (λ t. option_map type_of t ≡ taken_type (option_map kind_of kind.now)) }
+#[tactic(auto, unfolding(crate::specs::Sides::inferred_type, crate::specs::Sides::default_type, types_expr::specs::View::kind_of, types_expr::specs::View::type_of))]
+fn inferred_type(alloc: Global, kind: &Option<ValueKind>) -> Result<Option<GoType>, AllocError>
+    ensures { IfOk result (λ t. option_map type_of t ≡ inferred_type (option_map kind_of kind.now)) }
 {
     match kind {
         Some(ValueKind::Typed(own)) => Ok(Some(own.copy(alloc)?)),
@@ -157,27 +157,27 @@ fn declare_each(
     alloc: Global,
     locals: &mut Locals,
     names: &[Option<usize>],
-    values: &[Argued],
+    values: &[ListValue],
 ) -> Result<(), AllocError>
     requires { length values.now ≡ length names.now }
-    ensures { OnOk result (locals_of locals.new ≡ with_locals (locals_of locals.old) names.now (taken_types (map argued_of values.now))) }
+    ensures { OnOk result (locals_of locals.new ≡ with_locals (locals_of locals.old) names.now (inferred_types (map list_value values.now))) }
 {
     for i in 0..names.len() {
-        let own = taken_type(alloc, &values[i].kind)?;
+        let own = inferred_type(alloc, &values[i].kind)?;
         declare_if(locals, names[i], own)?;
     }
     Ok(())
 }
 
 /// Declares locals, each of the type that it takes from the value at its position. Under a wrong count all are broken.
-#[tactic(auto, unfolding(crate::specs::Sides::taken))]
-pub(crate) fn declare_taken(
+#[tactic(auto, unfolding(crate::specs::Sides::inferred))]
+pub(crate) fn declare_inferred(
     alloc: Global,
     locals: &mut Locals,
     names: &[Option<usize>],
-    values: &[Argued],
+    values: &[ListValue],
 ) -> Result<(), AllocError>
-    ensures { OnOk result (locals_of locals.new ≡ with_taken (locals_of locals.old) names.now (map argued_of values.now)) }
+    ensures { OnOk result (locals_of locals.new ≡ with_inferred (locals_of locals.old) names.now (map list_value values.now)) }
 {
     if values.len() == names.len() {
         declare_each(alloc, locals, names, values)

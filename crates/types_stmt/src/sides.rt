@@ -6,18 +6,18 @@ ghost use Rattle.types_expr.specs.Judge.{judge, as_value};
 ghost use Rattle.types_expr.specs.Places.{place_of};
 ghost use Rattle.types_expr.specs.View.{type_of, kind_of};
 ghost use Rattle.types_expr.specs.WorldView.{world_of};
-ghost use Rattle.types_expr.specs.Found.{locals_of, meaning_of, argued_of, Adds, AddsList};
-ghost use Rattle.types_stmt.specs.Sides.{results_at, one_value, values_of, list_followed, judge_each, rights, all_sound, is_sound, nil_refused, refused, all_refused, given_to, assignable, judge_operand, own_type, assigned_one, assigned, no_name, defined_one, defined};
+ghost use Rattle.types_expr.specs.Found.{locals_of, meaning_of, list_value, AddsJudged, AddsJudgedList};
+ghost use Rattle.types_stmt.specs.Sides.{results_at, one_value, values_of, list_followed, judge_each, rhs, all_unbroken, is_unbroken, nil_refused, refused, all_refused, given_faults, assignable, judge_operand, own_type, assigned_one, assigned, no_name, defined_one, defined};
 ghost use Rattle.types_stmt.specs.Checked.{fault_if};
 ghost use Rattle.types_stmt.specs.Statements.{returned};
-ghost use Rattle.types_stmt.specs.View.{target_of, AddsLefts, Notes};
+ghost use Rattle.types_stmt.specs.View.{target_of, AddsLefts, AddsFaultsAt};
 
 use crate::locals::declares;
 use go_ast::tree::{Expr, ExprItem};
 use std::alloc::{AllocError, Global};
-use types_expr::found::{FoundInFile, LocalNames};
+use types_expr::found::{FoundInFile, LocalScope};
 use types_expr::judge::{arguments, judge, judge_value};
-use types_expr::meaning::{Argued, Meaning, all_whole};
+use types_expr::meaning::{ListValue, Meaning, all_whole};
 use types_expr::places::place_of;
 use types_expr::types::{GoType, ValueKind};
 use types_expr::world::World;
@@ -31,29 +31,29 @@ pub enum Target {
 }
 
 /// Returns the values of right sides: one of each, or the results of a single call.
-#[tactic(auto, unfolding(crate::specs::Sides::rights))]
-pub(crate) fn rights(
+#[tactic(auto, unfolding(crate::specs::Sides::rhs))]
+pub(crate) fn rhs(
     alloc: Global,
-    scope: LocalNames<'_>,
+    scope: LocalScope<'_>,
     exprs: &[ExprItem],
     found: &mut FoundInFile,
-) -> Result<Vec<Argued>, AllocError>
-    ensures { IfOk result (λ vs. AddsList (rights (world_of scope.entry.world.now) (locals_of scope.entry.locals.now) (exprs_view exprs.now)) found.old found.new (map argued_of vs.items)) }
+) -> Result<Vec<ListValue>, AllocError>
+    ensures { IfOk result (λ vs. AddsJudgedList (rhs (world_of scope.entry.world.now) (locals_of scope.entry.locals.now) (exprs_view exprs.now)) found.old found.new (map list_value vs.items)) }
 {
     match exprs {
-        [only] => lone(alloc, scope, &only.value, found),
+        [only] => single_values(alloc, scope, &only.value, found),
         _ => each_value(alloc, scope, exprs, found),
     }
 }
 
 /// Returns the values of the only right side: the results of a call, or one value.
-fn lone(
+fn single_values(
     alloc: Global,
-    scope: LocalNames<'_>,
+    scope: LocalScope<'_>,
     expr: &Expr,
     found: &mut FoundInFile,
-) -> Result<Vec<Argued>, AllocError>
-    ensures { IfOk result (λ vs. AddsList (list_followed (judge (world_of scope.entry.world.now) (locals_of scope.entry.locals.now) (expr_view expr.now)) (values_of (place_of (expr_view expr.now)))) found.old found.new (map argued_of vs.items)) }
+) -> Result<Vec<ListValue>, AllocError>
+    ensures { IfOk result (λ vs. AddsJudgedList (list_followed (judge (world_of scope.entry.world.now) (locals_of scope.entry.locals.now) (expr_view expr.now)) (values_of (place_of (expr_view expr.now)))) found.old found.new (map list_value vs.items)) }
 {
     let place = place_of(expr);
     let meaning = judge(alloc, scope, expr, found)?;
@@ -69,23 +69,23 @@ fn one_value(
     place: usize,
     meaning: Meaning<'_>,
     found: &mut FoundInFile,
-) -> Result<Vec<Argued>, AllocError>
-    ensures { IfOk result (λ vs. AddsList (one_value place (as_value place (meaning_of meaning.entry))) found.old found.new (map argued_of vs.items)) }
+) -> Result<Vec<ListValue>, AllocError>
+    ensures { IfOk result (λ vs. AddsJudgedList (one_value place (as_value place (meaning_of meaning.entry))) found.old found.new (map list_value vs.items)) }
 {
     let kind = found.as_value(place, meaning)?.into_kind();
     let mut values = Vec::new(alloc);
-    values.push(Argued { place, kind })?;
+    values.push(ListValue { place, kind })?;
     Ok(values)
 }
 
 /// Returns the results of a call as values, each at the place of the call.
-fn results_at(alloc: Global, place: usize, types: &[GoType]) -> Result<Vec<Argued>, AllocError>
-    ensures { IfOk result (λ vs. map argued_of vs.items ≡ results_at place (map type_of types.now)) }
+fn results_at(alloc: Global, place: usize, types: &[GoType]) -> Result<Vec<ListValue>, AllocError>
+    ensures { IfOk result (λ vs. map list_value vs.items ≡ results_at place (map type_of types.now)) }
 {
     let mut values = Vec::new(alloc);
     for result_type in types {
         let kind = Some(ValueKind::Typed(result_type.copy(alloc)?));
-        values.push(Argued { place, kind })?;
+        values.push(ListValue { place, kind })?;
     }
     Ok(values)
 }
@@ -93,46 +93,46 @@ fn results_at(alloc: Global, place: usize, types: &[GoType]) -> Result<Vec<Argue
 /// Returns the values of expressions, each of which has to be one value.
 fn each_value(
     alloc: Global,
-    scope: LocalNames<'_>,
+    scope: LocalScope<'_>,
     exprs: &[ExprItem],
     found: &mut FoundInFile,
-) -> Result<Vec<Argued>, AllocError>
-    ensures { IfOk result (λ vs. AddsList (judge_each (world_of scope.entry.world.now) (locals_of scope.entry.locals.now) (exprs_view exprs.now)) found.old found.new (map argued_of vs.items)) }
+) -> Result<Vec<ListValue>, AllocError>
+    ensures { IfOk result (λ vs. AddsJudgedList (judge_each (world_of scope.entry.world.now) (locals_of scope.entry.locals.now) (exprs_view exprs.now)) found.old found.new (map list_value vs.items)) }
 {
     arguments(alloc, scope, exprs, found)
 }
 
 /// Whether the target is not broken.
 #[tactic(auto, unfolding(crate::specs::View::target_of))]
-fn is_sound(target: &Target) -> bool
-    ensures { result ≡ is_sound (target_of target.now) }
+fn is_unbroken(target: &Target) -> bool
+    ensures { result ≡ is_unbroken (target_of target.now) }
 {
     !matches!(target, Target::Wants(None))
 }
 
 /// Whether each target is sound.
-fn each_sound(targets: &[Target]) -> bool
-    ensures { result ≡ list_all (λ t. is_sound (target_of t)) targets.now }
+fn each_unbroken(targets: &[Target]) -> bool
+    ensures { result ≡ list_all (λ t. is_unbroken (target_of t)) targets.now }
 {
-    targets.iter().all(|target| is_sound(target))
+    targets.iter().all(|target| is_unbroken(target))
 }
 
 /// Whether no target is broken.
-fn all_sound(targets: &[Target]) -> bool
-    ensures { result ≡ all_sound (map target_of targets.now) }
+fn all_unbroken(targets: &[Target]) -> bool
+    ensures { result ≡ all_unbroken (map target_of targets.now) }
 {
-    each_sound(targets)
+    each_unbroken(targets)
 }
 
 /// Notes a fault where the target refuses the value.
 #[tactic(auto, unfolding(crate::specs::View::target_of, crate::specs::Sides::refused, types_expr::specs::View::kind_of))]
 fn refuse(
     world: &World<'_>,
-    value: &Argued,
+    value: &ListValue,
     target: &Target,
     found: &mut FoundInFile,
 ) -> Result<(), AllocError>
-    ensures { OnOk result (Notes (refused (world_of world.now) value.now.place (option_map kind_of value.now.kind) (target_of target.now)) found.old found.new) }
+    ensures { OnOk result (AddsFaultsAt (refused (world_of world.now) value.now.place (option_map kind_of value.now.kind) (target_of target.now)) found.old found.new) }
 {
     match target {
         Target::Wants(None) => Ok(()),
@@ -146,8 +146,8 @@ fn refuse(
 
 /// Notes a fault where the value is nil, which has no type of its own.
 #[tactic(auto, unfolding(crate::specs::Sides::nil_refused, types_expr::specs::View::kind_of))]
-fn refuse_nil(value: &Argued, found: &mut FoundInFile) -> Result<(), AllocError>
-    ensures { OnOk result (Notes (nil_refused value.now.place (option_map kind_of value.now.kind)) found.old found.new) }
+fn refuse_nil(value: &ListValue, found: &mut FoundInFile) -> Result<(), AllocError>
+    ensures { OnOk result (AddsFaultsAt (nil_refused value.now.place (option_map kind_of value.now.kind)) found.old found.new) }
 {
     if matches!(value.kind, Some(ValueKind::Nil)) {
         found.faults.push(value.place)?;
@@ -158,11 +158,11 @@ fn refuse_nil(value: &Argued, found: &mut FoundInFile) -> Result<(), AllocError>
 /// Notes each value that the target at its position refuses.
 pub(crate) fn refuse_all(
     world: &World<'_>,
-    values: &[Argued],
+    values: &[ListValue],
     targets: &[Target],
     found: &mut FoundInFile,
 ) -> Result<(), AllocError>
-    ensures { OnOk result (Notes (all_refused (world_of world.now) (map argued_of values.now) (map target_of targets.now)) found.old found.new) }
+    ensures { OnOk result (AddsFaultsAt (all_refused (world_of world.now) (map list_value values.now) (map target_of targets.now)) found.old found.new) }
 {
     let mut i = 0;
     'each: while i < values.len() && i < targets.len() {
@@ -174,7 +174,7 @@ pub(crate) fn refuse_all(
 
 /// Notes a fault at `place`, if `test` is true.
 pub(crate) fn note_if(test: bool, place: usize, found: &mut FoundInFile) -> Result<(), AllocError>
-    ensures { OnOk result (Notes (fault_if test place) found.old found.new) }
+    ensures { OnOk result (AddsFaultsAt (fault_if test place) found.old found.new) }
 {
     if test {
         found.faults.push(place)?;
@@ -183,20 +183,20 @@ pub(crate) fn note_if(test: bool, place: usize, found: &mut FoundInFile) -> Resu
 }
 
 /// Notes the values that their targets refuse, or a wrong count of values at `place`.
-#[tactic(auto, unfolding(crate::specs::Sides::given_to))]
-pub(crate) fn given_to(
+#[tactic(auto, unfolding(crate::specs::Sides::given_faults))]
+pub(crate) fn given_faults(
     world: &World<'_>,
     place: usize,
-    values: &[Argued],
+    values: &[ListValue],
     targets: &[Target],
     found: &mut FoundInFile,
 ) -> Result<(), AllocError>
-    ensures { OnOk result (Notes (given_to (world_of world.now) place (map argued_of values.now) (map target_of targets.now)) found.old found.new) }
+    ensures { OnOk result (AddsFaultsAt (given_faults (world_of world.now) place (map list_value values.now) (map target_of targets.now)) found.old found.new) }
 {
     if values.len() == targets.len() {
         return refuse_all(world, values, targets, found);
     }
-    let whole = all_whole(values) && all_sound(targets);
+    let whole = all_whole(values) && all_unbroken(targets);
     note_if(whole, place, found)
 }
 
@@ -207,7 +207,7 @@ pub(crate) fn assignable<'w>(
     meaning: Meaning<'w>,
     found: &mut FoundInFile,
 ) -> Result<Meaning<'w>, AllocError>
-    ensures { IfOk result (λ m. Adds (assignable place (meaning_of meaning.entry)) found.old found.new (meaning_of m)) }
+    ensures { IfOk result (λ m. AddsJudged (assignable place (meaning_of meaning.entry)) found.old found.new (meaning_of m)) }
 {
     match meaning {
         Meaning::Value {
@@ -222,11 +222,11 @@ pub(crate) fn assignable<'w>(
 /// Returns the meaning of an expression that is assigned.
 pub(crate) fn operand<'w>(
     alloc: Global,
-    scope: LocalNames<'w>,
+    scope: LocalScope<'w>,
     expr: &Expr,
     found: &mut FoundInFile,
 ) -> Result<Meaning<'w>, AllocError>
-    ensures { IfOk result (λ m. Adds (judge_operand (world_of scope.entry.world.now) (locals_of scope.entry.locals.now) (expr_view expr.now)) found.old found.new (meaning_of m)) }
+    ensures { IfOk result (λ m. AddsJudged (judge_operand (world_of scope.entry.world.now) (locals_of scope.entry.locals.now) (expr_view expr.now)) found.old found.new (meaning_of m)) }
 {
     let place = place_of(expr);
     let meaning = judge(alloc, scope, expr, found)?;
@@ -250,7 +250,7 @@ fn own_type(meaning: Meaning<'_>) -> Option<GoType>
 /// Judges a left side of `=`.
 fn assigned_one(
     alloc: Global,
-    scope: LocalNames<'_>,
+    scope: LocalScope<'_>,
     expr: &Expr,
     found: &mut FoundInFile,
 ) -> Result<Target, AllocError>
@@ -268,7 +268,7 @@ fn assigned_one(
 /// Judges the left sides of `=`.
 pub(crate) fn assigned(
     alloc: Global,
-    scope: LocalNames<'_>,
+    scope: LocalScope<'_>,
     exprs: &[ExprItem],
     found: &mut FoundInFile,
 ) -> Result<Vec<Target>, AllocError>
@@ -289,7 +289,7 @@ fn no_name<'w>(
     meaning: Meaning<'w>,
     found: &mut FoundInFile,
 ) -> Result<Meaning<'w>, AllocError>
-    ensures { IfOk result (λ m. Adds (no_name place (meaning_of meaning.entry)) found.old found.new (meaning_of m)) }
+    ensures { IfOk result (λ m. AddsJudged (no_name place (meaning_of meaning.entry)) found.old found.new (meaning_of m)) }
 {
     match meaning {
         Meaning::Broken => Ok(meaning),
@@ -300,7 +300,7 @@ fn no_name<'w>(
 /// Judges a left side of `:=`.
 fn defined_one(
     alloc: Global,
-    scope: LocalNames<'_>,
+    scope: LocalScope<'_>,
     expr: &Expr,
     found: &mut FoundInFile,
 ) -> Result<Target, AllocError>
@@ -327,7 +327,7 @@ fn defined_one(
 /// Judges the left sides of `:=`.
 pub(crate) fn defined(
     alloc: Global,
-    scope: LocalNames<'_>,
+    scope: LocalScope<'_>,
     exprs: &[ExprItem],
     found: &mut FoundInFile,
 ) -> Result<Vec<Target>, AllocError>
@@ -346,11 +346,11 @@ pub(crate) fn defined(
 pub(crate) fn returned(
     world: &World<'_>,
     place: usize,
-    values: &[Argued],
+    values: &[ListValue],
     results: &[Target],
     found: &mut FoundInFile,
 ) -> Result<(), AllocError>
-    ensures { OnOk result (Notes (returned (world_of world.now) place (map argued_of values.now) (map target_of results.now)) found.old found.new) }
+    ensures { OnOk result (AddsFaultsAt (returned (world_of world.now) place (map list_value values.now) (map target_of results.now)) found.old found.new) }
 {
     if values.len() == results.len() {
         return refuse_all(world, values, results, found);

@@ -5,20 +5,20 @@ ghost use Rattle.go_ast.specs.FileView.{simple_view, local_view, values_view};
 ghost use Rattle.types_expr.specs.Judge.{judge_type};
 ghost use Rattle.types_expr.specs.View.{kind_of, type_of};
 ghost use Rattle.types_expr.specs.WorldView.{world_of};
-ghost use Rattle.types_stmt.specs.Simple.{condition_faults, check_condition, step_faults, check_step, update_faults, binary_of, check_update, check_assign, check_define, check_simple, check_written, check_unwritten, check_local};
-ghost use Rattle.types_stmt.specs.View.{checked_of, target_of, Notes};
+ghost use Rattle.types_stmt.specs.Simple.{condition_faults, check_condition, step_faults, check_step, update_faults, binary_of, check_update, check_assign, check_define, check_simple, check_typed_local, check_untyped_local, check_local};
+ghost use Rattle.types_stmt.specs.View.{checked_of, target_of, AddsFaultsAt};
 ghost use Rattle.types_stmt.specs.Sides.{Takes, Wants};
 
 use crate::checked::CheckedBody;
 use crate::locals::{
-    all_named, copied, declare_broken, declare_taken, declare_written, defined_names,
+    all_named, copied, declare_broken, declare_inferred, declare_written, defined_names,
     first_of_exprs, first_of_idents,
 };
-use crate::sides::{Target, assigned, defined, given_to, operand, rights};
+use crate::sides::{Target, assigned, defined, given_faults, operand, rhs};
 use go_ast::syntax::{BinaryOp, UpdateOp};
 use go_ast::tree::{Expr, ExprItem, Ident, Item, LocalSpec, SimpleStmt, TypeExpr, Values};
 use std::alloc::{AllocError, Global};
-use types_expr::found::{FoundInFile, LocalNames};
+use types_expr::found::{FoundInFile, LocalScope};
 use types_expr::judge::judge_value;
 use types_expr::places::{first_token, place_of};
 use types_expr::types::{GoType, ValueKind};
@@ -32,7 +32,7 @@ fn require_bool(
     kind: &Option<ValueKind>,
     found: &mut FoundInFile,
 ) -> Result<(), AllocError>
-    ensures { OnOk result (Notes (condition_faults (world_of world.now) place (option_map kind_of kind.now)) found.old found.new) }
+    ensures { OnOk result (AddsFaultsAt (condition_faults (world_of world.now) place (option_map kind_of kind.now)) found.old found.new) }
 {
     let Some(kind) = kind else {
         return Ok(());
@@ -51,7 +51,7 @@ fn require_int(
     kind: &Option<ValueKind>,
     found: &mut FoundInFile,
 ) -> Result<(), AllocError>
-    ensures { OnOk result (Notes (step_faults (world_of world.now) place (option_map kind_of kind.now)) found.old found.new) }
+    ensures { OnOk result (AddsFaultsAt (step_faults (world_of world.now) place (option_map kind_of kind.now)) found.old found.new) }
 {
     let Some(kind) = kind else {
         return Ok(());
@@ -85,7 +85,7 @@ fn require_operation(
     right: Option<ValueKind>,
     found: &mut FoundInFile,
 ) -> Result<(), AllocError>
-    ensures { OnOk result (Notes (update_faults (world_of world.now) start op (option_map kind_of left) (option_map kind_of right)) found.old found.new) }
+    ensures { OnOk result (AddsFaultsAt (update_faults (world_of world.now) start op (option_map kind_of left) (option_map kind_of right)) found.old found.new) }
 {
     let Some(left) = left else {
         return Ok(());
@@ -109,7 +109,7 @@ impl CheckedBody {
     ) -> Result<(), AllocError>
         ensures { OnOk result (checked_of self.new ≡ check_condition (world_of world.now) (checked_of self.old) (expr_view expr.now)) }
     {
-        let scope = LocalNames {
+        let scope = LocalScope {
             world: &*world,
             locals: &self.locals,
         };
@@ -127,7 +127,7 @@ impl CheckedBody {
     ) -> Result<(), AllocError>
         ensures { OnOk result (checked_of self.new ≡ check_step (world_of world.now) (checked_of self.old) (expr_view expr.now)) }
     {
-        let scope = LocalNames {
+        let scope = LocalScope {
             world: &*world,
             locals: &self.locals,
         };
@@ -147,7 +147,7 @@ impl CheckedBody {
     ) -> Result<(), AllocError>
         ensures { OnOk result (checked_of self.new ≡ check_update (world_of world.now) (checked_of self.old) op (expr_view left.now) (expr_view right.now)) }
     {
-        let scope = LocalNames {
+        let scope = LocalScope {
             world: &*world,
             locals: &self.locals,
         };
@@ -167,14 +167,14 @@ impl CheckedBody {
     ) -> Result<(), AllocError>
         ensures { OnOk result (checked_of self.new ≡ check_assign (world_of world.now) (checked_of self.old) (exprs_view left.now) (exprs_view right.now)) }
     {
-        let scope = LocalNames {
+        let scope = LocalScope {
             world: &*world,
             locals: &self.locals,
         };
         let place = first_of_exprs(left);
         let targets = assigned(alloc, scope, left, &mut self.found)?;
-        let values = rights(alloc, scope, right, &mut self.found)?;
-        given_to(world, place, &values, &targets, &mut self.found)
+        let values = rhs(alloc, scope, right, &mut self.found)?;
+        given_faults(world, place, &values, &targets, &mut self.found)
     }
 
     /// Checks `:=`.
@@ -187,16 +187,16 @@ impl CheckedBody {
     ) -> Result<(), AllocError>
         ensures { OnOk result (checked_of self.new ≡ check_define (world_of world.now) (checked_of self.old) (exprs_view left.now) (exprs_view right.now)) }
     {
-        let scope = LocalNames {
+        let scope = LocalScope {
             world: &*world,
             locals: &self.locals,
         };
         let place = first_of_exprs(left);
         let names = defined_names(alloc, world, left)?;
         let targets = defined(alloc, scope, left, &mut self.found)?;
-        let values = rights(alloc, scope, right, &mut self.found)?;
-        given_to(world, place, &values, &targets, &mut self.found)?;
-        declare_taken(alloc, &mut self.locals, &names, &values)
+        let values = rhs(alloc, scope, right, &mut self.found)?;
+        given_faults(world, place, &values, &targets, &mut self.found)?;
+        declare_inferred(alloc, &mut self.locals, &names, &values)
     }
 
     /// Checks a simple statement.
@@ -209,7 +209,7 @@ impl CheckedBody {
         ensures { OnOk result (checked_of self.new ≡ check_simple (world_of world.now) (checked_of self.old) (simple_view simple.now)) }
     {
         match simple {
-            SimpleStmt::Expr(expr) => self.check_alone(alloc, world, expr),
+            SimpleStmt::Expr(expr) => self.check_expr_statement(alloc, world, expr),
             SimpleStmt::Step { operand, .. } => self.check_step(alloc, world, operand),
             SimpleStmt::Update {
                 left,
@@ -223,7 +223,7 @@ impl CheckedBody {
     }
 
     /// Checks a declaration of locals with a written type.
-    fn check_written(
+    fn check_typed_local(
         &mut self,
         alloc: Global,
         world: &World<'_>,
@@ -231,48 +231,48 @@ impl CheckedBody {
         written: &TypeExpr,
         values: &Option<Values>,
     ) -> Result<(), AllocError>
-        ensures { OnOk result (checked_of self.new ≡ check_written (world_of world.now) (checked_of self.old) (list_view ident_view names.now) (judge_type (world_of world.now) (type_view written.now)) (option_view values_view values.now)) }
+        ensures { OnOk result (checked_of self.new ≡ check_typed_local (world_of world.now) (checked_of self.old) (list_view ident_view names.now) (judge_type (world_of world.now) (type_view written.now)) (option_view values_view values.now)) }
     {
         let own = self.found.judge_type(alloc, world, written)?;
         match values {
             None => declare_written(alloc, &mut self.locals, names, &own),
             Some(values) => {
-                let scope = LocalNames {
+                let scope = LocalScope {
                     world: &*world,
                     locals: &self.locals,
                 };
                 let place = first_of_idents(names);
                 let targets = written_targets(alloc, names, &own)?;
-                let given = rights(alloc, scope, &values.values, &mut self.found)?;
-                given_to(world, place, &given, &targets, &mut self.found)?;
+                let given = rhs(alloc, scope, &values.values, &mut self.found)?;
+                given_faults(world, place, &given, &targets, &mut self.found)?;
                 declare_written(alloc, &mut self.locals, names, &own)
             }
         }
     }
 
     /// Checks a declaration of locals without a written type.
-    fn check_unwritten(
+    fn check_untyped_local(
         &mut self,
         alloc: Global,
         world: &World<'_>,
         idents: &[Item<Ident>],
         values: &Option<Values>,
     ) -> Result<(), AllocError>
-        ensures { OnOk result (checked_of self.new ≡ check_unwritten (world_of world.now) (checked_of self.old) (list_view ident_view idents.now) (option_view values_view values.now)) }
+        ensures { OnOk result (checked_of self.new ≡ check_untyped_local (world_of world.now) (checked_of self.old) (list_view ident_view idents.now) (option_view values_view values.now)) }
     {
         let names = all_named(alloc, idents)?;
         let Some(values) = values else {
             return declare_broken(&mut self.locals, &names);
         };
-        let scope = LocalNames {
+        let scope = LocalScope {
             world: &*world,
             locals: &self.locals,
         };
         let place = first_of_idents(idents);
         let targets = name_targets(alloc, idents)?;
-        let given = rights(alloc, scope, &values.values, &mut self.found)?;
-        given_to(world, place, &given, &targets, &mut self.found)?;
-        declare_taken(alloc, &mut self.locals, &names, &given)
+        let given = rhs(alloc, scope, &values.values, &mut self.found)?;
+        given_faults(world, place, &given, &targets, &mut self.found)?;
+        declare_inferred(alloc, &mut self.locals, &names, &given)
     }
 
     /// Checks a declaration of locals.
@@ -286,8 +286,14 @@ impl CheckedBody {
         ensures { OnOk result (checked_of self.new ≡ check_local (world_of world.now) (checked_of self.old) (local_view local.now)) }
     {
         match &local.local_type {
-            Some(written) => self.check_written(alloc, world, &local.names, written, &local.values),
-            None => self.check_unwritten(alloc, world, &local.names, &local.values),
+            Some(written) => self.check_typed_local(
+                alloc,
+                world,
+                &local.names,
+                written,
+                &local.values,
+            ),
+            None => self.check_untyped_local(alloc, world, &local.names, &local.values),
         }
     }
 }

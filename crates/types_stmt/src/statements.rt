@@ -4,17 +4,17 @@ ghost use Rattle.go_ast.specs.View.{expr_view, exprs_view, option_view, group_vi
 ghost use Rattle.go_ast.specs.FileView.{simple_view, local_view, init_view, for_view, stmt_view, block_view, if_view, else_view};
 ghost use Rattle.types_expr.specs.WorldView.{world_of};
 ghost use Rattle.types_stmt.specs.Checked.{check_group};
-ghost use Rattle.types_stmt.specs.Simple.{check_optional, check_optional_condition, check_local};
-ghost use Rattle.types_stmt.specs.Statements.{check_return, check_init, check_header, check_statement, check_block, check_if, check_else};
+ghost use Rattle.types_stmt.specs.Simple.{check_optional_simple, check_optional_condition, check_local};
+ghost use Rattle.types_stmt.specs.Statements.{check_return, check_init, check_for_header, check_statement, check_block, check_if, check_else};
 ghost use Rattle.types_stmt.specs.View.{checked_of, target_of};
 
 use crate::checked::CheckedBody;
-use crate::sides::{Target, returned, rights};
+use crate::sides::{Target, returned, rhs};
 use go_ast::tree::{
     BlockStmt, Else, Expr, ExprItem, ForHeader, Group, IfInit, IfStmt, LocalSpec, SimpleStmt, Stmt,
 };
 use std::alloc::{AllocError, Global};
-use types_expr::found::LocalNames;
+use types_expr::found::LocalScope;
 use types_expr::world::World;
 
 impl CheckedBody {
@@ -29,22 +29,22 @@ impl CheckedBody {
     ) -> Result<(), AllocError>
         ensures { OnOk result (checked_of self.new ≡ check_return (world_of world.now) (checked_of self.old) place (map target_of results.now) (exprs_view values.now)) }
     {
-        let scope = LocalNames {
+        let scope = LocalScope {
             world: &*world,
             locals: &self.locals,
         };
-        let given = rights(alloc, scope, values, &mut self.found)?;
+        let given = rhs(alloc, scope, values, &mut self.found)?;
         returned(world, place, &given, results, &mut self.found)
     }
 
     /// Checks a simple statement, if there is one.
-    fn check_optional(
+    fn check_optional_simple(
         &mut self,
         alloc: Global,
         world: &World<'_>,
         simple: &Option<SimpleStmt>,
     ) -> Result<(), AllocError>
-        ensures { OnOk result (checked_of self.new ≡ check_optional (world_of world.now) (checked_of self.old) (option_view simple_view simple.now)) }
+        ensures { OnOk result (checked_of self.new ≡ check_optional_simple (world_of world.now) (checked_of self.old) (option_view simple_view simple.now)) }
     {
         match simple {
             None => Ok(()),
@@ -79,18 +79,18 @@ impl CheckedBody {
     {
         match init {
             None => Ok(()),
-            Some(init) => self.check_optional(alloc, world, &init.statement),
+            Some(init) => self.check_optional_simple(alloc, world, &init.statement),
         }
     }
 
     /// Checks the header of a `for`: the part before its block.
-    fn check_header(
+    fn check_for_header(
         &mut self,
         alloc: Global,
         world: &World<'_>,
         header: &ForHeader,
     ) -> Result<(), AllocError>
-        ensures { OnOk result (checked_of self.new ≡ check_header (world_of world.now) (checked_of self.old) (for_view header.now)) }
+        ensures { OnOk result (checked_of self.new ≡ check_for_header (world_of world.now) (checked_of self.old) (for_view header.now)) }
     {
         match header {
             ForHeader::Forever => Ok(()),
@@ -101,9 +101,9 @@ impl CheckedBody {
                 post,
                 ..
             } => {
-                self.check_optional(alloc, world, init)?;
+                self.check_optional_simple(alloc, world, init)?;
                 self.check_optional_condition(alloc, world, condition)?;
-                self.check_optional(alloc, world, post)
+                self.check_optional_simple(alloc, world, post)
             }
         }
     }
@@ -146,7 +146,7 @@ impl CheckedBody {
             Stmt::Block(inner) => self.check_block(alloc, world, results, inner),
             Stmt::If(branch) => self.check_if(alloc, world, results, branch),
             Stmt::For { header, body, .. } => {
-                self.check_header(alloc, world, header)?;
+                self.check_for_header(alloc, world, header)?;
                 self.check_block(alloc, world, results, body)
             }
             Stmt::Break(_) => Ok(()),

@@ -8,19 +8,19 @@ use Rattle.std.proofs.lemmas.Option.{none-some, slice_get_within, get_or_from_sl
 use Rattle.base_files.specs.Workspace.{Workspace}
 use Rattle.base_files.specs.Packages.{package_paths}
 use Rattle.types_expr.specs.declared.found.MemberUse.{MemberUse}
-use Rattle.workspace_graph.proofs.Asked.{number}
-use Rattle.types_declared.specs.InterfacesView.{name_in, interface_in, interface_of, KnowsSame}
-use Rattle.types_expr.specs.declared.interfaces.Interface.{Interface as FoundInterface}
-use Rattle.types_declared.specs.declared.interfaces.Interfaces.{Interfaces}
+use Rattle.workspace_graph.proofs.ByPath.{number}
+use Rattle.types_declared.specs.ExportTablesView.{name_in, export_data_in, export_data_of, HasSameEntry}
+use Rattle.types_expr.specs.declared.exports.ExportData.{ExportData as FoundExportData}
+use Rattle.types_declared.specs.declared.export_tables.ExportTable.{ExportTable}
 use Rattle.types_declared.proofs.ByteKeys.{cases_bytes}
 use Rattle.types_info.specs.declared.lists.Qualified.{Qualified}
 use Rattle.workspace_check.specs.declared.fault.FileFault.{FileFault}
 use Rattle.workspace_check.specs.declared.finding.Finding.{Finding}
 use Rattle.workspace_check.specs.declared.judging.Judged.{Judged}
-use Rattle.workspace_check.specs.Verdicts.{BuildsOn, Verdicts, IsFaultBy, HasInterface, IsVerdictBy}
+use Rattle.workspace_check.specs.Verdicts.{BuildsOn, Verdicts, IsFaultBy, HasExportData, IsVerdictBy}
 use Rattle.workspace_check.specs.FaultLists.{AreListed}
-use Rattle.workspace_check.specs.Told.{is_unknown, known_by, AreWhole, AreUsesOf, AreQualifiedOf, IsFinding}
-use Rattle.workspace_check.specs.Steps.{IsBuildOrder, IsJudged, MayAdd, Learns}
+use Rattle.workspace_check.specs.KnownFindings.{is_unknown, verdicts_by, AreNamedEntries, AreUsesOf, AreQualifiedOf, IsFinding}
+use Rattle.workspace_check.specs.Steps.{IsBuildOrder, IsJudged, AddsOptional, LearnsFinding}
 use Rattle.workspace_check.proofs.Alike.{KnowsAlike, alike_back, package_as, fault_as}
 use Rattle.workspace_check.proofs.Closed.{to_package}
 use Rattle.workspace_check.proofs.Knowing.{same_known}
@@ -28,26 +28,26 @@ use Rattle.workspace_check.proofs.Members.{nothing_in, some_in}
 
 -- one package
 
-elsewhere_by : (all more : Interfaces) (p : List ℕ) (o : Option FoundInterface) → MayAdd all more p o → (q : List ℕ) → (q ≡ p → ⊥) → KnowsSame all more q
+elsewhere_by : (all more : ExportTable) (p : List ℕ) (o : Option FoundExportData) → AddsOptional all more p o → (q : List ℕ) → (q ≡ p → ⊥) → HasSameEntry all more q
 elsewhere_by all more p None e q ne = same_known all more e q
 elsewhere_by all more p (Some i) s q ne = s.elsewhere q ne
 
-whole_by : (all more : Interfaces) (p : List ℕ) (o : Option FoundInterface) → AreWhole all → MayAdd all more p o → AreWhole more
-whole_by all more p None whole e q gone = ap (λ i. interface_in i q) e ∙ whole q (sym (ap (λ i. name_in i q) e) ∙ gone)
+whole_by : (all more : ExportTable) (p : List ℕ) (o : Option FoundExportData) → AreNamedEntries all → AddsOptional all more p o → AreNamedEntries more
+whole_by all more p None whole e q gone = ap (λ i. export_data_in i q) e ∙ whole q (sym (ap (λ i. name_in i q) e) ∙ gone)
 whole_by all more p (Some i) whole s q gone = elim (cases_bytes q p) [
   | inl e ↦ absurd (none-some i.scope.name.items (sym gone ∙ ap (name_in more) e ∙ s.has_name))
-  | inr ne ↦ (let same = s.elsewhere q ne in same.interface ∙ whole q (sym same.name ∙ gone))
+  | inr ne ↦ (let same = s.elsewhere q ne in same.export_data ∙ whole q (sym same.name ∙ gone))
 ]
 
-verdict_found : (w : Workspace) (known : Verdicts) (p : List ℕ) (faults : List FileFault) (o : Option FoundInterface) (all more : Interfaces) →
+verdict_found : (w : Workspace) (known : Verdicts) (p : List ℕ) (faults : List FileFault) (o : Option FoundExportData) (all more : ExportTable) →
     name_in all p ≡ None → AreListed (IsFaultBy w known p) faults →
-    MatchOption o (faults ≡ [] → ⊥) (λ i. (faults ≡ []) × HasInterface w known p (interface_of p i)) → MayAdd all more p o →
-    IsVerdictBy w known p (known_by more p)
+    MatchOption o (faults ≡ [] → ⊥) (λ i. (faults ≡ []) × HasExportData w known p (export_data_of p i)) → AddsOptional all more p o →
+    IsVerdictBy w known p (verdicts_by more p)
 verdict_found w known p faults None all more fresh listed some e =
     let unknown : is_unknown (name_in more p) ≡ true = ap (λ i. is_unknown (name_in i p)) e ∙ ap is_unknown fresh in
     record {
       has_faults = (λ t. (let f = some_in faults some in (f.0, (listed.each f.0).0 f.1)), λ h. unknown);
-      has_interface = λ not. absurd (false≢true (sym not ∙ unknown));
+      has_export_data = λ not. absurd (false≢true (sym not ∙ unknown));
     }
 verdict_found w known p faults (Some i) all more fresh listed found s =
     let named : is_unknown (name_in more p) ≡ false = ap is_unknown s.has_name in
@@ -56,25 +56,25 @@ verdict_found w known p faults (Some i) all more fresh listed found s =
         λ t. absurd (true≢false (sym t ∙ named)),
         λ h. absurd (nothing_in h.0 (subst (λ l. Contains l h.0) found.0 ((listed.each h.0).1 h.1))),
       );
-      has_interface = λ e. subst (HasInterface w known p) (sym s.has_interface) found.1;
+      has_export_data = λ e. subst (HasExportData w known p) (sym s.has_export_data) found.1;
     }
 
-pub learns_by : (w : Workspace) (p : List ℕ) (all more : Interfaces) (j : Judged) (f : Finding) → name_in all p ≡ None → AreWhole all →
-    IsJudged w (known_by all) p j → MayAdd all more p j.interface →
-    f.path ≡ p → f.faults ≡ j.faults → f.members ≡ j.members → f.qualified ≡ j.qualified → Learns w p f all more
+pub learns_by : (w : Workspace) (p : List ℕ) (all more : ExportTable) (j : Judged) (f : Finding) → name_in all p ≡ None → AreNamedEntries all →
+    IsJudged w (verdicts_by all) p j → AddsOptional all more p j.export_data →
+    f.path ≡ p → f.faults ≡ j.faults → f.members ≡ j.members → f.qualified ≡ j.qualified → LearnsFinding w p f all more
 learns_by w p all more j f fresh whole h may path faults members qualified = record {
   is_finding = record {
     has_path = path;
-    listed = subst (λ (v : Vec FileFault). AreListed (IsFaultBy w (known_by all) p) v.items) (sym faults) h.listed;
+    listed = subst (λ (v : Vec FileFault). AreListed (IsFaultBy w (verdicts_by all) p) v.items) (sym faults) h.listed;
     members = λ e.
-        subst (λ (v : Vec (Vec MemberUse)). AreUsesOf w (known_by all) p v.items) (sym members) (h.uses (sym (ap (λ (v : Vec FileFault). v.items) faults) ∙ e));
+        subst (λ (v : Vec (Vec MemberUse)). AreUsesOf w (verdicts_by all) p v.items) (sym members) (h.uses (sym (ap (λ (v : Vec FileFault). v.items) faults) ∙ e));
     qualified = λ e.
-        subst (λ (v : Vec Qualified). AreQualifiedOf w (known_by all) p v.items) (sym qualified)
+        subst (λ (v : Vec Qualified). AreQualifiedOf w (verdicts_by all) p v.items) (sym qualified)
         (h.qualified (sym (ap (λ (v : Vec FileFault). v.items) faults) ∙ e));
   };
-  is_verdict = verdict_found w (known_by all) p j.faults.items j.interface all more fresh h.listed h.has_interface may;
-  elsewhere = elsewhere_by all more p j.interface may;
-  whole = whole_by all more p j.interface whole may;
+  is_verdict = verdict_found w (verdicts_by all) p j.faults.items j.export_data all more fresh h.listed h.has_export_data may;
+  elsewhere = elsewhere_by all more p j.export_data may;
+  whole = whole_by all more p j.export_data whole may;
 }
 
 -- one package further

@@ -7,10 +7,10 @@ use Rattle.types_declared.specs.Stage.{FirstOf}
 use Rattle.go_ast.specs.SourceFile.{source_of}
 use Rattle.types_declared.specs.declared.states.ImportState.{ImportState}
 use Rattle.types_resolve.specs.Stages.{IsOuterFault}
-use Rattle.types_declared.specs.Package.{Package, Interface}
+use Rattle.types_declared.specs.Package.{Package, ExportData}
 use Rattle.workspace_check.specs.declared.fault.FileFault.{FileFault}
 use Rattle.workspace_check.specs.Verdicts.{BuildsOn, Verdict, Verdicts, IsStateOf, is_missing, is_on_cycle, is_faulty, is_good, AreStates, IsSeenAs, seen}
-use Rattle.workspace_check.specs.Verdicts.{unseen, IsPackageIn, IsInnerFault, IsReadFault, IsFaultBy, HasInterface, IsVerdictBy}
+use Rattle.workspace_check.specs.Verdicts.{unseen, IsPackageIn, IsInnerFault, IsReadFault, IsFaultBy, HasExportData, IsVerdictBy}
 use Rattle.workspace_check.specs.Laws.{IsSameVerdict}
 
 -- Both verdict tables agree on all packages that `p` builds on.
@@ -20,7 +20,7 @@ KnowsAlike w p a b = (q : List ℕ) → BuildsOn w p q → IsSameVerdict (a q) (
 pub alike_back : (w : Workspace) (p : List ℕ) (a b : Verdicts) → KnowsAlike w p a b → KnowsAlike w p b a
 alike_back w p a b same q on =
     let s = same q on in
-    record { faulty = sym s.faulty; interface = λ e. sym (s.interface (s.faulty ∙ e)) }
+    record { faulty = sym s.faulty; export_data = λ e. sym (s.export_data (s.faulty ∙ e)) }
 
 pub first_as : (P Q R S : Fault → Type 0) → ((f : Fault) → P f → R f) → ((f : Fault) → R f → P f) → ((f : Fault) → Q f → S f) → (f : Fault) →
     FirstOf P Q f → FirstOf R S f
@@ -39,10 +39,10 @@ module _ (w : Workspace) (p : List ℕ) (a b : Verdicts) (same : KnowsAlike w p 
   states_as : (state : List ℕ → ImportState) → AreStates w a p state → AreStates w b p state
   states_as state h q imports = state_as q (state q) (h q imports)
 
-  seen_as : (q : List ℕ) (n : Option (List ℕ)) (i : Interface) → IsSeenAs w a p q n i → IsSeenAs w b p q n i
+  seen_as : (q : List ℕ) (n : Option (List ℕ)) (i : ExportData) → IsSeenAs w a p q n i → IsSeenAs w b p q n i
   seen_as q _ _ (seen on is) =
       let s = same q on in
-      subst (λ (i : Interface). IsSeenAs w b p q (Some i.name) i) (sym (s.interface is)) (seen on (sym s.faulty ∙ is))
+      subst (λ (i : ExportData). IsSeenAs w b p q (Some i.name) i) (sym (s.export_data is)) (seen on (sym s.faulty ∙ is))
   seen_as q _ _ (unseen none) = unseen (λ on. sym (same q on).faulty ∙ none on)
 
   pub package_as : (c : Package) → IsPackageIn w a p c → IsPackageIn w b p c
@@ -50,8 +50,8 @@ module _ (w : Workspace) (p : List ℕ) (a b : Verdicts) (same : KnowsAlike w p 
     files = h.files;
     parsed = h.parsed;
     name_of = h.name_of;
-    interface_of = h.interface_of;
-    are_seen = λ q. seen_as q (h.name_of q) (h.interface_of q) (h.are_seen q);
+    export_data_of = h.export_data_of;
+    are_seen = λ q. seen_as q (h.name_of q) (h.export_data_of q) (h.are_seen q);
     is_package = h.is_package;
   }
 
@@ -76,8 +76,8 @@ module _ (w : Workspace) (p : List ℕ) (a b : Verdicts) (same : KnowsAlike w p 
   pub fault_as : (f : FileFault) → IsFaultBy w a p f → IsFaultBy w b p f
   fault_as f h = elim h [ inl u ↦ inl u | inr r ↦ inr (read_as f r) ]
 
-  pub interface_as : (i : Interface) → HasInterface w a p i → HasInterface w b p i
-  interface_as i h = record { checked = h.checked; is_package = package_as h.checked h.is_package; is_interface = h.is_interface }
+  pub export_data_as : (i : ExportData) → HasExportData w a p i → HasExportData w b p i
+  export_data_as i h = record { checked = h.checked; is_package = package_as h.checked h.is_package; is_export_data = h.is_export_data }
 
 -- A verdict on `p` by one table is a verdict on `p` by the other.
 pub verdict_as : (w : Workspace) (p : List ℕ) (a b : Verdicts) → KnowsAlike w p a b → (v : Verdict) → IsVerdictBy w a p v → IsVerdictBy w b p v
@@ -86,5 +86,5 @@ verdict_as w p a b same v h = record {
     λ e. let f = h.has_faults.0 e in (f.0, fault_as w p a b same f.0 f.1),
     λ f. h.has_faults.1 (f.0, fault_as w p b a (alike_back w p a b same) f.0 f.1),
   );
-  has_interface = λ e. interface_as w p a b same v.interface (h.has_interface e);
+  has_export_data = λ e. export_data_as w p a b same v.export_data (h.has_export_data e);
 }

@@ -4,7 +4,7 @@ use Rattle.std.specs.Prelude.{Contains}
 use Rattle.base_files.specs.Workspace.{Workspace}
 use Rattle.base_files.specs.Packages.{package_paths}
 use Rattle.workspace_graph.specs.Packages.{PackageImports, IsInClosure, itself, through}
-pub use Rattle.workspace_graph.proofs.Asked.{is_package as from_package}
+pub use Rattle.workspace_graph.proofs.ByPath.{is_package as from_package}
 use Rattle.workspace_check.specs.Verdicts.{BuildsOn}
 
 -- both ends are packages

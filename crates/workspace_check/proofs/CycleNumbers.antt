@@ -8,9 +8,9 @@ use Rattle.std.proofs.lemmas.Option.{same_Some, slice_get_within}
 use Rattle.base_files.specs.Workspace.{Workspace}
 use Rattle.base_files.specs.Packages.{package_paths}
 use Rattle.workspace_graph.specs.Packages.{IsInClosure, itself, through}
-use Rattle.workspace_graph.proofs.Asked.{number, at_contains}
+use Rattle.workspace_graph.proofs.ByPath.{number, at_contains}
 use Rattle.workspace_graph.proofs.PackagePaths.{one_number, paths_sorted}
-use Rattle.workspace_check.specs.Cycles.{HasCycleNumber, AreCycleNumbers, StandBehindImports, TellCycles}
+use Rattle.workspace_check.specs.Cycles.{HasCycleNumber, AreCycleNumbers, ComeAfterImports, DecideCycles}
 use Rattle.workspace_check.proofs.Closed.{from_package, in_closure_then}
 
 -- the own number of each
@@ -45,7 +45,7 @@ renumbered w numbers m given q at_m has are = record {
 -- If each package's cycle number comes later than those of its imports or equals them, an import leads back only where the numbers are
 -- equal.
 
-module _ (w : Workspace) (places numbers : List ℕ) (behind : StandBehindImports w places numbers) where
+module _ (w : Workspace) (places numbers : List ℕ) (behind : ComeAfterImports w places numbers) where
   abbrev place : ℕ → ℕ
   place i = get_or places (get_or numbers i 0) 0
 
@@ -63,7 +63,7 @@ module _ (w : Workspace) (places numbers : List ℕ) (behind : StandBehindImport
         | inr ne ↦ (let less : place m.0 < place i = behind i p at_i m.0 q m.1 imports ne in omega (arith, less, low))
       ]
 
-  pub tell_all : AreCycleNumbers w numbers → TellCycles w numbers
+  pub tell_all : AreCycleNumbers w numbers → DecideCycles w numbers
   tell_all are i j p q lt at_i at_j imports = (
     λ e. (
         let a = are.each i p at_i in

@@ -8,9 +8,9 @@ use Rattle.base_files.specs.Packages.{package_paths}
 use Rattle.base_files.specs.declared.fault_kind.FaultKind.{FaultKind}
 use Rattle.base_files.specs.declared.fault_kind.FaultKind.TheVariants as kind
 use Rattle.workspace_graph.specs.Packages.{PackageImports, itself, through}
-use Rattle.workspace_graph.proofs.Asked.{has_file}
+use Rattle.workspace_graph.proofs.ByPath.{has_file}
 use Rattle.types_declared.specs.declared.states.ImportState.TheVariants.{Missing, OnCycle}
-use Rattle.types_declared.specs.InterfacesView.{no_interface}
+use Rattle.types_declared.specs.ExportTablesView.{no_export_data}
 use Rattle.workspace_check.specs.declared.fault.FileFault.{FileFault}
 use Rattle.workspace_check.specs.Faults.{fault_cmp}
 use Rattle.workspace_check.specs.Verdicts.{BuildsOn, Verdicts, IsStateOf, is_missing, is_on_cycle, IsSeenAs, unseen}
@@ -48,18 +48,18 @@ import_each_other w p q i j on = on.not_back (through j (itself (has_file w p i.
 no_package : (w : Workspace) (known : Verdicts) (p q : List ℕ) → (Contains (package_paths w) q → ⊥) → IsStateOf w known p q Missing
 no_package w known p q none = is_missing none
 
-nothing_seen : (w : Workspace) (known : Verdicts) (p q : List ℕ) → (Contains (package_paths w) q → ⊥) → IsSeenAs w known p q None (no_interface q)
+nothing_seen : (w : Workspace) (known : Verdicts) (p q : List ℕ) → (Contains (package_paths w) q → ⊥) → IsSeenAs w known p q None (no_export_data q)
 nothing_seen w known p q none = unseen (λ on. absurd (none (to_package w p q on.imported)))
 
 -- nor is anything seen of the package itself
-itself_unseen : (w : Workspace) (known : Verdicts) (p : List ℕ) → IsSeenAs w known p p None (no_interface p)
+itself_unseen : (w : Workspace) (known : Verdicts) (p : List ℕ) → IsSeenAs w known p p None (no_export_data p)
 itself_unseen w known p = unseen (λ on. absurd (not_on_itself w p p on refl))
 
 -- a workspace without packages has no fault
 no_packages : (w : Workspace) → package_paths w ≡ [] → ListsFaults w []
 unfolding IsStrictlySortedBy
 no_packages w e = record {
-  known = λ q. record { faulty = true; interface = no_interface q };
+  known = λ q. record { faulty = true; export_data = no_export_data q };
   right = λ p has. absurd (nothing_in p (subst (λ l. Contains l p) e has));
   listed = record {
     in_order = tt;

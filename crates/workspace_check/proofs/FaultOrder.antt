@@ -8,7 +8,7 @@ use Rattle.std.specs.Cmp.Lexicographic.{slice_cmp}
 use Rattle.std.specs.declared.cmp.Ordering.{Ordering}
 use Rattle.std.specs.declared.cmp.Ordering.TheVariants.{Less, Equal, Greater}
 use Rattle.std.proofs.lemmas.Bool.{true≢false}
-use Rattle.base_files.specs.FaultNames.{name_of}
+use Rattle.base_files.specs.FaultNames.{fault_word}
 use Rattle.base_files.specs.Path.{folder}
 use Rattle.base_files.specs.Workspace.{path_cmp}
 use Rattle.base_files.specs.declared.fault_kind.FaultKind.{FaultKind}
@@ -39,7 +39,7 @@ kind_named n =
     if bytes_eq n (codes "loop") then kind.Loop else
     if bytes_eq n (codes "recursive") then kind.Recursive else kind.«Type»
 
-named_kind : (k : FaultKind) → kind_named (name_of k) ≡ k
+named_kind : (k : FaultKind) → kind_named (fault_word k) ≡ k
 unfolding kind_named
 named_kind kind.Encoding = refl
 named_kind kind.Number = refl
@@ -61,7 +61,7 @@ named_kind kind.Loop = refl
 named_kind kind.Recursive = refl
 named_kind kind.«Type» = refl
 
-one_kind : (j k : FaultKind) → name_of j ≡ name_of k → j ≡ k
+one_kind : (j k : FaultKind) → fault_word j ≡ fault_word k → j ≡ k
 one_kind j k e = sym (named_kind j) ∙ ap kind_named e ∙ named_kind k
 
 -- the parts of a comparison
@@ -86,9 +86,9 @@ pub fault_cmp_exact : (f g : FileFault) → fault_cmp f g ≡ Equal → f ≡ g
 fault_cmp_exact f g e =
     let a = both_equal (path_cmp (folder f.place.path) (folder g.place.path)) _ e in
     let b = both_equal (path_cmp f.place.path g.place.path) _ a.1 in
-    let c = both_equal (nat_cmp f.place.offset g.place.offset) (slice_cmp nat_cmp (name_of f.kind) (name_of g.kind)) b.1 in
+    let c = both_equal (nat_cmp f.place.offset g.place.offset) (slice_cmp nat_cmp (fault_word f.kind) (fault_word g.kind)) b.1 in
     same_parts f g (bytes_exact f.place.path g.place.path b.0) (nat_cmp-IsAntisymmetric f.place.offset g.place.offset c.0)
-    (one_kind f.kind g.kind (bytes_exact (name_of f.kind) (name_of g.kind) c.1))
+    (one_kind f.kind g.kind (bytes_exact (fault_word f.kind) (fault_word g.kind) c.1))
 
 pub same_fault : (f g : FileFault) → eq_by_cmp fault_cmp f g ≡ true → f ≡ g
 same_fault f g e = fault_cmp_exact f g ((Equal-is (fault_cmp f g)).0 e)

@@ -8,15 +8,15 @@ use Rattle.std.proofs.lemmas.List.{length-map, length-set, map-append, take_more
 use Rattle.std.proofs.lemmas.Option.{same_Some, slice_get_within, slice_get-map}
 use Rattle.base_files.specs.Workspace.{Workspace}
 use Rattle.base_files.specs.Packages.{package_paths}
-use Rattle.workspace_graph.proofs.Asked.{number}
+use Rattle.workspace_graph.proofs.ByPath.{number}
 use Rattle.types_declared.proofs.Mentioning.{get_set_same, get_set_other}
 use Rattle.workspace_check.specs.declared.finding.Finding.{Finding}
 use Rattle.workspace_check.specs.declared.findings.Findings.{Findings}
 use Rattle.workspace_check.specs.declared.gathered.Gathered.{Gathered}
 use Rattle.workspace_check.specs.Verdicts.{BuildsOn, AreVerdictsBelow, AreVerdicts}
 use Rattle.workspace_check.specs.Found.{AreFindings}
-use Rattle.workspace_check.specs.Told.{known_by, AreWhole, IsFindingOf}
-use Rattle.workspace_check.specs.Steps.{AreKnown, AreGathered, AreAllGathered, AreKnownBelow, IsGathered, IsBuildOrder, KnowsAll, LearnsOf, MayLearn, somes}
+use Rattle.workspace_check.specs.KnownFindings.{verdicts_by, AreNamedEntries, IsFindingOf}
+use Rattle.workspace_check.specs.Steps.{AreKnown, AreGathered, AreAllGathered, AreKnownBelow, IsGathered, IsBuildOrder, KnowsAllFindings, AddsFinding, LearnsIfMissing, somes}
 use Rattle.workspace_check.proofs.Adding.{finding_as}
 use Rattle.workspace_check.proofs.Knowing.{learnt_next}
 use Rattle.workspace_check.proofs.Members.{nothing_in}
@@ -40,14 +40,14 @@ gathered_stays fs n m f within g = elim (cases_eq m n) [
 
 module _ (w : Workspace) (q : List ℕ) (n : ℕ) (old new : Gathered) (at : slice_get (package_paths w) n ≡ Some q) (unknown : IsGathered old.findings.items n → ⊥)
     (below : (r : List ℕ) → BuildsOn w q r → (k : ℕ) × (IsGathered old.findings.items k × (slice_get (package_paths w) k ≡ Some r)))
-    (h : AreGathered w (length (package_paths w)) old) (l : LearnsOf w q n old new) where
+    (h : AreGathered w (length (package_paths w)) old) (l : AddsFinding w q n old new) where
   abbrev fs : List (Option Finding)
   fs = old.findings.items
 
   within : n < length fs
   within = subst (λ k. n < k) (sym h.size) (slice_get_within (package_paths w) n q at)
 
-  right : AreVerdictsBelow w q (known_by old.interfaces)
+  right : AreVerdictsBelow w q (verdicts_by old.export_table)
   right r on = let k = below r on in h.verdicts.right k.0 r k.1.0 k.1.1
 
   each_learnt : (m : ℕ) (r : List ℕ) (f : Finding) → slice_get (package_paths w) m ≡ Some r → slice_get new.findings.items m ≡ Some (Some f) → IsFindingOf w r f
@@ -61,7 +61,7 @@ module _ (w : Workspace) (q : List ℕ) (n : ℕ) (old new : Gathered) (at : sli
             same_Some l.finding f (same_Some (Some l.finding) (Some f) (sym (get_set_same fs n (Some l.finding) within) ∙ here)) in
             let path : q ≡ r = same_Some q r (sym at ∙ subst (λ k. slice_get (package_paths w) k ≡ Some r) e at_m) in
             subst (λ p. IsFindingOf w p f) path (subst (IsFindingOf w q) same
-            (record { known = known_by old.interfaces; right = right; finding = l.learns.is_finding })))
+            (record { known = verdicts_by old.export_table; right = right; finding = l.learns.is_finding })))
         | inr ne ↦ h.each m r f at_m (sym (get_set_other fs n m (Some l.finding) ne) ∙ is_set)
       ]
 
@@ -70,10 +70,10 @@ module _ (w : Workspace) (q : List ℕ) (n : ℕ) (old new : Gathered) (at : sli
       let gs : List (Option Finding) = set fs n (Some l.finding) in
       record {
         size = ap length l.is_set ∙ length-set fs n (Some l.finding) ∙ h.size;
-        verdicts = subst (λ xs. AreKnown w (IsGathered xs) new.interfaces) (sym l.is_set)
+        verdicts = subst (λ xs. AreKnown w (IsGathered xs) new.export_table) (sym l.is_set)
             (learnt_next w (IsGathered fs) (IsGathered gs) n q at (λ m c. gathered_or_here fs n m l.finding c)
             (λ m c. gathered_stays fs n m l.finding within c) (l.finding, get_set_same fs n (Some l.finding) within) unknown
-            old.interfaces new.interfaces h.verdicts l.finding below l.learns);
+            old.export_table new.export_table h.verdicts l.finding below l.learns);
         each = each_learnt;
       }
 
@@ -104,7 +104,7 @@ module _ (w : Workspace) (q : List ℕ) (xs ys : List ℕ) (n : ℕ) (at : slice
     each = λ m c. elim (more_in m c) [ inl before ↦ h.each m before | inr e ↦ subst (IsGathered old.findings.items) e here ];
   }
 
-  pub gathered_next : MayLearn w q n old new → AreAllGathered w ys new
+  pub gathered_next : LearnsIfMissing w q n old new → AreAllGathered w ys new
   gathered_next may = elim may [
     | inl l ↦ record {
       right = learnt_of w q n old new at l.0 known_below h.right l.1;
@@ -116,19 +116,19 @@ module _ (w : Workspace) (q : List ℕ) (xs ys : List ℕ) (n : ℕ) (at : slice
 -- all that one package builds on
 
 pub known_right : (w : Workspace) (p : List ℕ) (all : Gathered) → AreGathered w (length (package_paths w)) all → AreKnownBelow w p all →
-    AreVerdictsBelow w p (known_by all.interfaces)
+    AreVerdictsBelow w p (verdicts_by all.export_table)
 known_right w p all h below q on = let k = below q on in h.verdicts.right k.0 q k.1.0 k.1.1
 
 -- all packages
 
-pub all_known : (w : Workspace) (order : List ℕ) (all : Gathered) → IsBuildOrder w order → AreAllGathered w order all → KnowsAll w all
+pub all_known : (w : Workspace) (order : List ℕ) (all : Gathered) → IsBuildOrder w order → AreAllGathered w order all → KnowsAllFindings w all
 all_known w order all built h = record { right = h.right; each = λ n lt. h.each n ((built.each n).1 lt) }
 
 pub knows_each : (w : Workspace) (all : Gathered) → AreGathered w (length (package_paths w)) all →
-    ((n : ℕ) → n < length all.findings.items → IsGathered all.findings.items n) → KnowsAll w all
+    ((n : ℕ) → n < length all.findings.items → IsGathered all.findings.items n) → KnowsAllFindings w all
 knows_each w all h each = record { right = h; each = λ n lt. each n (subst (λ k. n < k) (sym h.size) lt) }
 
-pub each_there : (w : Workspace) (all : Gathered) → KnowsAll w all → (n : ℕ) → n < length all.findings.items → IsGathered all.findings.items n
+pub each_there : (w : Workspace) (all : Gathered) → KnowsAllFindings w all → (n : ℕ) → n < length all.findings.items → IsGathered all.findings.items n
 each_there w all h n lt = h.each n (subst (λ k. n < k) h.right.size lt)
 
 pub there_next : (found new : List Finding) (f : Finding) (all : List (Option Finding)) (k : ℕ) (o : Option Finding) → somes found ≡ take k all →
@@ -141,19 +141,19 @@ there_at : (found : List Finding) (all : List (Option Finding)) → somes found 
 there_at found all same n f is = ap (λ l. slice_get l n) (sym same) ∙ slice_get-map (λ (x : Finding). Some x) found n ∙
     ap (option_map (λ (x : Finding). Some x)) is
 
-module _ (w : Workspace) (all : Gathered) (h : KnowsAll w all) where
-  all_right : AreVerdicts w (known_by all.interfaces)
+module _ (w : Workspace) (all : Gathered) (h : KnowsAllFindings w all) where
+  all_right : AreVerdicts w (verdicts_by all.export_table)
   all_right p has = let n = number w p has in h.right.verdicts.right n.0 p (h.each n.0 (slice_get_within (package_paths w) n.0 p n.1)) n.1
 
-  pub all_found : (found : Findings) → somes found.packages.items ≡ all.findings.items → found.interfaces ≡ all.interfaces → AreFindings w found
-  all_found found same interfaces =
-      let right : AreVerdicts w (known_by found.interfaces) = subst (λ i. AreVerdicts w (known_by i)) (sym interfaces) all_right in
+  pub all_found : (found : Findings) → somes found.packages.items ≡ all.findings.items → found.export_table ≡ all.export_table → AreFindings w found
+  all_found found same export_table =
+      let right : AreVerdicts w (verdicts_by found.export_table) = subst (λ i. AreVerdicts w (verdicts_by i)) (sym export_table) all_right in
       record {
         size = sym (length-map found.packages.items (λ (f : Finding). Some f)) ∙ ap length same ∙ h.right.size;
         right = right;
         each = λ n p f at is. (
             let g = h.right.each n p f at (there_at found.packages.items all.findings.items same n f is) in
-            finding_as w p g.known (known_by found.interfaces)
-            (right_alike w p g.known (known_by found.interfaces) g.right (right_below w (known_by found.interfaces) right p)) f g.finding);
-        whole = subst AreWhole (sym interfaces) h.right.verdicts.whole;
+            finding_as w p g.known (verdicts_by found.export_table)
+            (right_alike w p g.known (verdicts_by found.export_table) g.right (right_below w (verdicts_by found.export_table) right p)) f g.finding);
+        whole = subst AreNamedEntries (sym export_table) h.right.verdicts.whole;
       }

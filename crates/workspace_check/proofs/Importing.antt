@@ -13,14 +13,14 @@ use Rattle.go_scanner.specs.CutText.{tokens_in, token_at}
 use Rattle.go_scanner.specs.TokenValues.{IsStringClass}
 use Rattle.go_scanner.specs.Tokens.{semicolon}
 use Rattle.types_declared.specs.declared.fault.Fault.{Fault}
-use Rattle.types_declared.specs.Listing.{SomeOf}
+use Rattle.types_declared.specs.Listing.{IsOfSomeItem}
 use Rattle.go_ast.specs.Tree.{Item, Group, single, several, ImportTree, ImportsTree, FileTree}
 use Rattle.go_ast.specs.SourceFile.{SourceFile, FileParts, source_of}
 use Rattle.workspace_graph.specs.FileImports.{paths_in, import_literals}
 use Rattle.workspace_graph.specs.Packages.{ImportsPath, PackageImports}
 use Rattle.workspace_graph.specs.Parsed.{AreParsed}
 use Rattle.types_declared.specs.declared.states.ImportState.{ImportState}
-use Rattle.types_declared.specs.Files.{Ranked, group_items, imports_in, HasLiteral}
+use Rattle.types_declared.specs.Files.{RankedSource, group_items, imports_in, HasLiteral}
 use Rattle.types_resolve.specs.Clauses.{IsClauseFault}
 use Rattle.types_resolve.specs.Imports.{PlacedImport, IsFaultOfImport, placed_imports, IsImportFault}
 use Rattle.types_declared.specs.States.{import_fault}
@@ -101,10 +101,10 @@ import_as state other i f same h = record {
   };
 }
 
-of_file : (state other : List ℕ → ImportState) (r : Ranked) (is : List ImportTree) (rest : List PlacedImport) (f : Fault) →
+of_file : (state other : List ℕ → ImportState) (r : RankedSource) (is : List ImportTree) (rest : List PlacedImport) (f : Fault) →
     ((i : ImportTree) (path : List ℕ) → Contains is i → HasLiteral r.1 i.path path → state path ≡ other path) →
-    (SomeOf (IsFaultOfImport state) rest f → SomeOf (IsFaultOfImport other) rest f) →
-    SomeOf (IsFaultOfImport state) (map (λ i. (r, i)) is ++ rest) f → SomeOf (IsFaultOfImport other) (map (λ i. (r, i)) is ++ rest) f
+    (IsOfSomeItem (IsFaultOfImport state) rest f → IsOfSomeItem (IsFaultOfImport other) rest f) →
+    IsOfSomeItem (IsFaultOfImport state) (map (λ i. (r, i)) is ++ rest) f → IsOfSomeItem (IsFaultOfImport other) (map (λ i. (r, i)) is ++ rest) f
 of_file state other r [] rest f same later h = later h
 of_file state other r (i ∷ is) rest f same later h = elim h [
   | inl one ↦ inl (import_as state other (r, i) f (λ path l. same i path (first_in i is) l) one)
@@ -112,8 +112,8 @@ of_file state other r (i ∷ is) rest f same later h = elim h [
 ]
 
 of_files : (state other : List ℕ → ImportState) (k : ℕ) (files : List SourceFile) (f : Fault) → SameStates state other files →
-    SomeOf (IsFaultOfImport state) (flat_map placed_imports (enumerate_from k files)) f →
-    SomeOf (IsFaultOfImport other) (flat_map placed_imports (enumerate_from k files)) f
+    IsOfSomeItem (IsFaultOfImport state) (flat_map placed_imports (enumerate_from k files)) f →
+    IsOfSomeItem (IsFaultOfImport other) (flat_map placed_imports (enumerate_from k files)) f
 of_files state other k [] f same h = h
 of_files state other k (s ∷ ss) f same h =
     of_file state other (k, s) (imports_in s.tree) (flat_map placed_imports (enumerate_from (k + 1) ss)) f (λ i path c l. same s i path (first_in s ss) c l)

@@ -4,14 +4,14 @@ use Rattle.std.specs.Prelude.{Contains, Option, Some, None, slice_get}
 use Rattle.std.proofs.lemmas.Option.{none-some, same_Some}
 use Rattle.base_files.specs.Workspace.{Workspace}
 use Rattle.base_files.specs.Packages.{package_paths}
-use Rattle.workspace_graph.specs.Graphs.{HoldsPackages}
-use Rattle.workspace_graph.proofs.Asked.{number}
-use Rattle.types_declared.specs.InterfacesView.{name_in, interface_in, no_interface}
-use Rattle.types_declared.specs.declared.interfaces.Interfaces.{Interfaces}
+use Rattle.workspace_graph.specs.Graphs.{ListsPackages}
+use Rattle.workspace_graph.proofs.ByPath.{number}
+use Rattle.types_declared.specs.ExportTablesView.{name_in, export_data_in, no_export_data}
+use Rattle.types_declared.specs.declared.export_tables.ExportTable.{ExportTable}
 use Rattle.workspace_check.specs.declared.finding.Finding.{Finding}
 use Rattle.workspace_check.specs.Verdicts.{BuildsOn, IsSeenAs, unseen}
-use Rattle.workspace_check.specs.Told.{is_unknown, known_by}
-use Rattle.workspace_check.specs.Steps.{AreKnown, IsGathered, IsSeenIn}
+use Rattle.workspace_check.specs.KnownFindings.{is_unknown, verdicts_by}
+use Rattle.workspace_check.specs.Steps.{AreKnown, IsGathered, SeesExactly}
 use Rattle.workspace_check.proofs.Members.{cases_contains}
 use Rattle.workspace_check.proofs.Sharing.{seen_by}
 
@@ -24,7 +24,7 @@ gathered_at fs n (Some None) e =
     inr (λ g. none-some g.0 (same_Some nothing (Some g.0) (sym e ∙ g.1)))
 gathered_at fs n (Some (Some f)) e = inl (f, e)
 
-module _ (w : Workspace) (p : List ℕ) (below : List ℕ) (fs : List (Option Finding)) (all : Interfaces) (holds : HoldsPackages w (BuildsOn w p) below)
+module _ (w : Workspace) (p : List ℕ) (below : List ℕ) (fs : List (Option Finding)) (all : ExportTable) (holds : ListsPackages w (BuildsOn w p) below)
     (known : AreKnown w (IsGathered fs) all) (just : (n : ℕ) → IsGathered fs n → Contains below n) where
   -- a package with a name is one on which p builds
 
@@ -39,11 +39,11 @@ module _ (w : Workspace) (p : List ℕ) (below : List ℕ) (fs : List (Option Fi
     | inr none ↦ absurd (none-some name (sym (known.outside q none) ∙ e))
   ]
 
-  seen_at : (q : List ℕ) (o : Option (List ℕ)) → name_in all q ≡ o → IsSeenAs w (known_by all) p q (name_in all q) (interface_in all q)
-  seen_at q (Some name) e = seen_by w p all all q known.whole (named_below q name e) (record { name = refl; interface = refl }) (Some name) e
+  seen_at : (q : List ℕ) (o : Option (List ℕ)) → name_in all q ≡ o → IsSeenAs w (verdicts_by all) p q (name_in all q) (export_data_in all q)
+  seen_at q (Some name) e = seen_by w p all all q known.whole (named_below q name e) (record { name = refl; export_data = refl }) (Some name) e
   seen_at q None e =
-      subst (λ x. IsSeenAs w (known_by all) p q (name_in all q) x) (sym (known.whole q e))
-      (subst (λ m. IsSeenAs w (known_by all) p q m (no_interface q)) (sym e) (unseen (λ on. ap is_unknown e)))
+      subst (λ x. IsSeenAs w (verdicts_by all) p q (name_in all q) x) (sym (known.whole q e))
+      (subst (λ m. IsSeenAs w (verdicts_by all) p q m (no_export_data q)) (sym e) (unseen (λ on. ap is_unknown e)))
 
-  pub just_seen : IsSeenIn w p all
+  pub just_seen : SeesExactly w p all
   just_seen q = seen_at q (name_in all q) refl

@@ -9,20 +9,20 @@ use Rattle.std.proofs.lemmas.Option.{same_Some}
 use Rattle.base_files.specs.Workspace.{Workspace}
 use Rattle.base_files.specs.Packages.{package_paths, package_files}
 use Rattle.workspace_graph.specs.Search.{IsMarked}
-use Rattle.workspace_graph.proofs.Asked.{number}
+use Rattle.workspace_graph.proofs.ByPath.{number}
 use Rattle.workspace_graph.proofs.PackagePaths.{paths_sorted, one_number}
 use Rattle.types_declared.proofs.Mentioning.{get_set_other}
-use Rattle.types_declared.specs.InterfacesView.{SetsKnown}
-use Rattle.types_declared.specs.declared.interfaces.Interfaces.{Interfaces}
+use Rattle.types_declared.specs.ExportTablesView.{SetsKnown}
+use Rattle.types_declared.specs.declared.export_tables.ExportTable.{ExportTable}
 use Rattle.types_check.specs.Known.{IsKnownAlike}
 use Rattle.workspace_check.specs.declared.finding.Finding.{Finding}
 use Rattle.workspace_check.specs.declared.gathered.Gathered.{Gathered}
 use Rattle.workspace_check.specs.declared.known.KnownVerdict.{KnownVerdict}
 use Rattle.workspace_check.specs.Verdicts.{Verdict, Verdicts, IsVerdictBy, IsVerdict, AreVerdictsBelow, follows}
 use Rattle.workspace_check.specs.Laws.{IsSameVerdict}
-use Rattle.workspace_check.specs.Told.{is_unknown, known_by, verdict_known, IsFinding}
-use Rattle.workspace_check.specs.Steps.{IsGathered, Learns, MayLearn}
-use Rattle.workspace_check.specs.Earlier.{AreTold, HaveSameImports, AreMarkedBelow, StandsWith, WasKnown, AreSteady}
+use Rattle.workspace_check.specs.KnownFindings.{is_unknown, verdicts_by, verdict_from, IsFinding}
+use Rattle.workspace_check.specs.Steps.{IsGathered, LearnsFinding, LearnsIfMissing}
+use Rattle.workspace_check.specs.Earlier.{AreVerdictsByNumber, HaveSameImports, AreMarkedBelow, IsReusableVerdict, KeepsExportData, KeepExportData}
 use Rattle.workspace_check.proofs.Adding.{finding_as}
 use Rattle.workspace_check.proofs.Alike.{KnowsAlike}
 use Rattle.workspace_check.proofs.Alike as alike
@@ -47,45 +47,45 @@ pub verdicts_follow : (v w : Workspace) (p : List ℕ) (a b : Verdicts) (x : Ver
 verdicts_follow v w p a b x same files right also sees h = follows b also (steady_verdict v w same p files a b sees x (verdict_by v p a x right h))
 
 -- what was known of a package is what is known
-was_known : (one : KnownVerdict) (all : Interfaces) (q : List ℕ) → IsKnownAlike one.known all q → verdict_known q one.known ≡ known_by all q
-was_known one all q is = ap₂ verdict_of (ap is_unknown is.name) is.interface
+was_known : (one : KnownVerdict) (all : ExportTable) (q : List ℕ) → IsKnownAlike one.known all q → verdict_from q one.known ≡ verdicts_by all q
+was_known one all q is = ap₂ verdict_of (ap is_unknown is.name) is.export_data
 
-module _ (v w : Workspace) (same : HaveSameImports v w) (verdicts : List (Option KnownVerdict)) (told : AreTold v verdicts) (marks : List Bool)
-    (old : Gathered) (steady : AreSteady w verdicts old marks) where
+module _ (v w : Workspace) (same : HaveSameImports v w) (verdicts : List (Option KnownVerdict)) (told : AreVerdictsByNumber v verdicts) (marks : List Bool)
+    (old : Gathered) (steady : KeepExportData w verdicts old marks) where
   -- the packages that p builds on were known so
-  seen_before : (p : List ℕ) (known : Verdicts) → AreVerdictsBelow v p known → AreMarkedBelow w p marks → KnowsAlike v p known (known_by old.interfaces)
+  seen_before : (p : List ℕ) (known : Verdicts) → AreVerdictsBelow v p known → AreMarkedBelow w p marks → KnowsAlike v p known (verdicts_by old.export_table)
   seen_before p known right below q on =
       let here = builds_by v w same p q on in
       let m = number w q (to_package w p q here.imported) in
       let was = (steady m.0 q m.1 (below m.0 q m.1 here)).1 in
       let then = told m.0 q was.verdict (subst (λ ps. slice_get ps m.0 ≡ Some q) (sym same.paths) m.1) was.was in
-      subst (IsSameVerdict (known q)) (was_known was.verdict old.interfaces q was.alike)
-      (one_verdict v q (known q) (verdict_known q was.verdict.known) (right q on) then.right)
+      subst (IsSameVerdict (known q)) (was_known was.verdict old.export_table q was.alike)
+      (one_verdict v q (known q) (verdict_from q was.verdict.known) (right q on) then.right)
 
-  pub stands_learnt : (p : List ℕ) (one : KnownVerdict) (new : Gathered) → StandsWith v w marks p one →
-      SetsKnown old.interfaces new.interfaces one.finding.path one.known → Learns w p one.finding old.interfaces new.interfaces
+  pub stands_learnt : (p : List ℕ) (one : KnownVerdict) (new : Gathered) → IsReusableVerdict v w marks p one →
+      SetsKnown old.export_table new.export_table one.finding.path one.known → LearnsFinding w p one.finding old.export_table new.export_table
   stands_learnt p one new stands there =
       let f = stands.told.finding in
-      let s : SetsKnown old.interfaces new.interfaces p one.known =
-      subst (λ (q : List ℕ). SetsKnown old.interfaces new.interfaces q one.known) f.finding.has_path there in
+      let s : SetsKnown old.export_table new.export_table p one.known =
+      subst (λ (q : List ℕ). SetsKnown old.export_table new.export_table q one.known) f.finding.has_path there in
       let sees = seen_before p f.known f.right stands.below in
-      let here : verdict_known p one.known ≡ known_by new.interfaces p = verdict_set old.interfaces new.interfaces p one.known s in
+      let here : verdict_from p one.known ≡ verdicts_by new.export_table p = verdict_set old.export_table new.export_table p one.known s in
       record {
-        is_finding = steady_finding v w same p stands.files f.known (known_by old.interfaces) sees one.finding f.finding;
-        is_verdict = subst (IsVerdictBy w (known_by old.interfaces) p) here
-            (steady_verdict v w same p stands.files f.known (known_by old.interfaces) sees (verdict_known p one.known)
-            (verdict_by v p f.known (verdict_known p one.known) f.right stands.told.right));
+        is_finding = steady_finding v w same p stands.files f.known (verdicts_by old.export_table) sees one.finding f.finding;
+        is_verdict = subst (IsVerdictBy w (verdicts_by old.export_table) p) here
+            (steady_verdict v w same p stands.files f.known (verdicts_by old.export_table) sees (verdict_from p one.known)
+            (verdict_by v p f.known (verdict_from p one.known) f.right stands.told.right));
         elsewhere = s.elsewhere;
-        whole = is_whole new.interfaces;
+        whole = is_whole new.export_table;
       }
 
 -- one package further
 
 module _ (w : Workspace) (verdicts : List (Option KnownVerdict)) (n : ℕ) (p : List ℕ) (at : slice_get (package_paths w) n ≡ Some p) (old new : Gathered)
-    (marks : List Bool) (within : n < length marks) (may : MayLearn w p n old new) (steady : AreSteady w verdicts old marks) where
+    (marks : List Bool) (within : n < length marks) (may : LearnsIfMissing w p n old new) (steady : KeepExportData w verdicts old marks) where
   -- what is known of others stays
   still_known : (m : ℕ) (q : List ℕ) → (m ≡ n → ⊥) → slice_get (package_paths w) m ≡ Some q → IsGathered old.findings.items m →
-      WasKnown verdicts old.interfaces m q → IsGathered new.findings.items m × WasKnown verdicts new.interfaces m q
+      KeepsExportData verdicts old.export_table m q → IsGathered new.findings.items m × KeepsExportData verdicts new.export_table m q
   still_known m q other at_m known was = elim may [
     | inl l ↦ (
         let ne : q ≡ p → ⊥ = λ e. other (one_number (package_paths w) (paths_sorted w) m n p (at_m ∙ ap Some e) at) in
@@ -94,27 +94,27 @@ module _ (w : Workspace) (verdicts : List (Option KnownVerdict)) (n : ℕ) (p : 
           record {
             verdict = was.verdict;
             was = was.was;
-            alike = record { name = was.alike.name ∙ sym same.name; interface = was.alike.interface ∙ sym same.interface };
+            alike = record { name = was.alike.name ∙ sym same.name; export_data = was.alike.export_data ∙ sym same.export_data };
           },
         ))
     | inr s ↦ (
       subst (λ (g : Gathered). IsGathered g.findings.items m) (sym s.1) known,
-      subst (λ (g : Gathered). WasKnown verdicts g.interfaces m q) (sym s.1) was,
+      subst (λ (g : Gathered). KeepsExportData verdicts g.export_table m q) (sym s.1) was,
     )
   ]
 
-  pub steady_next : (b : Bool) → (b ≡ true → WasKnown verdicts new.interfaces n p) → IsGathered new.findings.items n → AreSteady w verdicts new (set marks n b)
+  pub steady_next : (b : Bool) → (b ≡ true → KeepsExportData verdicts new.export_table n p) → IsGathered new.findings.items n → KeepExportData w verdicts new (set marks n b)
   steady_next b same here m q at_m marked = elim (cases_eq m n) [
     | inl e ↦ (
         let path : p ≡ q = same_Some p q (sym at ∙ subst (λ k. slice_get (package_paths w) k ≡ Some q) e at_m) in
         let is : b ≡ true = sym (get_or-set_same marks n b false within) ∙ subst (IsMarked (set marks n b)) e marked in
-        subst (λ k. IsGathered new.findings.items k × WasKnown verdicts new.interfaces k q) (sym e)
-        (here, subst (WasKnown verdicts new.interfaces n) path (same is)))
+        subst (λ k. IsGathered new.findings.items k × KeepsExportData verdicts new.export_table k q) (sym e)
+        (here, subst (KeepsExportData verdicts new.export_table n) path (same is)))
     | inr other ↦ (
         let was = steady m q at_m (sym (get_or-set_other marks n m b false other) ∙ marked) in
         still_known m q other at_m was.0 was.1)
   ]
 
 pub none_steady : (w : Workspace) (verdicts : List (Option KnownVerdict)) (all : Gathered) (marks : List Bool) → ((n : ℕ) → IsMarked marks n → ⊥) →
-    AreSteady w verdicts all marks
+    KeepExportData w verdicts all marks
 none_steady w verdicts all marks none m q at marked = absurd (none m marked)

@@ -5,45 +5,45 @@ use Rattle.std.proofs.Math.Path.{ap₂}
 use Rattle.std.proofs.lemmas.Option.{none-some, same_Some}
 use Rattle.base_files.specs.Workspace.{Workspace}
 use Rattle.base_files.specs.Packages.{package_paths}
-use Rattle.workspace_graph.proofs.Asked.{at_contains}
+use Rattle.workspace_graph.proofs.ByPath.{at_contains}
 use Rattle.workspace_graph.proofs.PackagePaths.{paths_sorted, one_number}
 use Rattle.types_declared.specs.States.{state_in}
-use Rattle.types_expr.specs.declared.interfaces.Interface.{Interface as FoundInterface}
+use Rattle.types_expr.specs.declared.exports.ExportData.{ExportData as FoundExportData}
 use Rattle.types_expr.specs.WorldView.{known_at}
-use Rattle.types_declared.specs.Package.{Interface}
-use Rattle.types_declared.specs.InterfacesView.{name_in, known_name, interface_in, interface_known, no_interface, KnowsSame, SetsKnown}
-use Rattle.types_declared.specs.declared.interfaces.Interfaces.{Interfaces}
+use Rattle.types_declared.specs.Package.{ExportData}
+use Rattle.types_declared.specs.ExportTablesView.{name_in, known_name, export_data_in, export_data_known, no_export_data, HasSameEntry, SetsKnown}
+use Rattle.types_declared.specs.declared.export_tables.ExportTable.{ExportTable}
 use Rattle.workspace_check.specs.declared.finding.Finding.{Finding}
 use Rattle.workspace_check.specs.Verdicts.{BuildsOn, Verdict, IsVerdict, follows}
-use Rattle.workspace_check.specs.Told.{is_unknown, known_by, verdict_known, AreWhole}
-use Rattle.workspace_check.specs.Steps.{AreKnown, Learns}
+use Rattle.workspace_check.specs.KnownFindings.{is_unknown, verdicts_by, verdict_from, AreNamedEntries}
+use Rattle.workspace_check.specs.Steps.{AreKnown, LearnsFinding}
 
 -- where the same is known of a path
 
-pub same_known : (all more : Interfaces) → more ≡ all → (q : List ℕ) → KnowsSame all more q
+pub same_known : (all more : ExportTable) → more ≡ all → (q : List ℕ) → HasSameEntry all more q
 same_known all more e q = record {
-  interface = ap (λ i. interface_in i q) e;
+  export_data = ap (λ i. export_data_in i q) e;
   name = ap (λ i. name_in i q) e;
   state =
-      ap (λ (i : Interfaces). state_in i.states q) e;
+      ap (λ (i : ExportTable). state_in i.states q) e;
 }
 
-abbrev pub verdict_of : Bool → Interface → Verdict
-verdict_of faulty interface = record { faulty = faulty; interface = interface }
+abbrev pub verdict_of : Bool → ExportData → Verdict
+verdict_of faulty export_data = record { faulty = faulty; export_data = export_data }
 
-pub verdict_same : (all more : Interfaces) (q : List ℕ) → KnowsSame all more q → known_by all q ≡ known_by more q
-verdict_same all more q same = ap₂ verdict_of (sym (ap is_unknown same.name)) (sym same.interface)
+pub verdict_same : (all more : ExportTable) (q : List ℕ) → HasSameEntry all more q → verdicts_by all q ≡ verdicts_by more q
+verdict_same all more q same = ap₂ verdict_of (sym (ap is_unknown same.name)) (sym same.export_data)
 
 -- where it is set what is known of a package, its verdict is that
-pub verdict_set : (old new : Interfaces) (p : List ℕ) (known : Option FoundInterface) → SetsKnown old new p known → verdict_known p known ≡ known_by new p
-verdict_set old new p known set = ap₂ verdict_of (sym (ap is_unknown set.has_name)) (sym set.has_interface)
+pub verdict_set : (old new : ExportTable) (p : List ℕ) (known : Option FoundExportData) → SetsKnown old new p known → verdict_from p known ≡ verdicts_by new p
+verdict_set old new p known set = ap₂ verdict_of (sym (ap is_unknown set.has_name)) (sym set.has_export_data)
 
 -- where no name is known of a package, nothing is
-unnamed : (p : List ℕ) (known : Option FoundInterface) → known_name known ≡ None → interface_known p known ≡ no_interface p
+unnamed : (p : List ℕ) (known : Option FoundExportData) → known_name known ≡ None → export_data_known p known ≡ no_export_data p
 unnamed p None gone = refl
 unnamed p (Some i) gone = absurd (none-some i.scope.name.items (sym gone))
 
-pub is_whole : (all : Interfaces) → AreWhole all
+pub is_whole : (all : ExportTable) → AreNamedEntries all
 is_whole all q gone = unnamed q (known_at all.definitions q) gone
 
 -- a package that is known is another than one that is not
@@ -52,7 +52,7 @@ pub another : (w : Workspace) (Is : ℕ → Type 0) (n : ℕ) (p : List ℕ) →
 another w Is n p at new_one m r c at_m e = new_one (subst Is (one_number (package_paths w) (paths_sorted w) m n p (at_m ∙ ap Some e) at) c)
 
 -- the same packages are known
-pub known_as : (w : Workspace) (Is So : ℕ → Type 0) (all : Interfaces) → ((m : ℕ) → So m → Is m) → ((m : ℕ) → Is m → So m) → AreKnown w Is all →
+pub known_as : (w : Workspace) (Is So : ℕ → Type 0) (all : ExportTable) → ((m : ℕ) → So m → Is m) → ((m : ℕ) → Is m → So m) → AreKnown w Is all →
     AreKnown w So all
 known_as w Is So all there back h = record {
   right = λ m r c at. h.right m r (there m c) at;
@@ -63,14 +63,14 @@ known_as w Is So all there back h = record {
 
 module _ (w : Workspace) (Is So : ℕ → Type 0) (n : ℕ) (p : List ℕ) (at : slice_get (package_paths w) n ≡ Some p) (more_in : (m : ℕ) → So m → Is m ⊎ (n ≡ m))
     (keeps : (m : ℕ) → Is m → So m) (here : So n) (new_one : Is n → ⊥)
-    (all more : Interfaces) (h : AreKnown w Is all) where
-  module _ (elsewhere : (q : List ℕ) → (q ≡ p → ⊥) → KnowsSame all more q) where
-    right_next : IsVerdict w p (known_by more p) → (m : ℕ) (r : List ℕ) → So m → slice_get (package_paths w) m ≡ Some r → IsVerdict w r (known_by more r)
+    (all more : ExportTable) (h : AreKnown w Is all) where
+  module _ (elsewhere : (q : List ℕ) → (q ≡ p → ⊥) → HasSameEntry all more q) where
+    right_next : IsVerdict w p (verdicts_by more p) → (m : ℕ) (r : List ℕ) → So m → slice_get (package_paths w) m ≡ Some r → IsVerdict w r (verdicts_by more r)
     right_next own m r c at_m = elim (more_in m c) [
       | inl before ↦ subst (IsVerdict w r) (verdict_same all more r (elsewhere r (another w Is n p at new_one m r before at_m))) (h.right m r before at_m)
       | inr e ↦ (
           let path : p ≡ r = same_Some p r (sym at ∙ subst (λ k. slice_get (package_paths w) k ≡ Some r) (sym e) at_m) in
-          subst (λ q. IsVerdict w q (known_by more q)) path own)
+          subst (λ q. IsVerdict w q (verdicts_by more q)) path own)
     ]
 
     fresh_next : (m : ℕ) (r : List ℕ) → (So m → ⊥) → slice_get (package_paths w) m ≡ Some r → name_in more r ≡ None
@@ -82,10 +82,10 @@ module _ (w : Workspace) (Is So : ℕ → Type 0) (n : ℕ) (p : List ℕ) (at :
     outside_next q none = (elsewhere q (λ e. none (subst (Contains (package_paths w)) (sym e) (at_contains w n p at)))).name ∙ h.outside q none
 
     -- one of which the verdict is known now
-    pub known_next : AreWhole more → IsVerdict w p (known_by more p) → AreKnown w So more
+    pub known_next : AreNamedEntries more → IsVerdict w p (verdicts_by more p) → AreKnown w So more
     known_next whole own = record { right = right_next own; fresh = fresh_next; outside = outside_next; whole = whole }
 
   -- one that was judged by what was known of all that it builds on
-  pub learnt_next : (f : Finding) → ((q : List ℕ) → BuildsOn w p q → (k : ℕ) × (Is k × (slice_get (package_paths w) k ≡ Some q))) → Learns w p f all more →
+  pub learnt_next : (f : Finding) → ((q : List ℕ) → BuildsOn w p q → (k : ℕ) × (Is k × (slice_get (package_paths w) k ≡ Some q))) → LearnsFinding w p f all more →
       AreKnown w So more
-  learnt_next f below l = known_next l.elsewhere l.whole (follows (known_by all) (λ q on. (let k = below q on in h.right k.0 q k.1.0 k.1.1)) l.is_verdict)
+  learnt_next f below l = known_next l.elsewhere l.whole (follows (verdicts_by all) (λ q on. (let k = below q on in h.right k.0 q k.1.0 k.1.1)) l.is_verdict)

@@ -7,15 +7,15 @@ use Rattle.std.proofs.lemmas.List.Elements.{Contains-append_left, Contains-appen
 use Rattle.std.proofs.lemmas.Option.{same_Some, none-some, slice_get_within}
 use Rattle.base_files.specs.Workspace.{Workspace}
 use Rattle.base_files.specs.Packages.{package_paths}
-use Rattle.workspace_graph.proofs.Asked.{number, at_contains}
-use Rattle.types_info.proofs.BoundLists.{slice_get_some}
+use Rattle.workspace_graph.proofs.ByPath.{number, at_contains}
+use Rattle.types_info.proofs.MeaningLists.{slice_get_some}
 use Rattle.workspace_check.specs.declared.fault.FileFault.{FileFault}
 use Rattle.workspace_check.specs.declared.finding.Finding.{Finding}
 use Rattle.workspace_check.specs.declared.findings.Findings.{Findings}
 use Rattle.workspace_check.specs.Faults.{fault_cmp}
 use Rattle.workspace_check.specs.FaultLists.{IsFaultOfSome, ListsFaults}
 use Rattle.workspace_check.specs.Found.{AreFindings}
-use Rattle.workspace_check.specs.Told.{known_by}
+use Rattle.workspace_check.specs.KnownFindings.{verdicts_by}
 use Rattle.workspace_check.proofs.Members.{nothing_in}
 
 abbrev pub faults_in : Finding → List FileFault
@@ -37,7 +37,7 @@ one_of g (z ∷ zs) y c = elim (Contains-append_cases (g z) (flat_map g zs) y c)
 ]
 
 module _ (w : Workspace) (found : Findings) (h : AreFindings w found) where
-  listed_of : (f : FileFault) → Contains (flat_map faults_in found.packages.items) f → IsFaultOfSome w (known_by found.interfaces) f
+  listed_of : (f : FileFault) → Contains (flat_map faults_in found.packages.items) f → IsFaultOfSome w (verdicts_by found.export_table) f
   listed_of f c =
       let r = one_of faults_in found.packages.items f c in
       let within : r.0 < length (package_paths w) = subst (λ k. r.0 < k) h.size (slice_get_within found.packages.items r.0 r.1.0 r.1.1.0) in
@@ -45,7 +45,7 @@ module _ (w : Workspace) (found : Findings) (h : AreFindings w found) where
       let is = h.each r.0 p.0 r.1.0 p.1 r.1.1.0 in
       record { path = p.0; is_package = at_contains w r.0 p.0 p.1; is_fault = (is.listed.each f).0 r.1.1.1 }
 
-  of_listed : (f : FileFault) → IsFaultOfSome w (known_by found.interfaces) f → Contains (flat_map faults_in found.packages.items) f
+  of_listed : (f : FileFault) → IsFaultOfSome w (verdicts_by found.export_table) f → Contains (flat_map faults_in found.packages.items) f
   of_listed f s =
       let n = number w s.path s.is_package in
       let within : n.0 < length found.packages.items = subst (λ k. n.0 < k) (sym h.size) (slice_get_within (package_paths w) n.0 s.path n.1) in
@@ -56,7 +56,7 @@ module _ (w : Workspace) (found : Findings) (h : AreFindings w found) where
   pub list_found : (list : List FileFault) → IsStrictlySortedBy fault_cmp list →
       ((f : FileFault) → Contains list f ↔ Contains (flat_map faults_in found.packages.items) f) → ListsFaults w list
   list_found list sorted same = record {
-    known = known_by found.interfaces;
+    known = verdicts_by found.export_table;
     right = h.right;
     listed = record {
       in_order = sorted;

@@ -15,7 +15,7 @@ use Rattle.workspace_check.specs.Verdicts.{follows, AreVerdictsBelow}
 use Rattle.workspace_check.specs.declared.finding.Finding.{Finding}
 use Rattle.workspace_check.specs.declared.known.KnownVerdict.{KnownVerdict}
 use Rattle.workspace_check.specs.FaultLists.{ListsPackageFaults}
-use Rattle.workspace_check.specs.Told.{verdict_known, IsFindingOf, TellsVerdict}
+use Rattle.workspace_check.specs.KnownFindings.{verdict_from, IsFindingOf, IsKnownVerdict}
 use Rattle.workspace_check.specs.Closures.{HasSameClosure}
 use Rattle.workspace_check.proofs.Closed.{from_package, to_package, in_closure_then}
 use Rattle.workspace_check.proofs.Members.{one_sorted}
@@ -142,9 +142,9 @@ local_finding w x p f own same h = record {
   finding = finding_there w x p (stands_there w x p same own) (stands_back w x p same own) h.known f h.finding;
 }
 
-pub told_there : (w x : Workspace) (p : List ℕ) (one : KnownVerdict) → Contains (package_paths w) p → HasSameClosure w x p → TellsVerdict w p one →
-    TellsVerdict x p one
+pub told_there : (w x : Workspace) (p : List ℕ) (one : KnownVerdict) → Contains (package_paths w) p → HasSameClosure w x p → IsKnownVerdict w p one →
+    IsKnownVerdict x p one
 told_there w x p one own same told = record {
-  right = local_verdict w x p (verdict_known p one.known) own same told.right;
+  right = local_verdict w x p (verdict_from p one.known) own same told.right;
   finding = local_finding w x p one.finding own same told.finding;
 }

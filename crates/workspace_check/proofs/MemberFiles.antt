@@ -4,7 +4,7 @@ use Rattle.std.specs.Prelude.{Some, slice_get}
 use Rattle.std.specs.List.{AllByRecursion}
 use Rattle.go_ast.specs.Tree.{Item, FieldTree, BodyTree, Other, Struct, DeclTree, VarDecl, TypeDecl, FuncDecl}
 use Rattle.go_ast.specs.SourceFile.{SourceFile}
-use Rattle.types_declared.specs.Files.{Ranked, ranked, group_items}
+use Rattle.types_declared.specs.Files.{RankedSource, ranked_files, group_items}
 use Rattle.law_tokens.proofs.Elements.{all_append, all_got, all_flat, all_made, all_map, all_numbered}
 use Rattle.types_declared.specs.Package.{Package, PlacedType, PlacedFunction, placed_type, decl_types, decl_functions, types_in, functions_in, package_types}
 use Rattle.types_declared.specs.Package.{package_functions}
@@ -13,7 +13,7 @@ use Rattle.types_declared.specs.Definitions.{PlacedField, body_fields, fields_fr
 -- the files by their ranks
 
 abbrev pub AllRanked : List SourceFile → Type 0
-AllRanked files = AllByRecursion (λ (r : Ranked). r.0 < length files) (ranked files)
+AllRanked files = AllByRecursion (λ (r : RankedSource). r.0 < length files) (ranked_files files)
 
 pub all_ranked : (files : List SourceFile) → AllRanked files
 all_ranked files = all_numbered (length files) 0 files (omega arith)
@@ -53,18 +53,18 @@ module _ (n : ℕ) where
 -- of a whole package
 
 module _ (p : Package) where
-  abbrev Below : Ranked → Type 0
+  abbrev Below : RankedSource → Type 0
   Below r = r.0 < length p.files
 
   all_types : AllByRecursion (λ (t : PlacedType). t.file < length p.files) (package_types p)
   all_types =
       let Q : PlacedType → Type 0 = λ t. t.file < length p.files in
-      all_flat Below Q types_in (λ r lt. all_made Q (decl_types r.0) (types_of (length p.files) r.0 lt) r.1.tree.decls) (ranked p.files) (all_ranked p.files)
+      all_flat Below Q types_in (λ r lt. all_made Q (decl_types r.0) (types_of (length p.files) r.0 lt) r.1.tree.decls) (ranked_files p.files) (all_ranked p.files)
 
   all_functions : AllByRecursion (λ (t : PlacedFunction). t.file < length p.files) (package_functions p)
   all_functions =
       let Q : PlacedFunction → Type 0 = λ t. t.file < length p.files in
-      all_flat Below Q functions_in (λ r lt. all_made Q (decl_functions r.0) (functions_of (length p.files) r.0 lt) r.1.tree.decls) (ranked p.files)
+      all_flat Below Q functions_in (λ r lt. all_made Q (decl_functions r.0) (functions_of (length p.files) r.0 lt) r.1.tree.decls) (ranked_files p.files)
       (all_ranked p.files)
 
   pub type_file : (rank : ℕ) (t : PlacedType) → slice_get (package_types p) rank ≡ Some t → t.file < length p.files

@@ -6,7 +6,7 @@ use Rattle.base_files.specs.Workspace.{Workspace}
 use Rattle.base_files.specs.Packages.{package_paths}
 use Rattle.workspace_check.specs.declared.fault.FileFault.{FileFault}
 use Rattle.workspace_check.specs.Faults.{fault_cmp_total}
-use Rattle.workspace_check.specs.Verdicts.{Verdicts, IsFaultBy, HasInterface, AreVerdictsBelow, AreVerdicts}
+use Rattle.workspace_check.specs.Verdicts.{Verdicts, IsFaultBy, HasExportData, AreVerdictsBelow, AreVerdicts}
 use Rattle.workspace_check.specs.FaultLists.{AreListed, IsFaultOfSome, ListsPackageFaults, ListsFaults}
 use Rattle.workspace_check.proofs.Alike.{fault_as}
 use Rattle.workspace_check.proofs.Members.{nothing_in, one_sorted}
@@ -52,5 +52,5 @@ is_faultless w h p has = elim (cases_Bool (h.known p).faulty) [
   | inr e ↦ e
 ]
 
-pub checked_package : (w : Workspace) (h : ListsFaults w []) (p : List ℕ) → Contains (package_paths w) p → HasInterface w h.known p (h.known p).interface
-checked_package w h p has = (verdict_by w p h.known (h.known p) (right_below w h.known h.right p) (h.right p has)).has_interface (is_faultless w h p has)
+pub checked_package : (w : Workspace) (h : ListsFaults w []) (p : List ℕ) → Contains (package_paths w) p → HasExportData w h.known p (h.known p).export_data
+checked_package w h p has = (verdict_by w p h.known (h.known p) (right_below w h.known h.right p) (h.right p has)).has_export_data (is_faultless w h p has)

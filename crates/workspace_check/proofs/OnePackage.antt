@@ -12,8 +12,8 @@ use Rattle.workspace_graph.specs.Parsed.{AreParsed, none, tree, fault}
 use Rattle.workspace_graph.proofs.OneFile.{one_file, file_or_fault}
 use Rattle.go_scope.specs.FileSites.{SpelledFile, package_sites}
 use Rattle.go_scope.specs.Named.{named_sites}
-use Rattle.go_scope.specs.Parsed.{spelled_file}
-use Rattle.go_scope.specs.Scoped.{ScopedPackage, layout_in}
+use Rattle.go_scope.specs.SpelledFiles.{spelled_file}
+use Rattle.go_scope.specs.Packages.{ScopedPackage, layout_in}
 use Rattle.go_scope.specs.Site.{Site, sites_layout, sites_names}
 use Rattle.go_scope.specs.Trees.{AreRising, IsNumbered, AreNumbered}
 use Rattle.go_scope.specs.WellFormed.{WellFormed}
@@ -22,16 +22,16 @@ use Rattle.go_scope.proofs.NamedSites.{named_well_formed, package_level}
 use Rattle.go_scope.proofs.PackageRegions.{package_well_formed}
 use Rattle.types_declared.specs.PackageNames.{ArePackageNames}
 use Rattle.types_declared.specs.Laid.{Laid}
-use Rattle.types_declared.specs.Package.{Package, Interface, Export, PlacedType, package_types}
-use Rattle.types_check.specs.Interfaces.{IsExport, IsExported, IsInterface}
-use Rattle.types_info.specs.Uniqueness.{AreInOrder}
+use Rattle.types_declared.specs.Package.{Package, ExportData, Export, PlacedType, package_types}
+use Rattle.types_check.specs.Exports.{IsExport, IsExported, IsExportData}
+use Rattle.types_info.specs.Uniqueness.{TokensRise}
 use Rattle.types_info.specs.PackageOf.{IsPackageOf, package_in}
 use Rattle.types_check.proofs.ExportParts.{one_export}
 use Rattle.types_check.proofs.OneLaid.{one_package}
-use Rattle.types_info.proofs.OneMeaning.{one_meaning, one_found}
+use Rattle.types_info.proofs.OneMeaning.{has_one_meaning, one_found}
 use Rattle.types_info.proofs.OneWorld.{one_definition}
 use Rattle.workspace_check.specs.Verdicts.{Verdicts, IsPackageIn}
-use Rattle.workspace_check.proofs.OneSeen.{one_names, one_interfaces}
+use Rattle.workspace_check.proofs.OneSeen.{one_names, one_export_table}
 
 -- the files of a package
 
@@ -72,9 +72,9 @@ same_sites ts us e = ap package_sites (spelled_as ts ∙ ap (map spelled) e ∙ 
 abbrev pub laid_by : List Site → Laid
 laid_by sites = record { layout = sites_layout sites; names = sites_names sites; size = length sites }
 
-pub package_from : (p : List ℕ) (ts us : List FileParts) (name_of : List ℕ → Option (List ℕ)) (interface_of : List ℕ → Interface) (c : Package) →
-    map source_of ts ≡ map source_of us → IsPackageOf p ts name_of interface_of c → IsPackageOf p us name_of interface_of c
-package_from p ts us name_of interface_of c e h =
+pub package_from : (p : List ℕ) (ts us : List FileParts) (name_of : List ℕ → Option (List ℕ)) (export_data_of : List ℕ → ExportData) (c : Package) →
+    map source_of ts ≡ map source_of us → IsPackageOf p ts name_of export_data_of c → IsPackageOf p us name_of export_data_of c
+package_from p ts us name_of export_data_of c e h =
     let sites = same_sites ts us e in
     let names = h.is_laid.names in
     record {
@@ -88,19 +88,19 @@ package_from p ts us name_of interface_of c e h =
             ap (λ (l : ScopedPackage). record { files = us; sites = l.sites }) h.is_laid.is_named
             ∙ ap (λ s. record { files = us; sites = named_sites names s }) sites;
       };
-      is_package = h.is_package ∙ ap (λ ss. package_in p ss (record { files = us; sites = h.laid.sites }) interface_of) e;
+      is_package = h.is_package ∙ ap (λ ss. package_in p ss (record { files = us; sites = h.laid.sites }) export_data_of) e;
     }
 
 -- one package
 
 pub one_checked : (w : Workspace) (known : Verdicts) (p : List ℕ) (c d : Package) → IsPackageIn w known p c → IsPackageIn w known p d → c ≡ d
 one_checked w known p c d a b =
-    let names = one_names w known p b.name_of a.name_of b.interface_of a.interface_of b.are_seen a.are_seen in
-    let interfaces = one_interfaces w known p b.name_of a.name_of b.interface_of a.interface_of b.are_seen a.are_seen in
-    let by_names : IsPackageOf p b.files a.name_of b.interface_of d = subst (λ n. IsPackageOf p b.files n b.interface_of d) names b.is_package in
-    let by_both : IsPackageOf p b.files a.name_of a.interface_of d = subst (λ i. IsPackageOf p b.files a.name_of i d) interfaces by_names in
-    one_package p a.files a.name_of a.interface_of c d a.is_package
-    (package_from p b.files a.files a.name_of a.interface_of d (one_sources b.parsed a.parsed) by_both)
+    let names = one_names w known p b.name_of a.name_of b.export_data_of a.export_data_of b.are_seen a.are_seen in
+    let export_table = one_export_table w known p b.name_of a.name_of b.export_data_of a.export_data_of b.are_seen a.are_seen in
+    let by_names : IsPackageOf p b.files a.name_of b.export_data_of d = subst (λ n. IsPackageOf p b.files n b.export_data_of d) names b.is_package in
+    let by_both : IsPackageOf p b.files a.name_of a.export_data_of d = subst (λ i. IsPackageOf p b.files a.name_of i d) export_table by_names in
+    one_package p a.files a.name_of a.export_data_of c d a.is_package
+    (package_from p b.files a.files a.name_of a.export_data_of d (one_sources b.parsed a.parsed) by_both)
 
 -- its layout is well-formed, and the tokens of its files are in order
 
@@ -115,10 +115,10 @@ layout_formed w known p c h =
     let is : c.layout ≡ sites_layout (named_sites names sites) = ap (λ (x : Package). x.layout) own.is_package ∙ ap layout_in own.is_laid.is_named in
     subst WellFormed (sym is) laid
 
-pub files_in_order : (w : Workspace) (known : Verdicts) (p : List ℕ) (c : Package) → IsPackageIn w known p c → AreInOrder c.files
+pub files_in_order : (w : Workspace) (known : Verdicts) (p : List ℕ) (c : Package) → IsPackageIn w known p c → TokensRise c.files
 files_in_order w known p c h =
     let is : c.files ≡ map source_of h.files = ap (λ (x : Package). x.files) h.is_package.is_package in
-    subst AreInOrder (sym is) (in_order h.parsed)
+    subst TokensRise (sym is) (in_order h.parsed)
 
 -- one interface
 
@@ -127,20 +127,20 @@ exported_match : (p : Package) (name : List ℕ) (o : Option Export) → IsExpor
 exported_match p name None h = h
 exported_match p name (Some e) h = h
 
-one_exported : (p : Package) → WellFormed p.layout → AreInOrder p.files → (name : List ℕ) (o u : Option Export) → IsExported p name o →
+one_exported : (p : Package) → WellFormed p.layout → TokensRise p.files → (name : List ℕ) (o u : Option Export) → IsExported p name o →
     IsExported p name u → o ≡ u
 one_exported p formed rising name o u a b =
-    one_found (IsExport p name) (one_export p (one_meaning p formed rising) name) o u (exported_match p name o a) (exported_match p name u b)
+    one_found (IsExport p name) (one_export p (has_one_meaning p formed rising) name) o u (exported_match p name o a) (exported_match p name u b)
 
-one_defined : (p : Package) → WellFormed p.layout → (i j : Interface) → IsInterface p i → IsInterface p j → (rank : ℕ) (o : Option PlacedType) →
+one_defined : (p : Package) → WellFormed p.layout → (i j : ExportData) → IsExportData p i → IsExportData p j → (rank : ℕ) (o : Option PlacedType) →
     slice_get (package_types p) rank ≡ o →
     i.definition rank ≡ j.definition rank
 one_defined p formed i j a b rank None e = a.beyond rank e ∙ sym (b.beyond rank e)
 one_defined p formed i j a b rank (Some d) e = one_definition p formed rank (i.definition rank) (j.definition rank) (a.definitions rank d e)
     (b.definitions rank d e)
 
-pub one_interface : (p : Package) → WellFormed p.layout → AreInOrder p.files → (i j : Interface) → IsInterface p i → IsInterface p j → i ≡ j
-one_interface p formed rising i j a b =
+pub one_export_data : (p : Package) → WellFormed p.layout → TokensRise p.files → (i j : ExportData) → IsExportData p i → IsExportData p j → i ≡ j
+one_export_data p formed rising i j a b =
     ap (λ n. record { name = n; exported = i.exported; definition = i.definition }) (a.name ∙ sym b.name) ∙
     ap (λ x. record { name = j.name; exported = x; definition = i.definition })
     (fun_ext (λ name. one_exported p formed rising name (i.exported name) (j.exported name) (a.exported name) (b.exported name))) ∙

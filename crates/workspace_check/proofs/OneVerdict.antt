@@ -1,30 +1,30 @@
 -- A package has one verdict at most.
 use Rattle.std.proofs.Common.{ℕ, ◌≡◌, Bool, true, false, List, refl, sym, subst, ◌∙◌}
 use Rattle.base_files.specs.Workspace.{Workspace}
-use Rattle.types_declared.specs.Package.{Package, Interface}
-use Rattle.types_check.specs.Interfaces.{IsInterface}
+use Rattle.types_declared.specs.Package.{Package, ExportData}
+use Rattle.types_check.specs.Exports.{IsExportData}
 use Rattle.workspace_check.specs.declared.fault.FileFault.{FileFault}
-use Rattle.workspace_check.specs.Verdicts.{Verdict, Verdicts, IsPackageIn, IsFaultBy, HasInterface, IsVerdictBy, IsVerdict, follows, AreVerdictsBelow, AreVerdicts}
+use Rattle.workspace_check.specs.Verdicts.{Verdict, Verdicts, IsPackageIn, IsFaultBy, HasExportData, IsVerdictBy, IsVerdict, follows, AreVerdictsBelow, AreVerdicts}
 use Rattle.workspace_check.specs.Laws.{IsSameVerdict}
 use Rattle.workspace_check.proofs.Alike.{KnowsAlike, package_as, verdict_as}
 use Rattle.workspace_check.proofs.Closed.{to_package}
-use Rattle.workspace_check.proofs.OnePackage.{one_checked, layout_formed, files_in_order, one_interface}
+use Rattle.workspace_check.proofs.OnePackage.{one_checked, layout_formed, files_in_order, one_export_data}
 
 same_tests : (s t : Bool) → (s ≡ true → t ≡ true) → (t ≡ true → s ≡ true) → s ≡ t
 same_tests true t f g = sym (f refl)
 same_tests false true f g = g refl
 same_tests false false f g = refl
 
-same_interface : (w : Workspace) (known : Verdicts) (p : List ℕ) (i j : Interface) → HasInterface w known p i → HasInterface w known p j → i ≡ j
-same_interface w known p i j a b =
+same_export_data : (w : Workspace) (known : Verdicts) (p : List ℕ) (i j : ExportData) → HasExportData w known p i → HasExportData w known p j → i ≡ j
+same_export_data w known p i j a b =
     let same : b.checked ≡ a.checked = one_checked w known p b.checked a.checked b.is_package a.is_package in
-    one_interface a.checked (layout_formed w known p a.checked a.is_package) (files_in_order w known p a.checked a.is_package) i j a.is_interface
-    (subst (λ c. IsInterface c j) same b.is_interface)
+    one_export_data a.checked (layout_formed w known p a.checked a.is_package) (files_in_order w known p a.checked a.is_package) i j a.is_export_data
+    (subst (λ c. IsExportData c j) same b.is_export_data)
 
 same_by : (w : Workspace) (known : Verdicts) (p : List ℕ) (v u : Verdict) → IsVerdictBy w known p v → IsVerdictBy w known p u → IsSameVerdict v u
 same_by w known p v u a b =
     let tests : v.faulty ≡ u.faulty = same_tests v.faulty u.faulty (λ e. b.has_faults.1 (a.has_faults.0 e)) (λ e. a.has_faults.1 (b.has_faults.0 e)) in
-    record { faulty = tests; interface = λ e. same_interface w known p v.interface u.interface (a.has_interface e) (b.has_interface (sym tests ∙ e)) }
+    record { faulty = tests; export_data = λ e. same_export_data w known p v.export_data u.export_data (a.has_export_data e) (b.has_export_data (sym tests ∙ e)) }
 
 pub one_verdict : (w : Workspace) (p : List ℕ) (v u : Verdict) → IsVerdict w p v → IsVerdict w p u → IsSameVerdict v u
 one_verdict w p v u (follows a below by) (follows b under so) =

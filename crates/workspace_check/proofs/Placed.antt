@@ -7,7 +7,7 @@ use Rattle.types_declared.specs.declared.fault.Fault.{Fault}
 use Rattle.go_ast.specs.SourceFile.{SourceFile, FileParts, source_of, offset_of}
 use Rattle.workspace_check.specs.declared.fault.FileFault.{FileFault}
 use Rattle.workspace_check.specs.Faults.{placed_in}
-use Rattle.workspace_check.specs.Steps.{IsPlacedAs, IsPlacedOf, AddsPlaced}
+use Rattle.workspace_check.specs.Steps.{IsPlacedFault, IsSomePlacedFault, AddsPlaced}
 use Rattle.workspace_check.proofs.Members.{nothing_in, taken_or_next, still_taken, next_taken}
 
 -- one fault
@@ -42,15 +42,15 @@ placed_here files x file old new y at is e f =
 -- those that were passed
 
 pub none_placed : (files : List FileParts) (faults : List Fault) (found : List FileFault) → faults ≡ [] → found ≡ [] → (f : FileFault) →
-    Contains found f ↔ IsPlacedOf files faults f
+    Contains found f ↔ IsSomePlacedFault files faults f
 none_placed files faults found none empty f = (
   λ c. absurd (nothing_in f (subst (λ l. Contains l f) empty c)),
   λ h. absurd (nothing_in h.fault (subst (λ l. Contains l h.fault) none h.among)),
 )
 
 pub next_placed : (files : List FileParts) (faults : List Fault) (k : ℕ) (d x : Fault) → k < length faults → x ≡ get_or faults k d →
-    (old new : List FileFault) → ((f : FileFault) → Contains old f ↔ IsPlacedOf files (take k faults) f) →
-    AddsPlaced files x old new → (f : FileFault) → Contains new f ↔ IsPlacedOf files (take (k + 1) faults) f
+    (old new : List FileFault) → ((f : FileFault) → Contains old f ↔ IsSomePlacedFault files (take k faults) f) →
+    AddsPlaced files x old new → (f : FileFault) → Contains new f ↔ IsSomePlacedFault files (take (k + 1) faults) f
 next_placed files faults k d x lt is old new before adds f = (
   λ c. elim ((adds f).0 c) [
     | inl o ↦ (let p = (before f).0 o in record { fault = p.fault; among = still_taken faults k d p.fault lt p.among; is_placed = p.is_placed })
@@ -58,6 +58,6 @@ next_placed files faults k d x lt is old new before adds f = (
   ],
   λ h. (adds f).1 (elim (taken_or_next faults k d h.fault lt h.among) [
     | inl c ↦ inl ((before f).1 (record { fault = h.fault; among = c; is_placed = h.is_placed }))
-    | inr e ↦ inr (subst (λ z. IsPlacedAs files z f) (sym (is ∙ e)) h.is_placed)
+    | inr e ↦ inr (subst (λ z. IsPlacedFault files z f) (sym (is ∙ e)) h.is_placed)
   ]),
 )

@@ -9,8 +9,8 @@ use Rattle.base_files.specs.Workspace.{Workspace, path_cmp}
 use Rattle.base_files.specs.Packages.{package_paths}
 use Rattle.base_files.proofs.WorkspaceLaws.{path_cmp_total}
 use Rattle.workspace_graph.proofs.PackagePaths.{paths_sorted}
-use Rattle.types_declared.specs.InterfacesView.{IsBehindAll}
-use Rattle.types_declared.specs.declared.interfaces.Interfaces.{Interfaces}
+use Rattle.types_declared.specs.ExportTablesView.{ComesAfterAll}
+use Rattle.types_declared.specs.declared.export_tables.ExportTable.{ExportTable}
 
 pub later_path : (w : Workspace) (n m : ℕ) (p q : List ℕ) → slice_get (package_paths w) n ≡ Some p → slice_get (package_paths w) m ≡ Some q → n < m →
     path_cmp q p ≡ Greater
@@ -22,5 +22,5 @@ later_path w n m p q at_n at_m lt =
     (subst (λ y. path_cmp (get_or ks n []) y ≡ Less) (get_or_from_slice_get ks m q [] at_m) less))
 
 -- each package above those of some numbers has a path behind all that are held
-abbrev pub StandBefore : Workspace → (ℕ → Type 0) → Interfaces → Type 0
-StandBefore w Is i = (m : ℕ) (q : List ℕ) → slice_get (package_paths w) m ≡ Some q → ((n : ℕ) → Is n → n < m) → IsBehindAll i q
+abbrev pub StandBefore : Workspace → (ℕ → Type 0) → ExportTable → Type 0
+StandBefore w Is i = (m : ℕ) (q : List ℕ) → slice_get (package_paths w) m ≡ Some q → ((n : ℕ) → Is n → n < m) → ComesAfterAll i q

@@ -8,7 +8,7 @@ use Rattle.go_ast.specs.SourceFile.{FileParts, source_of}
 use Rattle.workspace_graph.specs.Imports.{Links}
 use Rattle.workspace_graph.specs.Packages.{IsParsed, AreLinksOf, IsInClosure, itself, through}
 use Rattle.workspace_graph.specs.Parsed.{AreParsed, none, tree}
-use Rattle.workspace_graph.proofs.Asked.{has_file, number}
+use Rattle.workspace_graph.proofs.ByPath.{has_file, number}
 use Rattle.workspace_check.specs.Verdicts.{BuildsOn}
 use Rattle.workspace_check.specs.Earlier.{HaveSameImports, tree_file}
 use Rattle.workspace_check.proofs.Closed.{from_package}

@@ -16,12 +16,12 @@ use Rattle.std.proofs.lemmas.Map.Made.{length-le_from_is_member, is_member-Decid
 use Rattle.std.proofs.lemmas.Option.{same_Some, get_or_from_slice_get, slice_get-get_or, slice_get_within}
 use Rattle.base_files.specs.Workspace.{Workspace}
 use Rattle.base_files.specs.Packages.{package_paths}
-use Rattle.workspace_graph.specs.Imports.{Links, HoldsBelow}
+use Rattle.workspace_graph.specs.Imports.{Links, ListsBelow}
 use Rattle.workspace_graph.specs.Orders.{IsOrder}
 use Rattle.workspace_graph.specs.Packages.{AreLinksOf, IsInClosure, itself}
-use Rattle.workspace_graph.proofs.Asked.{number, reaches_are}
+use Rattle.workspace_graph.proofs.ByPath.{number, reaches_are}
 use Rattle.workspace_check.specs.Verdicts.{BuildsOn}
-use Rattle.workspace_check.specs.Steps.{IsSize, AreSizes, IsBuildOrder}
+use Rattle.workspace_check.specs.Steps.{IsClosureSize, AreClosureSizes, IsBuildOrder}
 use Rattle.workspace_check.proofs.Closed.{from_package, in_closure_then}
 use Rattle.workspace_check.proofs.Members.{first_or_later}
 
@@ -33,7 +33,7 @@ distinct_rising xs up =
 
 -- fewer
 
-fewer : (w : Workspace) (p q : List ℕ) (a b : ℕ) → BuildsOn w p q → IsSize w p a → IsSize w q b → b < a
+fewer : (w : Workspace) (p q : List ℕ) (a b : ℕ) → BuildsOn w p q → IsClosureSize w p a → IsClosureSize w q b → b < a
 fewer w p q a b on hp hq =
     let own = from_package w p q on.imported in
     let n = number w p own in
@@ -65,8 +65,8 @@ same_place xs d i j n a b = elim (cases_order i j) [
   | inr o ↦ elim o [ inl lt ↦ absurd (one_place xs d i j n a b lt) | inr gt ↦ absurd (one_place xs d j i n b a gt) ]
 ]
 
-pub order_is : (w : Workspace) (count : ℕ) (sizes list order : List ℕ) → count ≡ length (package_paths w) → AreSizes w (length (package_paths w)) sizes →
-    HoldsBelow (λ n. Unit {0}) count list → IsPermutation list order →
+pub order_is : (w : Workspace) (count : ℕ) (sizes list order : List ℕ) → count ≡ length (package_paths w) → AreClosureSizes w (length (package_paths w)) sizes →
+    ListsBelow (λ n. Unit {0}) count list → IsPermutation list order →
     IsNonDecreasingBy (λ n. get_or sizes n 0) order → IsBuildOrder w order
 order_is w count sizes list order all sized held moved sorted =
     let back = IsPermutation-sym list order moved in
@@ -104,20 +104,20 @@ order_is w count sizes list order all sized held moved sorted =
     }
 
 -- one size more
-pub next_size : (w : Workspace) (old new : List ℕ) (n size : ℕ) → new ≡ old ++ size ∷ [] → AreSizes w n old →
-    ((p : List ℕ) → slice_get (package_paths w) n ≡ Some p → IsSize w p size) → AreSizes w (n + 1) new
+pub next_size : (w : Workspace) (old new : List ℕ) (n size : ℕ) → new ≡ old ++ size ∷ [] → AreClosureSizes w n old →
+    ((p : List ℕ) → slice_get (package_paths w) n ≡ Some p → IsClosureSize w p size) → AreClosureSizes w (n + 1) new
 next_size w old new n size e h here =
     let long = length_push old size in
     let sized : length old ≡ n = h.size in
     record {
       size = ap length e ∙ (let l : length (old ++ size ∷ []) ≡ n + 1 = omega arith in l);
-      each = λ i p lt at. subst (λ l. IsSize w p (get_or l i 0)) (sym e) (elim (cases_lt i n) [
-        | inl before ↦ subst (IsSize w p) (sym (get_or_append_left old (size ∷ []) 0 i (let less : i < length old = omega arith in less)))
+      each = λ i p lt at. subst (λ l. IsClosureSize w p (get_or l i 0)) (sym e) (elim (cases_lt i n) [
+        | inl before ↦ subst (IsClosureSize w p) (sym (get_or_append_left old (size ∷ []) 0 i (let less : i < length old = omega arith in less)))
             (h.each i p before at)
         | inr after ↦ (
             let is : n ≡ i = omega arith in
             let last : get_or (old ++ size ∷ []) i 0 ≡ size = get_or_push old size 0 i (sized ∙ is) in
-            subst (IsSize w p) (sym last) (here p (subst (λ k. slice_get (package_paths w) k ≡ Some p) (sym is) at)))
+            subst (IsClosureSize w p) (sym last) (here p (subst (λ k. slice_get (package_paths w) k ≡ Some p) (sym is) at)))
       ]);
     }
 

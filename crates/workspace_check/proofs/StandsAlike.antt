@@ -10,13 +10,13 @@ use Rattle.workspace_graph.specs.Parsed.{AreParsed}
 use Rattle.workspace_graph.proofs.ChangedPackages.{moved as imports_by}
 use Rattle.types_declared.specs.declared.states.ImportState.{ImportState}
 use Rattle.types_resolve.specs.Stages.{IsOuterFault}
-use Rattle.types_declared.specs.Package.{Package, Interface}
+use Rattle.types_declared.specs.Package.{Package, ExportData}
 use Rattle.workspace_check.specs.declared.fault.FileFault.{FileFault}
 use Rattle.workspace_check.specs.Verdicts.{BuildsOn, Verdict, Verdicts, IsStateOf, is_missing, is_on_cycle, is_faulty, is_good, AreStates, IsSeenAs, seen}
-use Rattle.workspace_check.specs.Verdicts.{unseen, IsPackageIn, IsUnreadFault, IsInnerFault, IsReadFault, IsFaultBy, HasInterface, IsVerdictBy}
+use Rattle.workspace_check.specs.Verdicts.{unseen, IsPackageIn, IsUnreadFault, IsInnerFault, IsReadFault, IsFaultBy, HasExportData, IsVerdictBy}
 use Rattle.workspace_check.specs.declared.finding.Finding.{Finding}
 use Rattle.workspace_check.specs.FaultLists.{AreListed}
-use Rattle.workspace_check.specs.Told.{IsFinding}
+use Rattle.workspace_check.specs.KnownFindings.{IsFinding}
 use Rattle.workspace_check.proofs.Alike.{first_as}
 
 -- `p` has equal files in both workspaces, and each state of a path that it imports in `w` is one in `x`.
@@ -40,7 +40,7 @@ module _ (w x : Workspace) (p : List ℕ) (stands : StandsAlike w x p) (known : 
   states_there : (state : List ℕ → ImportState) → AreStates w known p state → AreStates x known p state
   states_there state h q i = state_there q (state q) (imports_here q i) (h q (imports_here q i))
 
-  seen_there : (q : List ℕ) (n : Option (List ℕ)) (i : Interface) → IsSeenAs w known p q n i → IsSeenAs x known p q n i
+  seen_there : (q : List ℕ) (n : Option (List ℕ)) (i : ExportData) → IsSeenAs w known p q n i → IsSeenAs x known p q n i
   seen_there q _ _ (seen on is) = seen (stands.builds q on) is
   seen_there q _ _ (unseen none) = unseen (λ on. none (stands.back q on))
 
@@ -49,8 +49,8 @@ module _ (w x : Workspace) (p : List ℕ) (stands : StandsAlike w x p) (known : 
     files = h.files;
     parsed = subst (λ es. AreParsed es h.files []) stands.files h.parsed;
     name_of = h.name_of;
-    interface_of = h.interface_of;
-    are_seen = λ q. seen_there q (h.name_of q) (h.interface_of q) (h.are_seen q);
+    export_data_of = h.export_data_of;
+    are_seen = λ q. seen_there q (h.name_of q) (h.export_data_of q) (h.are_seen q);
     is_package = h.is_package;
   }
 
@@ -85,8 +85,8 @@ module _ (w x : Workspace) (p : List ℕ) (stands : StandsAlike w x p) (known : 
   pub fault_there : (f : FileFault) → IsFaultBy w known p f → IsFaultBy x known p f
   fault_there f h = elim h [ inl u ↦ inl (unread_there f u) | inr r ↦ inr (read_there f r) ]
 
-  interface_there : (i : Interface) → HasInterface w known p i → HasInterface x known p i
-  interface_there i h = record { checked = h.checked; is_package = package_there h.checked h.is_package; is_interface = h.is_interface }
+  export_data_there : (i : ExportData) → HasExportData w known p i → HasExportData x known p i
+  export_data_there i h = record { checked = h.checked; is_package = package_there h.checked h.is_package; is_export_data = h.is_export_data }
 
 module _ (w x : Workspace) (p : List ℕ) (there : StandsAlike w x p) (here : StandsAlike x w p) (known : Verdicts) where
   pub by_there : (v : Verdict) → IsVerdictBy w known p v → IsVerdictBy x known p v
@@ -95,7 +95,7 @@ module _ (w x : Workspace) (p : List ℕ) (there : StandsAlike w x p) (here : St
       λ e. let f = h.has_faults.0 e in (f.0, fault_there w x p there known f.0 f.1),
       λ f. h.has_faults.1 (f.0, fault_there x w p here known f.0 f.1),
     );
-    has_interface = λ e. interface_there w x p there known v.interface (h.has_interface e);
+    has_export_data = λ e. export_data_there w x p there known v.export_data (h.has_export_data e);
   }
 
   pub listed_there : (list : List FileFault) → AreListed (IsFaultBy w known p) list → AreListed (IsFaultBy x known p) list

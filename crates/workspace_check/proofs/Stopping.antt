@@ -15,23 +15,23 @@ use Rattle.go_scanner.specs.StringValues.{HasStringValue}
 use Rattle.go_scanner.specs.TokenValues.{IsStringClass}
 use Rattle.go_scanner.specs.Tokens.{semicolon}
 use Rattle.types_declared.specs.declared.fault.Fault.{Fault}
-use Rattle.types_declared.specs.Listing.{SomeOf}
-use Rattle.types_declared.specs.Stage.{HasNone}
+use Rattle.types_declared.specs.Listing.{IsOfSomeItem}
+use Rattle.types_declared.specs.Stage.{HasNoFault}
 use Rattle.go_ast.specs.Tree.{ImportTree}
 use Rattle.go_ast.specs.SourceFile.{SourceFile, FileParts, source_of}
 use Rattle.workspace_graph.specs.Packages.{ImportsPath, IsParsed}
 use Rattle.workspace_graph.specs.Parsed.{AreParsed, none, tree}
 use Rattle.workspace_graph.proofs.OneFile.{one_file}
 use Rattle.types_declared.specs.declared.states.ImportState.{ImportState}
-use Rattle.types_declared.specs.Files.{Ranked, imports_in, HasLiteral}
+use Rattle.types_declared.specs.Files.{RankedSource, imports_in, HasLiteral}
 use Rattle.types_declared.specs.States.{import_fault}
 use Rattle.types_resolve.specs.Imports.{PlacedImport, IsFaultOfImport, placed_imports}
 use Rattle.types_resolve.specs.Stages.{IsOuterFault}
 use Rattle.types_check.specs.declared.checking.Checked.{Checked}
-use Rattle.types_check.specs.Check.{IsFoundIn, outside, inside}
-use Rattle.types_declared.specs.Package.{Interface}
+use Rattle.types_check.specs.Check.{IsFindingIn, outside, inside}
+use Rattle.types_declared.specs.Package.{ExportData}
 use Rattle.workspace_check.specs.Verdicts.{Verdicts, IsStateOf, is_missing, is_on_cycle, is_faulty, is_good, AreStates}
-use Rattle.workspace_check.specs.Steps.{ImportsFaulty, IsStoppedIn}
+use Rattle.workspace_check.specs.Steps.{ImportsFaulty, IsStoppedResult}
 use Rattle.workspace_check.proofs.Importing.{literals_agree}
 use Rattle.workspace_check.proofs.Members.{nothing_in, first_in, later_in, first_or_later}
 use Rattle.workspace_check.proofs.PackageFiles.{mapped}
@@ -56,22 +56,22 @@ import_of s q h =
 
 -- the fault of one of the imports
 
-here : (state : List ℕ → ImportState) (r : Ranked) (is : List ImportTree) (rest : List PlacedImport) (i : ImportTree) (f : Fault) → Contains is i →
-    IsFaultOfImport state (r, i) f → SomeOf (IsFaultOfImport state) (map (λ i. (r, i)) is ++ rest) f
+here : (state : List ℕ → ImportState) (r : RankedSource) (is : List ImportTree) (rest : List PlacedImport) (i : ImportTree) (f : Fault) → Contains is i →
+    IsFaultOfImport state (r, i) f → IsOfSomeItem (IsFaultOfImport state) (map (λ i. (r, i)) is ++ rest) f
 here state r [] rest i f c h = absurd (nothing_in i c)
 here state r (j ∷ js) rest i f c h = elim (first_or_later j js i c) [
   | inl e ↦ inl (subst (λ (x : ImportTree). IsFaultOfImport state (r, x) f) (sym e) h)
   | inr later ↦ inr (here state r js rest i f later h)
 ]
 
-past : (state : List ℕ → ImportState) (r : Ranked) (is : List ImportTree) (rest : List PlacedImport) (f : Fault) → SomeOf (IsFaultOfImport state) rest f →
-    SomeOf (IsFaultOfImport state) (map (λ i. (r, i)) is ++ rest) f
+past : (state : List ℕ → ImportState) (r : RankedSource) (is : List ImportTree) (rest : List PlacedImport) (f : Fault) → IsOfSomeItem (IsFaultOfImport state) rest f →
+    IsOfSomeItem (IsFaultOfImport state) (map (λ i. (r, i)) is ++ rest) f
 past state r [] rest f h = h
 past state r (j ∷ js) rest f h = inr (past state r js rest f h)
 
 in_files : (state : List ℕ → ImportState) (k : ℕ) (files : List SourceFile) (s : SourceFile) (q : List ℕ) (fault : FaultKind) → Contains files s →
     HasImport s q → import_fault (state q) ≡ Some fault →
-    (f : Fault) × SomeOf (IsFaultOfImport state) (flat_map placed_imports (enumerate_from k files)) f
+    (f : Fault) × IsOfSomeItem (IsFaultOfImport state) (flat_map placed_imports (enumerate_from k files)) f
 in_files state k [] s q fault c h e = absurd (nothing_in s c)
 in_files state k (t ∷ ts) s q fault c h e = elim (first_or_later t ts s c) [
   | inl same ↦ (
@@ -113,22 +113,22 @@ wrong w known p q _ faulty (is_good on e) = absurd (true≢false (sym faulty ∙
 
 module _ (w : Workspace) (known : Verdicts) (p : List ℕ) (files : List FileParts) (parsed : AreParsed (package_files w p) files [])
     (state : List ℕ → ImportState) (are_states : AreStates w known p state) (h : ImportsFaulty w known p) where
-  not_faultless : HasNone (IsOuterFault state (map source_of files)) → ⊥
+  not_faultless : HasNoFault (IsOuterFault state (map source_of files)) → ⊥
   not_faultless sound =
       let among = tree_of parsed h.imports.entry h.imports.of_package h.imports.file h.imports.parsed in
       let fault = wrong w known p h.path (state h.path) h.is_faulty (are_states h.path h.imports) in
       let f = in_files state 0 (map source_of files) h.imports.file h.path fault.0 among (import_of h.imports.file h.path h.imports.imports) fault.1 in
       sound f.0 (inr (λ g clause. sound g (inl clause), f.1))
 
-  pub stopped_by : (name_of : List ℕ → Option (List ℕ)) (interface_of : List ℕ → Interface) (c : Checked) →
-      IsFoundIn p files state name_of interface_of c → IsStoppedIn w known p c
-  stopped_by name_of interface_of c (outside some lists gone) = record {
+  pub stopped_by : (name_of : List ℕ → Option (List ℕ)) (export_data_of : List ℕ → ExportData) (c : Checked) →
+      IsFindingIn p files state name_of export_data_of c → IsStoppedResult w known p c
+  stopped_by name_of export_data_of c (outside some lists gone) = record {
     files = files;
     parsed = parsed;
     state = state;
     are_states = are_states;
     some = some;
     faults = lists;
-    interface = gone;
+    export_data = gone;
   }
-  stopped_by name_of interface_of c (inside sound whole checked) = absurd (not_faultless sound)
+  stopped_by name_of export_data_of c (inside sound whole checked) = absurd (not_faultless sound)

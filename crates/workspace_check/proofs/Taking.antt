@@ -7,12 +7,12 @@ use Rattle.std.proofs.lemmas.List.{length-set}
 use Rattle.std.proofs.lemmas.Option.{none-some, same_Some, slice_get_within}
 use Rattle.base_files.specs.Workspace.{Workspace}
 use Rattle.base_files.specs.Packages.{package_paths}
-use Rattle.types_declared.specs.InterfacesView.{name_in, interface_in, no_interface, SetsKnown}
+use Rattle.types_declared.specs.ExportTablesView.{name_in, export_data_in, no_export_data, SetsKnown}
 use Rattle.types_declared.proofs.Mentioning.{get_set_same, get_set_other}
 use Rattle.workspace_check.specs.declared.finding.Finding.{Finding}
 use Rattle.workspace_check.specs.declared.gathered.Gathered.{Gathered}
 use Rattle.workspace_check.specs.declared.known.KnownVerdict.{KnownVerdict}
-use Rattle.workspace_check.specs.Told.{known_by, IsFindingOf, TellsVerdict}
+use Rattle.workspace_check.specs.KnownFindings.{verdicts_by, IsFindingOf, IsKnownVerdict}
 use Rattle.workspace_check.specs.Steps.{AreKnown, AreGathered, IsGathered}
 use Rattle.workspace_check.specs.Verdicts.{IsVerdict}
 use Rattle.workspace_check.proofs.Gathering.{gathered_or_here, gathered_stays}
@@ -41,15 +41,15 @@ pub no_finding : (count : ℕ) (fs : List (Option Finding)) → fs ≡ replicate
 no_finding count fs e n g = none_there count n g.0 (subst (λ l. slice_get l n ≡ Some (Some g.0)) e g.1)
 
 pub none_gathered : (w : Workspace) (count : ℕ) (all : Gathered) → length all.findings.items ≡ count →
-    ((n : ℕ) → IsGathered all.findings.items n → ⊥) → ((q : List ℕ) → name_in all.interfaces q ≡ None) →
-    ((q : List ℕ) → interface_in all.interfaces q ≡ no_interface q) → AreGathered w count all
-none_gathered w count all size none names interfaces = record {
+    ((n : ℕ) → IsGathered all.findings.items n → ⊥) → ((q : List ℕ) → name_in all.export_table q ≡ None) →
+    ((q : List ℕ) → export_data_in all.export_table q ≡ no_export_data q) → AreGathered w count all
+none_gathered w count all size none names export_table = record {
   size = size;
   verdicts = record {
     right = λ n p g at. absurd (none n g);
     fresh = λ n p gone at. names p;
     outside = λ q gone. names q;
-    whole = λ q gone. interfaces q;
+    whole = λ q gone. export_table q;
   };
   each = λ n p f at is. absurd (none n (f, is));
 }
@@ -57,9 +57,9 @@ none_gathered w count all size none names interfaces = record {
 -- one package further
 
 module _ (w : Workspace) (n : ℕ) (p : List ℕ) (at : slice_get (package_paths w) n ≡ Some p) (old new : Gathered)
-    (h : AreGathered w (length (package_paths w)) old) (unknown : IsGathered old.findings.items n → ⊥) (told : KnownVerdict) (tells : TellsVerdict w p told)
+    (h : AreGathered w (length (package_paths w)) old) (unknown : IsGathered old.findings.items n → ⊥) (told : KnownVerdict) (tells : IsKnownVerdict w p told)
     (is_set : new.findings.items ≡ set old.findings.items n (Some told.finding))
-    (there : SetsKnown old.interfaces new.interfaces told.finding.path told.known) where
+    (there : SetsKnown old.export_table new.export_table told.finding.path told.known) where
   abbrev fs : List (Option Finding)
   fs = old.findings.items
 
@@ -86,16 +86,16 @@ module _ (w : Workspace) (n : ℕ) (p : List ℕ) (at : slice_get (package_paths
 
   pub taken_next : AreGathered w (length (package_paths w)) new
   taken_next =
-      let s : SetsKnown old.interfaces new.interfaces p told.known =
-      subst (λ (q : List ℕ). SetsKnown old.interfaces new.interfaces q told.known) tells.finding.finding.has_path there in
-      let own : IsVerdict w p (known_by new.interfaces p) =
-      subst (IsVerdict w p) (verdict_set old.interfaces new.interfaces p told.known s) tells.right in
+      let s : SetsKnown old.export_table new.export_table p told.known =
+      subst (λ (q : List ℕ). SetsKnown old.export_table new.export_table q told.known) tells.finding.finding.has_path there in
+      let own : IsVerdict w p (verdicts_by new.export_table p) =
+      subst (IsVerdict w p) (verdict_set old.export_table new.export_table p told.known s) tells.right in
       record {
         size = ap length is_set ∙ length-set fs n (Some told.finding) ∙ h.size;
-        verdicts = subst (λ l. AreKnown w (IsGathered l) new.interfaces) (sym is_set)
+        verdicts = subst (λ l. AreKnown w (IsGathered l) new.export_table) (sym is_set)
             (known_next w (IsGathered fs) (IsGathered gs) n p at (λ m c. gathered_or_here fs n m told.finding c)
-            (λ m c. gathered_stays fs n m told.finding within c) (told.finding, here) unknown old.interfaces new.interfaces h.verdicts s.elsewhere
-            (is_whole new.interfaces) own);
+            (λ m c. gathered_stays fs n m told.finding within c) (told.finding, here) unknown old.export_table new.export_table h.verdicts s.elsewhere
+            (is_whole new.export_table) own);
         each = each_taken;
       }
 

@@ -9,15 +9,15 @@ use Rattle.std.proofs.lemmas.Option.{none-some, same_Some, slice_get_within}
 use Rattle.base_files.specs.Workspace.{Workspace}
 use Rattle.base_files.specs.Packages.{package_paths}
 use Rattle.workspace_graph.specs.Graphs.{OfPackage}
-use Rattle.types_expr.specs.declared.interfaces.Interface.{Interface}
+use Rattle.types_expr.specs.declared.exports.ExportData.{ExportData}
 use Rattle.types_expr.specs.WorldView.{known_at}
-use Rattle.types_declared.specs.declared.interfaces.Interfaces.{Interfaces}
+use Rattle.types_declared.specs.declared.export_tables.ExportTable.{ExportTable}
 use Rattle.types_declared.proofs.Mentioning.{get_set_same, get_set_other}
 use Rattle.types_declared.proofs.DeclaredPaths.{get_before, get_last}
 use Rattle.workspace_check.specs.declared.known.Known.{Known}
 use Rattle.workspace_check.specs.declared.known.KnownVerdict.{KnownVerdict}
-use Rattle.workspace_check.specs.Found.{HoldSameVerdicts, KnowsVerdicts, AreKnownNext}
-use Rattle.workspace_check.specs.Told.{known_by, verdict_known, IsFindingOf, TellsVerdict, MayTell}
+use Rattle.workspace_check.specs.Found.{HoldSameVerdicts, KnowsVerdicts, AreFirstVerdicts}
+use Rattle.workspace_check.specs.KnownFindings.{verdicts_by, verdict_from, IsFindingOf, IsKnownVerdict, IsVerdictIfKnown}
 use Rattle.workspace_check.specs.Verdicts.{IsVerdict}
 
 -- nothing yet: it is right of every workspace
@@ -25,7 +25,7 @@ use Rattle.workspace_check.specs.Verdicts.{IsVerdict}
 pub nothing_known : (known : Known) → known.verdicts.items ≡ [] → (w : Workspace) → KnowsVerdicts w known
 nothing_known known e w n p one at is = absurd (none-some (Some one) (subst (λ l. slice_get l n ≡ Some (Some one)) e is))
 
-pub nothing_told : (known : Known) → known.verdicts.items ≡ [] → (w : Workspace) → AreKnownNext w 0 known
+pub nothing_told : (known : Known) → known.verdicts.items ≡ [] → (w : Workspace) → AreFirstVerdicts w 0 known
 nothing_told known e w = record { size = ap length e; verdicts = nothing_known known e w }
 
 -- Known verdicts stay right if the list of verdicts stays.
@@ -38,7 +38,7 @@ known_same w old new same h n p one at is = h n p one at ((same n one).0 is)
 
 -- the verdict on one package is set
 pub known_set : (w : Workspace) (old new : Known) (number : ℕ) (p : List ℕ) (told : KnownVerdict) → slice_get (package_paths w) number ≡ Some p →
-    new.verdicts.items ≡ set old.verdicts.items number (Some told) → TellsVerdict w p told → KnowsVerdicts w old →
+    new.verdicts.items ≡ set old.verdicts.items number (Some told) → IsKnownVerdict w p told → KnowsVerdicts w old →
     KnowsVerdicts w new
 known_set w old new number p told at is_set tells h n q one at_n is =
     let items = old.verdicts.items in
@@ -51,15 +51,15 @@ known_set w old new number p told at is_set tells h n q one at_n is =
           let same : told ≡ one =
           same_Some told one (same_Some (Some told) (Some one) (sym (get_set_same items number (Some told) within) ∙ here)) in
           let path : p ≡ q = same_Some p q (sym at ∙ subst (λ k. slice_get (package_paths w) k ≡ Some q) e at_n) in
-          subst (λ r. TellsVerdict w r one) path (subst (TellsVerdict w p) same tells))
+          subst (λ r. IsKnownVerdict w r one) path (subst (IsKnownVerdict w p) same tells))
       | inr ne ↦ h n q one at_n (sym (get_set_other items number n (Some told) ne) ∙ there)
     ]
 
 -- one package further
 
 module _ (w : Workspace) (n : ℕ) (old new : Known) (found : Option KnownVerdict) (e : new.verdicts.items ≡ old.verdicts.items ++ found ∷ [])
-    (h : AreKnownNext w n old) where
-  told_then : OfPackage w n (λ p. MayTell w p found) → KnowsVerdicts w new
+    (h : AreFirstVerdicts w n old) where
+  told_then : OfPackage w n (λ p. IsVerdictIfKnown w p found) → KnowsVerdicts w new
   told_then tells m p one at is =
       let items = old.verdicts.items in
       let told : slice_get (items ++ found ∷ []) m ≡ Some (Some one) = subst (λ l. slice_get l m ≡ Some (Some one)) e is in
@@ -73,14 +73,14 @@ module _ (w : Workspace) (n : ℕ) (old new : Known) (found : Option KnownVerdic
             tells p (subst (λ k. slice_get (package_paths w) k ≡ Some p) (here ∙ h.size) at) one last)
       ]
 
-  pub told_next : OfPackage w n (λ p. MayTell w p found) → AreKnownNext w (n + 1) new
+  pub told_next : OfPackage w n (λ p. IsVerdictIfKnown w p found) → AreFirstVerdicts w (n + 1) new
   told_next tells = record { size = ap length e ∙ length-append old.verdicts.items (found ∷ []) ∙ ap (λ k. k + 1) h.size; verdicts = told_then tells }
 
 -- The verdict on one package, taken from the table of all.
 
-pub told_alone : (w : Workspace) (p : List ℕ) (all : Interfaces) (one : KnownVerdict) → one.known ≡ known_at all.definitions p →
-    IsVerdict w p (known_by all p) → IsFindingOf w p one.finding → TellsVerdict w p one
+pub told_alone : (w : Workspace) (p : List ℕ) (all : ExportTable) (one : KnownVerdict) → one.known ≡ known_at all.definitions p →
+    IsVerdict w p (verdicts_by all p) → IsFindingOf w p one.finding → IsKnownVerdict w p one
 told_alone w p all one same right finding = record {
-  right = subst (λ (k : Option Interface). IsVerdict w p (verdict_known p k)) (sym same) right;
+  right = subst (λ (k : Option ExportData). IsVerdict w p (verdict_from p k)) (sym same) right;
   finding = finding;
 }

@@ -8,17 +8,17 @@ use Rattle.std.proofs.lemmas.Map.Keys.{below_from_sorted, sorted_from_strictly_i
 use Rattle.std.proofs.lemmas.Option.{same_Some, slice_get_within}
 use Rattle.base_files.specs.Workspace.{Workspace}
 use Rattle.base_files.specs.Packages.{package_paths}
-use Rattle.workspace_graph.specs.Graphs.{HoldsPackages, OfPackage}
-use Rattle.workspace_graph.proofs.Asked.{number, at_contains}
-use Rattle.types_info.proofs.BoundLists.{slice_get_some}
+use Rattle.workspace_graph.specs.Graphs.{ListsPackages, OfPackage}
+use Rattle.workspace_graph.proofs.ByPath.{number, at_contains}
+use Rattle.types_info.proofs.MeaningLists.{slice_get_some}
 use Rattle.workspace_check.specs.declared.finding.Finding.{Finding}
 use Rattle.workspace_check.specs.declared.gathered.Gathered.{Gathered}
 use Rattle.workspace_check.specs.declared.known.KnownVerdict.{KnownVerdict}
 use Rattle.workspace_check.specs.Verdicts.{BuildsOn}
-use Rattle.workspace_check.specs.Found.{AreVerdictsOf, IsFoundBy}
-use Rattle.workspace_check.specs.Told.{known_by, MayTell, TellsVerdict}
-use Rattle.workspace_check.specs.Steps.{AreGathered, AreGatheredOf, AreKnownBelow, HoldAllBelow, IsBuildOrder, IsGathered, IsKnownWithBelow, KnowsJust}
-use Rattle.workspace_check.specs.Steps.{LearnsOf, MayLearn, MayLearnAmong, MayPush}
+use Rattle.workspace_check.specs.Found.{AreVerdictsOf, IsFindingWith}
+use Rattle.workspace_check.specs.KnownFindings.{verdicts_by, IsVerdictIfKnown, IsKnownVerdict}
+use Rattle.workspace_check.specs.Steps.{AreGathered, AreGatheredOf, AreKnownBelow, HoldAllBelow, IsBuildOrder, IsGathered, IsKnownWithBelow, KnowsExactly}
+use Rattle.workspace_check.specs.Steps.{AddsFinding, LearnsIfMissing, LearnsIfAmong, PushesOptional}
 use Rattle.workspace_check.proofs.Adding.{finding_as}
 use Rattle.workspace_check.proofs.Closed.{in_closure_then, not_on_itself, to_package}
 use Rattle.workspace_check.proofs.Gathering.{gathered_or_here, known_right, known_still, learnt_of}
@@ -33,7 +33,7 @@ builds_then w p q r first then = record {
 }
 
 module _ (w : Workspace) (n : ℕ) (p : List ℕ) (at : slice_get (package_paths w) n ≡ Some p) (numbers : List ℕ)
-    (holds : HoldsPackages w (BuildsOn w p) numbers) where
+    (holds : ListsPackages w (BuildsOn w p) numbers) where
   below_in : (m : ℕ) (q : List ℕ) → Contains numbers m → slice_get (package_paths w) m ≡ Some q → BuildsOn w p q
   below_in m q has at_m = let s = (holds m).0 has in subst (BuildsOn w p) (same_Some s.0 q (sym s.1 ∙ at_m)) s.2
 
@@ -44,7 +44,7 @@ module _ (w : Workspace) (n : ℕ) (p : List ℕ) (at : slice_get (package_paths
     below = λ m k q r has at_m at_k on. (holds k).1 (r, at_k, builds_then w p q r (below_in m q has at_m) on);
   }
 
-  pub known_below : (all : Gathered) → KnowsJust w numbers all → AreKnownBelow w p all
+  pub known_below : (all : Gathered) → KnowsExactly w numbers all → AreKnownBelow w p all
   known_below all h q on =
       let m = number w q (to_package w p q on.imported) in
       (m.0, (h.each m.0 ((holds m.0).1 (q, m.1, on)), m.1))
@@ -89,7 +89,7 @@ module _ (w : Workspace) (q : List ℕ) (xs ys : List ℕ) (n : ℕ) (at : slice
     each = λ m c has. elim (more_in m c) [ inl early ↦ h.each m early has | inr e ↦ here m e has ];
   }
 
-  learnt_here : Contains numbers n → (IsGathered old.findings.items n → ⊥) → LearnsOf w q n old new → AreJudgedTo w numbers ys new
+  learnt_here : Contains numbers n → (IsGathered old.findings.items n → ⊥) → AddsFinding w q n old new → AreJudgedTo w numbers ys new
   learnt_here has unknown l = record {
     gathered = record {
       right = learnt_of w q n old new at unknown (below_here has) h.gathered.right l;
@@ -103,7 +103,7 @@ module _ (w : Workspace) (q : List ℕ) (xs ys : List ℕ) (n : ℕ) (at : slice
         (elim (more_in m c) [ inl early ↦ inl (h.each m early has_m) | inr e ↦ inr e ]);
   }
 
-  pub judged_next : MayLearnAmong w numbers q n old new → AreJudgedTo w numbers ys new
+  pub judged_next : LearnsIfAmong w numbers q n old new → AreJudgedTo w numbers ys new
   judged_next may = elim may [
     | inl among ↦ elim among.1 [
       | inl l ↦ learnt_here among.0 l.0 l.1
@@ -113,7 +113,7 @@ module _ (w : Workspace) (q : List ℕ) (xs ys : List ℕ) (n : ℕ) (at : slice
   ]
 
 pub all_judged : (w : Workspace) (numbers order : List ℕ) → HoldAllBelow w numbers → IsBuildOrder w order → (all : Gathered) →
-    AreJudgedTo w numbers order all → KnowsJust w numbers all
+    AreJudgedTo w numbers order all → KnowsExactly w numbers all
 all_judged w numbers order closed built all h = record {
   gathered = h.gathered;
   each = λ n has. h.each n ((built.each n).1 (closed.in_range n has)) has;
@@ -123,7 +123,7 @@ all_judged w numbers order closed built all h = record {
 
 module _ (w : Workspace) (p : List ℕ) (n : ℕ) (old new : Gathered) (at : slice_get (package_paths w) n ≡ Some p)
     (h : AreGathered w (length (package_paths w)) old) (below : AreKnownBelow w p old) where
-  pub learnt_behind : (IsGathered old.findings.items n → ⊥) → LearnsOf w p n old new → IsKnownWithBelow w p n new
+  pub learnt_behind : (IsGathered old.findings.items n → ⊥) → AddsFinding w p n old new → IsKnownWithBelow w p n new
   learnt_behind unknown l =
       let still = known_still w p n old new at unknown below h l in
       record {
@@ -132,16 +132,16 @@ module _ (w : Workspace) (p : List ℕ) (n : ℕ) (old new : Gathered) (at : sli
         below = λ q on. (let k = below q on in (k.0, (still k.0 (inl k.1.0), k.1.1)));
       }
 
-  pub judged_behind : MayLearn w p n old new → IsKnownWithBelow w p n new
+  pub judged_behind : LearnsIfMissing w p n old new → IsKnownWithBelow w p n new
   judged_behind may = elim may [
     | inl l ↦ learnt_behind l.0 l.1
     | inr s ↦ subst (IsKnownWithBelow w p n) (sym s.1) (record { right = h; own = s.0; below = below })
   ]
 
 pub found_behind : (w : Workspace) (p : List ℕ) (n : ℕ) (all : Gathered) (f : Finding) → slice_get (package_paths w) n ≡ Some p →
-    IsKnownWithBelow w p n all → slice_get all.findings.items n ≡ Some (Some f) → IsFoundBy w p all.interfaces f
+    IsKnownWithBelow w p n all → slice_get all.findings.items n ≡ Some (Some f) → IsFindingWith w p all.export_table f
 found_behind w p n all f at h is =
-    let known = known_by all.interfaces in
+    let known = verdicts_by all.export_table in
     let below = known_right w p all h.right h.below in
     let g = h.right.each n p f at is in
     record {
@@ -153,18 +153,18 @@ found_behind w p n all f at h is =
 
 -- the verdicts that were found, one further
 
-own_verdict : (w : Workspace) (n : ℕ) (p : List ℕ) (one : KnownVerdict) → slice_get (package_paths w) n ≡ Some p → TellsVerdict w p one →
-    Contains (package_paths w) one.finding.path × TellsVerdict w one.finding.path one
+own_verdict : (w : Workspace) (n : ℕ) (p : List ℕ) (one : KnownVerdict) → slice_get (package_paths w) n ≡ Some p → IsKnownVerdict w p one →
+    Contains (package_paths w) one.finding.path × IsKnownVerdict w one.finding.path one
 own_verdict w n p one at told =
-    subst (λ q. Contains (package_paths w) q × TellsVerdict w q one) (sym told.finding.finding.has_path) (at_contains w n p at, told)
+    subst (λ q. Contains (package_paths w) q × IsKnownVerdict w q one) (sym told.finding.finding.has_path) (at_contains w n p at, told)
 
-pub verdicts_next : (w : Workspace) (n : ℕ) (old new : List KnownVerdict) (o : Option KnownVerdict) → n < length (package_paths w) → MayPush old new o →
-    OfPackage w n (λ p. MayTell w p o) → AreVerdictsOf w old → AreVerdictsOf w new
+pub verdicts_next : (w : Workspace) (n : ℕ) (old new : List KnownVerdict) (o : Option KnownVerdict) → n < length (package_paths w) → PushesOptional old new o →
+    OfPackage w n (λ p. IsVerdictIfKnown w p o) → AreVerdictsOf w old → AreVerdictsOf w new
 verdicts_next w n old new None lt e tells h other has = h other (subst (λ l. Contains l other) e has)
 verdicts_next w n old new (Some one) lt e tells h other has =
     let p = slice_get_some (package_paths w) n lt in
     elim (Contains-push_cases old one other (subst (λ l. Contains l other) e has)) [
       | inl before ↦ h other before
-      | inr is ↦ subst (λ (v : KnownVerdict). Contains (package_paths w) v.finding.path × TellsVerdict w v.finding.path v) is
+      | inr is ↦ subst (λ (v : KnownVerdict). Contains (package_paths w) v.finding.path × IsKnownVerdict w v.finding.path v) is
           (own_verdict w n p.0 one p.1 (tells p.0 p.1 one refl))
     ]

@@ -21,8 +21,8 @@ use Rattle.workspace_graph.proofs.OneFile.{same_cut, file_or_fault}
 use Rattle.workspace_check.specs.declared.fault.FileFault.{FileFault}
 use Rattle.workspace_check.specs.declared.judging.Judged.{Judged}
 use Rattle.workspace_check.specs.Faults.{placed, fault_cmp}
-use Rattle.types_declared.specs.InterfacesView.{interface_of}
-use Rattle.workspace_check.specs.Verdicts.{Verdicts, IsUnreadFault, HasInterface}
+use Rattle.types_declared.specs.ExportTablesView.{export_data_of}
+use Rattle.workspace_check.specs.Verdicts.{Verdicts, IsUnreadFault, HasExportData}
 use Rattle.workspace_check.specs.Steps.{unread_faults, IsJudged}
 use Rattle.workspace_check.proofs.Members.{nothing_in, first_in, later_in, first_or_later, not_empty_by}
 
@@ -118,7 +118,7 @@ none_unread w p ts parsed f h = nothing_in (placed h.path h.fault) (among_listed
 -- what is found of such a package
 pub unread_judged : (w : Workspace) (known : Verdicts) (p : List ℕ) (ts : List FileParts) (fs : List FaultyParts) → AreParsed (package_files w p) ts fs →
     (fs ≡ [] → ⊥) → (j : Judged) → IsStrictlySortedBy fault_cmp j.faults.items →
-    ((f : FileFault) → Contains j.faults.items f ↔ Contains (unread_faults fs) f) → j.interface ≡ None → IsJudged w known p j
+    ((f : FileFault) → Contains j.faults.items f ↔ Contains (unread_faults fs) f) → j.export_data ≡ None → IsJudged w known p j
 unread_judged w known p ts fs parsed some j sorted same gone =
     let filled : j.faults.items ≡ [] → ⊥ = filled_by fs some (λ f c. (same f).1 c) in
     record {
@@ -133,7 +133,7 @@ unread_judged w known p ts fs parsed some j sorted same gone =
           ],
         );
       };
-      has_interface = subst (λ o. MatchOption o (j.faults.items ≡ [] → ⊥) (λ i. (j.faults.items ≡ []) × HasInterface w known p (interface_of p i)))
+      has_export_data = subst (λ o. MatchOption o (j.faults.items ≡ [] → ⊥) (λ i. (j.faults.items ≡ []) × HasExportData w known p (export_data_of p i)))
           (sym gone) filled;
       uses = λ e. absurd (filled e);
       qualified = λ e. absurd (filled e);

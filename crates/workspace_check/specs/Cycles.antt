@@ -21,21 +21,21 @@ pub record AreCycleNumbers (w : Workspace) (numbers : List ℕ) : Type 0 where
   pub each : (i : ℕ) (p : List ℕ) → slice_get (package_paths w) i ≡ Some p → HasCycleNumber w p (slice_index_or numbers i 0)
 
 -- The cycle numbers of the packages `i` and `j` are equal, or that of `i` has the later place in the order.
-abbrev pub StandsBehind : (places numbers : List ℕ) → (i j : ℕ) → Type 0
-StandsBehind places numbers i j = (slice_index_or numbers j 0 ≡ slice_index_or numbers i 0 → ⊥) →
+abbrev pub ComesAfter : (places numbers : List ℕ) → (i j : ℕ) → Type 0
+ComesAfter places numbers i j = (slice_index_or numbers j 0 ≡ slice_index_or numbers i 0 → ⊥) →
     slice_index_or places (slice_index_or numbers j 0) 0 < slice_index_or places (slice_index_or numbers i 0) 0
 
 -- For each package that `p` (with number `i`) imports: it has the same cycle number, or `p`'s has the later place in the order.
-abbrev pub StandsBehindImports : Workspace → (places numbers : List ℕ) → List ℕ → ℕ → Type 0
-StandsBehindImports w places numbers p i = (j : ℕ) (q : List ℕ) → slice_get (package_paths w) j ≡ Some q → PackageImports w p q →
-    StandsBehind places numbers i j
+abbrev pub ComesAfterImports : Workspace → (places numbers : List ℕ) → List ℕ → ℕ → Type 0
+ComesAfterImports w places numbers p i = (j : ℕ) (q : List ℕ) → slice_get (package_paths w) j ≡ Some q → PackageImports w p q →
+    ComesAfter places numbers i j
 
 -- Each package has the cycle number of its import, or its own cycle number has the later place in the order.
-abbrev pub StandBehindImports : Workspace → (places numbers : List ℕ) → Type 0
-StandBehindImports w places numbers = (i : ℕ) (p : List ℕ) → slice_get (package_paths w) i ≡ Some p → StandsBehindImports w places numbers p i
+abbrev pub ComeAfterImports : Workspace → (places numbers : List ℕ) → Type 0
+ComeAfterImports w places numbers = (i : ℕ) (p : List ℕ) → slice_get (package_paths w) i ≡ Some p → ComesAfterImports w places numbers p i
 
 -- For each package that has a cycle number, and each of its imports: the two numbers are equal just if the import leads back to the
 -- package. An empty list satisfies this.
-abbrev pub TellCycles : Workspace → List ℕ → Type 0
-TellCycles w numbers = (i j : ℕ) (p q : List ℕ) → i < length numbers → slice_get (package_paths w) i ≡ Some p → slice_get (package_paths w) j ≡ Some q →
+abbrev pub DecideCycles : Workspace → List ℕ → Type 0
+DecideCycles w numbers = (i j : ℕ) (p q : List ℕ) → i < length numbers → slice_get (package_paths w) i ≡ Some p → slice_get (package_paths w) j ≡ Some q →
     PackageImports w p q → (slice_index_or numbers i 0 ≡ slice_index_or numbers j 0) ↔ IsInClosure w q p

@@ -6,18 +6,18 @@ use Rattle.base_files.specs.Packages.{package_paths, package_files}
 use Rattle.go_ast.specs.SourceFile.{FileParts}
 use Rattle.workspace_graph.specs.Packages.{PackageImports}
 use Rattle.workspace_graph.specs.Search.{IsMarked}
-use Rattle.types_declared.specs.declared.interfaces.Interfaces.{Interfaces}
+use Rattle.types_declared.specs.declared.export_tables.ExportTable.{ExportTable}
 use Rattle.types_check.specs.Known.{IsKnownAlike}
 use Rattle.workspace_check.specs.declared.gathered.Gathered.{Gathered}
 use Rattle.workspace_check.specs.declared.known.KnownVerdict.{KnownVerdict}
 use Rattle.workspace_check.specs.Verdicts.{BuildsOn}
-use Rattle.workspace_check.specs.Told.{TellsVerdict}
+use Rattle.workspace_check.specs.KnownFindings.{IsKnownVerdict}
 use Rattle.workspace_check.specs.Steps.{IsGathered}
 
 -- Each known verdict, by package number, is right.
-abbrev pub AreTold : Workspace → List (Option KnownVerdict) → Type 0
-AreTold w verdicts = (n : ℕ) (p : List ℕ) (one : KnownVerdict) → slice_get (package_paths w) n ≡ Some p → slice_get verdicts n ≡ Some (Some one) →
-    TellsVerdict w p one
+abbrev pub AreVerdictsByNumber : Workspace → List (Option KnownVerdict) → Type 0
+AreVerdictsByNumber w verdicts = (n : ℕ) (p : List ℕ) (one : KnownVerdict) → slice_get (package_paths w) n ≡ Some p → slice_get verdicts n ≡ Some (Some one) →
+    IsKnownVerdict w p one
 
 -- Both workspaces have the same packages, and each package imports the same ones.
 pub record HaveSameImports (v w : Workspace) : Type 0 where
@@ -33,18 +33,18 @@ abbrev pub AreMarkedBelow : Workspace → List ℕ → List Bool → Type 0
 AreMarkedBelow w p marks = (n : ℕ) (q : List ℕ) → slice_get (package_paths w) n ≡ Some q → BuildsOn w p q → IsMarked marks n
 
 -- The verdict on `p` before the change: `p` has the same files in both workspaces, and all packages that it builds on are marked.
-pub record StandsWith (v w : Workspace) (marks : List Bool) (p : List ℕ) (one : KnownVerdict) : Type 0 where
+pub record IsReusableVerdict (v w : Workspace) (marks : List Bool) (p : List ℕ) (one : KnownVerdict) : Type 0 where
   pub files : package_files v p ≡ package_files w p
-  pub told : TellsVerdict v p one
+  pub told : IsKnownVerdict v p one
   pub below : AreMarkedBelow w p marks
 
 -- The package `q` of this number had before the change the export data that it has in `all`.
-pub record WasKnown (old : List (Option KnownVerdict)) (all : Interfaces) (n : ℕ) (q : List ℕ) : Type 0 where
+pub record KeepsExportData (old : List (Option KnownVerdict)) (all : ExportTable) (n : ℕ) (q : List ℕ) : Type 0 where
   pub verdict : KnownVerdict
   pub was : slice_get old n ≡ Some (Some verdict)
   pub alike : IsKnownAlike verdict.known all q
 
 -- A marked package has a known finding, and the export data that it had before the change.
-abbrev pub AreSteady : Workspace → List (Option KnownVerdict) → Gathered → List Bool → Type 0
-AreSteady w old all marks = (n : ℕ) (q : List ℕ) → slice_get (package_paths w) n ≡ Some q → IsMarked marks n →
-    IsGathered all.findings.items n × WasKnown old all.interfaces n q
+abbrev pub KeepExportData : Workspace → List (Option KnownVerdict) → Gathered → List Bool → Type 0
+KeepExportData w old all marks = (n : ℕ) (q : List ℕ) → slice_get (package_paths w) n ≡ Some q → IsMarked marks n →
+    IsGathered all.findings.items n × KeepsExportData old all.export_table n q

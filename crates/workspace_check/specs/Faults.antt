@@ -4,7 +4,7 @@ use Rattle.std.specs.Cmp.{IsTotalOrder, on_total, then_total, nat_cmp_total}
 use Rattle.std.specs.Cmp.Lexicographic.{slice_cmp, nat_list_cmp_total}
 use Rattle.std.specs.Ordering.{nat_cmp, ordering_then}
 use Rattle.std.specs.declared.cmp.Ordering.{Ordering}
-use Rattle.base_files.specs.FaultNames.{name_of}
+use Rattle.base_files.specs.FaultNames.{fault_word}
 use Rattle.base_files.specs.Path.{folder}
 use Rattle.base_files.specs.Workspace.{path_cmp}
 use Rattle.go_scanner.specs.declared.refusal.TextFault.{TextFault as TextFault}
@@ -24,10 +24,10 @@ placed_in s fault = record { place = record { path = s.path; offset = offset_of 
 abbrev pub fault_cmp : FileFault → FileFault → Ordering
 fault_cmp f g = ordering_then (path_cmp (folder f.place.path) (folder g.place.path))
     (ordering_then (path_cmp f.place.path g.place.path)
-    (ordering_then (nat_cmp f.place.offset g.place.offset) (slice_cmp nat_cmp (name_of f.kind) (name_of g.kind))))
+    (ordering_then (nat_cmp f.place.offset g.place.offset) (slice_cmp nat_cmp (fault_word f.kind) (fault_word g.kind))))
 
 pub fault_cmp_total : IsTotalOrder fault_cmp
 fault_cmp_total =
     then_total (on_total (λ (f : FileFault). folder f.place.path) nat_list_cmp_total)
     (then_total (on_total (λ (f : FileFault). f.place.path) nat_list_cmp_total)
-    (then_total (on_total (λ (f : FileFault). f.place.offset) nat_cmp_total) (on_total (λ (f : FileFault). name_of f.kind) nat_list_cmp_total)))
+    (then_total (on_total (λ (f : FileFault). f.place.offset) nat_cmp_total) (on_total (λ (f : FileFault). fault_word f.kind) nat_list_cmp_total)))

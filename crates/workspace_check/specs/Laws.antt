@@ -8,13 +8,13 @@ use Rattle.workspace_check.specs.Verdicts.{BuildsOn, Verdict, Verdicts, IsPackag
 use Rattle.workspace_check.specs.FaultLists.{ListsPackageFaults, ListsFaults}
 use Rattle.workspace_check.specs.Closures.{HasSameClosure}
 use Rattle.workspace_check.specs.Earlier.{HaveSameImports}
-use Rattle.workspace_check.specs.Told.{TellsVerdict}
+use Rattle.workspace_check.specs.KnownFindings.{IsKnownVerdict}
 use Rattle.workspace_check.specs.declared.known.KnownVerdict.{KnownVerdict}
 
 -- Both verdicts agree whether there are faults, and if there are none, on the export data.
 pub record IsSameVerdict (v u : Verdict) : Type 0 where
   pub faulty : v.faulty ≡ u.faulty
-  pub interface : v.faulty ≡ false → v.interface ≡ u.interface
+  pub export_data : v.faulty ≡ false → v.export_data ≡ u.export_data
 
 -- A package has at most one verdict.
 abbrev pub HaveOneVerdict : Type 0
@@ -26,17 +26,17 @@ AreCheckedAsOne = (w : Workspace) (p : List ℕ) (a b : Verdicts) → AreVerdict
     (x y : Package) → IsPackageIn w a p x → IsPackageIn w b p y → x ≡ y
 
 -- A package has at most one fault list.
-abbrev pub HaveOneList : Type 0
-HaveOneList = (w : Workspace) (p : List ℕ) (a b : List FileFault) → ListsPackageFaults w p a → ListsPackageFaults w p b → a ≡ b
+abbrev pub PackagesHaveOneList : Type 0
+PackagesHaveOneList = (w : Workspace) (p : List ℕ) (a b : List FileFault) → ListsPackageFaults w p a → ListsPackageFaults w p b → a ≡ b
 
 -- A workspace has at most one fault list.
-abbrev pub HaveOneWholeList : Type 0
-HaveOneWholeList = (w : Workspace) (a b : List FileFault) → ListsFaults w a → ListsFaults w b → a ≡ b
+abbrev pub WorkspacesHaveOneList : Type 0
+WorkspacesHaveOneList = (w : Workspace) (a b : List FileFault) → ListsFaults w a → ListsFaults w b → a ≡ b
 
 -- Takes two workspaces with the same packages and imports, and a package with the same files in both. If the verdicts on all packages that
 -- it builds on are equal, its verdicts in both are equal.
-abbrev pub VerdictsFollowInterfaces : Type 0
-VerdictsFollowInterfaces = (v w : Workspace) (p : List ℕ) (a b : Verdicts) (x : Verdict) → HaveSameImports v w → package_files v p ≡ package_files w p →
+abbrev pub VerdictsFollowExportData : Type 0
+VerdictsFollowExportData = (v w : Workspace) (p : List ℕ) (a b : Verdicts) (x : Verdict) → HaveSameImports v w → package_files v p ≡ package_files w p →
     AreVerdictsBelow v p a → AreVerdictsBelow w p b → ((q : List ℕ) → BuildsOn v p q → IsSameVerdict (a q) (b q)) → IsVerdict v p x → IsVerdict w p x
 
 -- If the closure of a package has the same texts in two workspaces, a verdict on it in one is its verdict in the other.
@@ -56,5 +56,5 @@ AreLocallyChecked = (w x : Workspace) (p : List ℕ) (known : Verdicts) (c : Pac
 
 -- If the closure of a package has the same texts in two workspaces, a known verdict on it in one is right in the other.
 abbrev pub AreLocallyKnown : Type 0
-AreLocallyKnown = (w x : Workspace) (p : List ℕ) (one : KnownVerdict) → Contains (package_paths w) p → HasSameClosure w x p → TellsVerdict w p one →
-    TellsVerdict x p one
+AreLocallyKnown = (w x : Workspace) (p : List ℕ) (one : KnownVerdict) → Contains (package_paths w) p → HasSameClosure w x p → IsKnownVerdict w p one →
+    IsKnownVerdict x p one

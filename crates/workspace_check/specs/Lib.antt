@@ -4,9 +4,9 @@ pub mod Verdicts
 pub mod FaultLists
 pub mod Closures
 pub mod Laws
-pub mod Told
+pub mod KnownFindings
 pub mod Found
 pub mod Steps
 pub mod Cycles
 pub mod Earlier
-pub mod Steady
+pub mod PassedMarks

@@ -7,25 +7,25 @@ use Rattle.std.proofs.Math.ListN.{set}
 use Rattle.base_files.specs.Workspace.{Workspace}
 use Rattle.base_files.specs.Packages.{package_paths, package_files}
 use Rattle.types_declared.specs.declared.fault.Fault.{Fault}
-use Rattle.types_declared.specs.Listing.{Lists}
+use Rattle.types_declared.specs.Listing.{HoldsExactly}
 use Rattle.go_ast.specs.SourceFile.{SourceFile, FileParts, source_of}
 use Rattle.workspace_graph.specs.FaultyFiles.{FaultyParts}
-use Rattle.workspace_graph.specs.Graphs.{HoldsPackages, OfPackage}
+use Rattle.workspace_graph.specs.Graphs.{ListsPackages, OfPackage}
 use Rattle.workspace_graph.specs.Packages.{IsInClosure, PackageImports}
 use Rattle.workspace_graph.specs.Parsed.{AreParsed}
 use Rattle.workspace_graph.specs.Reaching.{AreBackMarks}
 use Rattle.types_declared.specs.declared.states.ImportState.{ImportState}
 use Rattle.types_resolve.specs.Stages.{IsOuterFault}
-use Rattle.types_declared.specs.InterfacesView.{name_in, interface_in, interface_of, KnowsSame, AddsInterface}
-use Rattle.types_declared.specs.Package.{Interface as Seen}
-use Rattle.types_expr.specs.declared.interfaces.Interface.{Interface}
-use Rattle.types_declared.specs.declared.interfaces.Interfaces.{Interfaces}
+use Rattle.types_declared.specs.ExportTablesView.{name_in, export_data_in, export_data_of, HasSameEntry, AddsExportData}
+use Rattle.types_declared.specs.Package.{ExportData as Seen}
+use Rattle.types_expr.specs.declared.exports.ExportData.{ExportData}
+use Rattle.types_declared.specs.declared.export_tables.ExportTable.{ExportTable}
 use Rattle.types_check.specs.declared.checking.Checked.{Checked}
-use Rattle.types_check.specs.Check.{IsFoundIn}
+use Rattle.types_check.specs.Check.{IsFindingIn}
 use Rattle.workspace_check.specs.Faults.{placed, placed_in}
-use Rattle.workspace_check.specs.Verdicts.{Verdicts, BuildsOn, IsFaultBy, HasInterface, IsVerdictBy, IsVerdict, AreStates, AreSeen}
+use Rattle.workspace_check.specs.Verdicts.{Verdicts, BuildsOn, IsFaultBy, HasExportData, IsVerdictBy, IsVerdict, AreStates, AreSeen}
 use Rattle.workspace_check.specs.FaultLists.{AreListed}
-use Rattle.workspace_check.specs.Told.{known_by, AreWhole, AreUsesOf, AreQualifiedOf, IsFinding, IsFindingOf}
+use Rattle.workspace_check.specs.KnownFindings.{verdicts_by, AreNamedEntries, AreUsesOf, AreQualifiedOf, IsFinding, IsFindingOf}
 use Rattle.workspace_check.specs.declared.fault.FileFault.{FileFault}
 use Rattle.workspace_check.specs.declared.finding.Finding.{Finding}
 use Rattle.workspace_check.specs.declared.found_package.FoundPackage.{FoundPackage}
@@ -38,16 +38,16 @@ use Rattle.workspace_check.specs.declared.progress.Progress.{Progress}
 -- An order
 
 -- `size` is the number of packages in the closure of `p`.
-pub record IsSize (w : Workspace) (p : List ℕ) (size : ℕ) : Type 0 where
+pub record IsClosureSize (w : Workspace) (p : List ℕ) (size : ℕ) : Type 0 where
   pub numbers : List ℕ
   pub rising : IsStrictlyIncreasing numbers
-  pub holds : HoldsPackages w (IsInClosure w p) numbers
+  pub holds : ListsPackages w (IsInClosure w p) numbers
   pub is : size ≡ length numbers
 
 -- The sizes of the closures of the first `count` packages.
-pub record AreSizes (w : Workspace) (count : ℕ) (sizes : List ℕ) : Type 0 where
+pub record AreClosureSizes (w : Workspace) (count : ℕ) (sizes : List ℕ) : Type 0 where
   pub size : length sizes ≡ count
-  pub each : (i : ℕ) (p : List ℕ) → i < count → slice_get (package_paths w) i ≡ Some p → IsSize w p (slice_index_or sizes i 0)
+  pub each : (i : ℕ) (p : List ℕ) → i < count → slice_get (package_paths w) i ≡ Some p → IsClosureSize w p (slice_index_or sizes i 0)
 
 -- All packages, each once and after those that it builds on.
 pub record IsBuildOrder (w : Workspace) (order : List ℕ) : Type 0 where
@@ -60,13 +60,13 @@ pub record IsBuildOrder (w : Workspace) (order : List ℕ) : Type 0 where
 -- What a package sees
 
 -- The names and the export data of packages are the same in both tables.
-pub record KnowsSameOfOthers (old new : Interfaces) : Type 0 where
+pub record HasSameEntries (old new : ExportTable) : Type 0 where
   pub names : (q : List ℕ) → name_in new q ≡ name_in old q
-  pub interfaces : (q : List ℕ) → interface_in new q ≡ interface_in old q
+  pub export_table : (q : List ℕ) → export_data_in new q ≡ export_data_in old q
 
 -- `all` has the export data of just the packages that `p` sees.
-abbrev pub IsSeenIn : Workspace → List ℕ → Interfaces → Type 0
-IsSeenIn w p all = AreSeen w (known_by all) p (name_in all) (interface_in all)
+abbrev pub SeesExactly : Workspace → List ℕ → ExportTable → Type 0
+SeesExactly w p all = AreSeen w (verdicts_by all) p (name_in all) (export_data_in all)
 
 -- Faults with their places
 
@@ -75,33 +75,33 @@ abbrev pub unread_faults : List FaultyParts → List FileFault
 unread_faults files = map (λ f. placed f.path f.fault) files
 
 -- `f` is `fault` with its place in its file, which is among `files`.
-pub record IsPlacedAs (files : List FileParts) (fault : Fault) (f : FileFault) : Type 0 where
+pub record IsPlacedFault (files : List FileParts) (fault : Fault) (f : FileFault) : Type 0 where
   pub source : SourceFile
   pub in_file : slice_get (map source_of files) fault.file ≡ Some source
   pub at : f ≡ placed_in source fault
 
 -- `f` is one of `faults` with its place.
-pub record IsPlacedOf (files : List FileParts) (faults : List Fault) (f : FileFault) : Type 0 where
+pub record IsSomePlacedFault (files : List FileParts) (faults : List Fault) (f : FileFault) : Type 0 where
   pub fault : Fault
   pub among : Contains faults fault
-  pub is_placed : IsPlacedAs files fault f
+  pub is_placed : IsPlacedFault files fault f
 
 -- The fault was added with its place, if its file is among `files`.
 abbrev pub AddsPlaced : List FileParts → Fault → List FileFault → List FileFault → Type 0
-AddsPlaced files fault old new = (f : FileFault) → Contains new f ↔ (Contains old f ⊎ IsPlacedAs files fault f)
+AddsPlaced files fault old new = (f : FileFault) → Contains new f ↔ (Contains old f ⊎ IsPlacedFault files fault f)
 
 -- One package
 
 -- The result of checking `p`, each of whose files has a tree, by what `p` sees of others.
-pub record IsCheckedIn (w : Workspace) (known : Verdicts) (p : List ℕ) (c : Checked) : Type 0 where
+pub record IsCheckResult (w : Workspace) (known : Verdicts) (p : List ℕ) (c : Checked) : Type 0 where
   pub files : List FileParts
   pub parsed : AreParsed (package_files w p) files []
   pub state : List ℕ → ImportState
   pub are_states : AreStates w known p state
   pub name_of : List ℕ → Option (List ℕ)
-  pub interface_of : List ℕ → Seen
-  pub are_seen : AreSeen w known p name_of interface_of
-  pub is_found : IsFoundIn p files state name_of interface_of c
+  pub export_data_of : List ℕ → Seen
+  pub are_seen : AreSeen w known p name_of export_data_of
+  pub is_found : IsFindingIn p files state name_of export_data_of c
 
 -- `p` imports a package with faults.
 pub record ImportsFaulty (w : Workspace) (known : Verdicts) (p : List ℕ) : Type 0 where
@@ -110,40 +110,40 @@ pub record ImportsFaulty (w : Workspace) (known : Verdicts) (p : List ℕ) : Typ
   pub is_faulty : (known path).faulty ≡ true
 
 -- The result of checking `p` that stopped at faults of clauses or imports. Each file of `p` has a tree.
-pub record IsStoppedIn (w : Workspace) (known : Verdicts) (p : List ℕ) (c : Checked) : Type 0 where
+pub record IsStoppedResult (w : Workspace) (known : Verdicts) (p : List ℕ) (c : Checked) : Type 0 where
   pub files : List FileParts
   pub parsed : AreParsed (package_files w p) files []
   pub state : List ℕ → ImportState
   pub are_states : AreStates w known p state
   pub some : c.faults.items ≡ [] → ⊥
-  pub faults : Lists (IsOuterFault state (map source_of files)) c.faults.items
-  pub interface : c.interface ≡ None
+  pub faults : HoldsExactly (IsOuterFault state (map source_of files)) c.faults.items
+  pub export_data : c.export_data ≡ None
 
 -- The faults of `p`, or else its export data, its uses of members and its qualified identifiers.
 pub record IsJudged (w : Workspace) (known : Verdicts) (p : List ℕ) (j : Judged) : Type 0 where
   pub listed : AreListed (IsFaultBy w known p) j.faults.items
-  pub has_interface : MatchOption j.interface (j.faults.items ≡ [] → ⊥) (λ i. (j.faults.items ≡ []) × HasInterface w known p (interface_of p i))
+  pub has_export_data : MatchOption j.export_data (j.faults.items ≡ [] → ⊥) (λ i. (j.faults.items ≡ []) × HasExportData w known p (export_data_of p i))
   pub uses : j.faults.items ≡ [] → AreUsesOf w known p j.members.items
   pub qualified : j.faults.items ≡ [] → AreQualifiedOf w known p j.qualified.items
 
 -- The export data of `path` was added, if there is any.
-abbrev pub MayAdd : (old new : Interfaces) (path : List ℕ) → Option Interface → Type 0
-MayAdd old new path None = new ≡ old
-MayAdd old new path (Some i) = AddsInterface old new path i
+abbrev pub AddsOptional : (old new : ExportTable) (path : List ℕ) → Option ExportData → Type 0
+AddsOptional old new path None = new ≡ old
+AddsOptional old new path (Some i) = AddsExportData old new path i
 
 -- `all` has the right verdicts on the packages whose numbers satisfy `Is`, and no names of other packages or of paths that are no package.
-pub record AreKnown (w : Workspace) (Is : ℕ → Type 0) (all : Interfaces) : Type 0 where
-  pub right : (n : ℕ) (p : List ℕ) → Is n → slice_get (package_paths w) n ≡ Some p → IsVerdict w p (known_by all p)
+pub record AreKnown (w : Workspace) (Is : ℕ → Type 0) (all : ExportTable) : Type 0 where
+  pub right : (n : ℕ) (p : List ℕ) → Is n → slice_get (package_paths w) n ≡ Some p → IsVerdict w p (verdicts_by all p)
   pub fresh : (n : ℕ) (p : List ℕ) → (Is n → ⊥) → slice_get (package_paths w) n ≡ Some p → name_in all p ≡ None
   pub outside : (q : List ℕ) → (Contains (package_paths w) q → ⊥) → name_in all q ≡ None
-  pub whole : AreWhole all
+  pub whole : AreNamedEntries all
 
 -- `finding` was found in `p` by the verdicts in `all`, and `more` is `all` with the verdict on `p`.
-pub record Learns (w : Workspace) (p : List ℕ) (finding : Finding) (all more : Interfaces) : Type 0 where
-  pub is_finding : IsFinding w (known_by all) p finding
-  pub is_verdict : IsVerdictBy w (known_by all) p (known_by more p)
-  pub elsewhere : (q : List ℕ) → (q ≡ p → ⊥) → KnowsSame all more q
-  pub whole : AreWhole more
+pub record LearnsFinding (w : Workspace) (p : List ℕ) (finding : Finding) (all more : ExportTable) : Type 0 where
+  pub is_finding : IsFinding w (verdicts_by all) p finding
+  pub is_verdict : IsVerdictBy w (verdicts_by all) p (verdicts_by more p)
+  pub elsewhere : (q : List ℕ) → (q ≡ p → ⊥) → HasSameEntry all more q
+  pub whole : AreNamedEntries more
 
 -- Known findings of some packages
 
@@ -154,18 +154,18 @@ IsGathered findings n = (f : Finding) × (slice_get findings n ≡ Some (Some f)
 -- The known findings are right, and so are the verdicts on their packages. There is a place for each of the first `count` packages.
 pub record AreGathered (w : Workspace) (count : ℕ) (all : Gathered) : Type 0 where
   pub size : length all.findings.items ≡ count
-  pub verdicts : AreKnown w (IsGathered all.findings.items) all.interfaces
+  pub verdicts : AreKnown w (IsGathered all.findings.items) all.export_table
   pub each : (n : ℕ) (p : List ℕ) (f : Finding) → slice_get (package_paths w) n ≡ Some p → slice_get all.findings.items n ≡ Some (Some f) → IsFindingOf w p f
 
 -- The package `p` of this number was judged, and its finding and verdict were added.
-pub record LearnsOf (w : Workspace) (p : List ℕ) (number : ℕ) (old new : Gathered) : Type 0 where
+pub record AddsFinding (w : Workspace) (p : List ℕ) (number : ℕ) (old new : Gathered) : Type 0 where
   pub finding : Finding
   pub is_set : new.findings.items ≡ set old.findings.items number (Some finding)
-  pub learns : Learns w p finding old.interfaces new.interfaces
+  pub learns : LearnsFinding w p finding old.export_table new.export_table
 
 -- The finding of `p` was missing and is added, or it was known and nothing changed.
-abbrev pub MayLearn : Workspace → List ℕ → ℕ → (old new : Gathered) → Type 0
-MayLearn w p n old new = ((IsGathered old.findings.items n → ⊥) × LearnsOf w p n old new) ⊎ (IsGathered old.findings.items n × (new ≡ old))
+abbrev pub LearnsIfMissing : Workspace → List ℕ → ℕ → (old new : Gathered) → Type 0
+LearnsIfMissing w p n old new = ((IsGathered old.findings.items n → ⊥) × AddsFinding w p n old new) ⊎ (IsGathered old.findings.items n × (new ≡ old))
 
 -- The findings of all packages of `numbers` are known, and every known finding is right.
 pub record AreAllGathered (w : Workspace) (numbers : List ℕ) (all : Gathered) : Type 0 where
@@ -177,7 +177,7 @@ abbrev pub somes : List Finding → List (Option Finding)
 somes findings = map (λ (f : Finding). Some f) findings
 
 -- The findings of all packages are known and right.
-pub record KnowsAll (w : Workspace) (all : Gathered) : Type 0 where
+pub record KnowsAllFindings (w : Workspace) (all : Gathered) : Type 0 where
   pub right : AreGathered w (length (package_paths w)) all
   pub each : (n : ℕ) → n < length (package_paths w) → IsGathered all.findings.items n
 
@@ -211,13 +211,13 @@ pub record KnewOneMore (number : ℕ) (old new : Taken) : Type 0 where
   pub here : IsTrue new.knew_each → IsGathered new.all.findings.items number
 
 -- Findings are known of just the packages of `numbers`, and they are right.
-pub record KnowsJust (w : Workspace) (numbers : List ℕ) (all : Gathered) : Type 0 where
+pub record KnowsExactly (w : Workspace) (numbers : List ℕ) (all : Gathered) : Type 0 where
   pub gathered : AreGatheredOf w numbers all
   pub each : (n : ℕ) → Contains numbers n → IsGathered all.findings.items n
 
--- If `n` is among `numbers`, `MayLearn` relates both tables; else nothing changed.
-abbrev pub MayLearnAmong : Workspace → List ℕ → List ℕ → ℕ → (old new : Gathered) → Type 0
-MayLearnAmong w numbers p n old new = (Contains numbers n × MayLearn w p n old new) ⊎ ((Contains numbers n → ⊥) × (new ≡ old))
+-- If `n` is among `numbers`, `LearnsIfMissing` relates both tables; else nothing changed.
+abbrev pub LearnsIfAmong : Workspace → List ℕ → List ℕ → ℕ → (old new : Gathered) → Type 0
+LearnsIfAmong w numbers p n old new = (Contains numbers n × LearnsIfMissing w p n old new) ⊎ ((Contains numbers n → ⊥) × (new ≡ old))
 
 -- The findings of the package `p` and of all packages that it builds on are known and right.
 pub record IsKnownWithBelow (w : Workspace) (p : List ℕ) (number : ℕ) (all : Gathered) : Type 0 where
@@ -226,20 +226,20 @@ pub record IsKnownWithBelow (w : Workspace) (p : List ℕ) (number : ℕ) (all :
   pub below : AreKnownBelow w p all
 
 -- A verdict was added at the end, if there is one.
-abbrev pub MayPush : (old new : List KnownVerdict) → Option KnownVerdict → Type 0
-MayPush old new None = new ≡ old
-MayPush old new (Some one) = new ≡ old ++ one ∷ []
+abbrev pub PushesOptional : (old new : List KnownVerdict) → Option KnownVerdict → Type 0
+PushesOptional old new None = new ≡ old
+PushesOptional old new (Some one) = new ≡ old ++ one ∷ []
 
 -- The finding of the package `number`, with all export data and these verdicts.
-pub record IsMadeOf (number : ℕ) (all : Gathered) (verdicts : List KnownVerdict) (made : FoundPackage) : Type 0 where
+pub record IsFoundPackage (number : ℕ) (all : Gathered) (verdicts : List KnownVerdict) (made : FoundPackage) : Type 0 where
   pub finding : slice_get all.findings.items number ≡ Some (Some made.finding)
-  pub interfaces : made.interfaces ≡ all.interfaces
+  pub export_table : made.export_table ≡ all.export_table
   pub found : made.found.items ≡ verdicts
 
 -- The findings of all packages that the package `number` builds on are known; `progress` has the numbers of these, and marks on the
 -- packages that import it.
-pub record IsUnderway (w : Workspace) (number : ℕ) (progress : Progress) : Type 0 where
+pub record IsProgress (w : Workspace) (number : ℕ) (progress : Progress) : Type 0 where
   pub right : AreGathered w (length (package_paths w)) progress.all
   pub below : OfPackage w number (λ p. AreKnownBelow w p progress.all)
-  pub built_on : OfPackage w number (λ p. HoldsPackages w (BuildsOn w p) progress.below.built_on)
+  pub built_on : OfPackage w number (λ p. ListsPackages w (BuildsOn w p) progress.below.built_on)
   pub back : OfPackage w number (λ p. AreBackMarks w p progress.below.back.items)

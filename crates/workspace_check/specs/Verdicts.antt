@@ -14,9 +14,9 @@ use Rattle.types_declared.specs.Stage.{FirstOf}
 use Rattle.types_declared.specs.declared.states.ImportState.{ImportState}
 use Rattle.types_declared.specs.declared.states.ImportState.TheVariants.{Missing, OnCycle, Faulty, Good}
 use Rattle.types_resolve.specs.Stages.{IsOuterFault}
-use Rattle.types_declared.specs.Package.{Package, Interface}
-use Rattle.types_check.specs.Interfaces.{IsInterface}
-use Rattle.types_declared.specs.InterfacesView.{no_interface}
+use Rattle.types_declared.specs.Package.{Package, ExportData}
+use Rattle.types_check.specs.Exports.{IsExportData}
+use Rattle.types_declared.specs.ExportTablesView.{no_export_data}
 use Rattle.types_info.specs.PackageOf.{IsPackageOf}
 use Rattle.types_check.specs.Check.{IsLaterFault}
 use Rattle.workspace_check.specs.declared.fault.FileFault.{FileFault}
@@ -25,7 +25,7 @@ use Rattle.workspace_check.specs.Faults.{placed, placed_in}
 -- Whether a package has faults, and its export data if it has none.
 pub record Verdict : Type 0 where
   pub faulty : Bool
-  pub interface : Interface
+  pub export_data : ExportData
 
 -- Verdicts on packages, by package path.
 abbrev pub Verdicts : Type 0
@@ -44,22 +44,22 @@ abbrev pub AreStates : Workspace → Verdicts → List ℕ → (List ℕ → Imp
 AreStates w known p state = (q : List ℕ) → PackageImports w p q → IsStateOf w known p q (state q)
 
 -- What `p` sees of a path: the name and the export data if `p` builds on that package and it has no faults, else nothing.
-pub data IsSeenAs (w : Workspace) (known : Verdicts) (p q : List ℕ) : Option (List ℕ) → Interface → Type 0 where
-  seen : BuildsOn w p q → (known q).faulty ≡ false → IsSeenAs w known p q (Some (known q).interface.name) (known q).interface
-  unseen : (BuildsOn w p q → (known q).faulty ≡ true) → IsSeenAs w known p q None (no_interface q)
+pub data IsSeenAs (w : Workspace) (known : Verdicts) (p q : List ℕ) : Option (List ℕ) → ExportData → Type 0 where
+  seen : BuildsOn w p q → (known q).faulty ≡ false → IsSeenAs w known p q (Some (known q).export_data.name) (known q).export_data
+  unseen : (BuildsOn w p q → (known q).faulty ≡ true) → IsSeenAs w known p q None (no_export_data q)
 
 -- The names and the export data that `p` sees, by package path.
-abbrev pub AreSeen : Workspace → Verdicts → List ℕ → (List ℕ → Option (List ℕ)) → (List ℕ → Interface) → Type 0
-AreSeen w known p name_of interface_of = (q : List ℕ) → IsSeenAs w known p q (name_of q) (interface_of q)
+abbrev pub AreSeen : Workspace → Verdicts → List ℕ → (List ℕ → Option (List ℕ)) → (List ℕ → ExportData) → Type 0
+AreSeen w known p name_of export_data_of = (q : List ℕ) → IsSeenAs w known p q (name_of q) (export_data_of q)
 
 -- The package `p` as it is checked, by the verdicts on others. Each of its files has a tree.
 pub record IsPackageIn (w : Workspace) (known : Verdicts) (p : List ℕ) (checked : Package) : Type 0 where
   pub files : List FileParts
   pub parsed : AreParsed (package_files w p) files []
   pub name_of : List ℕ → Option (List ℕ)
-  pub interface_of : List ℕ → Interface
-  pub are_seen : AreSeen w known p name_of interface_of
-  pub is_package : IsPackageOf p files name_of interface_of checked
+  pub export_data_of : List ℕ → ExportData
+  pub are_seen : AreSeen w known p name_of export_data_of
+  pub is_package : IsPackageOf p files name_of export_data_of checked
 
 -- The faults of p, in stages
 
@@ -97,15 +97,15 @@ IsFaultBy w known p f = IsUnreadFault w p f ⊎ IsReadFault w known p f
 -- The verdict on p
 
 -- `i` is the export data of `p`.
-pub record HasInterface (w : Workspace) (known : Verdicts) (p : List ℕ) (i : Interface) : Type 0 where
+pub record HasExportData (w : Workspace) (known : Verdicts) (p : List ℕ) (i : ExportData) : Type 0 where
   pub checked : Package
   pub is_package : IsPackageIn w known p checked
-  pub is_interface : IsInterface checked i
+  pub is_export_data : IsExportData checked i
 
 -- `v` is the verdict on `p` that follows from the verdicts `known` on the packages that it builds on.
 pub record IsVerdictBy (w : Workspace) (known : Verdicts) (p : List ℕ) (v : Verdict) : Type 0 where
   pub has_faults : (v.faulty ≡ true) ↔ ((f : FileFault) × IsFaultBy w known p f)
-  pub has_interface : v.faulty ≡ false → HasInterface w known p v.interface
+  pub has_export_data : v.faulty ≡ false → HasExportData w known p v.export_data
 
 -- `v` is the verdict on `p`: it follows from the verdicts on the packages that `p` builds on.
 pub data IsVerdict (w : Workspace) : List ℕ → Verdict → Type 0 where

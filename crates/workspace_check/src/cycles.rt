@@ -1,11 +1,11 @@
 //! Numbers that tell which packages lie on a common import cycle, found for all packages at once.
 ghost use Rattle.std.specs.Prelude.{ℕ, ◌≡◌, ◌<◌, ◌⊎◌, ◌↔◌, length, slice_index_or, IfOk, IsTrue, OnOk};
 ghost use Rattle.base_files.specs.Packages.{package_paths};
-ghost use Rattle.workspace_graph.specs.Graphs.{HoldsPackages, OfPackage};
+ghost use Rattle.workspace_graph.specs.Graphs.{ListsPackages, OfPackage};
 ghost use Rattle.workspace_graph.specs.Packages.{IsInClosure};
 ghost use Rattle.workspace_graph.specs.Reaching.{AreBackMarks};
 ghost use Rattle.workspace_graph.specs.Search.{IsMarked};
-ghost use Rattle.workspace_check.specs.Cycles.{AreCycleNumbers, StandBehindImports, StandsBehindImports, TellCycles};
+ghost use Rattle.workspace_check.specs.Cycles.{AreCycleNumbers, ComeAfterImports, ComesAfterImports, DecideCycles};
 
 use crate::marks::is_marked;
 use crate::order::number_at;
@@ -77,7 +77,7 @@ fn give_number(
     numbers: &mut Vec<usize>,
 )
     requires in_range { number < length (package_paths graph.now) }
-    requires closure { OfPackage graph.now number (λ p. HoldsPackages graph.now (IsInClosure graph.now p) closure.now) }
+    requires closure { OfPackage graph.now number (λ p. ListsPackages graph.now (IsInClosure graph.now p) closure.now) }
     requires back { OfPackage graph.now number (λ p. AreBackMarks graph.now p back.now) }
     requires right { AreCycleNumbers graph.now numbers.old.items }
     ensures { AreCycleNumbers graph.now numbers.new.items }
@@ -141,7 +141,7 @@ fn cycle_numbers(alloc: Global, graph: &Graph, places: &[usize]) -> Result<Vec<u
 /// Whether the cycle number of a package comes later in the order than each different cycle number of its imports.
 fn is_behind_imports(graph: &Graph, places: &[usize], numbers: &[usize], number: usize) -> bool
     requires { number < length (package_paths graph.now) }
-    ensures { IsTrue result → OfPackage graph.now number (λ p. StandsBehindImports graph.now places.now numbers.now p number) }
+    ensures { IsTrue result → OfPackage graph.now number (λ p. ComesAfterImports graph.now places.now numbers.now p number) }
 {
     let own = number_at(numbers, number);
     for import in graph.imports(number) {
@@ -164,7 +164,7 @@ fn is_behind(places: &[usize], own: usize, other: usize) -> bool
 
 /// Whether the cycle number of each package comes later in the order than each different cycle number of its imports.
 fn are_behind_imports(graph: &Graph, places: &[usize], numbers: &[usize]) -> bool
-    ensures { IsTrue result → StandBehindImports graph.now places.now numbers.now }
+    ensures { IsTrue result → ComeAfterImports graph.now places.now numbers.now }
 {
     for number in 0..graph.len() {
         if !is_behind_imports(graph, places, numbers, number) {
@@ -181,7 +181,7 @@ pub(crate) fn cycles(
     graph: &Graph,
     order: &[usize],
 ) -> Result<Vec<usize>, AllocError>
-    ensures { IfOk result (λ numbers. TellCycles graph.now numbers.items) }
+    ensures { IfOk result (λ numbers. DecideCycles graph.now numbers.items) }
 {
     let places = places(alloc, order)?;
     let numbers = cycle_numbers(alloc, graph, &places)?;

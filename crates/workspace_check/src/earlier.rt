@@ -1,7 +1,7 @@
 //! The verdicts on the packages of a workspace before a change.
 ghost use Rattle.std.specs.Prelude.{◌≡◌, IfOk, MatchOption, Some, slice_get};
 ghost use Rattle.workspace_check.specs.declared.known.KnownVerdict.{KnownVerdict as Verdict};
-ghost use Rattle.workspace_check.specs.Earlier.{AreTold};
+ghost use Rattle.workspace_check.specs.Earlier.{AreVerdictsByNumber};
 
 use crate::known::{KnownVerdict, verdict_at};
 use std::alloc::{AllocError, Global};
@@ -33,7 +33,7 @@ impl Model for Earlier {
     ghost use Rattle.std.specs.Arc.{arc_value};
     ghost use Rattle.workspace_check.specs.declared.earlier.EarlierParts.{EarlierParts};
     ghost use Rattle.workspace_check.specs.contracts.earlier.EarlierParts.{the_row};
-    ghost use Rattle.workspace_check.specs.Earlier.{AreTold};
+    ghost use Rattle.workspace_check.specs.Earlier.{AreVerdictsByNumber};
 
     ghost Value = { EarlierParts };
 
@@ -41,7 +41,7 @@ impl Model for Earlier {
 
     ghost view = { λ a. arc_value a.parts };
 
-    ghost invariant = { λ a. AreTold (arc_value a.parts).graph (arc_value a.parts).verdicts.items };
+    ghost invariant = { λ a. AreVerdictsByNumber (arc_value a.parts).graph (arc_value a.parts).verdicts.items };
 }
 
 impl Earlier {
@@ -51,7 +51,7 @@ impl Earlier {
         graph: Graph,
         verdicts: Vec<Option<KnownVerdict>>,
     ) -> Result<Earlier, AllocError>
-        requires { AreTold graph verdicts.items }
+        requires { AreVerdictsByNumber graph verdicts.items }
         ensures { IfOk result (λ earlier. earlier ≡ record { graph = graph; verdicts = verdicts }) }
     {
         let parts = Arc::new(alloc, EarlierParts { graph, verdicts })?;
@@ -68,7 +68,7 @@ impl Earlier {
     /// Returns the verdict on the package of a number before the change, if it was known.
     pub(crate) fn verdict(&self, number: usize) -> Option<&KnownVerdict>
         ensures verdict { MatchOption result ((one : Verdict) → slice_get self.now.verdicts.items number ≡ Some (Some one) → ⊥) (λ one. slice_get self.now.verdicts.items number ≡ Some (Some one.now)) }
-        ensures told { AreTold self.now.graph self.now.verdicts.items }
+        ensures told { AreVerdictsByNumber self.now.graph self.now.verdicts.items }
     {
         verdict_at(&self.parts.verdicts, number)
     }

@@ -3,24 +3,24 @@ ghost use Rattle.std.specs.Prelude.{ℕ, ◌≡◌, ◌<◌, List, length, None,
 ghost use Rattle.base_files.specs.Packages.{package_paths};
 ghost use Rattle.base_files.specs.Workspace.{Workspace};
 ghost use Rattle.workspace_graph.specs.Graphs.{OfPackage};
-ghost use Rattle.types_declared.specs.InterfacesView.{name_in};
-ghost use Rattle.workspace_check.specs.Cycles.{TellCycles};
-ghost use Rattle.workspace_check.specs.Earlier.{AreSteady, HaveSameImports};
+ghost use Rattle.types_declared.specs.ExportTablesView.{name_in};
+ghost use Rattle.workspace_check.specs.Cycles.{DecideCycles};
+ghost use Rattle.workspace_check.specs.Earlier.{KeepExportData, HaveSameImports};
 ghost use Rattle.workspace_check.specs.Found.{IsFound, KnowsVerdicts};
-ghost use Rattle.workspace_check.specs.Steady.{ArePassedBelow};
-ghost use Rattle.workspace_check.specs.Told.{known_by, AreWhole};
-ghost use Rattle.workspace_check.specs.Steps.{AreAllGathered, AreGathered, IsBuildOrder, IsGathered, IsJudged, KnowsAll, MayAdd, Learns, LearnsOf, MayLearn, somes};
+ghost use Rattle.workspace_check.specs.PassedMarks.{ArePassedBelow};
+ghost use Rattle.workspace_check.specs.KnownFindings.{verdicts_by, AreNamedEntries};
+ghost use Rattle.workspace_check.specs.Steps.{AreAllGathered, AreGathered, IsBuildOrder, IsGathered, IsJudged, KnowsAllFindings, AddsOptional, LearnsFinding, AddsFinding, LearnsIfMissing, somes};
 
 use crate::cycles::cycles;
 use crate::earlier::Earlier;
 use crate::finding::{Finding, SharedFinding};
-use crate::gathered::{Gathered, gather, known_now};
+use crate::gathered::{Gathered, all_known_verdicts, gather};
 use crate::judging::{Judged, judge};
 use crate::known::Known;
 use crate::order::order;
-use crate::steady::{Steady, is_steady, standing};
+use crate::reuse::{PassedPackages, keeps_export_data, reusable_verdict};
 use std::alloc::{AllocError, Global};
-use types_declared::{Interface, Interfaces};
+use types_declared::{ExportData, ExportTable};
 use types_expr::symbol::SharedPath;
 use workspace_graph::Graph;
 
@@ -28,7 +28,7 @@ use workspace_graph::Graph;
 #[derive(Drop)]
 pub struct Findings {
     pub packages: Vec<SharedFinding>,
-    pub interfaces: Interfaces,
+    pub export_table: ExportTable,
 }
 
 /// The findings of all packages of a workspace, and the verdicts that are known after checking.
@@ -41,15 +41,15 @@ pub struct Found {
 /// Adds the export data of a package, if there is any.
 fn add(
     alloc: Global,
-    all: &mut Interfaces,
+    all: &mut ExportTable,
     path: &SharedPath,
-    interface: Option<Interface>,
+    export_data: Option<ExportData>,
 ) -> Result<(), AllocError>
-    ensures { OnOk result (MayAdd all.old all.new path.now interface) }
+    ensures { OnOk result (AddsOptional all.old all.new path.now export_data) }
 {
-    match interface {
+    match export_data {
         None => Ok(()),
-        Some(interface) => all.add(alloc, path.path(), interface),
+        Some(export_data) => all.add(alloc, path.path(), export_data),
     }
 }
 
@@ -58,17 +58,17 @@ pub(crate) fn enter_judged(
     alloc: Global,
     path: SharedPath,
     judged: Judged,
-    all: &mut Interfaces,
+    all: &mut ExportTable,
 ) -> Result<Finding, AllocError>
-    ensures { IfOk result (λ finding. (w : Workspace) → (p : List ℕ) → path ≡ p → AreWhole all.old → name_in all.old p ≡ None → IsJudged w (known_by all.old) p judged → Learns w p finding all.old all.new) }
+    ensures { IfOk result (λ finding. (w : Workspace) → (p : List ℕ) → path ≡ p → AreNamedEntries all.old → name_in all.old p ≡ None → IsJudged w (verdicts_by all.old) p judged → LearnsFinding w p finding all.old all.new) }
 {
     let Judged {
         faults,
-        interface,
+        export_data,
         members,
         qualified,
     } = judged;
-    add(alloc, all, &path, interface)?;
+    add(alloc, all, &path, export_data)?;
     Ok(Finding {
         path,
         faults,
@@ -84,14 +84,14 @@ fn judge_one(
     number: usize,
     path: SharedPath,
     cycles: &[usize],
-    all: &mut Interfaces,
+    all: &mut ExportTable,
 ) -> Result<Finding, AllocError>
     requires in_range { number < length (package_paths graph.now) }
     requires path { OfPackage graph.now number (λ p. path ≡ p) }
-    requires cycles { TellCycles graph.now cycles.now }
-    requires whole { AreWhole all.old }
+    requires cycles { DecideCycles graph.now cycles.now }
+    requires whole { AreNamedEntries all.old }
     requires fresh { OfPackage graph.now number (λ p. name_in all.old p ≡ None) }
-    ensures { IfOk result (λ finding. OfPackage graph.now number (λ p. Learns graph.now p finding all.old all.new)) }
+    ensures { IfOk result (λ finding. OfPackage graph.now number (λ p. LearnsFinding graph.now p finding all.old all.new)) }
 {
     let judged = judge(alloc, graph, number, &path, cycles, all)?;
     enter_judged(alloc, path, judged, all)
@@ -106,13 +106,13 @@ fn judge_unknown(
     all: &mut Gathered,
 ) -> Result<(), AllocError>
     requires in_range { number < length (package_paths graph.now) }
-    requires cycles { TellCycles graph.now cycles.now }
+    requires cycles { DecideCycles graph.now cycles.now }
     requires all { AreGathered graph.now (length (package_paths graph.now)) all.old }
     requires unknown { IsGathered all.old.findings.items number → ⊥ }
-    ensures { OnOk result (OfPackage graph.now number (λ p. LearnsOf graph.now p number all.old all.new)) }
+    ensures { OnOk result (OfPackage graph.now number (λ p. AddsFinding graph.now p number all.old all.new)) }
 {
     let path = SharedPath::new(alloc, &graph.package(number).path)?;
-    let finding = judge_one(alloc, graph, number, path, cycles, &mut all.interfaces)?;
+    let finding = judge_one(alloc, graph, number, path, cycles, &mut all.export_table)?;
     let finding = SharedFinding::new(alloc, finding)?;
     all.findings[number] = Some(finding);
     Ok(())
@@ -127,9 +127,9 @@ pub(crate) fn judge_next(
     all: &mut Gathered,
 ) -> Result<(), AllocError>
     requires in_range { number < length (package_paths graph.now) }
-    requires cycles { TellCycles graph.now cycles.now }
+    requires cycles { DecideCycles graph.now cycles.now }
     requires all { AreGathered graph.now (length (package_paths graph.now)) all.old }
-    ensures { OnOk result (OfPackage graph.now number (λ p. MayLearn graph.now p number all.old all.new)) }
+    ensures { OnOk result (OfPackage graph.now number (λ p. LearnsIfMissing graph.now p number all.old all.new)) }
 {
     if all.knows(number) {
         return Ok(());
@@ -147,7 +147,7 @@ fn judge_all(
     all: &mut Gathered,
 ) -> Result<(), AllocError>
     requires order { IsBuildOrder graph.now order.now }
-    requires cycles { TellCycles graph.now cycles.now }
+    requires cycles { DecideCycles graph.now cycles.now }
     requires all { AreGathered graph.now (length (package_paths graph.now)) all.old }
     ensures { OnOk result (AreAllGathered graph.now order.now all.new) }
 {
@@ -164,21 +164,21 @@ fn keep_or_judge(
     number: usize,
     cycles: &[usize],
     earlier: &Earlier,
-    steady: &Steady,
+    steady: &PassedPackages,
     all: &mut Gathered,
 ) -> Result<(), AllocError>
     requires in_range { number < length (package_paths graph.now) }
-    requires cycles { TellCycles graph.now cycles.now }
+    requires cycles { DecideCycles graph.now cycles.now }
     requires all { AreGathered graph.now (length (package_paths graph.now)) all.old }
     requires same { HaveSameImports earlier.now.graph graph.now }
-    requires steady { AreSteady graph.now earlier.now.verdicts.items all.old steady.now.marks.items }
+    requires steady { KeepExportData graph.now earlier.now.verdicts.items all.old steady.now.marks.items }
     requires below { OfPackage graph.now number (λ p. ArePassedBelow graph.now p number steady.now) }
-    ensures { OnOk result (OfPackage graph.now number (λ p. MayLearn graph.now p number all.old all.new)) }
+    ensures { OnOk result (OfPackage graph.now number (λ p. LearnsIfMissing graph.now p number all.old all.new)) }
 {
     if all.knows(number) {
         return Ok(());
     }
-    if let Some(verdict) = standing(earlier, graph, number, steady) {
+    if let Some(verdict) = reusable_verdict(earlier, graph, number, steady) {
         all.keep(number, verdict)?;
         return Ok(());
     }
@@ -196,15 +196,15 @@ fn judge_changed(
     all: &mut Gathered,
 ) -> Result<(), AllocError>
     requires order { IsBuildOrder graph.now order.now }
-    requires cycles { TellCycles graph.now cycles.now }
+    requires cycles { DecideCycles graph.now cycles.now }
     requires all { AreGathered graph.now (length (package_paths graph.now)) all.old }
     requires same { HaveSameImports earlier.now.graph graph.now }
     ensures { OnOk result (AreAllGathered graph.now order.now all.new) }
 {
-    let mut steady = Steady::new(alloc, graph)?;
+    let mut steady = PassedPackages::new(alloc, graph)?;
     for number in order {
         keep_or_judge(alloc, graph, *number, cycles, earlier, &steady, all)?;
-        let same = is_steady(earlier, graph, *number, &all.interfaces);
+        let same = keeps_export_data(earlier, graph, *number, &all.export_table);
         steady.pass(alloc, graph, *number, same)?;
     }
     Ok(())
@@ -220,7 +220,7 @@ fn judge_in(
     all: &mut Gathered,
 ) -> Result<(), AllocError>
     requires order { IsBuildOrder graph.now order.now }
-    requires cycles { TellCycles graph.now cycles.now }
+    requires cycles { DecideCycles graph.now cycles.now }
     requires all { AreGathered graph.now (length (package_paths graph.now)) all.old }
     ensures { OnOk result (AreAllGathered graph.now order.now all.new) }
 {
@@ -238,7 +238,7 @@ fn judge_rest(
     all: &mut Gathered,
 ) -> Result<(), AllocError>
     requires { AreGathered graph.now (length (package_paths graph.now)) all.old }
-    ensures { OnOk result (KnowsAll graph.now all.new) }
+    ensures { OnOk result (KnowsAllFindings graph.now all.new) }
 {
     if all.knows_all() {
         return Ok(());
@@ -278,12 +278,12 @@ pub(crate) fn verdicts_from(
 {
     let mut all = gathered;
     judge_rest(alloc, graph, known, &mut all)?;
-    let known = known_now(alloc, graph, known, &all)?;
+    let known = all_known_verdicts(alloc, graph, known, &all)?;
     let packages = all_there(alloc, &all.findings)?;
-    let interfaces = all.interfaces;
+    let export_table = all.export_table;
     let findings = Findings {
         packages,
-        interfaces,
+        export_table,
     };
     Ok(Found { findings, known })
 }

@@ -3,15 +3,15 @@ ghost use Rattle.std.specs.Prelude.{ℕ, ◌<◌, Contains, IfOk, OnOk, length};
 ghost use Rattle.base_files.specs.Packages.{package_paths};
 ghost use Rattle.workspace_graph.specs.Graphs.{OfPackage};
 ghost use Rattle.workspace_check.specs.Found.{AreVerdictsOf, KnowsVerdicts};
-ghost use Rattle.workspace_check.specs.Steps.{AreGathered, AreKnownBelow, IsGathered, IsKnownWithBelow, IsMadeOf, MayPush};
-ghost use Rattle.workspace_check.specs.Told.{MayTell};
+ghost use Rattle.workspace_check.specs.Steps.{AreGathered, AreKnownBelow, IsGathered, IsKnownWithBelow, IsFoundPackage, PushesOptional};
+ghost use Rattle.workspace_check.specs.KnownFindings.{IsVerdictIfKnown};
 
 use crate::finding::SharedFinding;
 use crate::findings::judge_next;
 use crate::gathered::{Gathered, take_known, verdict_found};
 use crate::known::{Known, KnownVerdict};
 use std::alloc::{AllocError, Global};
-use types_declared::Interfaces;
+use types_declared::ExportTable;
 use workspace_graph::Graph;
 
 /// The finding of a package; the export data of this package and of the packages without faults that it builds on; and the verdicts on all
@@ -19,7 +19,7 @@ use workspace_graph::Graph;
 #[derive(Drop)]
 pub struct FoundPackage {
     pub finding: SharedFinding,
-    pub interfaces: Interfaces,
+    pub export_table: ExportTable,
     pub found: Vec<KnownVerdict>,
 }
 
@@ -54,7 +54,7 @@ fn new_verdict(
 ) -> Result<Option<KnownVerdict>, AllocError>
     requires number { number < length (package_paths graph.now) }
     requires now { AreGathered graph.now (length (package_paths graph.now)) now.now }
-    ensures { IfOk result (λ found. OfPackage graph.now number (λ p. MayTell graph.now p found)) }
+    ensures { IfOk result (λ found. OfPackage graph.now number (λ p. IsVerdictIfKnown graph.now p found)) }
 {
     match known.get(number) {
         Some(_) => Ok(None),
@@ -67,7 +67,7 @@ fn push_some(
     verdicts: &mut Vec<KnownVerdict>,
     verdict: Option<KnownVerdict>,
 ) -> Result<(), AllocError>
-    ensures { OnOk result (MayPush verdicts.old.items verdicts.new.items verdict) }
+    ensures { OnOk result (PushesOptional verdicts.old.items verdicts.new.items verdict) }
 {
     match verdict {
         None => Ok(()),
@@ -79,7 +79,7 @@ fn push_some(
 }
 
 /// Returns the verdicts on the packages of `numbers` that were not known before.
-pub(crate) fn found_now(
+pub(crate) fn new_verdicts(
     alloc: Global,
     graph: &Graph,
     numbers: &[usize],
@@ -105,13 +105,13 @@ pub(crate) fn found_package(
     found: Vec<KnownVerdict>,
 ) -> Result<FoundPackage, AllocError>
     requires { IsGathered all.findings.items number }
-    ensures { IfOk result (IsMadeOf number all found.items) }
+    ensures { IfOk result (IsFoundPackage number all found.items) }
 {
     let finding = all.finding_there(number).clone()?;
-    let interfaces = all.interfaces;
+    let export_table = all.export_table;
     Ok(FoundPackage {
         finding,
-        interfaces,
+        export_table,
         found,
     })
 }

@@ -3,23 +3,23 @@ ghost use Rattle.std.specs.Prelude.{◌≡◌, ◌<◌, ◌↔◌, ℕ, List, le
 ghost use Rattle.std.proofs.Math.ListN.{set};
 ghost use Rattle.base_files.specs.Packages.{package_paths};
 ghost use Rattle.workspace_graph.specs.Graphs.{OfPackage};
-ghost use Rattle.types_declared.specs.InterfacesView.{EndsAt, IsBehindAll, SetsKnown, interface_in, name_in, no_interface};
+ghost use Rattle.types_declared.specs.ExportTablesView.{EndsAt, ComesAfterAll, SetsKnown, export_data_in, name_in, no_export_data};
 ghost use Rattle.workspace_check.specs.declared.finding.Finding.{Finding as Found};
 ghost use Rattle.workspace_check.specs.Found.{KnowsVerdicts};
-ghost use Rattle.workspace_check.specs.Told.{MayTell};
+ghost use Rattle.workspace_check.specs.KnownFindings.{IsVerdictIfKnown};
 ghost use Rattle.workspace_check.specs.Steps.{AreGathered, AreTakenOf, HoldAllBelow, IsGathered, KnewOneMore};
 
 use crate::finding::SharedFinding;
 use crate::known::{Known, KnownVerdict};
 use std::alloc::{AllocError, Global};
-use types_declared::Interfaces;
+use types_declared::ExportTable;
 use workspace_graph::Graph;
 
 /// Findings of some packages, by package number, and the export data of those without faults.
 #[derive(Drop)]
 pub(crate) struct Gathered {
     pub(crate) findings: Vec<Option<SharedFinding>>,
-    pub(crate) interfaces: Interfaces,
+    pub(crate) export_table: ExportTable,
 }
 
 /// Known findings that are taken from `Known` one after the other, and whether none was missing so far.
@@ -43,15 +43,15 @@ impl Gathered {
     fn new(alloc: Global, count: usize, room: usize) -> Result<Gathered, AllocError>
         ensures size { IfOk result (λ all. length all.findings.items ≡ count) }
         ensures none { IfOk result (λ all. (n : ℕ) → IsGathered all.findings.items n → ⊥) }
-        ensures names { IfOk result (λ all. (path : List ℕ) → name_in all.interfaces path ≡ None) }
-        ensures interfaces { IfOk result (λ all. (path : List ℕ) → interface_in all.interfaces path ≡ no_interface path) }
-        ensures behind { IfOk result (λ all. (path : List ℕ) → IsBehindAll all.interfaces path) }
+        ensures names { IfOk result (λ all. (path : List ℕ) → name_in all.export_table path ≡ None) }
+        ensures export_table { IfOk result (λ all. (path : List ℕ) → export_data_in all.export_table path ≡ no_export_data path) }
+        ensures behind { IfOk result (λ all. (path : List ℕ) → ComesAfterAll all.export_table path) }
     {
         let findings = no_findings(alloc, count)?;
-        let interfaces = Interfaces::with_capacity(alloc, room)?;
+        let export_table = ExportTable::with_capacity(alloc, room)?;
         Ok(Gathered {
             findings,
-            interfaces,
+            export_table,
         })
     }
 
@@ -102,10 +102,10 @@ impl Gathered {
     pub(crate) fn keep(&mut self, number: usize, verdict: &KnownVerdict) -> Result<(), AllocError>
         requires { number < length self.old.findings.items }
         ensures findings { OnOk result (self.new.findings.items ≡ set self.old.findings.items number (Some verdict.now.finding)) }
-        ensures interfaces { OnOk result (SetsKnown self.old.interfaces self.new.interfaces verdict.now.finding.path verdict.now.known) }
+        ensures export_table { OnOk result (SetsKnown self.old.export_table self.new.export_table verdict.now.finding.path verdict.now.known) }
     {
         let finding = verdict.finding.clone()?;
-        verdict.share_with(&mut self.interfaces)?;
+        verdict.share_with(&mut self.export_table)?;
         self.findings[number] = Some(finding);
         Ok(())
     }
@@ -114,13 +114,13 @@ impl Gathered {
     /// export data here.
     fn keep_next(&mut self, number: usize, verdict: &KnownVerdict) -> Result<(), AllocError>
         requires number { number < length self.old.findings.items }
-        requires behind { IsBehindAll self.old.interfaces verdict.now.finding.path }
+        requires behind { ComesAfterAll self.old.export_table verdict.now.finding.path }
         ensures findings { OnOk result (self.new.findings.items ≡ set self.old.findings.items number (Some verdict.now.finding)) }
-        ensures interfaces { OnOk result (SetsKnown self.old.interfaces self.new.interfaces verdict.now.finding.path verdict.now.known) }
-        ensures end { OnOk result (EndsAt self.new.interfaces verdict.now.finding.path) }
+        ensures export_table { OnOk result (SetsKnown self.old.export_table self.new.export_table verdict.now.finding.path verdict.now.known) }
+        ensures end { OnOk result (EndsAt self.new.export_table verdict.now.finding.path) }
     {
         let finding = verdict.finding.clone()?;
-        verdict.push_to(&mut self.interfaces)?;
+        verdict.push_to(&mut self.export_table)?;
         self.findings[number] = Some(finding);
         Ok(())
     }
@@ -160,11 +160,11 @@ fn take_next(
     requires known { KnowsVerdicts graph.now known.now }
     requires all { AreGathered graph.now (length (package_paths graph.now)) taken.old.all }
     requires unknown { IsGathered taken.old.all.findings.items number → ⊥ }
-    requires behind { OfPackage graph.now number (IsBehindAll taken.old.all.interfaces) }
+    requires behind { OfPackage graph.now number (ComesAfterAll taken.old.all.export_table) }
     ensures right { OnOk result (AreGathered graph.now (length (package_paths graph.now)) taken.new.all) }
     ensures others { OnOk result ((n : ℕ) → (n ≡ number → ⊥) → IsGathered taken.new.all.findings.items n → IsGathered taken.old.all.findings.items n) }
     ensures each { OnOk result (KnewOneMore number taken.old taken.new) }
-    ensures end { OnOk result (OfPackage graph.now number (EndsAt taken.new.all.interfaces)) }
+    ensures end { OnOk result (OfPackage graph.now number (EndsAt taken.new.all.export_table)) }
 {
     let Some(verdict) = known.get(number) else {
         taken.knew_each = false;
@@ -220,18 +220,18 @@ pub(crate) fn verdict_found(
 ) -> Result<Option<KnownVerdict>, AllocError>
     requires number { number < length (package_paths graph.now) }
     requires now { AreGathered graph.now (length (package_paths graph.now)) now.now }
-    ensures { IfOk result (λ found. OfPackage graph.now number (λ p. MayTell graph.now p found)) }
+    ensures { IfOk result (λ found. OfPackage graph.now number (λ p. IsVerdictIfKnown graph.now p found)) }
 {
     let Some(finding) = now.finding(number) else {
         return Ok(None);
     };
     let finding = finding.clone()?;
-    let verdict = KnownVerdict::of(finding, &now.interfaces)?;
+    let verdict = KnownVerdict::of(finding, &now.export_table)?;
     Ok(Some(verdict))
 }
 
 /// Returns the verdict on a package: the one known before, or else the gathered one, if there is any.
-fn verdict_now(
+fn verdict_after(
     graph: &Graph,
     number: usize,
     before: &Known,
@@ -240,7 +240,7 @@ fn verdict_now(
     requires number { number < length (package_paths graph.now) }
     requires before { KnowsVerdicts graph.now before.now }
     requires now { AreGathered graph.now (length (package_paths graph.now)) now.now }
-    ensures { IfOk result (λ found. OfPackage graph.now number (λ p. MayTell graph.now p found)) }
+    ensures { IfOk result (λ found. OfPackage graph.now number (λ p. IsVerdictIfKnown graph.now p found)) }
 {
     if let Some(verdict) = before.get(number) {
         let verdict = verdict.clone()?;
@@ -250,7 +250,7 @@ fn verdict_now(
 }
 
 /// Returns the verdicts that were known before, together with the gathered ones.
-pub(crate) fn known_now(
+pub(crate) fn all_known_verdicts(
     alloc: Global,
     graph: &Graph,
     before: &Known,
@@ -262,7 +262,7 @@ pub(crate) fn known_now(
 {
     let mut all = Known::with_capacity(alloc, graph.len())?;
     for number in 0..graph.len() {
-        let verdict = verdict_now(graph, number, before, now)?;
+        let verdict = verdict_after(graph, number, before, now)?;
         all.push(verdict)?;
     }
     Ok(all)

@@ -4,17 +4,17 @@ ghost use Rattle.base_files.specs.Packages.{package_files, package_paths};
 ghost use Rattle.base_files.specs.Workspace.{Workspace};
 ghost use Rattle.workspace_graph.specs.Graphs.{IsPackage, OfPackage};
 ghost use Rattle.workspace_graph.specs.Parsed.{AreParsed};
-ghost use Rattle.workspace_check.specs.Cycles.{TellCycles};
+ghost use Rattle.workspace_check.specs.Cycles.{DecideCycles};
 ghost use Rattle.workspace_check.specs.Verdicts.{Verdicts};
-ghost use Rattle.workspace_check.specs.Told.{known_by, AreWhole};
-ghost use Rattle.workspace_check.specs.Steps.{ImportsFaulty, IsCheckedIn, IsJudged, IsStoppedIn};
+ghost use Rattle.workspace_check.specs.KnownFindings.{verdicts_by, AreNamedEntries};
+ghost use Rattle.workspace_check.specs.Steps.{ImportsFaulty, IsCheckResult, IsJudged, IsStoppedResult};
 
 use crate::fault::{FileFault, sort};
 use crate::placing::{placed_faults, unread_faults};
 use crate::seeing::{imports_faulty, seen_imports, states_by};
 use std::alloc::{AllocError, Global};
 use types_check::{Checked, check};
-use types_declared::{Interface, Interfaces};
+use types_declared::{ExportData, ExportTable};
 use types_expr::found::MemberUse;
 use types_expr::symbol::SharedPath;
 use types_info::Qualified;
@@ -24,7 +24,7 @@ use workspace_graph::{Graph, ParsedPackage};
 #[derive(Drop)]
 pub(crate) struct Judged {
     pub(crate) faults: Vec<FileFault>,
-    pub(crate) interface: Option<Interface>,
+    pub(crate) export_data: Option<ExportData>,
     pub(crate) members: Vec<Vec<MemberUse>>,
     pub(crate) qualified: Vec<Qualified>,
 }
@@ -38,7 +38,7 @@ fn judge_unread(alloc: Global, files: &ParsedPackage) -> Result<Judged, AllocErr
     sort(&mut faults);
     Ok(Judged {
         faults,
-        interface: None,
+        export_data: None,
         members: Vec::new(alloc),
         qualified: Vec::new(alloc),
     })
@@ -50,12 +50,12 @@ pub(crate) fn place_checked(
     files: &ParsedPackage,
     checked: Checked,
 ) -> Result<Judged, AllocError>
-    ensures checked { IfOk result (λ j. (w : Workspace) → (known : Verdicts) → (p : List ℕ) → Contains (package_paths w) p → AreParsed (package_files w p) files.now.trees.items [] → IsCheckedIn w known p checked → IsJudged w known p j) }
-    ensures stopped { IfOk result (λ j. (w : Workspace) → (known : Verdicts) → (p : List ℕ) → Contains (package_paths w) p → AreParsed (package_files w p) files.now.trees.items [] → IsStoppedIn w known p checked → IsJudged w known p j) }
+    ensures checked { IfOk result (λ j. (w : Workspace) → (known : Verdicts) → (p : List ℕ) → Contains (package_paths w) p → AreParsed (package_files w p) files.now.trees.items [] → IsCheckResult w known p checked → IsJudged w known p j) }
+    ensures stopped { IfOk result (λ j. (w : Workspace) → (known : Verdicts) → (p : List ℕ) → Contains (package_paths w) p → AreParsed (package_files w p) files.now.trees.items [] → IsStoppedResult w known p checked → IsJudged w known p j) }
 {
     let Checked {
         faults,
-        interface,
+        export_data,
         members,
         qualified,
     } = checked;
@@ -63,17 +63,17 @@ pub(crate) fn place_checked(
     sort(&mut faults);
     Ok(Judged {
         faults,
-        interface,
+        export_data,
         members,
         qualified,
     })
 }
 
 /// Whether a package imports a package with faults. False if no cycle numbers are known.
-fn is_stopped(graph: &Graph, number: usize, cycles: &[usize], all: &Interfaces) -> bool
+fn is_stopped(graph: &Graph, number: usize, cycles: &[usize], all: &ExportTable) -> bool
     requires { number < length (package_paths graph.now) }
     ensures known { IsTrue result → number < length cycles.now }
-    ensures faulty { IsTrue result → OfPackage graph.now number (ImportsFaulty graph.now (known_by all.now)) }
+    ensures faulty { IsTrue result → OfPackage graph.now number (ImportsFaulty graph.now (verdicts_by all.now)) }
 {
     if number >= cycles.len() {
         return false;
@@ -89,16 +89,16 @@ fn judge_stopped(
     files: &ParsedPackage,
     path: &SharedPath,
     cycles: &[usize],
-    all: &Interfaces,
+    all: &ExportTable,
 ) -> Result<Judged, AllocError>
     requires in_range { number < length (package_paths graph.now) }
     requires files { IsPackage graph.now number files.now }
     requires read { files.now.faulty.items ≡ [] }
     requires path { OfPackage graph.now number (λ p. path.now ≡ p) }
-    requires cycles { TellCycles graph.now cycles.now }
+    requires cycles { DecideCycles graph.now cycles.now }
     requires known { number < length cycles.now }
-    requires faulty { OfPackage graph.now number (ImportsFaulty graph.now (known_by all.now)) }
-    ensures { IfOk result (λ j. OfPackage graph.now number (λ p. IsJudged graph.now (known_by all.now) p j)) }
+    requires faulty { OfPackage graph.now number (ImportsFaulty graph.now (verdicts_by all.now)) }
+    ensures { IfOk result (λ j. OfPackage graph.now number (λ p. IsJudged graph.now (verdicts_by all.now) p j)) }
 {
     let noted = states_by(alloc, graph, number, cycles, all)?;
     let checked = check(alloc, path, &files.trees, &noted)?;
@@ -113,21 +113,21 @@ fn judge_read(
     files: &ParsedPackage,
     path: &SharedPath,
     cycles: &[usize],
-    all: &Interfaces,
+    all: &ExportTable,
 ) -> Result<Judged, AllocError>
     requires in_range { number < length (package_paths graph.now) }
     requires files { IsPackage graph.now number files.now }
     requires read { files.now.faulty.items ≡ [] }
     requires path { OfPackage graph.now number (λ p. path.now ≡ p) }
-    requires cycles { TellCycles graph.now cycles.now }
-    requires whole { AreWhole all.now }
-    ensures { IfOk result (λ j. OfPackage graph.now number (λ p. IsJudged graph.now (known_by all.now) p j)) }
+    requires cycles { DecideCycles graph.now cycles.now }
+    requires whole { AreNamedEntries all.now }
+    ensures { IfOk result (λ j. OfPackage graph.now number (λ p. IsJudged graph.now (verdicts_by all.now) p j)) }
 {
     if is_stopped(graph, number, cycles, all) {
         return judge_stopped(alloc, graph, number, files, path, cycles, all);
     }
-    let interfaces = seen_imports(alloc, graph, number, all)?;
-    let checked = check(alloc, path, &files.trees, &interfaces)?;
+    let export_table = seen_imports(alloc, graph, number, all)?;
+    let checked = check(alloc, path, &files.trees, &export_table)?;
     place_checked(alloc, files, checked)
 }
 
@@ -138,13 +138,13 @@ pub(crate) fn judge(
     number: usize,
     path: &SharedPath,
     cycles: &[usize],
-    all: &Interfaces,
+    all: &ExportTable,
 ) -> Result<Judged, AllocError>
     requires in_range { number < length (package_paths graph.now) }
     requires path { OfPackage graph.now number (λ p. path.now ≡ p) }
-    requires cycles { TellCycles graph.now cycles.now }
-    requires whole { AreWhole all.now }
-    ensures { IfOk result (λ j. OfPackage graph.now number (λ p. IsJudged graph.now (known_by all.now) p j)) }
+    requires cycles { DecideCycles graph.now cycles.now }
+    requires whole { AreNamedEntries all.now }
+    ensures { IfOk result (λ j. OfPackage graph.now number (λ p. IsJudged graph.now (verdicts_by all.now) p j)) }
 {
     let files = graph.package(number);
     if files.faulty.is_empty() {

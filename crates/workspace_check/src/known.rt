@@ -3,16 +3,16 @@ ghost use Rattle.std.specs.Prelude.{◌≡◌, ◌<◌, ◌≤◌, ◌↔◌, �
 ghost use Rattle.std.proofs.Math.ListN.{set};
 ghost use Rattle.base_files.specs.Workspace.{Workspace};
 ghost use Rattle.types_expr.specs.WorldView.{known_at};
-ghost use Rattle.types_declared.specs.InterfacesView.{EndsAt, IsBehindAll, SetsKnown};
+ghost use Rattle.types_declared.specs.ExportTablesView.{EndsAt, ComesAfterAll, SetsKnown};
 ghost use Rattle.workspace_check.specs.Earlier.{HaveSameImports};
 ghost use Rattle.workspace_check.specs.Found.{HoldSameVerdicts, KnowsVerdicts};
 ghost use Rattle.workspace_check.specs.declared.known.KnownVerdict.{KnownVerdict as Verdict};
 
 use crate::earlier::Earlier;
 use crate::finding::{Finding, SharedFinding};
-use crate::steady::have_same_imports;
+use crate::reuse::have_same_imports;
 use std::alloc::{AllocError, Global};
-use types_declared::{Interfaces, KnownInterface};
+use types_declared::{ExportTable, KnownExportData};
 use types_expr::symbol::SharedPath;
 use workspace_graph::Graph;
 
@@ -20,12 +20,12 @@ use workspace_graph::Graph;
 #[derive(Drop)]
 pub struct KnownVerdict {
     pub(crate) finding: SharedFinding,
-    pub(crate) known: KnownInterface,
+    pub(crate) known: KnownExportData,
 }
 
 impl KnownVerdict {
     /// Returns the verdict on the package of a finding, with the export data that `all` has of it.
-    pub(crate) fn of(finding: SharedFinding, all: &Interfaces) -> Result<KnownVerdict, AllocError>
+    pub(crate) fn of(finding: SharedFinding, all: &ExportTable) -> Result<KnownVerdict, AllocError>
         ensures finding { IfOk result (λ one. one.finding ≡ finding) }
         ensures known { IfOk result (λ one. one.known ≡ known_at all.now.definitions finding.path) }
     {
@@ -48,14 +48,14 @@ impl KnownVerdict {
     }
 
     /// The package's export data, known only if the package has no fault.
-    pub fn known(&self) -> &KnownInterface
+    pub fn known(&self) -> &KnownExportData
         ensures { result.now ≡ self.now.known }
     {
         &self.known
     }
 
     /// Sets the package's entry in `all` to this export data.
-    pub(crate) fn share_with(&self, all: &mut Interfaces) -> Result<(), AllocError>
+    pub(crate) fn share_with(&self, all: &mut ExportTable) -> Result<(), AllocError>
         ensures { OnOk result (SetsKnown all.old all.new self.now.finding.path self.now.known) }
     {
         let path = self.path().clone()?;
@@ -64,8 +64,8 @@ impl KnownVerdict {
     }
 
     /// Adds the package's export data at the end of `all`. The package's path must come after all paths there.
-    pub(crate) fn push_to(&self, all: &mut Interfaces) -> Result<(), AllocError>
-        requires { IsBehindAll all.old self.now.finding.path }
+    pub(crate) fn push_to(&self, all: &mut ExportTable) -> Result<(), AllocError>
+        requires { ComesAfterAll all.old self.now.finding.path }
         ensures set { OnOk result (SetsKnown all.old all.new self.now.finding.path self.now.known) }
         ensures end { OnOk result (EndsAt all.new self.now.finding.path) }
     {

@@ -2,13 +2,13 @@
 ghost use Rattle.workspace_check.specs.Laws.{
   HaveOneVerdict,
   AreCheckedAsOne,
-  HaveOneList,
-  HaveOneWholeList,
+  PackagesHaveOneList,
+  WorkspacesHaveOneList,
   AreLocalVerdicts,
   AreLocalLists,
   AreLocallyChecked,
   AreLocallyKnown,
-  VerdictsFollowInterfaces,
+  VerdictsFollowExportData,
 };
 
 /// A package has at most one verdict.
@@ -23,8 +23,8 @@ pub fn checked_packages_are_unique()
 
 /// A package has at most one fault list, and so has a workspace.
 pub fn fault_lists_are_unique()
-    ensures of_package { HaveOneList }
-    ensures of_workspace { HaveOneWholeList }
+    ensures of_package { PackagesHaveOneList }
+    ensures of_workspace { WorkspacesHaveOneList }
 {}
 
 /// Verdict, fault list and checked form of a package depend on the texts of its closure alone. If these are equal in two workspaces, a
@@ -38,6 +38,6 @@ pub fn verdicts_are_local()
 
 /// Takes two workspaces with equal packages and equal imports, and a package with equal files in both. If the package sees equal export
 /// data in both, its verdicts in both are equal.
-pub fn verdicts_follow_interfaces()
-    ensures { VerdictsFollowInterfaces }
+pub fn verdicts_follow_export_data()
+    ensures { VerdictsFollowExportData }
 {}

@@ -20,9 +20,9 @@ mod marks;
 mod order;
 mod placing;
 mod progress;
+mod reuse;
 mod seeing;
 mod shared_known;
-mod steady;
 
 pub use earlier::{Earlier, EarlierParts};
 pub use fault::FileFault;

@@ -1,15 +1,15 @@
 //! An order of all packages in which each comes after those that it builds on.
 ghost use Rattle.std.specs.Prelude.{◌≡◌, length, slice_index_or, IfOk};
 ghost use Rattle.base_files.specs.Packages.{package_paths};
-ghost use Rattle.workspace_graph.specs.Imports.{HoldsBelow};
-ghost use Rattle.workspace_check.specs.Steps.{AreSizes, IsBuildOrder};
+ghost use Rattle.workspace_graph.specs.Imports.{ListsBelow};
+ghost use Rattle.workspace_check.specs.Steps.{AreClosureSizes, IsBuildOrder};
 
 use std::alloc::{AllocError, Global};
 use workspace_graph::Graph;
 
 /// Returns the size of each package's closure, by one search from each package.
 fn sizes(alloc: Global, graph: &Graph) -> Result<Vec<usize>, AllocError>
-    ensures { IfOk result (λ sizes. AreSizes graph.now (length (package_paths graph.now)) sizes.items) }
+    ensures { IfOk result (λ sizes. AreClosureSizes graph.now (length (package_paths graph.now)) sizes.items) }
 {
     let mut sizes = Vec::new(alloc);
     for number in 0..graph.len() {
@@ -31,7 +31,7 @@ pub(crate) fn number_at(numbers: &[usize], place: usize) -> usize
 
 /// Returns the numbers from 0 to below `count`.
 fn numbers(alloc: Global, count: usize) -> Result<Vec<usize>, AllocError>
-    ensures { IfOk result (λ numbers. HoldsBelow (λ n. Unit {0}) count numbers.items) }
+    ensures { IfOk result (λ numbers. ListsBelow (λ n. Unit {0}) count numbers.items) }
 {
     let mut numbers = Vec::new(alloc);
     for number in 0..count {

@@ -1,6 +1,6 @@
 //! Gives faults their places.
 ghost use Rattle.std.specs.Prelude.{◌≡◌, ◌↔◌, Contains, IfOk, OnOk};
-ghost use Rattle.workspace_check.specs.Steps.{IsPlacedOf, AddsPlaced, unread_faults};
+ghost use Rattle.workspace_check.specs.Steps.{IsSomePlacedFault, AddsPlaced, unread_faults};
 
 use crate::fault::FileFault;
 use base_files::Place;
@@ -57,7 +57,7 @@ pub(crate) fn placed_faults(
     files: &[FileTree],
     faults: &[Fault],
 ) -> Result<Vec<FileFault>, AllocError>
-    ensures { IfOk result (λ found. (f : FileFault) → Contains found.items f ↔ IsPlacedOf files.now faults.now f) }
+    ensures { IfOk result (λ found. (f : FileFault) → Contains found.items f ↔ IsSomePlacedFault files.now faults.now f) }
 {
     let mut found = Vec::new(alloc);
     for fault in faults {

@@ -3,31 +3,31 @@ ghost use Rattle.std.specs.Prelude.{ℕ, ◌≡◌, ◌<◌, ◌↔◌, ◌++◌
 ghost use Rattle.std.specs.List.Sorted.{IsStrictlyIncreasing};
 ghost use Rattle.base_files.specs.Packages.{package_paths};
 ghost use Rattle.base_files.specs.Workspace.{Workspace};
-ghost use Rattle.workspace_graph.specs.Graphs.{HoldsPackages, OfPackage};
+ghost use Rattle.workspace_graph.specs.Graphs.{ListsPackages, OfPackage};
 ghost use Rattle.workspace_graph.specs.Packages.{IsInClosure};
 ghost use Rattle.types_declared.specs.States.{state_in};
-ghost use Rattle.workspace_check.specs.Cycles.{TellCycles};
-ghost use Rattle.workspace_check.specs.Found.{AreVerdictsOf, IsFoundBy, KnowsVerdicts};
+ghost use Rattle.workspace_check.specs.Cycles.{DecideCycles};
+ghost use Rattle.workspace_check.specs.Found.{AreVerdictsOf, IsFindingWith, KnowsVerdicts};
 ghost use Rattle.workspace_check.specs.Steps.{
   AreGathered,
   AreGatheredOf,
   HoldAllBelow,
   IsBuildOrder,
-  IsCheckedIn,
+  IsCheckResult,
   IsGathered,
-  IsSeenIn,
-  IsUnderway,
-  KnowsJust,
-  LearnsOf,
-  MayLearnAmong,
+  SeesExactly,
+  IsProgress,
+  KnowsExactly,
+  AddsFinding,
+  LearnsIfAmong,
 };
-ghost use Rattle.workspace_check.specs.Told.{known_by};
+ghost use Rattle.workspace_check.specs.KnownFindings.{verdicts_by};
 ghost use Rattle.workspace_check.specs.Verdicts.{AreStates};
 
 use crate::cycles::cycles;
 use crate::finding::SharedFinding;
 use crate::findings::{enter_judged, judge_next};
-use crate::found_package::{FoundPackage, found_now, found_package, take_or_judge};
+use crate::found_package::{FoundPackage, found_package, new_verdicts, take_or_judge};
 use crate::gathered::{Gathered, Taken, gather_some};
 use crate::judging::place_checked;
 use crate::known::Known;
@@ -35,7 +35,7 @@ use crate::order::order;
 use crate::seeing::import_states;
 use std::alloc::{AllocError, Global};
 use types_check::Checked;
-use types_declared::Interfaces;
+use types_declared::ExportTable;
 use types_expr::symbol::SharedPath;
 use workspace_graph::{Graph, PackagesBelow, is_among};
 
@@ -59,9 +59,9 @@ fn judge_among(
 ) -> Result<(), AllocError>
     requires in_range { number < length (package_paths graph.now) }
     requires below { HoldAllBelow graph.now below.now }
-    requires cycles { TellCycles graph.now cycles.now }
+    requires cycles { DecideCycles graph.now cycles.now }
     requires all { AreGathered graph.now (length (package_paths graph.now)) all.old }
-    ensures { OnOk result (OfPackage graph.now number (λ p. MayLearnAmong graph.now below.now p number all.old all.new)) }
+    ensures { OnOk result (OfPackage graph.now number (λ p. LearnsIfAmong graph.now below.now p number all.old all.new)) }
 {
     if is_among(below, number) {
         judge_next(alloc, graph, number, cycles, all)
@@ -80,10 +80,10 @@ fn judge_ordered(
     all: &mut Gathered,
 ) -> Result<(), AllocError>
     requires order { IsBuildOrder graph.now order.now }
-    requires cycles { TellCycles graph.now cycles.now }
+    requires cycles { DecideCycles graph.now cycles.now }
     requires below { HoldAllBelow graph.now below.now }
     requires all { AreGatheredOf graph.now below.now all.old }
-    ensures { OnOk result (KnowsJust graph.now below.now all.new) }
+    ensures { OnOk result (KnowsExactly graph.now below.now all.new) }
 {
     for next in order {
         judge_among(alloc, graph, below, *next, cycles, all)?;
@@ -100,7 +100,7 @@ fn judge_below(
 ) -> Result<(), AllocError>
     requires below { HoldAllBelow graph.now below.now }
     requires all { AreGatheredOf graph.now below.now all.old }
-    ensures { OnOk result (KnowsJust graph.now below.now all.new) }
+    ensures { OnOk result (KnowsExactly graph.now below.now all.new) }
 {
     let order = order(alloc, graph)?;
     let cycles = cycles(alloc, graph, &order)?;
@@ -111,7 +111,7 @@ fn judge_below(
 fn judged(alloc: Global, graph: &Graph, below: &[usize], known: &Known) -> Result<Taken, AllocError>
     requires below { HoldAllBelow graph.now below.now }
     requires known { KnowsVerdicts graph.now known.now }
-    ensures { IfOk result (λ taken. KnowsJust graph.now below.now taken.all) }
+    ensures { IfOk result (λ taken. KnowsExactly graph.now below.now taken.all) }
 {
     let mut taken = gather_some(alloc, graph, below, known)?;
     if taken.knew_each {
@@ -159,11 +159,11 @@ fn learn_checked(
     requires all { AreGathered graph.now (length (package_paths graph.now)) all.old }
     requires unknown { IsGathered all.old.findings.items number → ⊥ }
     requires path { OfPackage graph.now number (λ p. path ≡ p) }
-    requires checked { OfPackage graph.now number (λ p. IsCheckedIn graph.now (known_by all.old.interfaces) p checked) }
-    ensures { OnOk result (OfPackage graph.now number (λ p. LearnsOf graph.now p number all.old all.new)) }
+    requires checked { OfPackage graph.now number (λ p. IsCheckResult graph.now (verdicts_by all.old.export_table) p checked) }
+    ensures { OnOk result (OfPackage graph.now number (λ p. AddsFinding graph.now p number all.old all.new)) }
 {
     let judged = place_checked(alloc, graph.package(number), checked)?;
-    let finding = enter_judged(alloc, path, judged, &mut all.interfaces)?;
+    let finding = enter_judged(alloc, path, judged, &mut all.export_table)?;
     let finding = SharedFinding::new(alloc, finding)?;
     all.findings[number] = Some(finding);
     Ok(())
@@ -180,11 +180,11 @@ impl Progress {
         known: &Known,
     ) -> Result<Progress, AllocError>
         requires in_range { number < length (package_paths graph.now) }
-        requires closure { OfPackage graph.now number (λ p. HoldsPackages graph.now (IsInClosure graph.now p) closure.now) }
+        requires closure { OfPackage graph.now number (λ p. ListsPackages graph.now (IsInClosure graph.now p) closure.now) }
         requires rising { IsStrictlyIncreasing closure.now }
         requires known { KnowsVerdicts graph.now known.now }
-        ensures right { IfOk result (IsUnderway graph.now number) }
-        ensures seen { IfOk result (λ progress. OfPackage graph.now number (λ p. IsSeenIn graph.now p progress.all.interfaces)) }
+        ensures right { IfOk result (IsProgress graph.now number) }
+        ensures seen { IfOk result (λ progress. OfPackage graph.now number (λ p. SeesExactly graph.now p progress.all.export_table)) }
         ensures unknown { IfOk result (λ progress. IsGathered progress.all.findings.items number → ⊥) }
     {
         let below = graph.below_in(alloc, number, closure)?;
@@ -205,10 +205,10 @@ impl Progress {
     }
 
     /// The export data of the packages without faults among those with a known finding.
-    pub fn interfaces(&self) -> &Interfaces
-        ensures { result.now ≡ self.now.all.interfaces }
+    pub fn export_table(&self) -> &ExportTable
+        ensures { result.now ≡ self.now.all.export_table }
     {
-        &self.all.interfaces
+        &self.all.export_table
     }
 
     /// Returns the state of each path that the package imports, as a table that has nothing but these states.
@@ -217,12 +217,18 @@ impl Progress {
         alloc: Global,
         graph: &Graph,
         number: usize,
-    ) -> Result<Interfaces, AllocError>
+    ) -> Result<ExportTable, AllocError>
         requires in_range { number < length (package_paths graph.now) }
-        requires right { IsUnderway graph.now number self.now }
-        ensures { IfOk result (λ noted. OfPackage graph.now number (λ p. AreStates graph.now (known_by self.now.all.interfaces) p (state_in noted.states))) }
+        requires right { IsProgress graph.now number self.now }
+        ensures { IfOk result (λ noted. OfPackage graph.now number (λ p. AreStates graph.now (verdicts_by self.now.all.export_table) p (state_in noted.states))) }
     {
-        import_states(alloc, graph, number, &self.below.back, &self.all.interfaces)
+        import_states(
+            alloc,
+            graph,
+            number,
+            &self.below.back,
+            &self.all.export_table,
+        )
     }
 
     /// Adds the finding of the package from what the caller's check found. The finding must be missing.
@@ -235,11 +241,11 @@ impl Progress {
         checked: Checked,
     ) -> Result<(), AllocError>
         requires in_range { number < length (package_paths graph.now) }
-        requires right { IsUnderway graph.now number self.old }
+        requires right { IsProgress graph.now number self.old }
         requires unknown { IsGathered self.old.all.findings.items number → ⊥ }
         requires path { OfPackage graph.now number (λ p. path ≡ p) }
-        requires checked { OfPackage graph.now number (λ p. IsCheckedIn graph.now (known_by self.old.all.interfaces) p checked) }
-        ensures { OnOk result (IsUnderway graph.now number self.new) }
+        requires checked { OfPackage graph.now number (λ p. IsCheckResult graph.now (verdicts_by self.old.all.export_table) p checked) }
+        ensures { OnOk result (IsProgress graph.now number self.new) }
     {
         learn_checked(alloc, graph, number, path, checked, &mut self.all)?;
         Ok(())
@@ -255,9 +261,9 @@ impl Progress {
         known: &Known,
     ) -> Result<FoundPackage, AllocError>
         requires in_range { number < length (package_paths graph.now) }
-        requires right { IsUnderway graph.now number self }
+        requires right { IsProgress graph.now number self }
         requires known { KnowsVerdicts graph.now known.now }
-        ensures finding { IfOk result (λ made. OfPackage graph.now number (λ p. IsFoundBy graph.now p made.interfaces made.finding)) }
+        ensures finding { IfOk result (λ made. OfPackage graph.now number (λ p. IsFindingWith graph.now p made.export_table made.finding)) }
         ensures verdicts { IfOk result (λ made. AreVerdictsOf graph.now made.found.items) }
     {
         let Progress {
@@ -268,7 +274,7 @@ impl Progress {
         let mut all = all;
         take_or_judge(alloc, graph, number, known, &mut all)?;
         let numbers = maybe_found(alloc, below.built_on.as_slice(), knew_each, number)?;
-        let found = found_now(alloc, graph, &numbers, known, &all)?;
+        let found = new_verdicts(alloc, graph, &numbers, known, &all)?;
         found_package(number, all, found)
     }
 }

@@ -2,21 +2,21 @@
 ghost use Rattle.std.specs.Prelude.{ℕ, ◌≡◌, ◌<◌, List, length, IfOk, IsTrue, OnOk, true};
 ghost use Rattle.std.specs.List.Sorted.{IsStrictlyIncreasing};
 ghost use Rattle.base_files.specs.Packages.{package_paths};
-ghost use Rattle.workspace_graph.specs.Graphs.{HoldsPackages, OfPackage};
+ghost use Rattle.workspace_graph.specs.Graphs.{ListsPackages, OfPackage};
 ghost use Rattle.workspace_graph.specs.Packages.{PackageImports};
 ghost use Rattle.workspace_graph.specs.Reaching.{AreBackMarks, BuildsOn};
 ghost use Rattle.types_declared.specs.States.{state_in};
 ghost use Rattle.types_declared.specs.declared.states.ImportState.TheVariants.{Missing};
-ghost use Rattle.types_declared.specs.InterfacesView.{name_in, interface_in};
+ghost use Rattle.types_declared.specs.ExportTablesView.{name_in, export_data_in};
 ghost use Rattle.workspace_check.specs.Verdicts.{IsStateOf, AreStates, AreSeen};
-ghost use Rattle.workspace_check.specs.Told.{known_by, AreWhole};
-ghost use Rattle.workspace_check.specs.Cycles.{TellCycles};
-ghost use Rattle.workspace_check.specs.Steps.{ImportsFaulty, KnowsSameOfOthers};
+ghost use Rattle.workspace_check.specs.KnownFindings.{verdicts_by, AreNamedEntries};
+ghost use Rattle.workspace_check.specs.Cycles.{DecideCycles};
+ghost use Rattle.workspace_check.specs.Steps.{ImportsFaulty, HasSameEntries};
 
 use crate::cycles::share_cycle;
 use crate::marks::is_marked;
 use std::alloc::{AllocError, Global};
-use types_declared::{ImportState, Interfaces, PackageNames};
+use types_declared::{ExportTable, ImportState, PackageNames};
 use workspace_graph::Graph;
 
 /// Returns the export data of the packages of `below` that have no faults.
@@ -29,16 +29,16 @@ fn seen_of(
     graph: &Graph,
     number: usize,
     below: &[usize],
-    all: &Interfaces,
-) -> Result<Interfaces, AllocError>
+    all: &ExportTable,
+) -> Result<ExportTable, AllocError>
     requires in_range { number < length (package_paths graph.now) }
-    requires below { OfPackage graph.now number (λ p. HoldsPackages graph.now (BuildsOn graph.now p) below.now) }
+    requires below { OfPackage graph.now number (λ p. ListsPackages graph.now (BuildsOn graph.now p) below.now) }
     requires rising { IsStrictlyIncreasing below.now }
-    requires whole { AreWhole all.now }
-    ensures seen { IfOk result (λ i. OfPackage graph.now number (λ p. AreSeen graph.now (known_by all.now) p (name_in i) (interface_in i))) }
+    requires whole { AreNamedEntries all.now }
+    ensures seen { IfOk result (λ i. OfPackage graph.now number (λ p. AreSeen graph.now (verdicts_by all.now) p (name_in i) (export_data_in i))) }
     ensures states { IfOk result (λ i. (path : List ℕ) → state_in i.states path ≡ Missing) }
 {
-    let mut seen = Interfaces::with_capacity(alloc, below.len())?;
+    let mut seen = ExportTable::with_capacity(alloc, below.len())?;
     let mut missing: usize = 0;
     let mut next: usize = 0;
     let mut follows = true;
@@ -61,11 +61,11 @@ pub fn seen(
     alloc: Global,
     graph: &Graph,
     number: usize,
-    all: &Interfaces,
-) -> Result<Interfaces, AllocError>
+    all: &ExportTable,
+) -> Result<ExportTable, AllocError>
     requires in_range { number < length (package_paths graph.now) }
-    requires whole { AreWhole all.now }
-    ensures seen { IfOk result (λ i. OfPackage graph.now number (λ p. AreSeen graph.now (known_by all.now) p (name_in i) (interface_in i))) }
+    requires whole { AreNamedEntries all.now }
+    ensures seen { IfOk result (λ i. OfPackage graph.now number (λ p. AreSeen graph.now (verdicts_by all.now) p (name_in i) (export_data_in i))) }
     ensures states { IfOk result (λ i. (path : List ℕ) → state_in i.states path ≡ Missing) }
 {
     let below = graph.built_on(alloc, number)?;
@@ -78,12 +78,12 @@ fn state_of(
     number: usize,
     back: &[bool],
     import: usize,
-    all: &Interfaces,
+    all: &ExportTable,
 ) -> ImportState
     requires in_range { import < length (package_paths graph.now) }
     requires back { OfPackage graph.now number (λ p. AreBackMarks graph.now p back.now) }
     requires imports { OfPackage graph.now number (λ p. OfPackage graph.now import (λ q. PackageImports graph.now p q)) }
-    ensures { OfPackage graph.now number (λ p. OfPackage graph.now import (λ q. IsStateOf graph.now (known_by all.now) p q result)) }
+    ensures { OfPackage graph.now number (λ p. OfPackage graph.now import (λ q. IsStateOf graph.now (verdicts_by all.now) p q result)) }
 {
     if is_marked(back, import) {
         return ImportState::OnCycle;
@@ -97,17 +97,17 @@ fn state_of(
 /// Adds the state of each path that a package imports. A package is marked if it imports that importer, directly or indirectly.
 fn note_imports(
     alloc: Global,
-    seen: &mut Interfaces,
+    seen: &mut ExportTable,
     graph: &Graph,
     number: usize,
     back: &[bool],
-    all: &Interfaces,
+    all: &ExportTable,
 ) -> Result<(), AllocError>
     requires in_range { number < length (package_paths graph.now) }
     requires back { OfPackage graph.now number (λ p. AreBackMarks graph.now p back.now) }
     requires nothing { (path : List ℕ) → state_in seen.old.states path ≡ Missing }
-    ensures states { OnOk result (OfPackage graph.now number (λ p. AreStates graph.now (known_by all.now) p (state_in seen.new.states))) }
-    ensures kept { OnOk result (KnowsSameOfOthers seen.old seen.new) }
+    ensures states { OnOk result (OfPackage graph.now number (λ p. AreStates graph.now (verdicts_by all.now) p (state_in seen.new.states))) }
+    ensures kept { OnOk result (HasSameEntries seen.old seen.new) }
 {
     for import in graph.imports(number) {
         let path = Vec::from_slice(alloc, &graph.package(*import).path)?;
@@ -123,21 +123,21 @@ pub(crate) fn import_states(
     graph: &Graph,
     number: usize,
     back: &[bool],
-    all: &Interfaces,
-) -> Result<Interfaces, AllocError>
+    all: &ExportTable,
+) -> Result<ExportTable, AllocError>
     requires in_range { number < length (package_paths graph.now) }
     requires back { OfPackage graph.now number (λ p. AreBackMarks graph.now p back.now) }
-    ensures { IfOk result (λ noted. OfPackage graph.now number (λ p. AreStates graph.now (known_by all.now) p (state_in noted.states))) }
+    ensures { IfOk result (λ noted. OfPackage graph.now number (λ p. AreStates graph.now (verdicts_by all.now) p (state_in noted.states))) }
 {
-    let mut noted = Interfaces::new(alloc);
+    let mut noted = ExportTable::new(alloc);
     note_imports(alloc, &mut noted, graph, number, back, all)?;
     Ok(noted)
 }
 
 /// Whether `all` has no name of a package, as is so if the package has faults.
-fn is_unknown(graph: &Graph, number: usize, all: &Interfaces) -> bool
+fn is_unknown(graph: &Graph, number: usize, all: &ExportTable) -> bool
     requires { number < length (package_paths graph.now) }
-    ensures { IsTrue result → OfPackage graph.now number (λ q. (known_by all.now q).faulty ≡ true) }
+    ensures { IsTrue result → OfPackage graph.now number (λ q. (verdicts_by all.now q).faulty ≡ true) }
 {
     match all.name(&graph.package(number).path) {
         None => true,
@@ -146,9 +146,9 @@ fn is_unknown(graph: &Graph, number: usize, all: &Interfaces) -> bool
 }
 
 /// Whether a package imports a package of which `all` has no name.
-pub(crate) fn imports_faulty(graph: &Graph, number: usize, all: &Interfaces) -> bool
+pub(crate) fn imports_faulty(graph: &Graph, number: usize, all: &ExportTable) -> bool
     requires { number < length (package_paths graph.now) }
-    ensures { IsTrue result → OfPackage graph.now number (ImportsFaulty graph.now (known_by all.now)) }
+    ensures { IsTrue result → OfPackage graph.now number (ImportsFaulty graph.now (verdicts_by all.now)) }
 {
     for import in graph.imports(number) {
         if is_unknown(graph, *import, all) {
@@ -164,13 +164,13 @@ fn state_by(
     number: usize,
     cycles: &[usize],
     import: usize,
-    all: &Interfaces,
+    all: &ExportTable,
 ) -> ImportState
     requires in_range { import < length (package_paths graph.now) }
-    requires cycles { TellCycles graph.now cycles.now }
+    requires cycles { DecideCycles graph.now cycles.now }
     requires known { number < length cycles.now }
     requires imports { OfPackage graph.now number (λ p. OfPackage graph.now import (λ q. PackageImports graph.now p q)) }
-    ensures { OfPackage graph.now number (λ p. OfPackage graph.now import (λ q. IsStateOf graph.now (known_by all.now) p q result)) }
+    ensures { OfPackage graph.now number (λ p. OfPackage graph.now import (λ q. IsStateOf graph.now (verdicts_by all.now) p q result)) }
 {
     if share_cycle(cycles, number, import) {
         ImportState::OnCycle
@@ -188,14 +188,14 @@ pub(crate) fn states_by(
     graph: &Graph,
     number: usize,
     cycles: &[usize],
-    all: &Interfaces,
-) -> Result<Interfaces, AllocError>
+    all: &ExportTable,
+) -> Result<ExportTable, AllocError>
     requires in_range { number < length (package_paths graph.now) }
-    requires cycles { TellCycles graph.now cycles.now }
+    requires cycles { DecideCycles graph.now cycles.now }
     requires known { number < length cycles.now }
-    ensures { IfOk result (λ noted. OfPackage graph.now number (λ p. AreStates graph.now (known_by all.now) p (state_in noted.states))) }
+    ensures { IfOk result (λ noted. OfPackage graph.now number (λ p. AreStates graph.now (verdicts_by all.now) p (state_in noted.states))) }
 {
-    let mut noted = Interfaces::new(alloc);
+    let mut noted = ExportTable::new(alloc);
     for import in graph.imports(number) {
         let path = Vec::from_slice(alloc, &graph.package(*import).path)?;
         noted.note(path, state_by(graph, number, cycles, *import, all))?;
@@ -209,15 +209,15 @@ pub fn seen_imports(
     alloc: Global,
     graph: &Graph,
     number: usize,
-    all: &Interfaces,
-) -> Result<Interfaces, AllocError>
+    all: &ExportTable,
+) -> Result<ExportTable, AllocError>
     requires in_range { number < length (package_paths graph.now) }
-    requires whole { AreWhole all.now }
-    ensures seen { IfOk result (λ i. OfPackage graph.now number (λ p. AreSeen graph.now (known_by all.now) p (name_in i) (interface_in i))) }
-    ensures states { IfOk result (λ i. OfPackage graph.now number (λ p. AreStates graph.now (known_by all.now) p (state_in i.states))) }
+    requires whole { AreNamedEntries all.now }
+    ensures seen { IfOk result (λ i. OfPackage graph.now number (λ p. AreSeen graph.now (verdicts_by all.now) p (name_in i) (export_data_in i))) }
+    ensures states { IfOk result (λ i. OfPackage graph.now number (λ p. AreStates graph.now (verdicts_by all.now) p (state_in i.states))) }
 {
     let below = graph.below(alloc, number)?;
-    let mut interfaces = seen_of(alloc, graph, number, below.built_on.as_slice(), all)?;
-    note_imports(alloc, &mut interfaces, graph, number, &below.back, all)?;
-    Ok(interfaces)
+    let mut export_table = seen_of(alloc, graph, number, below.built_on.as_slice(), all)?;
+    note_imports(alloc, &mut export_table, graph, number, &below.back, all)?;
+    Ok(export_table)
 }

@@ -2,27 +2,27 @@
 use Rattle.std.proofs.Common.{ℕ, ◌≡◌, ◌<◌, inl, inr, ◌↔◌, Bool, false, not, List, length, get_or, refl, sym, ap, subst, ◌∙◌, arith}
 use Rattle.std.proofs.lemmas.Bool.{cases_Bool, false≢true, true≢false}
 use Rattle.std.proofs.lemmas.List.{get_or_default}
-use Rattle.workspace_graph.specs.Closures.{IsBuiltOn}
-use Rattle.workspace_graph.specs.Imports.{Links, AreLinked, Imports, HoldImporters, Reaches, itself, through}
-use Rattle.workspace_graph.specs.Search.{IsMarked, Flips, Spreads, HoldsMarked, TellBack}
-use Rattle.workspace_graph.proofs.Answered.{importer_below}
+use Rattle.workspace_graph.specs.Closures.{IsBuiltOnList}
+use Rattle.workspace_graph.specs.Imports.{Links, AreLinked, Imports, AreImporterRows, Reaches, itself, through}
+use Rattle.workspace_graph.specs.Search.{IsMarked, InvertsMarks, Visits, ListsMarked, UnmarksBelow}
+use Rattle.workspace_graph.proofs.KeptImporters.{importer_below}
 use Rattle.workspace_graph.proofs.Reached.{Reaches-more, reached_within, back_reaches}
 use Rattle.workspace_graph.proofs.SearchSteps.{linked_below, marked_within}
 
 -- what a flip tells
-flipped_on : (old new : List Bool) → Flips old new → (q : ℕ) → q < length old → (IsMarked old q → ⊥) → IsMarked new q
+flipped_on : (old new : List Bool) → InvertsMarks old new → (q : ℕ) → q < length old → (IsMarked old q → ⊥) → IsMarked new q
 flipped_on old new flips q within none = elim (cases_Bool (get_or old q false)) [
   | inl marked ↦ absurd (none marked)
   | inr clear ↦ flips.each q within ∙ ap not clear
 ]
 
-flipped_off : (old new : List Bool) → Flips old new → (q : ℕ) → IsMarked old q → IsMarked new q → ⊥
+flipped_off : (old new : List Bool) → InvertsMarks old new → (q : ℕ) → IsMarked old q → IsMarked new q → ⊥
 flipped_off old new flips q marked also =
     true≢false (sym also ∙ flips.each q (marked_within old q marked) ∙ ap not marked)
 
-module _ (g noted : Links) (linked : AreLinked g) (back : HoldImporters g (length g) noted) (p : ℕ) (reached barred marks : List Bool)
-    (found : List ℕ) (size : length reached ≡ length g) (reaches : (q : ℕ) → IsMarked reached q ↔ Reaches g p q) (first : Flips reached barred)
-    (s : Spreads noted p barred found marks) where
+module _ (g noted : Links) (linked : AreLinked g) (back : AreImporterRows g (length g) noted) (p : ℕ) (reached barred marks : List Bool)
+    (found : List ℕ) (size : length reached ≡ length g) (reaches : (q : ℕ) → IsMarked reached q ↔ Reaches g p q) (first : InvertsMarks reached barred)
+    (s : Visits noted p barred found marks) where
   -- what is barred is not reached
   barred_off : (q : ℕ) → Reaches g p q → IsMarked barred q → ⊥
   barred_off q r m = flipped_off reached barred first q ((reaches q).1 r) m
@@ -40,7 +40,7 @@ module _ (g noted : Links) (linked : AreLinked g) (back : HoldImporters g (lengt
             s.followed has.0 within q (subst (λ (a : ℕ). Imports noted a q) (sym at) ((back.each k q).1 (importer_below g q k i, i))))
       ]
 
-  pub tell_back : TellBack g p marks
+  pub tell_back : UnmarksBelow g p marks
   tell_back = record {
     size = s.finds.size ∙ first.size ∙ size;
     back = λ q r. (
@@ -60,8 +60,8 @@ module _ (g noted : Links) (linked : AreLinked g) (back : HoldImporters g (lengt
   }
 
 -- what is left where these marks are flipped
-pub built_on_is : (g : Links) (p : ℕ) (marks last : List Bool) (numbers : List ℕ) → TellBack g p marks → Flips marks last →
-    HoldsMarked last (length last) numbers → IsBuiltOn g p numbers
+pub built_on_is : (g : Links) (p : ℕ) (marks last : List Bool) (numbers : List ℕ) → UnmarksBelow g p marks → InvertsMarks marks last →
+    ListsMarked last (length last) numbers → IsBuiltOnList g p numbers
 built_on_is g p marks last numbers told flips held = record {
   each = λ q. (
     λ has.

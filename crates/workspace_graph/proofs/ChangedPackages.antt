@@ -18,10 +18,10 @@ use Rattle.go_ast.specs.SourceFile.{FileParts}
 use Rattle.workspace_graph.specs.Changed.{AreReplaced, KeepsPath, HasRow, has_file, has_some}
 use Rattle.workspace_graph.specs.FaultyFiles.{FaultyParts}
 use Rattle.workspace_graph.specs.Graphs.{paths_of, IsGraph}
-use Rattle.workspace_graph.specs.Imports.{Links, Imports, imports_of}
+use Rattle.workspace_graph.specs.Imports.{Links, Imports, row_of}
 use Rattle.workspace_graph.specs.Packages.{PackageImports}
 use Rattle.workspace_graph.specs.Parsed.{AreParsed, none, tree, fault}
-use Rattle.workspace_graph.specs.Staying.{DiffersOnlyIn, HasFiles}
+use Rattle.workspace_graph.specs.SameGoFiles.{DiffersOnlyIn, HasFiles}
 use Rattle.workspace_graph.specs.declared.package.ParsedPackage.{ParsedPackage}
 use Rattle.workspace_graph.proofs.Collected.{none_held}
 use Rattle.workspace_graph.proofs.Filled.{path_at, set_there, set_elsewhere}
@@ -211,7 +211,7 @@ module _ (v w : Workspace) (before fresh packages : List ParsedPackage) (g : Lin
         (λ (has : Contains fresh here.0).
         let row = All-contains (HasRow (paths_of packages) g) fresh here.0 rows has i (path_at packages i here.0 here.1) in
         subst (λ (path : List ℕ). Imports g i j ↔ PackageImports w path q) here.2
-        (row_imports w (paths_of packages) here.0 (imports_of g i) (own_files here.0 has) row j q (ap (λ l. slice_get l j) packages_paths ∙ at_j)))
+        (row_imports w (paths_of packages) here.0 (row_of g i) (own_files here.0 has) row j q (ap (λ l. slice_get l j) packages_paths ∙ at_j)))
         (λ (old : (slice_get before i ≡ Some here.0) × (Contains (paths_of fresh) here.0.path.items → ⊥)).
         let same : package_files w p ≡ package_files v p = subst (λ (path : List ℕ). package_files w path ≡ package_files v path) here.2 (stays here.0 old.1) in
         let was = graph.linked.each i j p q (ap (λ l. slice_get l i) same_paths ∙ at_i) (ap (λ l. slice_get l j) same_paths ∙ at_j) in (

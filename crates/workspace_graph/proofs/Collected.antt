@@ -19,10 +19,10 @@ use Rattle.go_scanner.specs.CutText.{tokens_in}
 use Rattle.go_scanner.proofs.StringValueLemmas.{one_string_value}
 use Rattle.go_ast.specs.SourceFile.{SourceFile, FileParts, source_of}
 use Rattle.workspace_graph.specs.FileImports.{import_literals, HasValue, HasPieceValue, ListsImports}
-use Rattle.workspace_graph.specs.Imports.{Holds}
-use Rattle.workspace_graph.specs.ImportPaths.{bytes_of_paths, HoldsPaths, IsOneOf, SomeImport}
+use Rattle.workspace_graph.specs.Imports.{ListsExactly}
+use Rattle.workspace_graph.specs.ImportPaths.{bytes_of_paths, ListsPaths, IsOneOf, AnyImports}
 use Rattle.workspace_graph.specs.Packages.{ImportsPath}
-use Rattle.workspace_graph.specs.Rows.{AddsNumbers, FileImports, SomeImports, IsRow}
+use Rattle.workspace_graph.specs.Rows.{AddsNumbers, ImportsNumber, AnyImportsNumber, IsRow}
 use Rattle.workspace_graph.specs.declared.file_imports.FileImport.{FileImport}
 
 -- ---- numbers
@@ -130,14 +130,14 @@ imports_path file paths imports lists j found has number =
     value_at file (get_or lits k 0) paths j found.path (slice_get (tokens_in file.cut) (get_or lits k 0)) (Contains-get_or lits k 0 within) refl stands number
 
 pub are_imports : (file : FileParts) (paths : List (List ℕ)) (imports : List FileImport) → ListsImports (source_of file) imports → (j : ℕ) →
-    FileImports paths file j ↔ AreImported paths imports j
+    ImportsNumber paths file j ↔ AreImported paths imports j
 are_imports file paths imports lists j = (
   λ w. imported (source_of file) paths imports lists j w.0 w.1 w.2,
   λ w. imports_path (source_of file) paths imports lists j w.0 w.1 w.2,
 )
 
 -- ---- the row in order
-pub row_is : (paths : List (List ℕ)) (files : List FileParts) (found sorted row : List ℕ) → Holds found (SomeImports paths files) →
+pub row_is : (paths : List (List ℕ)) (files : List FileParts) (found sorted row : List ℕ) → ListsExactly found (AnyImportsNumber paths files) →
     IsPermutation found sorted → IsSorted nat_cmp sorted → row ≡ dedup eqb sorted → IsRow paths files row
 row_is paths files found sorted row holds same order is = rw is (record {
   each = λ j. (
@@ -190,15 +190,15 @@ left_more paths some path left old new are adds j = (
       either),
 )
 
-pub left_none : (paths some : List (List ℕ)) (row : List ℕ) → AreLeft paths some [] row → Holds row (IsOneOf paths some)
+pub left_none : (paths some : List (List ℕ)) (row : List ℕ) → AreLeft paths some [] row → ListsExactly row (IsOneOf paths some)
 left_none paths some row are j = (
   λ has. (are j).1 (inl has),
   λ one. ⊎_elim (λ (has : Contains row j). has) (λ (none : IsOneOf paths [] j). absurd (none_held none.0 none.1.0)) ((are j).0 one),
 )
 
 -- the packages of the paths that files import are those that the files import
-pub numbers_held : (paths : List (List ℕ)) (files : List FileParts) (keys : List (Vec ℕ Global)) (row : List ℕ) → HoldsPaths (SomeImport files) keys →
-    Holds row (IsOneOf paths (bytes_of_paths keys)) → Holds row (SomeImports paths files)
+pub numbers_held : (paths : List (List ℕ)) (files : List FileParts) (keys : List (Vec ℕ Global)) (row : List ℕ) → ListsPaths (AnyImports files) keys →
+    ListsExactly row (IsOneOf paths (bytes_of_paths keys)) → ListsExactly row (AnyImportsNumber paths files)
 numbers_held paths files keys row imports holds j = (
   λ has.
       let one = (holds j).0 has in

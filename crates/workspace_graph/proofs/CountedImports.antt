@@ -15,15 +15,15 @@ use Rattle.std.proofs.lemmas.Option.{get_or_from_slice_get, slice_get-get_or, sl
 use Rattle.base_files.specs.Workspace.{path_cmp}
 use Rattle.base_files.proofs.WorkspaceLaws.{path_cmp_total}
 use Rattle.workspace_graph.specs.Graphs.{paths_of}
-use Rattle.workspace_graph.specs.Growth.{Grows}
-use Rattle.workspace_graph.specs.ImportPaths.{bytes_of_paths, HoldsPaths, SomeImport}
-use Rattle.workspace_graph.specs.Imports.{Links, imports_of}
+use Rattle.workspace_graph.specs.Growth.{HasNewPackage}
+use Rattle.workspace_graph.specs.ImportPaths.{bytes_of_paths, ListsPaths, AnyImports}
+use Rattle.workspace_graph.specs.Imports.{Links, row_of}
 use Rattle.workspace_graph.specs.Rows.{IsRow}
 use Rattle.workspace_graph.specs.Shifts.{row_shifted, shifted}
 use Rattle.workspace_graph.specs.declared.package.ParsedPackage.{ParsedPackage}
 use Rattle.workspace_graph.proofs.FoundFolders.{not_true}
 use Rattle.workspace_graph.proofs.GrownLinks.{ks_within, package_shifted, paths_are, some_shifted}
-use Rattle.workspace_graph.proofs.Held.{rising_by}
+use Rattle.workspace_graph.proofs.OrderedPackages.{rising_by}
 use Rattle.workspace_graph.proofs.Linked.{row_at}
 use Rattle.workspace_graph.proofs.PackagePaths.{exact_names, one_number}
 use Rattle.workspace_graph.proofs.Shifted.{rising_shifted, shifted_apart, shifted_from}
@@ -75,16 +75,16 @@ module _ (ks : List (List ℕ)) (sorted : IsStrictlySortedBy path_cmp ks) where
           subst (Contains others) (sym (get_or-map path_by js k 0 q inside) ∙ has.2) (among (get_or js k 0) (Contains-get_or js k 0 inside)).1
 
 -- ---- packages among which one came
-module _ (packages : List ParsedPackage) (links : Links) (place : ℕ) (grows : Grows packages links place)
+module _ (packages : List ParsedPackage) (links : Links) (place : ℕ) (grows : HasNewPackage packages links place)
     (sorted : IsStrictlySortedBy path_cmp (paths_of packages)) where
   -- the one that came is among those imported by one with so many more paths
   pub none_left : {Z : Type 0} (before : ℕ) (p : ParsedPackage) (keys : List (Vec ℕ Z)) (path : List ℕ) → slice_get packages (shifted place before) ≡ Some p →
-      HoldsPaths (SomeImport p.trees.items) keys → length keys ≤ length (imports_of links before) → slice_get (paths_of packages) place ≡ Some path →
-      SomeImport p.trees.items path → ⊥
+      ListsPaths (AnyImports p.trees.items) keys → length keys ≤ length (row_of links before) → slice_get (paths_of packages) place ≡ Some path →
+      AnyImports p.trees.items path → ⊥
   none_left before p keys path at holds count here some =
       let old : List (List ℕ) = paths_of grows.before in
       let all : List (List ℕ) = paths_of packages in
-      let row : List ℕ = imports_of links before in
+      let row : List ℕ = row_of links before in
       let is : IsRow old p.trees.items row = row_at grows.before links grows.rows before p (sym (package_shifted packages links place grows before) ∙ at) in
       let size : length (bytes_of_paths keys) ≡ length keys = length-map keys (λ (k : Vec ℕ _). k.items) in
       let long : length (row_shifted place row) ≡ length row = length-map row (shifted place) in

@@ -7,10 +7,10 @@ use Rattle.base_files.specs.Packages.{package_paths}
 use Rattle.base_files.specs.Workspace.{Workspace, path_cmp}
 use Rattle.workspace_graph.specs.Changed.{has_file}
 use Rattle.workspace_graph.specs.Graphs.{paths_of, IsGraph}
-use Rattle.workspace_graph.specs.Growth.{AreRows, Grows}
+use Rattle.workspace_graph.specs.Growth.{AreRows, HasNewPackage}
 use Rattle.workspace_graph.specs.Imports.{Links}
-use Rattle.workspace_graph.specs.NamedFiles.{AreFresh, ArePackages}
-use Rattle.workspace_graph.specs.Staying.{HasFiles}
+use Rattle.workspace_graph.specs.ChangedFiles.{CoverChanges, ArePackages}
+use Rattle.workspace_graph.specs.SameGoFiles.{HasFiles}
 use Rattle.workspace_graph.specs.Updated.{AreUpdated, IsPlace}
 use Rattle.workspace_graph.specs.declared.package.ParsedPackage.{ParsedPackage}
 use Rattle.workspace_graph.proofs.Linked.{graph_is, graph_rows}
@@ -19,7 +19,7 @@ use Rattle.workspace_graph.proofs.StayingPackages.{all_at}
 use Rattle.workspace_graph.proofs.UpdatedPackages.{updated_files, updated_one, updated_paths}
 
 module _ (v w : Workspace) (old : List ParsedPackage) (links : Links) (one : ParsedPackage) (place : ℕ) (graph : IsGraph v old links)
-    (fresh : AreFresh v w (one ∷ [])) (file : has_file one ≡ true) (stands : IsPlace (package_paths v) one.path.items place) where
+    (fresh : CoverChanges v w (one ∷ [])) (file : has_file one ≡ true) (stands : IsPlace (package_paths v) one.path.items place) where
   pub place_fits : place ≤ length old
   place_fits =
       let size = length-map old (λ (p : ParsedPackage). p.path.items) in
@@ -40,7 +40,7 @@ module _ (v w : Workspace) (old : List ParsedPackage) (links : Links) (one : Par
     pub grown_sorted : IsStrictlySortedBy path_cmp (paths_of packages)
     grown_sorted = subst (IsStrictlySortedBy path_cmp) (sym grown_paths) (paths_sorted w)
 
-    pub grown_grows : (g : Links) → g ≡ links → Grows packages g place
+    pub grown_grows : (g : Links) → g ≡ links → HasNewPackage packages g place
     grown_grows g same = record {
       before = old;
       one = one;

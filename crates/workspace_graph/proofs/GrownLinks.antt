@@ -10,14 +10,14 @@ use Rattle.std.proofs.lemmas.List.Elements.{All-contains, Contains-get_or}
 use Rattle.std.proofs.lemmas.Option.{same_Some, slice_get-get_or, slice_get_within}
 use Rattle.go_ast.specs.SourceFile.{FileParts, source_of}
 use Rattle.workspace_graph.specs.Graphs.{paths_of}
-use Rattle.workspace_graph.specs.Growth.{AreFirst, AreGrown, AreRows, Grows, ImportsAt, IsGrowing}
-use Rattle.workspace_graph.specs.ImportPaths.{SomeImport}
-use Rattle.workspace_graph.specs.Imports.{Links, AreImporters, AreLinked, HoldImporters, HoldsBelow, Imports, imports_of}
+use Rattle.workspace_graph.specs.Growth.{AreFirstImporters, AreGrown, AreRows, HasNewPackage, ImportsAt, IsGrowing}
+use Rattle.workspace_graph.specs.ImportPaths.{AnyImports}
+use Rattle.workspace_graph.specs.Imports.{Links, AreImporters, AreLinked, AreImporterRows, ListsBelow, Imports, row_of}
 use Rattle.workspace_graph.specs.Packages.{ImportsPath}
-use Rattle.workspace_graph.specs.Rows.{IsRow, SomeImports}
+use Rattle.workspace_graph.specs.Rows.{IsRow, AnyImportsNumber}
 use Rattle.workspace_graph.specs.Shifts.{ShiftsRow, row_shifted, shifted}
 use Rattle.workspace_graph.specs.declared.package.ParsedPackage.{ParsedPackage}
-use Rattle.workspace_graph.proofs.Answered.{all_rising, importer_below, importers_of_all}
+use Rattle.workspace_graph.proofs.KeptImporters.{all_rising, importer_below, importers_of_all}
 use Rattle.workspace_graph.proofs.Linked.{row_at, rows_count, rows_linked, rows_rising, zip_from}
 use Rattle.workspace_graph.proofs.Reached.{noted_linked}
 use Rattle.workspace_graph.proofs.Shifted.{insert_here, insert_shifted, shifted_cases, shifted_from, shifted_in, shifted_within}
@@ -31,20 +31,20 @@ small_row row n below small k d lt =
 
 -- ---- the imports of files after a path was inserted
 module _ (ks : List (List ℕ)) (place : ℕ) (path : List ℕ) (files : List FileParts) (within : place ≤ length ks) where
-  pub some_shifted : (i : ℕ) → SomeImports (insert ks place path) files (shifted place i) ↔ SomeImports ks files i
+  pub some_shifted : (i : ℕ) → AnyImportsNumber (insert ks place path) files (shifted place i) ↔ AnyImportsNumber ks files i
   some_shifted i = (
     λ s. (s.0, s.1, (s.2.0, sym (insert_shifted ks place path i within) ∙ s.2.1, s.2.2)),
     λ s. (s.0, s.1, (s.2.0, insert_shifted ks place path i within ∙ s.2.1, s.2.2)),
   )
 
   -- A package imports the package at the place exactly if it imports the path.
-  some_here : (j : ℕ) → j ≡ place → SomeImports (insert ks place path) files j → SomeImport files path
+  some_here : (j : ℕ) → j ≡ place → AnyImportsNumber (insert ks place path) files j → AnyImports files path
   some_here j here s =
       let same = same_Some s.2.0 path (sym s.2.1 ∙ ap (slice_get (insert ks place path)) here ∙ insert_here ks place path within) in
       (s.0, (s.1, subst (ImportsPath (source_of s.0)) same s.2.2))
 
   -- A row has the place exactly if the path is imported.
-  pub row_grown : (row new : List ℕ) (P : Type 0) → IsRow ks files row → ShiftsRow place P row new → (P ↔ SomeImport files path) →
+  pub row_grown : (row new : List ℕ) (P : Type 0) → IsRow ks files row → ShiftsRow place P row new → (P ↔ AnyImports files path) →
       IsRow (insert ks place path) files new
   row_grown row new P is shifts told = record {
     each = λ j. (
@@ -54,19 +54,19 @@ module _ (ks : List (List ℕ)) (place : ℕ) (path : List ℕ) (files : List Fi
           (some.0, some.1.0, (path, ap (slice_get (insert ks place path)) own.0 ∙ insert_here ks place path within, some.1.1)))
           (λ (old : Contains (row_shifted place row) j).
           let from = shifted_from place row j old in
-          subst (SomeImports (insert ks place path) files) from.2 ((some_shifted from.0).1 ((is.each from.0).0 from.1)))
+          subst (AnyImportsNumber (insert ks place path) files) from.2 ((some_shifted from.0).1 ((is.each from.0).0 from.1)))
           ((shifts.each j).0 has),
       λ some. (shifts.each j).1 (⊎_elim
           (λ (here : j ≡ place). inl (here, told.1 (some_here j here some)))
           (λ (r : (i : ℕ) × (shifted place i ≡ j)). inr (subst (Contains (row_shifted place row)) r.1
-          (shifted_in place row r.0 ((is.each r.0).1 ((some_shifted r.0).0 (subst (SomeImports (insert ks place path) files) (sym r.1) some))))))
+          (shifted_in place row r.0 ((is.each r.0).1 ((some_shifted r.0).0 (subst (AnyImportsNumber (insert ks place path) files) (sym r.1) some))))))
           (shifted_cases place j)),
     );
     rising = shifts.rising is.rising;
   }
 
 -- ---- packages after one was inserted
-module _ (packages : List ParsedPackage) (links : Links) (place : ℕ) (grows : Grows packages links place) where
+module _ (packages : List ParsedPackage) (links : Links) (place : ℕ) (grows : HasNewPackage packages links place) where
   abbrev ks : List (List ℕ)
   ks = paths_of grows.before
 
@@ -91,11 +91,11 @@ module _ (packages : List ParsedPackage) (links : Links) (place : ℕ) (grows : 
   pub links_linked : AreLinked links
   links_linked = rows_linked grows.before links grows.rows
 
-  pub links_rising : (p : ℕ) → IsStrictlyIncreasing (imports_of links p)
+  pub links_rising : (p : ℕ) → IsStrictlyIncreasing (row_of links p)
   links_rising = all_rising links (rows_rising grows.before links grows.rows)
 
   pub imports_below : (p q : ℕ) → Imports links p q → q < length links
-  imports_below p q h = All-contains (λ q. q < length links) (imports_of links p) q (links_linked p [] (importer_below links p q h)) h
+  imports_below p q h = All-contains (λ q. q < length links) (row_of links p) q (links_linked p [] (importer_below links p q h)) h
 
   -- The path of the new package belongs at the place.
   pub place_path : slice_get (paths_of packages) place ≡ Some path
@@ -115,7 +115,7 @@ module _ (packages : List ParsedPackage) (links : Links) (place : ℕ) (grows : 
   -- The rows after the insertion are those of the packages.
   pub rows_grown : (own importing : List ℕ) (new : Links) → AreGrown place own importing links new → length new ≡ length links + 1 →
       ((p : ParsedPackage) → slice_get packages place ≡ Some p → IsRow (paths_of packages) p.trees.items own) →
-      HoldsBelow (ImportsAt packages path) (length packages) importing → AreRows packages new
+      ListsBelow (ImportsAt packages path) (length packages) importing → AreRows packages new
   rows_grown own importing new grown count own_is holds =
       zip_from (λ p row. IsRow (paths_of packages) p.trees.items row) packages new [] (one_more ∙ sym count)
       (λ j p at.
@@ -123,31 +123,31 @@ module _ (packages : List ParsedPackage) (links : Links) (place : ℕ) (grows : 
       ⊎_elim
       (λ (here : j ≡ place).
       let there : place < length new = omega (arith, here, inside) in
-      subst (λ l. IsRow (paths_of packages) p.trees.items l) (sym (ap (imports_of new) here ∙ grown.own_row there))
+      subst (λ l. IsRow (paths_of packages) p.trees.items l) (sym (ap (row_of new) here ∙ grown.own_row there))
       (own_is p (ap (slice_get packages) (sym here) ∙ at)))
       (λ (r : (q : ℕ) × (shifted place q ≡ j)). old_row own importing new grown holds j p at inside r.0 r.1)
       (shifted_cases place j))
     where
       old_row : (own importing : List ℕ) (new : Links) → AreGrown place own importing links new →
-          HoldsBelow (ImportsAt packages path) (length packages) importing →
+          ListsBelow (ImportsAt packages path) (length packages) importing →
           (j : ℕ) (p : ParsedPackage) → slice_get packages j ≡ Some p → j < length new → (q : ℕ) → shifted place q ≡ j →
-          IsRow (paths_of packages) p.trees.items (imports_of new j)
+          IsRow (paths_of packages) p.trees.items (row_of new j)
       old_row own importing new grown holds j p at inside q is =
           let was : slice_get grows.before q ≡ Some p = sym (package_shifted q) ∙ ap (slice_get packages) is ∙ at in
           let shifts = grown.each q (omega (arith, is, inside)) in
-          let told : Contains importing (shifted place q) ↔ SomeImport p.trees.items path = (
+          let told : Contains importing (shifted place q) ↔ AnyImports p.trees.items path = (
             λ has.
                 let r = ((holds.each j).0 (subst (Contains importing) is has)).1 in
-                subst (λ (x : ParsedPackage). SomeImport x.trees.items path) (same_Some r.0 p (sym r.1.0 ∙ at)) r.1.1,
+                subst (λ (x : ParsedPackage). AnyImports x.trees.items path) (same_Some r.0 p (sym r.1.0 ∙ at)) r.1.1,
             λ some. subst (Contains importing) (sym is) ((holds.each j).1 (slice_get_within packages j p at, (p, (at, some)))),
           ) in
-          subst (λ k. IsRow (paths_of packages) p.trees.items (imports_of new k)) is
-          (subst (λ l. IsRow l p.trees.items (imports_of new (shifted place q))) (sym paths_are)
-          (row_grown ks place path p.trees.items ks_within (imports_of links q) (imports_of new (shifted place q)) (Contains importing (shifted place q))
+          subst (λ k. IsRow (paths_of packages) p.trees.items (row_of new k)) is
+          (subst (λ l. IsRow l p.trees.items (row_of new (shifted place q))) (sym paths_are)
+          (row_grown ks place path p.trees.items ks_within (row_of links q) (row_of new (shifted place q)) (Contains importing (shifted place q))
           (row_at grows.before links grows.rows q p was) shifts told))
 
   -- The requirements on the rows before the insertion, and on the importers.
-  pub growing_imports : (importing : List ℕ) → HoldsBelow (ImportsAt packages path) (length packages) importing → IsGrowing links place importing
+  pub growing_imports : (importing : List ℕ) → ListsBelow (ImportsAt packages path) (length packages) importing → IsGrowing links place importing
   growing_imports importing holds = record {
     within = omega (arith, place_inside, one_more);
     numbers = links_linked;
@@ -155,7 +155,7 @@ module _ (packages : List ParsedPackage) (links : Links) (place : ℕ) (grows : 
     inside = λ k d lt. (let h = ((holds.each (get_or importing k d)).0 (Contains-get_or importing k d lt)).0 in omega (arith, h, one_more));
   }
 
-  pub growing_importers : (noted : Links) (own : List ℕ) (p : ParsedPackage) → HoldImporters links (length links) noted →
+  pub growing_importers : (noted : Links) (own : List ℕ) (p : ParsedPackage) → AreImporterRows links (length links) noted →
       IsRow (paths_of packages) p.trees.items own → IsGrowing noted place own
   growing_importers noted own p held is = record {
     within = omega (arith, place_inside, one_more, held.size);
@@ -175,8 +175,8 @@ module _ (packages : List ParsedPackage) (links : Links) (place : ℕ) (grows : 
         let old = row_at grows.before links grows.rows p x at in
         let new = row_at packages g rows (shifted place p) x (package_shifted p ∙ at) in (
           λ h. (old.each q).1 ((some_shifted ks place path x.trees.items ks_within q).0
-              (subst (λ l. SomeImports l x.trees.items (shifted place q)) paths_are ((new.each (shifted place q)).0 h))),
-          λ h. (new.each (shifted place q)).1 (subst (λ l. SomeImports l x.trees.items (shifted place q)) (sym paths_are)
+              (subst (λ l. AnyImportsNumber l x.trees.items (shifted place q)) paths_are ((new.each (shifted place q)).0 h))),
+          λ h. (new.each (shifted place q)).1 (subst (λ l. AnyImportsNumber l x.trees.items (shifted place q)) (sym paths_are)
               ((some_shifted ks place path x.trees.items ks_within q).1 ((old.each q).0 h))),
         )
 
@@ -215,7 +215,7 @@ module _ (packages : List ParsedPackage) (links : Links) (place : ℕ) (grows : 
     )
 
     -- The importers of the new package are the packages that import its path.
-    importers_found : (found : List ℕ) → HoldsBelow (ImportsAt packages path) (length packages) found → AreImporters g place found
+    importers_found : (found : List ℕ) → ListsBelow (ImportsAt packages path) (length packages) found → AreImporters g place found
     importers_found found holds p = (
       λ has.
           let r = ((holds.each p).0 has).1 in
@@ -231,9 +231,9 @@ module _ (packages : List ParsedPackage) (links : Links) (place : ℕ) (grows : 
     )
 
     -- The importers after the insertion are those of the rows after it.
-    pub importers_grown : (noted new : Links) (own importing : List ℕ) → HoldImporters links (length links) noted → AreGrown place importing own noted new →
-        length new ≡ length noted + 1 → own ≡ imports_of g place → HoldsBelow (ImportsAt packages path) (length packages) importing →
-        AreFirst g (length g) new
+    pub importers_grown : (noted new : Links) (own importing : List ℕ) → AreImporterRows links (length links) noted → AreGrown place importing own noted new →
+        length new ≡ length noted + 1 → own ≡ row_of g place → ListsBelow (ImportsAt packages path) (length packages) importing →
+        AreFirstImporters g (length g) new
     importers_grown noted new own importing held grown count own_is holds =
         let size = rows_count packages g rows in
         let all : length new ≡ length g = omega (arith, count, held.size, size, one_more) in
@@ -241,26 +241,26 @@ module _ (packages : List ParsedPackage) (links : Links) (place : ℕ) (grows : 
           size = all;
           each = λ number lt. ⊎_elim
               (λ (here : number ≡ place).
-              subst (AreImporters g number) (sym (ap (imports_of new) here ∙ grown.own_row (omega (arith, here, lt, all))))
+              subst (AreImporters g number) (sym (ap (row_of new) here ∙ grown.own_row (omega (arith, here, lt, all))))
               (subst (λ k. AreImporters g k importing) (sym here) (importers_found importing holds)))
               (λ (r : (q : ℕ) × (shifted place q ≡ number)).
               let inside : shifted place r.0 < length new = omega (arith, r.1, lt, all) in
-              subst (λ k. AreImporters g k (imports_of new k)) r.1
-              (importers_shifted (shifted place r.0) r.0 (Contains own (shifted place r.0)) (imports_of noted r.0) (imports_of new (shifted place r.0)) refl
+              subst (λ k. AreImporters g k (row_of new k)) r.1
+              (importers_shifted (shifted place r.0) r.0 (Contains own (shifted place r.0)) (row_of noted r.0) (row_of new (shifted place r.0)) refl
               (importers_of_all links noted held r.0) (grown.each r.0 inside)
               (λ has. subst (λ l. Contains l (shifted place r.0)) own_is has, λ has. subst (λ l. Contains l (shifted place r.0)) (sym own_is) has)))
               (shifted_cases place number);
           rising = λ number lt. ⊎_elim
               (λ (here : number ≡ place).
-              subst IsStrictlyIncreasing (sym (ap (imports_of new) here ∙ grown.own_row (omega (arith, here, lt, all)))) holds.rising)
+              subst IsStrictlyIncreasing (sym (ap (row_of new) here ∙ grown.own_row (omega (arith, here, lt, all)))) holds.rising)
               (λ (r : (q : ℕ) × (shifted place q ≡ number)).
               let inside : shifted place r.0 < length new = omega (arith, r.1, lt, all) in
-              subst (λ k. IsStrictlyIncreasing (imports_of new k)) r.1 ((grown.each r.0 inside).rising (held.rising links_rising r.0)))
+              subst (λ k. IsStrictlyIncreasing (row_of new k)) r.1 ((grown.each r.0 inside).rising (held.rising links_rising r.0)))
               (shifted_cases place number);
         }
 
 -- ---- importers of all
-pub first_all : (g importers : Links) → AreLinked g → AreFirst g (length g) importers → HoldImporters g (length g) importers
+pub first_all : (g importers : Links) → AreLinked g → AreFirstImporters g (length g) importers → AreImporterRows g (length g) importers
 first_all g importers linked so = record {
   size = so.size;
   each = λ q p. ⊎_elim
@@ -273,7 +273,7 @@ first_all g importers linked so = record {
             let none : Contains [] p = subst (λ (l : List ℕ). Contains l p) (past q ge) has in
             absurd (omega (arith, none.1)),
         λ w.
-            let lt = All-contains (λ k. k < length g) (imports_of g p) q (linked p [] w.0) w.1 in
+            let lt = All-contains (λ k. k < length g) (row_of g p) q (linked p [] w.0) w.1 in
             absurd (omega (arith, lt, ge)),
       ))
       (cases_lt q (length g));
@@ -283,5 +283,5 @@ first_all g importers linked so = record {
       (cases_lt q (length g));
 }
   where
-    past : (q : ℕ) → length g ≤ q → imports_of importers q ≡ []
+    past : (q : ℕ) → length g ≤ q → row_of importers q ≡ []
     past q ge = get_or_past importers q [] (omega (arith, ge, so.size))

@@ -5,8 +5,8 @@ use Rattle.std.proofs.lemmas.Bool.{cases_lt}
 use Rattle.std.proofs.lemmas.List.{get_or-append-add, get_or-map, get_or_append_left, length-append, length-map}
 use Rattle.std.proofs.lemmas.List.Edits.{get_or-between, length-between}
 use Rattle.workspace_graph.specs.Growth.{AreGrown, IsStop}
-use Rattle.workspace_graph.specs.Imports.{Links, imports_of}
-use Rattle.workspace_graph.specs.Shifts.{IsPassed, ShiftsRow, row_shifted, shifted}
+use Rattle.workspace_graph.specs.Imports.{Links, row_of}
+use Rattle.workspace_graph.specs.Shifts.{Splits, ShiftsRow, row_shifted, shifted}
 use Rattle.workspace_graph.proofs.Shifted.{passed_over, shifted_above, shifted_apart, shifted_below, shifted_one, shifts_without}
 
 module _ (place : ℕ) (own linked : List ℕ) (before : Links) where
@@ -19,9 +19,9 @@ module _ (place : ℕ) (own linked : List ℕ) (before : Links) where
 
   -- some rows more
   grown_more : (rows more : Links) → AreGrown place own linked before rows → length rows + length more ≤ length before + 1 →
-      ((i : ℕ) → i < length more → length rows + i ≡ place → imports_of more i ≡ own) →
+      ((i : ℕ) → i < length more → length rows + i ≡ place → row_of more i ≡ own) →
       ((q i : ℕ) → i < length more → length rows + i ≡ shifted place q →
-      ShiftsRow place (Contains linked (shifted place q)) (imports_of before q) (imports_of more i)) →
+      ShiftsRow place (Contains linked (shifted place q)) (row_of before q) (row_of more i)) →
       AreGrown place own linked before (rows ++ more)
   grown_more rows more so within here each = record {
     within = omega (arith, size, within);
@@ -32,11 +32,11 @@ module _ (place : ℕ) (own linked : List ℕ) (before : Links) where
         behind place (place - length rows) e ∙ here (place - length rows) (omega (arith, lt, e, size)) e)
         (cases_lt place (length rows));
     each = λ q lt. ⊎_elim
-        (λ (l : shifted place q < length rows). subst (ShiftsRow place (Contains linked (shifted place q)) (imports_of before q))
+        (λ (l : shifted place q < length rows). subst (ShiftsRow place (Contains linked (shifted place q)) (row_of before q))
         (sym (get_or_append_left rows more [] (shifted place q) l)) (so.each q l))
         (λ (g : length rows ≤ shifted place q).
         let e : length rows + (shifted place q - length rows) ≡ shifted place q = omega (arith, g) in
-        subst (ShiftsRow place (Contains linked (shifted place q)) (imports_of before q)) (sym (behind (shifted place q) (shifted place q - length rows) e))
+        subst (ShiftsRow place (Contains linked (shifted place q)) (row_of before q)) (sym (behind (shifted place q) (shifted place q - length rows) e))
         (each q (shifted place q - length rows) (omega (arith, lt, e, size)) e))
         (cases_lt (shifted place q) (length rows));
   }
@@ -44,19 +44,19 @@ module _ (place : ℕ) (own linked : List ℕ) (before : Links) where
       size : length (rows ++ more) ≡ length rows + length more
       size = length-append rows more
 
-      behind : (n i : ℕ) → length rows + i ≡ n → imports_of (rows ++ more) n ≡ imports_of more i
-      behind n i e = ap (imports_of (rows ++ more)) (sym e) ∙ get_or-append-add rows more i []
+      behind : (n i : ℕ) → length rows + i ≡ n → row_of (rows ++ more) n ≡ row_of more i
+      behind n i e = ap (row_of (rows ++ more)) (sym e) ∙ get_or-append-add rows more i []
 
   -- that of the one that came
   pub grown_own : (rows : Links) → AreGrown place own linked before rows → length rows ≡ place → length rows < length before + 1 →
       AreGrown place own linked before (rows ++ own ∷ [])
   grown_own rows so at below = grown_more rows (own ∷ []) so (omega (arith, below))
-      (λ i lt e. let z : i ≡ 0 = omega (arith, lt) in ap (imports_of (own ∷ [])) z)
+      (λ i lt e. let z : i ≡ 0 = omega (arith, lt) in ap (row_of (own ∷ [])) z)
       (λ q i lt e. let z : shifted place q ≡ place = omega (arith, lt, e, at) in absurd (shifted_apart place q z))
 
   -- that of another
   pub grown_one : (rows : Links) (row : List ℕ) (q : ℕ) → AreGrown place own linked before rows → shifted place q ≡ length rows →
-      length rows < length before + 1 → ShiftsRow place (Contains linked (length rows)) (imports_of before q) row →
+      length rows < length before + 1 → ShiftsRow place (Contains linked (length rows)) (row_of before q) row →
       AreGrown place own linked before (rows ++ row ∷ [])
   grown_one rows row q so is below shifts = grown_more rows (row ∷ []) so (omega (arith, below))
       (λ i lt e. let z : shifted place q ≡ place = omega (arith, lt, e, is) in absurd (shifted_apart place q z))
@@ -64,13 +64,13 @@ module _ (place : ℕ) (own linked : List ℕ) (before : Links) where
       let z : i ≡ 0 = omega (arith, lt) in
       let both : shifted place p ≡ shifted place q = omega (arith, lt, e, is) in
       let same : p ≡ q = shifted_one place p q both in
-      subst (λ k. ShiftsRow place (Contains linked (shifted place k)) (imports_of before k) (imports_of (row ∷ []) i)) (sym same)
-      (subst (λ k. ShiftsRow place (Contains linked (shifted place q)) (imports_of before q) (imports_of (row ∷ []) k)) (sym z)
-      (subst (λ k. ShiftsRow place (Contains linked k) (imports_of before q) row) (sym is) shifts)))
+      subst (λ k. ShiftsRow place (Contains linked (shifted place k)) (row_of before k) (row_of (row ∷ []) i)) (sym same)
+      (subst (λ k. ShiftsRow place (Contains linked (shifted place q)) (row_of before q) (row_of (row ∷ []) k)) (sym z)
+      (subst (λ k. ShiftsRow place (Contains linked k) (row_of before q) row) (sym is) shifts)))
 
   -- those up to a stop
   module _ (rows : Links) (index from to stop : ℕ) (so : AreGrown place own linked before rows) (within : place ≤ length before)
-      (passed : IsPassed linked index (length rows)) (stops : IsStop place (length before + 1) linked index (length rows) stop)
+      (passed : Splits linked index (length rows)) (stops : IsStop place (length before + 1) linked index (length rows) stop)
       (from_upto : length rows ≤ place → from ≡ length rows) (from_above : place < length rows → from + 1 ≡ length rows)
       (to_upto : stop ≤ place → to ≡ stop) (to_above : place < stop → to + 1 ≡ stop) where
     abbrev n : ℕ
@@ -123,7 +123,7 @@ module _ (place : ℕ) (own linked : List ℕ) (before : Links) where
     pub run_count : length (rows ++ more) ≡ stop
     run_count = let size = length-append rows more in omega (arith, size, more_size, fits.long, fits.up)
 
-    more_at : (i : ℕ) → i < length more → imports_of more i ≡ row_shifted place (imports_of before (from + i))
+    more_at : (i : ℕ) → i < length more → row_of more i ≡ row_shifted place (row_of before (from + i))
     more_at i lt =
         let size = length-between before from to fits.inside in
         get_or-map (row_shifted place) (slice_range before from to) i [] [] (omega (arith, lt, more_size, size))
@@ -135,7 +135,7 @@ module _ (place : ℕ) (own linked : List ℕ) (before : Links) where
         (λ q i lt e.
         let low : n + i < stop = omega (arith, lt, more_size, fits.long, fits.up) in
         let same : q ≡ from + i = shifted_one place q (from + i) (sym e ∙ sym (fits.at i low)) in
-        let is : imports_of more i ≡ row_shifted place (imports_of before q) = more_at i lt ∙ ap (λ k. row_shifted place (imports_of before k)) (sym same) in
-        subst (ShiftsRow place (Contains linked (shifted place q)) (imports_of before q)) (sym is)
-        (shifts_without place (Contains linked (shifted place q)) (imports_of before q)
+        let is : row_of more i ≡ row_shifted place (row_of before q) = more_at i lt ∙ ap (λ k. row_shifted place (row_of before k)) (sym same) in
+        subst (ShiftsRow place (Contains linked (shifted place q)) (row_of before q)) (sym is)
+        (shifts_without place (Contains linked (shifted place q)) (row_of before q)
         (λ has. passed_over linked index n stop (n + i) passed stops.passed (omega arith) low (subst (Contains linked) (sym e) has))))

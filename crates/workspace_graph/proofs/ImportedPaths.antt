@@ -17,7 +17,7 @@ use Rattle.workspace_graph.specs.FileImports.{ListsImports}
 use Rattle.workspace_graph.specs.Packages.{ImportsPath}
 use Rattle.workspace_graph.specs.declared.file_imports.FileImport.{FileImport}
 use Rattle.workspace_graph.proofs.Collected.{HasNumber, are_imports, none_held}
-use Rattle.workspace_graph.specs.ImportPaths.{bytes_of_paths, AddsPaths, HoldsPaths, SomeStandFor, StandsFor}
+use Rattle.workspace_graph.specs.ImportPaths.{bytes_of_paths, AddsPaths, ListsPaths, AnyIsOfPath, IsPathValue}
 use Rattle.workspace_graph.proofs.PackagePaths.{exact_names}
 use Rattle.workspace_graph.proofs.StayingPackages.{any_of}
 
@@ -79,14 +79,14 @@ inserted (x ∷ xs) k q =
     ] refl
 
 pub insert_adds : (ks new : List (Vec ℕ Global)) (k v : Vec ℕ Global) (o : Option (Vec ℕ Global)) → o ≡ Some v → k.items ≡ v.items →
-    new ≡ insert_key bytes_cmp ks k → AddsPaths (StandsFor o) ks new
-insert_adds ks new k v o is same e = subst (λ (z : List (Vec ℕ Global)). AddsPaths (StandsFor o) ks z) (sym e) (record {
+    new ≡ insert_key bytes_cmp ks k → AddsPaths (IsPathValue o) ks new
+insert_adds ks new k v o is same e = subst (λ (z : List (Vec ℕ Global)). AddsPaths (IsPathValue o) ks z) (sym e) (record {
   each = λ q. (
     λ h. ⊎_elim (λ (a : Contains (bytes_of_paths ks) q). inl a)
-        (λ (s : k.items ≡ q). inr (subst (λ (z : Option (Vec ℕ Global)). StandsFor z q) (sym is) (sym same ∙ s))) ((inserted ks k q).0 h),
+        (λ (s : k.items ≡ q). inr (subst (λ (z : Option (Vec ℕ Global)). IsPathValue z q) (sym is) (sym same ∙ s))) ((inserted ks k q).0 h),
     λ either. (inserted ks k q).1 (⊎_elim
         (λ (a : Contains (bytes_of_paths ks) q). inl a)
-        (λ (s : StandsFor o q). let t : v.items ≡ q = subst (λ (z : Option (Vec ℕ Global)). StandsFor z q) is s in inr (same ∙ t))
+        (λ (s : IsPathValue o q). let t : v.items ≡ q = subst (λ (z : Option (Vec ℕ Global)). IsPathValue z q) is s in inr (same ∙ t))
         either),
   );
 })
@@ -120,11 +120,11 @@ adds_as P Q a b are adds = record {
   );
 }
 
-pub holds_none : (P : List ℕ → Type 0) (ks : List (Vec ℕ Global)) → ks ≡ [] → ((q : List ℕ) → P q → ⊥) → HoldsPaths P ks
-holds_none P ks e none = subst (λ (z : List (Vec ℕ Global)). HoldsPaths P z) (sym e)
+pub holds_none : (P : List ℕ → Type 0) (ks : List (Vec ℕ Global)) → ks ≡ [] → ((q : List ℕ) → P q → ⊥) → ListsPaths P ks
+holds_none P ks e none = subst (λ (z : List (Vec ℕ Global)). ListsPaths P z) (sym e)
     (record { each = λ q. (λ h. absurd (none_held q h), λ s. absurd (none q s)) })
 
-pub holds_more : (P Q S : List ℕ → Type 0) (a b : List (Vec ℕ Global)) → ((q : List ℕ) → S q ↔ (P q ⊎ Q q)) → HoldsPaths P a → AddsPaths Q a b → HoldsPaths S b
+pub holds_more : (P Q S : List ℕ → Type 0) (a b : List (Vec ℕ Global)) → ((q : List ℕ) → S q ↔ (P q ⊎ Q q)) → ListsPaths P a → AddsPaths Q a b → ListsPaths S b
 holds_more P Q S a b are holds adds = record {
   each = λ q. (
     λ has. (are q).1 (⊎_elim (λ (o : Contains (bytes_of_paths a) q). inl ((holds.each q).0 o)) (λ (y : Q q). inr y) ((adds.each q).0 has)),
@@ -146,16 +146,16 @@ some_more {X} R xs ys x e q = (
 
 -- what a file imports, by what was read of it
 
-number_stands : (q : List ℕ) (o : Option (Vec ℕ Global)) → HasNumber (q ∷ []) 0 o → StandsFor o q
+number_stands : (q : List ℕ) (o : Option (Vec ℕ Global)) → HasNumber (q ∷ []) 0 o → IsPathValue o q
 number_stands q None h = h
 number_stands q (Some v) h = sym (same_Some q v.items h)
 
-stands_number : (q : List ℕ) (o : Option (Vec ℕ Global)) → StandsFor o q → HasNumber (q ∷ []) 0 o
+stands_number : (q : List ℕ) (o : Option (Vec ℕ Global)) → IsPathValue o q → HasNumber (q ∷ []) 0 o
 stands_number q None h = h
 stands_number q (Some v) h = ap Some (sym h)
 
 pub imports_are : (file : FileParts) (imports : List FileImport) → ListsImports (source_of file) imports → (q : List ℕ) →
-    ImportsPath (source_of file) q ↔ SomeStandFor imports q
+    ImportsPath (source_of file) q ↔ AnyIsOfPath imports q
 imports_are file imports lists q = (
   λ i. let w = (are_imports file (q ∷ []) imports lists 0).0 (q, refl, i) in (w.0, (w.1, number_stands q w.0.path w.2)),
   λ s. let w = (are_imports file (q ∷ []) imports lists 0).1 (s.0, s.1.0, stands_number q s.0.path s.1.1) in

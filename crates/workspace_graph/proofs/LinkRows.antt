@@ -6,7 +6,7 @@ use Rattle.std.proofs.Math.Seq.{drop-append_seam}
 use Rattle.std.proofs.lemmas.Bool.{cases_lt}
 use Rattle.std.proofs.lemmas.List.{drop-append-le, length-append, length-drop, length-take-le, take-append-drop}
 use Rattle.std.proofs.lemmas.List.{take-append-le, take_all}
-use Rattle.workspace_graph.specs.Imports.{Links, imports_of}
+use Rattle.workspace_graph.specs.Imports.{Links, row_of}
 use Rattle.workspace_graph.specs.LinkRows.{rows_of, last_bound, AreBounds}
 
 -- one row fewer than bounds
@@ -16,7 +16,7 @@ rows_size (a ∷ []) ns = refl
 rows_size (a ∷ b ∷ bs) ns = let rest = rows_size (b ∷ bs) ns in omega arith
 
 -- a row stands between its bounds
-pub row_between : (bs ns : List ℕ) (i : ℕ) → i + 1 < length bs → imports_of (rows_of bs ns) i ≡ slice_range ns (get_or bs i 0) (get_or bs (i + 1) 0)
+pub row_between : (bs ns : List ℕ) (i : ℕ) → i + 1 < length bs → row_of (rows_of bs ns) i ≡ slice_range ns (get_or bs i 0) (get_or bs (i + 1) 0)
 row_between [] ns i lt = absurd (omega arith)
 row_between (a ∷ []) ns i lt = absurd (omega arith)
 row_between (a ∷ b ∷ bs) ns zero lt = refl

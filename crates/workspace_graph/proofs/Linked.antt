@@ -9,8 +9,8 @@ use Rattle.base_files.specs.Workspace.{Workspace}
 use Rattle.go_ast.specs.SourceFile.{SourceFile, FileParts, source_of}
 use Rattle.workspace_graph.specs.FaultyFiles.{FaultyParts}
 use Rattle.workspace_graph.specs.Growth.{AreRows}
-use Rattle.workspace_graph.specs.ImportPaths.{SomeImport}
-use Rattle.workspace_graph.specs.Imports.{Links, AreLinked, Imports, imports_of}
+use Rattle.workspace_graph.specs.ImportPaths.{AnyImports}
+use Rattle.workspace_graph.specs.Imports.{Links, AreLinked, Imports, row_of}
 use Rattle.base_files.specs.Packages.{package_paths, package_files}
 use Rattle.workspace_graph.specs.Packages.{IsParsed, ImportsPath, PackageImports, AreLinksOf}
 use Rattle.workspace_graph.specs.Parsed.{AreParsed, none, tree, fault}
@@ -66,7 +66,7 @@ package_at (q ∷ ps) (suc i) p h = package_at ps i p h
 
 -- what a package imports is what its files import
 pub package_imports : (w : Workspace) (p : ParsedPackage) → AreParsed (package_files w p.path.items) p.trees.items p.faulty.items → (q : List ℕ) →
-    PackageImports w p.path.items q ↔ SomeImport p.trees.items q
+    PackageImports w p.path.items q ↔ AnyImports p.trees.items q
 package_imports w p parsed q = (
   λ pi.
       let found = tree_of parsed pi.entry pi.of_package pi.file pi.parsed in
@@ -92,8 +92,8 @@ module _ (ps : List ParsedPackage) (g : Links) (rows : AreRows ps g) where
   abbrev R : ParsedPackage → List ℕ → Type 0
   R = λ p row. IsRow (paths_of ps) p.trees.items row
 
-  pub row_at : (i : ℕ) (p : ParsedPackage) → slice_get ps i ≡ Some p → IsRow (paths_of ps) p.trees.items (imports_of g i)
-  row_at i p at = subst (λ (q : ParsedPackage). R q (imports_of g i)) (get_or_from_slice_get ps i p p at)
+  pub row_at : (i : ℕ) (p : ParsedPackage) → slice_get ps i ≡ Some p → IsRow (paths_of ps) p.trees.items (row_of g i)
+  row_at i p at = subst (λ (q : ParsedPackage). R q (row_of g i)) (get_or_from_slice_get ps i p p at)
       (zip_at R ps g rows i p [] (slice_get_within ps i p at))
 
   pub rows_count : length g ≡ length ps
@@ -111,10 +111,10 @@ module _ (ps : List ParsedPackage) (g : Links) (rows : AreRows ps g) where
 
   pub rows_linked : AreLinked g
   rows_linked = All-from_get_or (λ row. All (λ j. j < length g) row) g []
-      (λ i within. All-from_get_or (λ j. j < length g) (imports_of g i) 0
-      (λ k h. below i within (get_or (imports_of g i) k 0) (Contains-get_or (imports_of g i) k 0 h)))
+      (λ i within. All-from_get_or (λ j. j < length g) (row_of g i) 0
+      (λ k h. below i within (get_or (row_of g i) k 0) (Contains-get_or (row_of g i) k 0 h)))
 
-  pub rows_rising : (i : ℕ) → i < length g → IsStrictlyIncreasing (imports_of g i)
+  pub rows_rising : (i : ℕ) → i < length g → IsStrictlyIncreasing (row_of g i)
   rows_rising i within =
       let d = get_or (paths_of ps) i [] in
       let here = package_at ps i d (slice_get-get_or (paths_of ps) i [] (omega (arith, rows_size))) in
@@ -130,12 +130,12 @@ module _ (w : Workspace) (ps : List ParsedPackage) (g : Links) (paths : paths_of
   imports_is i j p q at_i at_j has =
       let here = package_at ps i p at_i in
       subst (λ (path : List ℕ). PackageImports w path q) here.2
-      ((row_imports w (paths_of ps) here.0 (imports_of g i) (parsed i here.0 here.1) (row_at ps g rows i here.0 here.1) j q at_j).0 has)
+      ((row_imports w (paths_of ps) here.0 (row_of g i) (parsed i here.0 here.1) (row_at ps g rows i here.0 here.1) j q at_j).0 has)
 
   is_imports : (i j : ℕ) (p q : List ℕ) → slice_get (paths_of ps) i ≡ Some p → slice_get (paths_of ps) j ≡ Some q → PackageImports w p q → Imports g i j
   is_imports i j p q at_i at_j pi =
       let here = package_at ps i p at_i in
-      (row_imports w (paths_of ps) here.0 (imports_of g i) (parsed i here.0 here.1) (row_at ps g rows i here.0 here.1) j q at_j).1
+      (row_imports w (paths_of ps) here.0 (row_of g i) (parsed i here.0 here.1) (row_at ps g rows i here.0 here.1) j q at_j).1
       (subst (λ (path : List ℕ). PackageImports w path q) (sym here.2) pi)
 
   pub are_linked : AreLinked g
@@ -151,7 +151,7 @@ module _ (w : Workspace) (ps : List ParsedPackage) (g : Links) (paths : paths_of
         (imports_is i j p q here there, is_imports i j p q here there);
   }
 
-  pub are_rising : (i : ℕ) → i < length g → IsStrictlyIncreasing (imports_of g i)
+  pub are_rising : (i : ℕ) → i < length g → IsStrictlyIncreasing (row_of g i)
   are_rising = rows_rising ps g rows
 
   pub graph_is : IsGraph w ps g
@@ -172,11 +172,11 @@ module _ (w : Workspace) (ps : List ParsedPackage) (g : Links) (graph : IsGraph 
   inside : (i : ℕ) (p : ParsedPackage) → slice_get ps i ≡ Some p → i < length g
   inside i p at = let lt = slice_get_within (package_paths w) i p.path.items (named i p at) in omega (arith, lt, graph.linked.size)
 
-  is_row : (i : ℕ) (p : ParsedPackage) → slice_get ps i ≡ Some p → IsRow (paths_of ps) p.trees.items (imports_of g i)
+  is_row : (i : ℕ) (p : ParsedPackage) → slice_get ps i ≡ Some p → IsRow (paths_of ps) p.trees.items (row_of g i)
   is_row i p at = record {
     each = λ j. (
       λ has.
-          let within : j < length g = All-contains (λ q. q < length g) (imports_of g i) j (graph.linked.linked i [] (inside i p at)) has in
+          let within : j < length g = All-contains (λ q. q < length g) (row_of g i) j (graph.linked.linked i [] (inside i p at)) has in
           let q = get_or (package_paths w) j [] in
           let at_j = slice_get-get_or (package_paths w) j [] (omega (arith, within, graph.linked.size)) in
           let some = (package_imports w p (graph.each i p at) q).0 ((graph.linked.each i j p.path.items q (named i p at) at_j).0 has) in

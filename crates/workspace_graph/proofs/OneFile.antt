@@ -5,7 +5,7 @@ use Rattle.go_scanner.specs.declared.refusal.TextFault.{TextFault}
 use Rattle.go_scanner.specs.Cuts.{IsCut, IsFirstFault}
 use Rattle.go_scanner.specs.CutText.{CutText}
 use Rattle.go_scanner.proofs.OneCutLemmas.{one_cut, cut_or_fault}
-use Rattle.go_ast.specs.Faults.{IsSound, IsFaultOf, IsFaultOfTokens}
+use Rattle.go_ast.specs.Faults.{IsParsable, IsFaultOf, IsFaultOfTokens}
 use Rattle.go_ast.specs.Kinds.{kinds_of}
 use Rattle.go_ast.specs.SourceFile.{SourceFile}
 use Rattle.go_ast.specs.Verdict.{IsWhole, Verdict, Whole, Faulty}
@@ -31,7 +31,7 @@ is_whole Whole = true
 is_whole (Faulty kind left) = false
 
 -- a text without fault has none
-pub sound_or_fault : (text : List ℕ) (fault : TextFault) → IsSound text → IsFaultOf text fault → ⊥
+pub sound_or_fault : (text : List ℕ) (fault : TextFault) → IsParsable text → IsFaultOf text fault → ⊥
 sound_or_fault text fault sound faulty =
     ⊎_elim
     (λ (first : IsFirstFault text fault). cut_or_fault text sound.cut.pieces fault
@@ -43,7 +43,7 @@ sound_or_fault text fault sound faulty =
     faulty
 
 -- the text of a file that has a tree
-pub parsed_sound : (path text : List ℕ) (f : SourceFile) → IsParsed path text f → IsSound text
+pub parsed_sound : (path text : List ℕ) (f : SourceFile) → IsParsed path text f → IsParsable text
 parsed_sound path text f parsed = record { cut = f.cut; of_text = parsed.of_text; is_cut = parsed.is_file.is_cut; whole = parsed.is_file.whole }
 
 pub file_or_fault : (path text : List ℕ) (f : SourceFile) (fault : TextFault) → IsParsed path text f → IsFaultOf text fault → ⊥

@@ -19,7 +19,7 @@ use Rattle.std.proofs.lemmas.Map.Views.{Contains-from_any}
 use Rattle.base_files.specs.Path.{folder}
 use Rattle.base_files.specs.Workspace.{Workspace, path_cmp}
 use Rattle.base_files.proofs.WorkspaceLaws.{path_cmp_total, path_cmp_exact}
-use Rattle.workspace_graph.specs.Filling.{names}
+use Rattle.workspace_graph.specs.Borrows.{names}
 use Rattle.base_files.specs.Packages.{is_go, folders, package_paths}
 
 pub T_true : (b : Bool) → T b → b ≡ true

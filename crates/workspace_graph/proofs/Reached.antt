@@ -5,9 +5,9 @@ use Rattle.std.proofs.lemmas.List.Elements.{All-from_get_or, Contains-get_or}
 use Rattle.std.proofs.Math.ListN.{replicate}
 use Rattle.std.proofs.lemmas.Bool.{cases_lt, false≢true}
 use Rattle.std.proofs.lemmas.List.{get_or_default}
-use Rattle.workspace_graph.specs.Imports.{Links, AreLinked, Imports, imports_of, Reaches, itself, through, HoldImporters}
-use Rattle.workspace_graph.specs.Search.{IsMarked, Notes, Spreads, AreClosedUnder, MarksReached, AreReached, AreReaching, MarksImporting}
-use Rattle.workspace_graph.proofs.Answered.{importer_below}
+use Rattle.workspace_graph.specs.Imports.{Links, AreLinked, Imports, row_of, Reaches, itself, through, AreImporterRows}
+use Rattle.workspace_graph.specs.Search.{IsMarked, MarksFound, Visits, AreClosedMarks, MarksReached, AreReached, AreReaching, MarksReachingTo}
+use Rattle.workspace_graph.proofs.KeptImporters.{importer_below}
 use Rattle.workspace_graph.proofs.SearchSteps.{marked_within, linked_below}
 
 -- going on by one import
@@ -31,7 +31,7 @@ AreFoundFrom g start found = (i : ℕ) → i < length found → Reaches g start 
 
 -- all that the next package imports was found too
 pub found_more : (g : Links) (start : ℕ) (f : List ℕ) (m : List Bool) (h : List ℕ) (n : List Bool) (place : ℕ) → AreLinked g → place < length f →
-    AreFoundFrom g start f → Notes f m h n (Imports g (get_or f place 0)) → AreFoundFrom g start h
+    AreFoundFrom g start f → MarksFound f m h n (Imports g (get_or f place 0)) → AreFoundFrom g start h
 found_more g start f m h n place linked within found more i lt = elim (cases_lt i (length f)) [
   | inl below ↦ subst (Reaches g start) (sym (more.same i below)) (found i below)
   | inr ge ↦ (let leads = more.behind i ge lt in
@@ -40,14 +40,14 @@ found_more g start f m h n place linked within found more i lt = elim (cases_lt 
 
 -- the first package
 pub found_first : (g : Links) (start : ℕ) (f : List ℕ) (m : List Bool) (h : List ℕ) (n : List Bool) → start < length g → length f ≡ 0 →
-    Notes f m h n (λ q. q ≡ start) → AreFoundFrom g start h
+    MarksFound f m h n (λ q. q ≡ start) → AreFoundFrom g start h
 found_first g start f m h n within none more i lt =
     subst (Reaches g start) (sym (more.behind i (omega arith) lt)) (itself within)
 
 -- ---- where marks are closed
-module _ (g : Links) (start : ℕ) (old : List Bool) (found : List ℕ) (marks : List Bool) (s : Spreads g start old found marks)
-    (closed : AreClosedUnder g old) where
-  pub closed_still : AreClosedUnder g marks
+module _ (g : Links) (start : ℕ) (old : List Bool) (found : List ℕ) (marks : List Bool) (s : Visits g start old found marks)
+    (closed : AreClosedMarks g old) where
+  pub closed_still : AreClosedMarks g marks
   closed_still p q m i = elim (s.finds.places p m) [
     | inl before ↦ s.finds.kept q (closed p q before i)
     | inr has ↦ (
@@ -84,7 +84,7 @@ none_marked (suc n) (suc q) m = none_marked n q m
 pub none_in : (marks : List Bool) (n : ℕ) → marks ≡ replicate n false → (q : ℕ) → IsMarked marks q → ⊥
 none_in marks n is q m = none_marked n q (subst (λ (ms : List Bool). IsMarked ms q) is m)
 
-pub none_closed : (g : Links) (marks : List Bool) → ((q : ℕ) → IsMarked marks q → ⊥) → AreClosedUnder g marks
+pub none_closed : (g : Links) (marks : List Bool) → ((q : ℕ) → IsMarked marks q → ⊥) → AreClosedMarks g marks
 none_closed g marks none p q m i = absurd (none p m)
 
 -- what is marked from nothing on
@@ -100,7 +100,7 @@ module _ (g : Links) (starts : List Bool) where
   pub reached_none : (marks : List Bool) → length marks ≡ length g → ((q : ℕ) → IsMarked marks q → ⊥) → AreReached g starts 0 marks
   reached_none marks size none = record { size = size; each = λ q. ((λ m. absurd (none q m)), (λ r. absurd (omega (arith, r.1)))) }
 
-  pub reached_closed : (count : ℕ) (marks : List Bool) → AreLinked g → AreReached g starts count marks → AreClosedUnder g marks
+  pub reached_closed : (count : ℕ) (marks : List Bool) → AreLinked g → AreReached g starts count marks → AreClosedMarks g marks
   reached_closed count marks linked are p q m i =
       let r = (are.each p).0 m in
       (are.each q).1 (r.0, r.1, r.2, Reaches-more (linked_below g p q linked i) r.3 i)
@@ -136,14 +136,14 @@ module _ (g : Links) (starts : List Bool) where
   }
 
 -- ---- links backwards
-module _ (g noted : Links) (linked : AreLinked g) (back : HoldImporters g (length g) noted) where
+module _ (g noted : Links) (linked : AreLinked g) (back : AreImporterRows g (length g) noted) where
   noted_below : (p q : ℕ) → Imports noted p q → q < length noted
   noted_below p q i = (let lt : q < length g = ((back.each p q).0 i).0 in omega (arith, back.size))
 
   pub noted_linked : AreLinked noted
   noted_linked = All-from_get_or (λ row. All (λ q. q < length noted) row) noted []
-      (λ p within. All-from_get_or (λ q. q < length noted) (imports_of noted p) 0
-      (λ k lt. noted_below p (get_or (imports_of noted p) k 0) (Contains-get_or (imports_of noted p) k 0 lt)))
+      (λ p within. All-from_get_or (λ q. q < length noted) (row_of noted p) 0
+      (λ k lt. noted_below p (get_or (row_of noted p) k 0) (Contains-get_or (row_of noted p) k 0 lt)))
 
   pub back_reaches : {p q : ℕ} → Reaches noted p q → Reaches g q p
   back_reaches (itself {p = p} h) = itself (let lt : p < length g = omega (arith, back.size) in lt)
@@ -166,10 +166,10 @@ module _ (g noted : Links) (linked : AreLinked g) (back : HoldImporters g (lengt
   }
 
   -- what imports a marked package is marked
-  pub closed_back : (marks : List Bool) → ((p q : ℕ) → Imports g p q → IsMarked marks q → IsMarked marks p) → AreClosedUnder noted marks
+  pub closed_back : (marks : List Bool) → ((p q : ℕ) → Imports g p q → IsMarked marks q → IsMarked marks p) → AreClosedMarks noted marks
   closed_back marks are p q m i = are q p ((back.each p q).0 i).1 m
 
-  pub marks_importing : (start : ℕ) (old new : List Bool) → MarksReached noted start old new → MarksImporting g start old new
+  pub marks_importing : (start : ℕ) (old new : List Bool) → MarksReached noted start old new → MarksReachingTo g start old new
   marks_importing start old new are = record {
     size = are.size;
     each = λ q. (

@@ -3,14 +3,14 @@ use Rattle.std.proofs.Common.{None, Some, ℕ, ◌≡◌, ◌∷◌, [], List, i
 use Rattle.std.specs.Prelude.{IfSome, Vec}
 use Rattle.std.specs.List.{Contains}
 use Rattle.go_ast.specs.SourceFile.{FileParts, source_of}
-use Rattle.workspace_graph.specs.Drafts.{AreKept, GoneImports, IsGone, IsRenewed}
-use Rattle.workspace_graph.specs.HeldFiles.{tree_path}
-use Rattle.workspace_graph.specs.ImportPaths.{HoldsPaths, SomeImport, SomeStandFor, bytes_of_paths}
+use Rattle.workspace_graph.specs.Drafts.{Survive, GoneImports, WasTaken, WereImports}
+use Rattle.workspace_graph.specs.InFolder.{tree_path}
+use Rattle.workspace_graph.specs.ImportPaths.{ListsPaths, AnyImports, AnyIsOfPath, bytes_of_paths}
 use Rattle.workspace_graph.specs.Packages.{ImportsPath}
-use Rattle.workspace_graph.specs.Updated.{PutsIn, TakesOut}
+use Rattle.workspace_graph.specs.Updated.{SetsIn, Removes}
 use Rattle.workspace_graph.specs.declared.file_imports.FileImport.{FileImport}
 use Rattle.workspace_graph.proofs.Collected.{none_held}
-use Rattle.workspace_graph.proofs.NamedFiles.{is_among}
+use Rattle.workspace_graph.proofs.ChangedFiles.{is_among}
 use Rattle.workspace_graph.proofs.SortedLists.{first_in, first_or_later}
 
 -- a path is another one or it is not
@@ -20,16 +20,16 @@ is_path q path same apart = is_among q (path ∷ [])
     (λ never. apart (λ e. never (subst (Contains (path ∷ [])) (sym e) (first_in path []))))
 
 -- a tree that was taken out or not
-gone_imports : (path : List ℕ) (trees : List FileParts) (taken : Option FileParts) (f : FileParts) (q : List ℕ) → IsGone path trees taken → Contains trees f →
+gone_imports : (path : List ℕ) (trees : List FileParts) (taken : Option FileParts) (f : FileParts) (q : List ℕ) → WasTaken path trees taken → Contains trees f →
     f.path ≡ path → ImportsPath (source_of f) q → GoneImports taken q
 gone_imports path trees taken f q is has same imports = subst (λ o. GoneImports o q) (sym (is f has same)) imports
 
 module _ {Z : Type 0} (keys : List (Vec ℕ Z)) (old new : List FileParts) (gone : Option FileParts) (come : List FileImport)
-    (held : HoldsPaths (SomeImport old) keys) where
+    (held : ListsPaths (AnyImports old) keys) where
   -- a tree was put in the place of what was there
-  pub renewed_put : (t : FileParts) → PutsIn tree_path t old new → IsGone t.path old gone →
-      ((q : List ℕ) → ImportsPath (source_of t) q → SomeStandFor come q) → ((q : List ℕ) → SomeStandFor come q → ImportsPath (source_of t) q) →
-      IsRenewed keys gone come new
+  pub renewed_put : (t : FileParts) → SetsIn tree_path t old new → WasTaken t.path old gone →
+      ((q : List ℕ) → ImportsPath (source_of t) q → AnyIsOfPath come q) → ((q : List ℕ) → AnyIsOfPath come q → ImportsPath (source_of t) q) →
+      WereImports keys gone come new
   renewed_put t put is forth back = record {
     before = λ q has.
         let some = (held.each q).0 has in
@@ -44,7 +44,7 @@ module _ {Z : Type 0} (keys : List (Vec ℕ Z)) (old new : List FileParts) (gone
   }
 
   -- what was there was taken out
-  pub renewed_out : (path : List ℕ) (place : ℕ) → TakesOut tree_path path old new place → IsGone path old gone → come ≡ [] → IsRenewed keys gone come new
+  pub renewed_out : (path : List ℕ) (place : ℕ) → Removes tree_path path old new place → WasTaken path old gone → come ≡ [] → WereImports keys gone come new
   renewed_out path place out is none = record {
     before = λ q has.
         let some = (held.each q).0 has in
@@ -57,20 +57,20 @@ module _ {Z : Type 0} (keys : List (Vec ℕ Z)) (old new : List FileParts) (gone
 
 -- all that was imported stays, and no more came
 pub stay_imported : {Z : Type 0} (keys : List (Vec ℕ Z)) (gone : Option FileParts) (come : List FileImport) (trees : List FileParts) →
-    IsRenewed keys gone come trees → ((q : List ℕ) → SomeStandFor come q → Contains (bytes_of_paths keys) q) → AreKept (GoneImports gone) come trees →
-    HoldsPaths (SomeImport trees) keys
+    WereImports keys gone come trees → ((q : List ℕ) → AnyIsOfPath come q → Contains (bytes_of_paths keys) q) → Survive (GoneImports gone) come trees →
+    ListsPaths (AnyImports trees) keys
 stay_imported keys gone come trees renewed among kept = record {
   each = λ q. (
     λ has. ⊎_elim
-        (λ (some : SomeImport trees q). some)
+        (λ (some : AnyImports trees q). some)
         (λ (lost : GoneImports gone q). ⊎_elim
-        (λ (stands : SomeStandFor come q). renewed.came q stands)
-        (λ (some : SomeImport trees q). some)
+        (λ (stands : AnyIsOfPath come q). renewed.came q stands)
+        (λ (some : AnyImports trees q). some)
         (kept q lost))
         (renewed.before q has),
     λ some. ⊎_elim
         (λ (has : Contains (bytes_of_paths keys) q). has)
-        (λ (stands : SomeStandFor come q). among q stands)
+        (λ (stands : AnyIsOfPath come q). among q stands)
         (renewed.now q some),
   );
 }

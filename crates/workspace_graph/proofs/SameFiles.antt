@@ -11,7 +11,7 @@ use Rattle.base_files.specs.Path.{folder}
 use Rattle.base_files.specs.Packages.{is_go, is_of_package, package_files}
 use Rattle.base_files.specs.Workspace.{Workspace, path_cmp}
 use Rattle.base_files.proofs.WorkspaceLaws.{path_cmp_total, path_cmp_exact}
-use Rattle.workspace_graph.specs.Staying.{DiffersOnlyIn}
+use Rattle.workspace_graph.specs.SameGoFiles.{DiffersOnlyIn}
 
 abbrev Files : Type 0
 Files = List (List ℕ × List ℕ)

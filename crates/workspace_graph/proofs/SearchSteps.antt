@@ -9,8 +9,8 @@ use Rattle.std.proofs.lemmas.List.Sums.{sum_by-set}
 use Rattle.std.specs.List.{count_by}
 use Rattle.std.specs.List.{Contains}
 use Rattle.std.proofs.lemmas.List.Elements.{All-contains, Contains-get_or, Contains-push, Contains-push_cases, Contains-append_left}
-use Rattle.workspace_graph.specs.Imports.{Links, AreLinked, Imports, imports_of}
-use Rattle.workspace_graph.specs.Search.{IsMarked, Finds, Notes, IsFollowed}
+use Rattle.workspace_graph.specs.Imports.{Links, AreLinked, Imports, row_of}
+use Rattle.workspace_graph.specs.Search.{IsMarked, ListsNewMarks, MarksFound, AreImportsMarked}
 
 -- only what is in range is marked
 pub marked_within : (marks : List Bool) (q : ℕ) → IsMarked marks q → q < length marks
@@ -36,7 +36,7 @@ counted_set marks n within clear =
     omega arith
 
 -- nothing was found yet
-pub finds_none : (marks : List Bool) → Finds marks [] marks
+pub finds_none : (marks : List Bool) → ListsNewMarks marks [] marks
 finds_none marks = record {
   size = refl;
   counted = omega arith;
@@ -61,7 +61,7 @@ module _ (found : List ℕ) (marks : List Bool) (n : ℕ) (within : n < length m
   now : IsMarked (set marks n true) n
   now = get_or-set_same marks n true false within
 
-  pub finds_more : (first : List Bool) → Finds first found marks → Finds first (found ++ n ∷ []) (set marks n true)
+  pub finds_more : (first : List Bool) → ListsNewMarks first found marks → ListsNewMarks first (found ++ n ∷ []) (set marks n true)
   finds_more first h = record {
     size = length-set marks n true ∙ h.size;
     counted = let c = counted_set marks n within clear in omega (arith, len, c, h.counted);
@@ -87,7 +87,7 @@ module _ (found : List ℕ) (marks : List Bool) (n : ℕ) (within : n < length m
     ];
   }
 
-  pub notes_one : Notes found marks (found ++ n ∷ []) (set marks n true) (λ q. q ≡ n)
+  pub notes_one : MarksFound found marks (found ++ n ∷ []) (set marks n true) (λ q. q ≡ n)
   notes_one = record {
     longer = omega (arith, len);
     same = old_at;
@@ -98,7 +98,7 @@ module _ (found : List ℕ) (marks : List Bool) (n : ℕ) (within : n < length m
   }
 
 -- a package that is marked is not noted again
-pub notes_same : (found : List ℕ) (marks : List Bool) (n : ℕ) → IsMarked marks n → Notes found marks found marks (λ q. q ≡ n)
+pub notes_same : (found : List ℕ) (marks : List Bool) (n : ℕ) → IsMarked marks n → MarksFound found marks found marks (λ q. q ≡ n)
 notes_same found marks n m = record {
   longer = omega arith;
   same = λ i lt. refl;
@@ -108,7 +108,7 @@ notes_same found marks n m = record {
   behind = λ i ge lt. absurd (omega arith);
 }
 
-pub notes_none : (found : List ℕ) (marks : List Bool) (P : ℕ → Type 0) → ((q : ℕ) → P q → ⊥) → Notes found marks found marks P
+pub notes_none : (found : List ℕ) (marks : List Bool) (P : ℕ → Type 0) → ((q : ℕ) → P q → ⊥) → MarksFound found marks found marks P
 notes_none found marks P none = record {
   longer = omega arith;
   same = λ i lt. refl;
@@ -119,8 +119,8 @@ notes_none found marks P none = record {
 }
 
 -- what was noted, and then more
-pub notes_then : (f : List ℕ) (m : List Bool) (g : List ℕ) (n : List Bool) (h : List ℕ) (o : List Bool) (P Q R : ℕ → Type 0) → Notes f m g n P →
-    Notes g n h o Q → ((q : ℕ) → R q → P q ⊎ Q q) → ((q : ℕ) → P q ⊎ Q q → R q) → Notes f m h o R
+pub notes_then : (f : List ℕ) (m : List Bool) (g : List ℕ) (n : List Bool) (h : List ℕ) (o : List Bool) (P Q R : ℕ → Type 0) → MarksFound f m g n P →
+    MarksFound g n h o Q → ((q : ℕ) → R q → P q ⊎ Q q) → ((q : ℕ) → P q ⊎ Q q → R q) → MarksFound f m h o R
 notes_then f m g n h o P Q R a b to from = record {
   longer = omega (arith, a.longer, b.longer);
   same = λ i lt. b.same i (omega (arith, a.longer)) ∙ a.same i lt;
@@ -134,7 +134,7 @@ notes_then f m g n h o P Q R a b to from = record {
 }
 
 pub notes_as : (f : List ℕ) (m : List Bool) (g : List ℕ) (n : List Bool) (P R : ℕ → Type 0) → ((q : ℕ) → R q → P q) → ((q : ℕ) → P q → R q) →
-    Notes f m g n P → Notes f m g n R
+    MarksFound f m g n P → MarksFound f m g n R
 notes_as f m g n P R to from h = record {
   longer = h.longer;
   same = h.same;
@@ -165,12 +165,12 @@ row_all row i le = take_all i row le
 -- each import is a package
 pub linked_below : (g : Links) (p q : ℕ) → AreLinked g → Imports g p q → q < length g
 linked_below g p q linked i = elim (cases_lt p (length g)) [
-  | inl h ↦ All-contains (λ r. r < length g) (imports_of g p) q (linked p [] h) i
+  | inl h ↦ All-contains (λ r. r < length g) (row_of g p) q (linked p [] h) i
   | inr h ↦ (let none : Contains [] q = subst (λ (xs : List ℕ). Contains xs q) (get_or_past g p [] h) i in absurd (omega (arith, none.1)))
 ]
 
 -- what a row holds is imported
-pub row_imports : (g : Links) (p : ℕ) (row : List ℕ) (k : ℕ) → row ≡ imports_of g p → k < length row → Imports g p (get_or row k 0)
+pub row_imports : (g : Links) (p : ℕ) (row : List ℕ) (k : ℕ) → row ≡ row_of g p → k < length row → Imports g p (get_or row k 0)
 row_imports g p row k is h = subst (λ (xs : List ℕ). Contains xs (get_or row k 0)) is (Contains-get_or row k 0 h)
 
 -- what a test of a mark read
@@ -178,8 +178,8 @@ pub mark_read : (marks : List Bool) (n : ℕ) (b v : Bool) → n < length marks 
 mark_read marks n b v h e is = sym (get_or_read marks n b h e false) ∙ is
 
 -- ---- one package more is followed
-pub followed_more : (g : Links) (f : List ℕ) (m : List Bool) (h : List ℕ) (n : List Bool) (place : ℕ) → place < length f → IsFollowed g f m place →
-    Notes f m h n (Imports g (get_or f place 0)) → IsFollowed g h n (place + 1)
+pub followed_more : (g : Links) (f : List ℕ) (m : List Bool) (h : List ℕ) (n : List Bool) (place : ℕ) → place < length f → AreImportsMarked g f m place →
+    MarksFound f m h n (Imports g (get_or f place 0)) → AreImportsMarked g h n (place + 1)
 followed_more g f m h n place within done more i lt q leads =
     let there : Imports g (get_or f i 0) q = subst (λ (a : ℕ). Imports g a q) (more.same i (omega arith)) leads in
     elim (cases_lt i place) [

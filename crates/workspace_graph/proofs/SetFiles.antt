@@ -14,37 +14,37 @@ use Rattle.base_files.specs.Path.{folder}
 use Rattle.base_files.specs.Packages.{is_go, is_of_package}
 use Rattle.base_files.specs.Workspace.{Workspace, path_cmp}
 use Rattle.go_ast.specs.SourceFile.{FileParts, source_of}
-use Rattle.workspace_graph.specs.Drafts.{AreDraftsAt, HasText, HoldsDraft, HoldsImports, IsDraft, IsDraftAt, IsEmptyAt, IsGone}
-use Rattle.workspace_graph.specs.Drafts.{IsSamePackage, PutsFault, PutsTree, SetsFile, SetsFiles, TakesFile, draft_path, draft_paths, packages_of}
+use Rattle.workspace_graph.specs.Drafts.{AreDraftsAt, HasText, HasFolderFiles, KnowsImports, IsDraft, IsDraftAt, IsEmptyAt, WasTaken}
+use Rattle.workspace_graph.specs.Drafts.{IsSamePackage, SetsFaulty, SetsTree, SetsFile, SetsFiles, RemovesFile, draft_path, draft_paths, packages_of}
 use Rattle.workspace_graph.specs.FaultyFiles.{FaultyParts}
 use Rattle.workspace_graph.specs.Graphs.{paths_of}
-use Rattle.workspace_graph.specs.HeldFiles.{HoldFiles, fault_path, fault_paths, tree_path, tree_paths}
-use Rattle.workspace_graph.specs.NamedFiles.{AreFresh, ArePackages, HaveFolders, Resets}
-use Rattle.workspace_graph.specs.Staying.{DiffersOnlyAt, HasFiles}
+use Rattle.workspace_graph.specs.InFolder.{AreInFolder, fault_path, fault_paths, tree_path, tree_paths}
+use Rattle.workspace_graph.specs.ChangedFiles.{CoverChanges, ArePackages, HaveFolders, SetsAt}
+use Rattle.workspace_graph.specs.SameGoFiles.{DiffersOnlyAt, HasFiles}
 use Rattle.workspace_graph.specs.Packages.{IsParsed}
 use Rattle.workspace_graph.specs.Parsed.{IsFaulty}
-use Rattle.workspace_graph.specs.Updated.{IsPlace, TakesOut}
+use Rattle.workspace_graph.specs.Updated.{IsPlace, Removes}
 use Rattle.workspace_graph.specs.declared.package.ParsedPackage.{ParsedPackage}
 use Rattle.workspace_graph.specs.declared.drafts.Draft.{Draft}
 use Rattle.workspace_graph.proofs.Collected.{none_held}
 use Rattle.base_edits.proofs.Held.{mapped_from}
 use Rattle.workspace_graph.proofs.FoundFolders.{not_true}
 use Rattle.workspace_graph.proofs.Filled.{set_elsewhere, set_there}
-use Rattle.workspace_graph.proofs.HeldFiles.{has_held, held, held_none, held_apart, held_fault, held_all, held_final, held_gone, held_same, held_tree, reset_next}
-use Rattle.workspace_graph.proofs.NamedFiles.{is_among, resets_none, resets_more}
+use Rattle.workspace_graph.proofs.InFolder.{has_held, held, held_none, held_apart, held_fault, held_all, held_final, held_gone, held_same, held_tree, reset_next}
+use Rattle.workspace_graph.proofs.ChangedFiles.{is_among, resets_none, resets_more}
 use Rattle.workspace_graph.proofs.Numbers.{path_of_package, path_there}
 use Rattle.workspace_graph.proofs.PackagePaths.{none_sorted, one_number}
 use Rattle.workspace_graph.proofs.UpdatedPackages.{place_apart}
 
 -- ---- the removed tree
 pub gone_one : (path : List ℕ) (trees : List FileParts) (n : ℕ) (gone : FileParts) → IsStrictlySortedBy path_cmp (tree_paths trees) →
-    slice_get (tree_paths trees) n ≡ Some path → slice_get trees n ≡ Some gone → IsGone path trees (Some gone)
+    slice_get (tree_paths trees) n ≡ Some path → slice_get trees n ≡ Some gone → WasTaken path trees (Some gone)
 gone_one path trees n gone sorted named at t has same =
     let there : slice_get trees has.0 ≡ Some t = slice_get_read trees (length trees) has.0 t refl has.1 (sym has.2) in
     let number : has.0 ≡ n = one_number (tree_paths trees) sorted has.0 n path (path_there tree_path trees has.0 t there ∙ ap Some same) named in
     sym at ∙ ap (slice_get trees) (sym number) ∙ there
 
-pub gone_none : (path : List ℕ) (trees : List FileParts) (place : ℕ) → IsPlace (tree_paths trees) path place → IsGone path trees None
+pub gone_none : (path : List ℕ) (trees : List FileParts) (place : ℕ) → IsPlace (tree_paths trees) path place → WasTaken path trees None
 gone_none path trees place stands t has same =
     absurd (place_apart (tree_paths trees) path place stands (subst (Contains (tree_paths trees)) same (
       has.0,
@@ -54,7 +54,7 @@ gone_none path trees place stands t has same =
     )))
 
 -- ---- a text that the file has already
-text_there : (v : Workspace) (p : List ℕ) (trees : List FileParts) (faulty : List FaultyParts) (path text : List ℕ) → HoldFiles v p trees faulty →
+text_there : (v : Workspace) (p : List ℕ) (trees : List FileParts) (faulty : List FaultyParts) (path text : List ℕ) → AreInFolder v p trees faulty →
     HasText trees faulty path text → get v path ≡ Some text
 text_there v p trees faulty path text held has = ⊎_elim
     (λ (t : (t : FileParts) × Contains trees t × (t.path ≡ path) × (t.cut.text ≡ text)).
@@ -73,31 +73,31 @@ text_stays w path text d draft at has = record {
 }
 
 -- ---- another text
-pub tree_set : (w : Workspace) (path text : List ℕ) (t : FileParts) (old new : Draft) → IsParsed path text (source_of t) → PutsTree t old new →
+pub tree_set : (w : Workspace) (path text : List ℕ) (t : FileParts) (old new : Draft) → IsParsed path text (source_of t) → SetsTree t old new →
     get w path ≡ Some text → is_of_package old.package.path.items path ≡ true → SetsFile w path old new
 tree_set w path text t old new is puts at of = record {
   same_path = puts.path;
   draft = puts.draft;
-  files = λ v u resets held. subst (λ p. HoldFiles u p new.package.trees.items new.package.faulty.items) (sym puts.path)
+  files = λ v u resets held. subst (λ p. AreInFolder u p new.package.trees.items new.package.faulty.items) (sym puts.path)
       (held_tree resets held at of is puts.trees
-      (subst (λ q. TakesOut fault_path q old.package.faulty.items new.package.faulty.items puts.place) is.of_path puts.faulty));
+      (subst (λ q. Removes fault_path q old.package.faulty.items new.package.faulty.items puts.place) is.of_path puts.faulty));
 }
 
-pub fault_set : (w : Workspace) (path text : List ℕ) (f : FaultyParts) (old new : Draft) → IsFaulty path text f → PutsFault f old new →
+pub fault_set : (w : Workspace) (path text : List ℕ) (f : FaultyParts) (old new : Draft) → IsFaulty path text f → SetsFaulty f old new →
     get w path ≡ Some text → is_of_package old.package.path.items path ≡ true → SetsFile w path old new
 fault_set w path text f old new is puts at of = record {
   same_path = puts.path;
   draft = puts.draft;
-  files = λ v u resets held. subst (λ p. HoldFiles u p new.package.trees.items new.package.faulty.items) (sym puts.path)
+  files = λ v u resets held. subst (λ p. AreInFolder u p new.package.trees.items new.package.faulty.items) (sym puts.path)
       (held_fault resets held at of is
-      (subst (λ q. TakesOut tree_path q old.package.trees.items new.package.trees.items puts.place) is.of_path puts.trees) puts.faulty);
+      (subst (λ q. Removes tree_path q old.package.trees.items new.package.trees.items puts.place) is.of_path puts.trees) puts.faulty);
 }
 
-pub none_set : (w : Workspace) (path : List ℕ) (old new : Draft) → TakesFile path old new → get w path ≡ None → SetsFile w path old new
+pub none_set : (w : Workspace) (path : List ℕ) (old new : Draft) → RemovesFile path old new → get w path ≡ None → SetsFile w path old new
 none_set w path old new takes at = record {
   same_path = takes.same_path;
   draft = takes.draft;
-  files = λ v u resets held. subst (λ p. HoldFiles u p new.package.trees.items new.package.faulty.items) (sym takes.same_path)
+  files = λ v u resets held. subst (λ p. AreInFolder u p new.package.trees.items new.package.faulty.items) (sym takes.same_path)
       (held_gone resets held at takes.trees takes.faulty);
 }
 
@@ -112,15 +112,15 @@ pub read : {X : Type 0} (xs : List X) (x : X) (has : Contains xs x) → slice_ge
 read xs x has = slice_get_read xs (length xs) has.0 x refl has.1 (sym has.2)
 
 -- ---- several paths, one after another
-reset_to : (w v : Workspace) (paths : List (List ℕ)) → (u : Workspace) × Resets w paths v u
+reset_to : (w v : Workspace) (paths : List (List ℕ)) → (u : Workspace) × SetsAt w paths v u
 reset_to w v [] = (v, resets_none w v)
 reset_to w v (path ∷ paths) =
     let first = reset_next w v path in
     let rest = reset_to w first.0 paths in
     (rest.0, resets_more w (path ∷ []) paths v first.0 rest.0 first.1 rest.1)
 
-last_reset : (w v m u : Workspace) (paths : List (List ℕ)) (path : List ℕ) → Resets w paths v m → Resets w (paths ++ path ∷ []) v u →
-    Resets w (path ∷ []) m u
+last_reset : (w v m u : Workspace) (paths : List (List ℕ)) (path : List ℕ) → SetsAt w paths v m → SetsAt w (paths ++ path ∷ []) v u →
+    SetsAt w (path ∷ []) m u
 last_reset w v m u paths path first all = record {
   own = λ q has. all.own q (Contains-append_right paths (path ∷ []) q has);
   others = λ q apart. is_among q paths
@@ -134,7 +134,7 @@ sets_none w ds drafts = record {
   same_paths = refl;
   drafts = drafts;
   files = λ v u resets held. all_from ds (λ d has.
-      held_final (All-contains (HoldsDraft v) ds d held has) (λ path _. resets.others path (λ none. none_held path none)));
+      held_final (All-contains (HasFolderFiles v) ds d held has) (λ path _. resets.others path (λ none. none_held path none)));
 }
 
 pub sets_more : (w : Workspace) (paths : List (List ℕ)) (path : List ℕ) (a b c : List Draft) → SetsFiles w paths a b → SetsFiles w (path ∷ []) b c →
@@ -148,7 +148,7 @@ sets_more w paths path a b c first second = record {
 }
 
 -- ---- the package at a folder
-pub empty_draft : (folder : List ℕ) (d : Draft) → draft_path d ≡ folder → d.package.trees.items ≡ [] → d.package.faulty.items ≡ [] → HoldsImports d →
+pub empty_draft : (folder : List ℕ) (d : Draft) → draft_path d ≡ folder → d.package.trees.items ≡ [] → d.package.faulty.items ≡ [] → KnowsImports d →
     IsEmptyAt folder d
 empty_draft folder d path trees faulty imports = record {
   path = path;
@@ -167,9 +167,9 @@ kept_at before folder n p d named at draft same = record {
   draft = draft;
   files = λ v are.
       let h = held v p (All-contains (HasFiles v) before p are.files (there before n p at)) in
-      subst (λ q. HoldFiles v q d.package.trees.items d.package.faulty.items) (sym same.path)
-      (subst (λ ts. HoldFiles v p.path.items ts d.package.faulty.items) (sym same.trees)
-      (subst (λ fs. HoldFiles v p.path.items p.trees.items fs) (sym same.faulty) h));
+      subst (λ q. AreInFolder v q d.package.trees.items d.package.faulty.items) (sym same.path)
+      (subst (λ ts. AreInFolder v p.path.items ts d.package.faulty.items) (sym same.trees)
+      (subst (λ fs. AreInFolder v p.path.items p.trees.items fs) (sym same.faulty) h));
 }
 
 pub none_at : (before : List ParsedPackage) (folder : List ℕ) (d : Draft) → (Contains (paths_of before) folder → ⊥) → IsEmptyAt folder d →
@@ -178,9 +178,9 @@ none_at before folder d never empty = record {
   path = empty.path;
   draft = empty.draft;
   files = λ v are.
-      subst (λ q. HoldFiles v q d.package.trees.items d.package.faulty.items) (sym empty.path)
-      (subst (λ ts. HoldFiles v folder ts d.package.faulty.items) (sym empty.empty.0)
-      (subst (λ fs. HoldFiles v folder [] fs) (sym empty.empty.1) (held_none v before folder are never)));
+      subst (λ q. AreInFolder v q d.package.trees.items d.package.faulty.items) (sym empty.path)
+      (subst (λ ts. AreInFolder v folder ts d.package.faulty.items) (sym empty.empty.0)
+      (subst (λ fs. AreInFolder v folder [] fs) (sym empty.empty.1) (held_none v before folder are never)));
 }
 
 pub paths_push : (ds : List Draft) (d : Draft) (rest : List (List ℕ)) → draft_paths (ds ++ d ∷ []) ++ rest ≡ draft_paths ds ++ draft_path d ∷ rest
@@ -233,8 +233,8 @@ module _ (w : Workspace) (path : List ℕ) (ds : List Draft) (sorted : IsStrictl
           (λ own. subst IsDraft (sym own) sets.draft)
           (λ k apart was. All-contains IsDraft ds d drafts (there ds k d was)));
       files = λ v u resets held. all_from (set ds n a) (λ d has. set_cases ds n b a d at has
-          (λ own. subst (HoldsDraft u) (sym own) (sets.files v u resets (All-contains (HoldsDraft v) ds b held (there ds n b at))))
-          (λ k apart was. held_apart resets (All-contains (HoldsDraft v) ds d held (there ds k d was))
+          (λ own. subst (HasFolderFiles u) (sym own) (sets.files v u resets (All-contains (HasFolderFiles v) ds b held (there ds n b at))))
+          (λ k apart was. held_apart resets (All-contains (HasFolderFiles v) ds d held (there ds k d was))
           (of_other d.package.path.items path (λ same. apart (one_number (draft_paths ds) sorted k n (folder path)
           (path_there draft_path ds k d was ∙ ap Some (sym same)) (path_there draft_path ds n b at ∙ ap Some (sym of)))))));
     })
@@ -244,7 +244,7 @@ module _ (w : Workspace) (path : List ℕ) (ds : List Draft) (sorted : IsStrictl
     sets_other none = record {
       same_paths = refl;
       drafts = drafts;
-      files = λ v u resets held. all_from ds (λ d has. held_apart resets (All-contains (HoldsDraft v) ds d held has)
+      files = λ v u resets held. all_from ds (λ d has. held_apart resets (All-contains (HasFolderFiles v) ds d held has)
           (none d.package.path.items (there (draft_paths ds) has.0 d.package.path.items (path_there draft_path ds has.0 d (read ds d has)))));
     }
 
@@ -260,16 +260,16 @@ module _ (v w : Workspace) (before : List ParsedPackage) (folders paths : List (
   paths_are : paths_of (packages_of made) ≡ folders
   paths_are = paths_same made ∙ sets.same_paths ∙ at.paths
 
-  last : (u : Workspace) × Resets w paths v u
+  last : (u : Workspace) × SetsAt w paths v u
   last = reset_to w v paths
 
   made_files : (p : ParsedPackage) → Contains (packages_of made) p → HasFiles w p
   made_files p has =
       let d = mapped_from (λ (x : Draft). x.package) made p has in
-      let held = All-contains (HoldsDraft last.0) made d.0 (sets.files v last.0 last.1 (at.files v are)) d.1 in
+      let held = All-contains (HasFolderFiles last.0) made d.0 (sets.files v last.0 last.1 (at.files v are)) d.1 in
       subst (HasFiles w) d.2 (has_held w d.0.package (held_all last.1 differs held))
 
-  pub fresh_made : AreFresh v w (packages_of made)
+  pub fresh_made : CoverChanges v w (packages_of made)
   fresh_made = record {
     sorted = subst (IsStrictlySortedBy path_cmp) (sym paths_are) at.sorted;
     differs = λ path go apart. differs path go (λ has. apart (subst (λ ks. Contains ks (folder path)) (sym paths_are) (have path has)));

@@ -9,8 +9,8 @@ use Rattle.std.proofs.lemmas.List.Edits.{get_or-insert_above, get_or-insert_at, 
 use Rattle.std.proofs.lemmas.List.Elements.{Contains-get_or}
 use Rattle.std.proofs.lemmas.List.Sorted.{Contains-permutation, IsPermutation-insert, IsPermutation-sym}
 use Rattle.std.proofs.lemmas.Option.{get_or_from_slice_get, slice_get-get_or, slice_get_past}
-use Rattle.workspace_graph.specs.Shifts.{IsPassed, ShiftsRow, row_shifted, shifted}
-use Rattle.workspace_graph.proofs.Held.{rising_by}
+use Rattle.workspace_graph.specs.Shifts.{Splits, ShiftsRow, row_shifted, shifted}
+use Rattle.workspace_graph.proofs.OrderedPackages.{rising_by}
 use Rattle.workspace_graph.proofs.SortedLists.{first_in, first_or_later, later_in}
 
 -- ---- one number
@@ -218,15 +218,15 @@ insert_here ks place path within =
     slice_get-get_or (insert ks place path) place path (omega (arith, within, size)) ∙ ap Some (get_or-insert_at ks place path path within)
 
 -- ---- lists that are passed
-pub passed_none : (list : List ℕ) → IsPassed list 0 0
+pub passed_none : (list : List ℕ) → Splits list 0 0
 passed_none list = record {
   within = omega arith;
   below = λ k h. absurd (omega (arith, h));
   above = λ k h lt. omega arith;
 }
 
-pub passed_yes : (list : List ℕ) (index number : ℕ) → IsStrictlyIncreasing list → IsPassed list index number → index < length list →
-    get_or list index 0 ≡ number → IsPassed list (index + 1) (number + 1)
+pub passed_yes : (list : List ℕ) (index number : ℕ) → IsStrictlyIncreasing list → Splits list index number → index < length list →
+    get_or list index 0 ≡ number → Splits list (index + 1) (number + 1)
 passed_yes list index number up so lt is = record {
   within = omega (arith, lt);
   below = λ k h. ⊎_elim
@@ -241,8 +241,8 @@ passed_yes list index number up so lt is = record {
       omega (arith, less, is);
 }
 
-pub passed_no : (list : List ℕ) (index number : ℕ) → IsStrictlyIncreasing list → IsPassed list index number →
-    (index < length list → get_or list index 0 ≡ number → ⊥) → IsPassed list index (number + 1)
+pub passed_no : (list : List ℕ) (index number : ℕ) → IsStrictlyIncreasing list → Splits list index number →
+    (index < length list → get_or list index 0 ≡ number → ⊥) → Splits list index (number + 1)
 passed_no list index number up so not = record {
   within = so.within;
   below = λ k h. omega (arith, so.below k h);
@@ -264,7 +264,7 @@ passed_no list index number up so not = record {
 }
 
 -- what was not passed and does not stand there is not in the list
-pub passed_none_in : (list : List ℕ) (index number : ℕ) → IsPassed list index (number + 1) → IsPassed list index number → Contains list number → ⊥
+pub passed_none_in : (list : List ℕ) (index number : ℕ) → Splits list index (number + 1) → Splits list index number → Contains list number → ⊥
 passed_none_in list index number after so has = ⊎_elim
     (λ (l : has.0 < index).
     let is = same_at has in
@@ -283,8 +283,8 @@ pub passed_one_in : (list : List ℕ) (index number : ℕ) → index < length li
 passed_one_in list index number lt is = subst (Contains list) is (Contains-get_or list index 0 lt)
 
 -- a list that is passed further, up to what comes next in it
-pub passed_to : (list : List ℕ) (index number stop : ℕ) → IsStrictlyIncreasing list → IsPassed list index number → number ≤ stop →
-    (index < length list → stop ≤ get_or list index 0) → IsPassed list index stop
+pub passed_to : (list : List ℕ) (index number stop : ℕ) → IsStrictlyIncreasing list → Splits list index number → number ≤ stop →
+    (index < length list → stop ≤ get_or list index 0) → Splits list index stop
 passed_to list index number stop up so more next = record {
   within = so.within;
   below = λ k h. omega (arith, so.below k h, more);
@@ -302,7 +302,7 @@ passed_to list index number stop up so more next = record {
 }
 
 -- no number between is in it
-pub passed_over : (list : List ℕ) (index number stop m : ℕ) → IsPassed list index number → IsPassed list index stop → number ≤ m → m < stop →
+pub passed_over : (list : List ℕ) (index number stop m : ℕ) → Splits list index number → Splits list index stop → number ≤ m → m < stop →
     Contains list m → ⊥
 passed_over list index number stop m so after low high has = ⊎_elim
     (λ (l : has.0 < index).

@@ -22,15 +22,15 @@ use Rattle.base_files.proofs.WorkspaceLaws.{path_cmp_total}
 use Rattle.base_edits.proofs.Held.{is_mapped}
 use Rattle.workspace_graph.specs.Changed.{has_file, has_some}
 use Rattle.workspace_graph.specs.Graphs.{paths_of}
-use Rattle.workspace_graph.specs.NamedFiles.{AreFresh, ArePackages}
+use Rattle.workspace_graph.specs.ChangedFiles.{CoverChanges, ArePackages}
 use Rattle.workspace_graph.specs.Parsed.{AreParsed}
-use Rattle.workspace_graph.specs.Staying.{HasFiles}
-use Rattle.workspace_graph.specs.Updated.{AreUpdated, IsPlace, Puts, PutsIn, TakesOut}
+use Rattle.workspace_graph.specs.SameGoFiles.{HasFiles}
+use Rattle.workspace_graph.specs.Updated.{AreUpdated, IsPlace, SetsPackage, SetsIn, Removes}
 use Rattle.workspace_graph.specs.declared.package.ParsedPackage.{ParsedPackage}
 use Rattle.workspace_graph.proofs.ChangedPackages.{some_parsed, with_path}
 use Rattle.workspace_graph.proofs.Collected.{none_held}
 use Rattle.workspace_graph.proofs.Filled.{path_at}
-use Rattle.workspace_graph.proofs.NamedFiles.{file_of, is_among, path_in}
+use Rattle.workspace_graph.proofs.ChangedFiles.{file_of, is_among, path_in}
 use Rattle.workspace_graph.proofs.Numbers.{path_of_package, path_there}
 use Rattle.workspace_graph.proofs.PackagePaths.{exact_names, has_folder, one_number, paths_are}
 use Rattle.workspace_graph.proofs.FoundFolders.{first_of, folder_found, not_true}
@@ -151,12 +151,12 @@ module _ {X : Type 0} (path_of : X → List ℕ) where
   pub number_within : (xs : List X) (n : ℕ) (q : List ℕ) → slice_get (map path_of xs) n ≡ Some q → n < length xs
   number_within xs n q at = subst (λ (m : ℕ). n < m) (length-map xs path_of) (slice_get_within (map path_of xs) n q at)
 
-  pub place_within : (path : List ℕ) (old new : List X) (place : ℕ) → TakesOut path_of path old new place → place ≤ length new
+  pub place_within : (path : List ℕ) (old new : List X) (place : ℕ) → Removes path_of path old new place → place ≤ length new
   place_within path old new place out = subst (λ (m : ℕ). place ≤ m) (length-map new path_of) out.stands.within
 
   -- ---- one is taken out
   pub none_out : (path : List ℕ) (xs : List X) (i : ℕ) → IsStrictlySortedBy path_cmp (map path_of xs) → IsPlace (map path_of xs) path i →
-      TakesOut path_of path xs xs i
+      Removes path_of path xs xs i
   none_out path xs i sorted place = record { sorted = sorted; stands = place; from = λ x has. has; kept = λ x has apart. has }
 
   module _ (path : List ℕ) (xs : List X) (n : ℕ) (at : slice_get (map path_of xs) n ≡ Some path) (below : n < length xs) (x : X) where
@@ -179,8 +179,8 @@ module _ {X : Type 0} (path_of : X → List ℕ) where
         (first_or_later goes (remove xs n) x (Contains-permutation xs (goes ∷ remove xs n) x goes_out has))
 
   pub one_out : (path : List ℕ) (xs new : List X) (n : ℕ) → IsStrictlySortedBy path_cmp (map path_of xs) → slice_get (map path_of xs) n ≡ Some path →
-      n < length xs → new ≡ remove xs n → TakesOut path_of path xs new n
-  one_out path xs new n sorted at within is = subst (λ (l : List X). TakesOut path_of path xs l n) (sym is) (record {
+      n < length xs → new ≡ remove xs n → Removes path_of path xs new n
+  one_out path xs new n sorted at within is = subst (λ (l : List X). Removes path_of path xs l n) (sym is) (record {
     sorted = subst (IsStrictlySortedBy path_cmp) (sym (paths_remove path_of xs n)) (remove_sorted (map path_of xs) path n sorted at);
     stands = subst (λ ks. IsPlace ks path n) (sym (paths_remove path_of xs n)) (remove_place (map path_of xs) path n sorted at);
     from = λ x has. out_from path xs n at within x has;
@@ -188,14 +188,14 @@ module _ {X : Type 0} (path_of : X → List ℕ) where
   })
 
   -- ---- and another put there
-  pub out_apart : (path : List ℕ) (old middle : List X) (place : ℕ) → TakesOut path_of path old middle place → (x : X) → Contains middle x →
+  pub out_apart : (path : List ℕ) (old middle : List X) (place : ℕ) → Removes path_of path old middle place → (x : X) → Contains middle x →
       path_of x ≡ path → ⊥
   out_apart path old middle place out x has same =
       place_apart (map path_of middle) path place out.stands (subst (Contains (map path_of middle)) same (is_mapped path_of middle x has))
 
-  module _ (one : X) (old middle : List X) (place : ℕ) (out : TakesOut path_of (path_of one) old middle place) where
-    pub puts_in : (new : List X) → new ≡ insert middle place one → PutsIn path_of one old new
-    puts_in new is = subst (PutsIn path_of one old) (sym is) (record {
+  module _ (one : X) (old middle : List X) (place : ℕ) (out : Removes path_of (path_of one) old middle place) where
+    pub puts_in : (new : List X) → new ≡ insert middle place one → SetsIn path_of one old new
+    puts_in new is = subst (SetsIn path_of one old) (sym is) (record {
       sorted = subst (IsStrictlySortedBy path_cmp) (sym (paths_insert path_of middle place one))
           (insert_sorted (map path_of middle) (path_of one) place out.sorted out.stands);
       each = λ x has. ⊎_elim
@@ -210,14 +210,14 @@ module _ {X : Type 0} (path_of : X → List ℕ) where
         same : IsPermutation (one ∷ middle) (insert middle place one)
         same = IsPermutation-insert middle place one
 
-  pub puts_at : (path : List ℕ) (one : X) (old middle new : List X) (place : ℕ) → path_of one ≡ path → TakesOut path_of path old middle place →
-      new ≡ insert middle place one → PutsIn path_of one old new
+  pub puts_at : (path : List ℕ) (one : X) (old middle new : List X) (place : ℕ) → path_of one ≡ path → Removes path_of path old middle place →
+      new ≡ insert middle place one → SetsIn path_of one old new
   puts_at path one old middle new place same out is =
-      puts_in one old middle place (subst (λ (q : List ℕ). TakesOut path_of q old middle place) (sym same) out) new is
+      puts_in one old middle place (subst (λ (q : List ℕ). Removes path_of q old middle place) (sym same) out) new is
 
 -- ---- a package is put in the place of the one with its path
-module _ (one : ParsedPackage) (old middle : List ParsedPackage) (place : ℕ) (out : TakesOut path_of_package one.path.items old middle place) where
-  pub puts_none : has_file one ≡ false → Puts one old middle
+module _ (one : ParsedPackage) (old middle : List ParsedPackage) (place : ℕ) (out : Removes path_of_package one.path.items old middle place) where
+  pub puts_none : has_file one ≡ false → SetsPackage one old middle
   puts_none none = record {
     sorted = out.sorted;
     each = λ p has. inr (out.from p has, out_apart path_of_package one.path.items old middle place out p has);
@@ -225,7 +225,7 @@ module _ (one : ParsedPackage) (old middle : List ParsedPackage) (place : ℕ) (
     kept = out.kept;
   }
 
-  pub puts_one : (new : List ParsedPackage) → has_file one ≡ true → new ≡ insert middle place one → Puts one old new
+  pub puts_one : (new : List ParsedPackage) → has_file one ≡ true → new ≡ insert middle place one → SetsPackage one old new
   puts_one new some is =
       let put = puts_in path_of_package one old middle place out new is in
       record {
@@ -262,7 +262,7 @@ take_apart (p ∷ ps) (suc k) q sorted at has = ⊎_elim
     zero_apart j e = absurd (omega (arith, e))
 
 pub updated_more : (before fresh old new : List ParsedPackage) (k : ℕ) (x : ParsedPackage) → IsStrictlySortedBy path_cmp (paths_of fresh) → k < length fresh →
-    x ≡ get_or fresh k x → AreUpdated before (take k fresh) old → Puts x old new → AreUpdated before (take (k + 1) fresh) new
+    x ≡ get_or fresh k x → AreUpdated before (take k fresh) old → SetsPackage x old new → AreUpdated before (take (k + 1) fresh) new
 updated_more before fresh old new k x sorted below is so puts =
     subst (λ (l : List ParsedPackage). AreUpdated before l new) (sym more) (record {
       sorted = puts.sorted;
@@ -316,7 +316,7 @@ updated_one before one place sorted alone file stands =
     (puts_one one before before place (none_out path_of_package one.path.items before place sorted stands) (insert before place one) file refl)
 
 -- ---- all of them are those of the files
-module _ (v w : Workspace) (before fresh packages : List ParsedPackage) (are : ArePackages v before) (fresh_are : AreFresh v w fresh)
+module _ (v w : Workspace) (before fresh packages : List ParsedPackage) (are : ArePackages v before) (fresh_are : CoverChanges v w fresh)
     (updated : AreUpdated before fresh packages) where
   abbrev among : List ℕ → List (List ℕ) → Bool
   among q ks = list_any (eq_by_cmp path_cmp q) ks

@@ -2,7 +2,7 @@
 use Rattle.std.specs.Prelude.{◌≡◌, ℕ, ◌⊎◌, ◌||◌, Bool, true, false, List, [], ◌∷◌, Some, slice_get}
 use Rattle.std.specs.List.{Contains}
 use Rattle.workspace_graph.specs.Graphs.{paths_of}
-use Rattle.workspace_graph.specs.Imports.{Links, imports_of}
+use Rattle.workspace_graph.specs.Imports.{Links, row_of}
 use Rattle.workspace_graph.specs.Rows.{IsRow}
 use Rattle.workspace_graph.specs.declared.package.ParsedPackage.{ParsedPackage}
 
@@ -27,4 +27,4 @@ pub record AreReplaced (before fresh packages : List ParsedPackage) : Type 0 whe
 
 -- If the package has a number in `paths`, its row in `g` has what its files import.
 abbrev pub HasRow : List (List ℕ) → Links → ParsedPackage → Type 0
-HasRow paths g p = (n : ℕ) → slice_get paths n ≡ Some p.path.items → IsRow paths p.trees.items (imports_of g n)
+HasRow paths g p = (n : ℕ) → slice_get paths n ≡ Some p.path.items → IsRow paths p.trees.items (row_of g n)

@@ -9,11 +9,11 @@ use Rattle.base_files.specs.Workspace.{Workspace, path_cmp}
 use Rattle.go_ast.specs.SourceFile.{FileParts, source_of}
 use Rattle.workspace_graph.specs.FaultyFiles.{FaultyParts}
 use Rattle.workspace_graph.specs.Graphs.{IsEmpty}
-use Rattle.workspace_graph.specs.HeldFiles.{HoldFiles, fault_path, fault_paths, tree_path, tree_paths}
-use Rattle.workspace_graph.specs.ImportPaths.{HoldsPaths, SomeImport, SomeStandFor, bytes_of_paths}
-use Rattle.workspace_graph.specs.NamedFiles.{ArePackages, Resets}
+use Rattle.workspace_graph.specs.InFolder.{AreInFolder, fault_path, fault_paths, tree_path, tree_paths}
+use Rattle.workspace_graph.specs.ImportPaths.{ListsPaths, AnyImports, AnyIsOfPath, bytes_of_paths}
+use Rattle.workspace_graph.specs.ChangedFiles.{ArePackages, SetsAt}
 use Rattle.workspace_graph.specs.Packages.{ImportsPath}
-use Rattle.workspace_graph.specs.Updated.{PutsIn, TakesOut}
+use Rattle.workspace_graph.specs.Updated.{SetsIn, Removes}
 use Rattle.workspace_graph.specs.declared.file_imports.FileImport.{FileImport}
 use Rattle.workspace_graph.specs.declared.package.ParsedPackage.{ParsedPackage}
 use Rattle.workspace_graph.specs.declared.drafts.Draft.{Draft}
@@ -26,42 +26,42 @@ GoneImports None q = ⊥
 GoneImports (Some t) q = ImportsPath (source_of t) q
 
 -- Each path of which `P` holds is still imported: by one of the new imports `come`, or by one of the files.
-abbrev pub AreKept : (List ℕ → Type 0) → List FileImport → List FileParts → Type 0
-AreKept P come trees = (q : List ℕ) → P q → SomeStandFor come q ⊎ SomeImport trees q
+abbrev pub Survive : (List ℕ → Type 0) → List FileImport → List FileParts → Type 0
+Survive P come trees = (q : List ℕ) → P q → AnyIsOfPath come q ⊎ AnyImports trees q
 
 -- `keys` are the paths that the files imported before the tree `gone` was removed and a file with the imports `come` was added. All other
 -- files stayed.
-pub record IsRenewed {Z : Type 0} (keys : List (Vec ℕ Z)) (gone : Option FileParts) (come : List FileImport) (trees : List FileParts) : Type 0 where
-  pub before : (q : List ℕ) → Contains (bytes_of_paths keys) q → SomeImport trees q ⊎ GoneImports gone q
-  pub now : (q : List ℕ) → SomeImport trees q → Contains (bytes_of_paths keys) q ⊎ SomeStandFor come q
-  pub came : (q : List ℕ) → SomeStandFor come q → SomeImport trees q
+pub record WereImports {Z : Type 0} (keys : List (Vec ℕ Z)) (gone : Option FileParts) (come : List FileImport) (trees : List FileParts) : Type 0 where
+  pub before : (q : List ℕ) → Contains (bytes_of_paths keys) q → AnyImports trees q ⊎ GoneImports gone q
+  pub now : (q : List ℕ) → AnyImports trees q → Contains (bytes_of_paths keys) q ⊎ AnyIsOfPath come q
+  pub came : (q : List ℕ) → AnyIsOfPath come q → AnyImports trees q
 
 -- ---- a package while files are set
 
 -- If one of the trees has the path, it is the removed tree.
-abbrev pub IsGone : List ℕ → List FileParts → Option FileParts → Type 0
-IsGone path trees gone = (t : FileParts) → Contains trees t → t.path ≡ path → gone ≡ Some t
+abbrev pub WasTaken : List ℕ → List FileParts → Option FileParts → Type 0
+WasTaken path trees gone = (t : FileParts) → Contains trees t → t.path ≡ path → gone ≡ Some t
 
 -- The trees and the faulty files are sorted by path, and `keys` are exactly the paths that the trees import.
 pub record IsPackageParts {Z : Type 0} (p : ParsedPackage) (keys : List (Vec ℕ Z)) : Type 0 where
   pub trees : IsStrictlySortedBy path_cmp (tree_paths p.trees.items)
   pub faulty : IsStrictlySortedBy path_cmp (fault_paths p.faulty.items)
-  pub imports : HoldsPaths (SomeImport p.trees.items) keys
+  pub imports : ListsPaths (AnyImports p.trees.items) keys
 
 -- If the draft knows its import paths, they are exactly those that its trees import.
-abbrev pub HoldsImports : Draft → Type 0
-HoldsImports d = IfSome d.imports (λ paths. HoldsPaths (SomeImport d.package.trees.items) (arc_value paths).keys)
+abbrev pub KnowsImports : Draft → Type 0
+KnowsImports d = IfSome d.imports (λ paths. ListsPaths (AnyImports d.package.trees.items) (arc_value paths).keys)
 
 -- If the draft knows import paths, they are those before the change. The change removed the tree `gone` and added one with the imports
 -- `come`.
-abbrev pub MayBeRenewed : Draft → Option FileParts → List FileImport → Type 0
-MayBeRenewed d gone come = IfSome d.imports (λ paths. IsRenewed (arc_value paths).keys gone come d.package.trees.items)
+abbrev pub MayKnowBefore : Draft → Option FileParts → List FileImport → Type 0
+MayKnowBefore d gone come = IfSome d.imports (λ paths. WereImports (arc_value paths).keys gone come d.package.trees.items)
 
 -- The trees and the faulty files of the draft are sorted by path, and its import paths are right where they are known.
 pub record IsDraft (d : Draft) : Type 0 where
   pub trees : IsStrictlySortedBy path_cmp (tree_paths d.package.trees.items)
   pub faulty : IsStrictlySortedBy path_cmp (fault_paths d.package.faulty.items)
-  pub imports : HoldsImports d
+  pub imports : KnowsImports d
 
 -- Both packages have the same path and the same files.
 pub record IsSamePackage (p q : ParsedPackage) : Type 0 where
@@ -70,33 +70,33 @@ pub record IsSamePackage (p q : ParsedPackage) : Type 0 where
   pub faulty : p.faulty.items ≡ q.faulty.items
 
 -- The draft has exactly the Go files that the workspace `w` has in the draft's folder.
-abbrev pub HoldsDraft : Workspace → Draft → Type 0
-HoldsDraft w d = HoldFiles w d.package.path.items d.package.trees.items d.package.faulty.items
+abbrev pub HasFolderFiles : Workspace → Draft → Type 0
+HasFolderFiles w d = AreInFolder w d.package.path.items d.package.trees.items d.package.faulty.items
 
 -- The tree `t` replaced the file at its path, or was added.
-pub record PutsTree (t : FileParts) (old new : Draft) : Type 0 where
+pub record SetsTree (t : FileParts) (old new : Draft) : Type 0 where
   pub path : new.package.path.items ≡ old.package.path.items
   pub draft : IsDraft new
-  pub trees : PutsIn tree_path t old.package.trees.items new.package.trees.items
+  pub trees : SetsIn tree_path t old.package.trees.items new.package.trees.items
   pub place : ℕ
-  pub faulty : TakesOut fault_path t.path old.package.faulty.items new.package.faulty.items place
+  pub faulty : Removes fault_path t.path old.package.faulty.items new.package.faulty.items place
 
 -- The faulty file `f` replaced the file at its path, or was added.
-pub record PutsFault (f : FaultyParts) (old new : Draft) : Type 0 where
+pub record SetsFaulty (f : FaultyParts) (old new : Draft) : Type 0 where
   pub path : new.package.path.items ≡ old.package.path.items
   pub draft : IsDraft new
-  pub faulty : PutsIn fault_path f old.package.faulty.items new.package.faulty.items
+  pub faulty : SetsIn fault_path f old.package.faulty.items new.package.faulty.items
   pub place : ℕ
-  pub trees : TakesOut tree_path f.path old.package.trees.items new.package.trees.items place
+  pub trees : Removes tree_path f.path old.package.trees.items new.package.trees.items place
 
 -- The file at the path, if there was one, was removed.
-pub record TakesFile (path : List ℕ) (old new : Draft) : Type 0 where
+pub record RemovesFile (path : List ℕ) (old new : Draft) : Type 0 where
   pub same_path : new.package.path.items ≡ old.package.path.items
   pub draft : IsDraft new
   pub tree_place : ℕ
-  pub trees : TakesOut tree_path path old.package.trees.items new.package.trees.items tree_place
+  pub trees : Removes tree_path path old.package.trees.items new.package.trees.items tree_place
   pub fault_place : ℕ
-  pub faulty : TakesOut fault_path path old.package.faulty.items new.package.faulty.items fault_place
+  pub faulty : Removes fault_path path old.package.faulty.items new.package.faulty.items fault_place
 
 -- One of the files, with or without a tree, has the path and the text.
 abbrev pub HasText : List FileParts → List FaultyParts → List ℕ → List ℕ → Type 0
@@ -107,7 +107,7 @@ HasText trees faulty path text = ((t : FileParts) × Contains trees t × (t.path
 pub record SetsFile (w : Workspace) (path : List ℕ) (old new : Draft) : Type 0 where
   pub same_path : new.package.path.items ≡ old.package.path.items
   pub draft : IsDraft new
-  pub files : (v u : Workspace) → Resets w (path ∷ []) v u → HoldsDraft v old → HoldsDraft u new
+  pub files : (v u : Workspace) → SetsAt w (path ∷ []) v u → HasFolderFiles v old → HasFolderFiles u new
 
 -- The file at the path was set to the text, for a path of a Go file in the package's folder.
 abbrev pub SetsText : List ℕ → List ℕ → Draft → Draft → Type 0
@@ -131,7 +131,7 @@ draft_paths drafts = map draft_path drafts
 pub record SetsFiles (w : Workspace) (paths : List (List ℕ)) (old new : List Draft) : Type 0 where
   pub same_paths : draft_paths new ≡ draft_paths old
   pub drafts : All IsDraft new
-  pub files : (v u : Workspace) → Resets w paths v u → All (HoldsDraft v) old → All (HoldsDraft u) new
+  pub files : (v u : Workspace) → SetsAt w paths v u → All (HasFolderFiles v) old → All (HasFolderFiles u) new
 
 -- The draft is a package at the folder that has no file.
 pub record IsEmptyAt (folder : List ℕ) (d : Draft) : Type 0 where
@@ -143,11 +143,11 @@ pub record IsEmptyAt (folder : List ℕ) (d : Draft) : Type 0 where
 pub record IsDraftAt (packages : List ParsedPackage) (folder : List ℕ) (d : Draft) : Type 0 where
   pub path : d.package.path.items ≡ folder
   pub draft : IsDraft d
-  pub files : (v : Workspace) → ArePackages v packages → HoldsDraft v d
+  pub files : (v : Workspace) → ArePackages v packages → HasFolderFiles v d
 
 -- The drafts are the packages at the folders, which are sorted. A draft has no file where `packages` have none at its folder.
 pub record AreDraftsAt (packages : List ParsedPackage) (folders : List (List ℕ)) (ds : List Draft) : Type 0 where
   pub paths : draft_paths ds ≡ folders
   pub sorted : IsStrictlySortedBy path_cmp folders
   pub drafts : All IsDraft ds
-  pub files : (v : Workspace) → ArePackages v packages → All (HoldsDraft v) ds
+  pub files : (v : Workspace) → ArePackages v packages → All (HasFolderFiles v) ds

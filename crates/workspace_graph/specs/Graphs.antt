@@ -3,7 +3,7 @@ use Rattle.std.specs.Prelude.{◌≡◌, ℕ, ◌<◌, ◌↔◌, List, [], map,
 use Rattle.std.specs.List.{Contains}
 use Rattle.std.specs.List.Sorted.{IsStrictlyIncreasing}
 use Rattle.base_files.specs.Workspace.{Workspace}
-use Rattle.workspace_graph.specs.Imports.{Links, imports_of}
+use Rattle.workspace_graph.specs.Imports.{Links, row_of}
 use Rattle.base_files.specs.Packages.{package_paths, package_files}
 use Rattle.workspace_graph.specs.Packages.{AreLinksOf}
 use Rattle.workspace_graph.specs.Parsed.{AreParsed}
@@ -27,11 +27,11 @@ pub record IsGraph (w : Workspace) (packages : List ParsedPackage) (links : Link
   pub paths : paths_of packages ≡ package_paths w
   pub each : (i : ℕ) (p : ParsedPackage) → slice_get packages i ≡ Some p → AreParsed (package_files w p.path.items) p.trees.items p.faulty.items
   pub linked : AreLinksOf w links
-  pub rising : (i : ℕ) → i < length links → IsStrictlyIncreasing (imports_of links i)
+  pub rising : (i : ℕ) → i < length links → IsStrictlyIncreasing (row_of links i)
 
 -- The numbers are exactly those of the packages for whose paths `P` holds.
-abbrev pub HoldsPackages : Workspace → (List ℕ → Type 0) → List ℕ → Type 0
-HoldsPackages w P numbers = (i : ℕ) → Contains numbers i ↔ ((q : List ℕ) × (slice_get (package_paths w) i ≡ Some q) × P q)
+abbrev pub ListsPackages : Workspace → (List ℕ → Type 0) → List ℕ → Type 0
+ListsPackages w P numbers = (i : ℕ) → Contains numbers i ↔ ((q : List ℕ) × (slice_get (package_paths w) i ≡ Some q) × P q)
 
 -- `P` holds for the path of the package of that number, if there is such a package.
 abbrev pub OfPackage : Workspace → ℕ → (List ℕ → Type 0) → Type 0

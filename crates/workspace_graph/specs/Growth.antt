@@ -4,10 +4,10 @@ use Rattle.std.specs.List.{All, AllZip, Contains, insert}
 use Rattle.std.specs.List.Sorted.{IsStrictlyIncreasing}
 use Rattle.workspace_graph.specs.Changed.{has_file}
 use Rattle.workspace_graph.specs.Graphs.{paths_of}
-use Rattle.workspace_graph.specs.ImportPaths.{SomeImport}
-use Rattle.workspace_graph.specs.Imports.{Links, AreImporters, AreLinked, imports_of}
+use Rattle.workspace_graph.specs.ImportPaths.{AnyImports}
+use Rattle.workspace_graph.specs.Imports.{Links, AreImporters, AreLinked, row_of}
 use Rattle.workspace_graph.specs.Rows.{IsRow}
-use Rattle.workspace_graph.specs.Shifts.{IsPassed, ShiftsRow, shifted}
+use Rattle.workspace_graph.specs.Shifts.{Splits, ShiftsRow, shifted}
 use Rattle.workspace_graph.specs.Updated.{IsPlace}
 use Rattle.workspace_graph.specs.declared.package.ParsedPackage.{ParsedPackage}
 
@@ -16,7 +16,7 @@ abbrev pub AreRows : List ParsedPackage → Links → Type 0
 AreRows packages rows = AllZip (λ p row. IsRow (paths_of packages) p.trees.items row) packages rows
 
 -- One of the packages was inserted at `place`, and `links` are the links of the others before that.
-pub record Grows (packages : List ParsedPackage) (links : Links) (place : ℕ) : Type 0 where
+pub record HasNewPackage (packages : List ParsedPackage) (links : Links) (place : ℕ) : Type 0 where
   pub before : List ParsedPackage
   pub one : ParsedPackage
   pub within : place ≤ length before
@@ -24,14 +24,14 @@ pub record Grows (packages : List ParsedPackage) (links : Links) (place : ℕ) :
   pub rows : AreRows before links
 
 -- The only fresh package is `one`. It has a file, and none of the packages before has its path, which belongs at `place` among theirs.
-pub record ComesAlone (before fresh : List ParsedPackage) (one : ParsedPackage) (place : ℕ) : Type 0 where
+pub record IsOnlyNew (before fresh : List ParsedPackage) (one : ParsedPackage) (place : ℕ) : Type 0 where
   pub alone : fresh ≡ one ∷ []
   pub file : has_file one ≡ true
   pub stands : IsPlace (paths_of before) one.path.items place
 
 -- The package of that number imports the path.
 abbrev pub ImportsAt : List ParsedPackage → List ℕ → ℕ → Type 0
-ImportsAt packages path number = (p : ParsedPackage) × ((slice_get packages number ≡ Some p) × SomeImport p.trees.items path)
+ImportsAt packages path number = (p : ParsedPackage) × ((slice_get packages number ≡ Some p) × AnyImports p.trees.items path)
 
 -- The rows `before` belong to packages before one is inserted at `place`. `linked` are the numbers, after that, of the rows that gain
 -- `place`, in increasing order.
@@ -45,20 +45,20 @@ pub record IsGrowing (before : Links) (place : ℕ) (linked : List ℕ) : Type 0
 -- `linked` gain `place`.
 pub record AreGrown (place : ℕ) (own linked : List ℕ) (before rows : Links) : Type 0 where
   pub within : length rows ≤ length before + 1
-  pub own_row : place < length rows → imports_of rows place ≡ own
+  pub own_row : place < length rows → row_of rows place ≡ own
   pub each : (q : ℕ) → shifted place q < length rows →
-      ShiftsRow place (Contains linked (shifted place q)) (imports_of before q) (imports_of rows (shifted place q))
+      ShiftsRow place (Contains linked (shifted place q)) (row_of before q) (row_of rows (shifted place q))
 
 -- The rows from `number` to before `stop` are only shifted. Row `stop` is the new package's own, or gains `place`, or is past the last row.
 pub record IsStop (place count : ℕ) (linked : List ℕ) (index number stop : ℕ) : Type 0 where
   pub from : number ≤ stop
   pub within : stop ≤ count
   pub upto_place : number ≤ place → stop ≤ place
-  pub passed : IsPassed linked index stop
+  pub passed : Splits linked index stop
   pub told : stop < count → (stop ≡ place → ⊥) → Contains linked stop
 
 -- `importers` has the importers of the first `count` packages, in increasing order.
-pub record AreFirst (g : Links) (count : ℕ) (importers : Links) : Type 0 where
+pub record AreFirstImporters (g : Links) (count : ℕ) (importers : Links) : Type 0 where
   pub size : length importers ≡ count
-  pub each : (q : ℕ) → q < count → AreImporters g q (imports_of importers q)
-  pub rising : (q : ℕ) → q < count → IsStrictlyIncreasing (imports_of importers q)
+  pub each : (q : ℕ) → q < count → AreImporters g q (row_of importers q)
+  pub rising : (q : ℕ) → q < count → IsStrictlyIncreasing (row_of importers q)

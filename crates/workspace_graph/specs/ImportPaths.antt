@@ -10,20 +10,20 @@ abbrev pub bytes_of_paths : {Z : Type 0} → List (Vec ℕ Z) → List (List ℕ
 bytes_of_paths paths = map (λ path. path.items) paths
 
 -- The value of an import's string literal is known and is the path.
-abbrev pub StandsFor : {Z : Type 0} → Option (Vec ℕ Z) → List ℕ → Type 0
-StandsFor None path = ⊥
-StandsFor (Some value) path = value.items ≡ path
+abbrev pub IsPathValue : {Z : Type 0} → Option (Vec ℕ Z) → List ℕ → Type 0
+IsPathValue None path = ⊥
+IsPathValue (Some value) path = value.items ≡ path
 
 -- One of the imports is of the path.
-abbrev pub SomeStandFor : List FileImport → List ℕ → Type 0
-SomeStandFor imports path = (found : FileImport) × (Contains imports found × StandsFor found.path path)
+abbrev pub AnyIsOfPath : List FileImport → List ℕ → Type 0
+AnyIsOfPath imports path = (found : FileImport) × (Contains imports found × IsPathValue found.path path)
 
 -- One of the files imports the path.
-abbrev pub SomeImport : List FileParts → List ℕ → Type 0
-SomeImport files path = (file : FileParts) × (Contains files file × ImportsPath (source_of file) path)
+abbrev pub AnyImports : List FileParts → List ℕ → Type 0
+AnyImports files path = (file : FileParts) × (Contains files file × ImportsPath (source_of file) path)
 
 -- The list has exactly the paths of which `P` holds.
-pub record HoldsPaths {Z : Type 0} (P : List ℕ → Type 0) (paths : List (Vec ℕ Z)) : Type 0 where
+pub record ListsPaths {Z : Type 0} (P : List ℕ → Type 0) (paths : List (Vec ℕ Z)) : Type 0 where
   pub each : (path : List ℕ) → Contains (bytes_of_paths paths) path ↔ P path
 
 -- The list `new` has the paths of `old` and those of which `P` holds, and no others.

@@ -13,12 +13,12 @@ abbrev pub AreLinked : Links → Type 0
 AreLinked g = All (All (λ q. q < length g)) g
 
 -- The packages that `p` imports directly.
-abbrev pub imports_of : Links → ℕ → List ℕ
-imports_of g p = slice_index_or g p []
+abbrev pub row_of : Links → ℕ → List ℕ
+row_of g p = slice_index_or g p []
 
 -- `p` imports `q` directly.
 abbrev pub Imports : Links → ℕ → ℕ → Type 0
-Imports g p q = Contains (imports_of g p) q
+Imports g p q = Contains (row_of g p) q
 
 -- `p` imports `q`, directly or indirectly, or is `q`.
 pub data Reaches (g : Links) : ℕ → ℕ → Type 0 where
@@ -26,32 +26,32 @@ pub data Reaches (g : Links) : ℕ → ℕ → Type 0 where
   through : {p q r : ℕ} → Imports g p q → Reaches g q r → Reaches g p r
 
 -- The list has exactly the numbers below `count` for which `P` holds, in increasing order.
-pub record HoldsBelow (P : ℕ → Type 0) (count : ℕ) (list : List ℕ) : Type 0 where
+pub record ListsBelow (P : ℕ → Type 0) (count : ℕ) (list : List ℕ) : Type 0 where
   pub each : (p : ℕ) → Contains list p ↔ ((p < count) × P p)
   pub rising : IsStrictlyIncreasing list
 
 -- The list contains exactly the numbers for which `P` holds.
-abbrev pub Holds : List ℕ → (ℕ → Type 0) → Type 0
-Holds ps P = (p : ℕ) → Contains ps p ↔ P p
+abbrev pub ListsExactly : List ℕ → (ℕ → Type 0) → Type 0
+ListsExactly ps P = (p : ℕ) → Contains ps p ↔ P p
 
 -- The list contains exactly the packages in the closure of `p`: `p`, and all that it imports directly or indirectly.
 abbrev pub IsClosure : Links → ℕ → List ℕ → Type 0
-IsClosure g p closure = Holds closure (λ q. Reaches g p q)
+IsClosure g p closure = ListsExactly closure (λ q. Reaches g p q)
 
 -- The list contains exactly the packages that import `p` directly.
 abbrev pub AreImporters : Links → ℕ → List ℕ → Type 0
-AreImporters g p importers = Holds importers (λ q. Imports g q p)
+AreImporters g p importers = ListsExactly importers (λ q. Imports g q p)
 
 -- For each package, the importers of it among the first `count` packages. They are in increasing order where the imports of each package
 -- are.
-pub record HoldImporters (g : Links) (count : ℕ) (importers : Links) : Type 0 where
+pub record AreImporterRows (g : Links) (count : ℕ) (importers : Links) : Type 0 where
   pub size : length importers ≡ length g
-  pub each : (q p : ℕ) → Contains (imports_of importers q) p ↔ ((p < count) × Imports g p q)
-  pub rising : ((p : ℕ) → IsStrictlyIncreasing (imports_of g p)) → (q : ℕ) → IsStrictlyIncreasing (imports_of importers q)
+  pub each : (q p : ℕ) → Contains (row_of importers q) p ↔ ((p < count) × Imports g p q)
+  pub rising : ((p : ℕ) → IsStrictlyIncreasing (row_of g p)) → (q : ℕ) → IsStrictlyIncreasing (row_of importers q)
 
 -- The importer was added to the rows of all packages in `row`, which are those that it imports.
-pub record NotesRow (old : Links) (row : List ℕ) (importer : ℕ) (new : Links) : Type 0 where
+pub record AddsImporter (old : Links) (row : List ℕ) (importer : ℕ) (new : Links) : Type 0 where
   pub size : length new ≡ length old
-  pub each : (q p : ℕ) → Contains (imports_of new q) p ↔ (Contains (imports_of old q) p ⊎ ((p ≡ importer) × Contains row q))
-  pub rising : IsStrictlyIncreasing row → ((q p : ℕ) → Contains (imports_of old q) p → p < importer) → ((q : ℕ) → IsStrictlyIncreasing (imports_of old q)) →
-      (q : ℕ) → IsStrictlyIncreasing (imports_of new q)
+  pub each : (q p : ℕ) → Contains (row_of new q) p ↔ (Contains (row_of old q) p ⊎ ((p ≡ importer) × Contains row q))
+  pub rising : IsStrictlyIncreasing row → ((q p : ℕ) → Contains (row_of old q) p → p < importer) → ((q : ℕ) → IsStrictlyIncreasing (row_of old q)) →
+      (q : ℕ) → IsStrictlyIncreasing (row_of new q)

@@ -12,12 +12,12 @@ pub mod FaultyFiles
 pub mod Parsed
 pub mod Graphs
 pub mod Rows
-pub mod Filling
-pub mod Staying
-pub mod NamedFiles
+pub mod Borrows
+pub mod SameGoFiles
+pub mod ChangedFiles
 pub mod Changed
 pub mod Updated
-pub mod HeldFiles
+pub mod InFolder
 pub mod Reaching
 pub mod Orders
 pub mod Shifts

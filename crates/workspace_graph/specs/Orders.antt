@@ -2,7 +2,7 @@
 use Rattle.std.specs.Prelude.{ℕ, ◌≡◌, ◌+◌, ◌-◌, ◌*◌, ◌<◌, ◌↔◌, Bool, false, List, Some, length, count_by, slice_get, slice_index_or}
 use Rattle.std.specs.List.{Contains}
 use Rattle.workspace_graph.specs.Imports.{Links, Reaches}
-use Rattle.workspace_graph.specs.Search.{IsMarked, AreClosedUnder}
+use Rattle.workspace_graph.specs.Search.{IsMarked, AreClosedMarks}
 use Rattle.workspace_graph.specs.declared.depth_first.Entered.{Entered}
 use Rattle.workspace_graph.specs.declared.order.Blocks.{Blocks}
 
@@ -17,10 +17,10 @@ abbrev pub IsBefore : List ℕ → ℕ → ℕ → Type 0
 IsBefore order i m = (j : ℕ) × (j < i) × (slice_index_or order j 0 ≡ m)
 
 -- The packages listed so far are marked, each once, in an order as in `IsOrder`. Every package that a listed one reaches is listed.
-pub record AreTold (g : Links) (b : Blocks) : Type 0 where
+pub record AreListed (g : Links) (b : Blocks) : Type 0 where
   pub size : length b.told.items ≡ length g
   pub bars : length b.barred.items ≡ length g
-  pub closed : AreClosedUnder g b.told.items
+  pub closed : AreClosedMarks g b.told.items
   pub each : (n : ℕ) → IsMarked b.told.items n ↔ Contains b.order.items n
   pub once : (i j : ℕ) → i < j → j < length b.order.items → slice_index_or b.order.items i 0 ≡ slice_index_or b.order.items j 0 → ⊥
   pub behind : (i : ℕ) → i < length b.order.items → (m : ℕ) → Reaches g (slice_index_or b.order.items i 0) m →

@@ -23,21 +23,21 @@ pub record ReachesMarked (w : Workspace) (marks : List Bool) (p : List ℕ) : Ty
   pub in_closure : IsInClosure w p path
 
 -- `reaching` marks exactly the packages whose closure contains a package that `marks` marks.
-pub record MarkReaching (w : Workspace) (marks reaching : List Bool) : Type 0 where
+pub record ReachingMarks (w : Workspace) (marks reaching : List Bool) : Type 0 where
   pub size : length reaching ≡ length (package_paths w)
   pub each : (i : ℕ) (p : List ℕ) → slice_get (package_paths w) i ≡ Some p → IsMarked reaching i ↔ ReachesMarked w marks p
 
 -- Each package that imports a marked one is marked.
-abbrev pub AreMarkedAbove : Workspace → List Bool → Type 0
-AreMarkedAbove w marks = (i j : ℕ) (p q : List ℕ) → slice_get (package_paths w) i ≡ Some p → slice_get (package_paths w) j ≡ Some q → PackageImports w p q →
+abbrev pub AreImportersMarked : Workspace → List Bool → Type 0
+AreImportersMarked w marks = (i j : ℕ) (p q : List ℕ) → slice_get (package_paths w) i ≡ Some p → slice_get (package_paths w) j ≡ Some q → PackageImports w p q →
     IsMarked marks j → IsMarked marks i
 
 -- All packages in whose closure `q` is were marked, itself among them, and no others.
-pub record MarksAbove (w : Workspace) (q : List ℕ) (old new : List Bool) : Type 0 where
+pub record AddsClosuresWith (w : Workspace) (q : List ℕ) (old new : List Bool) : Type 0 where
   pub size : length new ≡ length old
   pub each : (i : ℕ) (p : List ℕ) → slice_get (package_paths w) i ≡ Some p → IsMarked new i ↔ (IsMarked old i ⊎ IsInClosure w p q)
 
 -- The marked packages are exactly those in whose closure `q` is.
-pub record MarkImporting (w : Workspace) (q : List ℕ) (marks : List Bool) : Type 0 where
+pub record MarksClosuresWith (w : Workspace) (q : List ℕ) (marks : List Bool) : Type 0 where
   pub size : length marks ≡ length (package_paths w)
   pub each : (i : ℕ) (p : List ℕ) → slice_get (package_paths w) i ≡ Some p → IsMarked marks i ↔ IsInClosure w p q

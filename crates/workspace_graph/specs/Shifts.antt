@@ -17,7 +17,7 @@ pub record ShiftsRow (place : ℕ) (P : Type 0) (before row : List ℕ) : Type 0
   pub rising : IsStrictlyIncreasing before → IsStrictlyIncreasing row
 
 -- The first `index` numbers of the list are below `number`, and the others are not.
-pub record IsPassed (list : List ℕ) (index number : ℕ) : Type 0 where
+pub record Splits (list : List ℕ) (index number : ℕ) : Type 0 where
   pub within : index ≤ length list
   pub below : (k : ℕ) → k < index → slice_index_or list k 0 < number
   pub above : (k : ℕ) → index ≤ k → k < length list → number ≤ slice_index_or list k 0

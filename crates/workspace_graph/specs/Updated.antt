@@ -15,21 +15,21 @@ pub record IsPlace (paths : List (List ℕ)) (path : List ℕ) (place : ℕ) : T
   pub above : (k : ℕ) → place ≤ k → k < length paths → path_cmp path (slice_index_or paths k []) ≡ Less
 
 -- `new` is `old` without the item at `path`, sorted by path. `place` is the index at which an item with that path would be inserted.
-pub record TakesOut {X : Type 0} (path_of : X → List ℕ) (path : List ℕ) (old new : List X) (place : ℕ) : Type 0 where
+pub record Removes {X : Type 0} (path_of : X → List ℕ) (path : List ℕ) (old new : List X) (place : ℕ) : Type 0 where
   pub sorted : IsStrictlySortedBy path_cmp (map path_of new)
   pub stands : IsPlace (map path_of new) path place
   pub from : (x : X) → Contains new x → Contains old x
   pub kept : (x : X) → Contains old x → (path_of x ≡ path → ⊥) → Contains new x
 
 -- `new` is `old` with `one` in place of the item at its path, or added, sorted by path.
-pub record PutsIn {X : Type 0} (path_of : X → List ℕ) (one : X) (old new : List X) : Type 0 where
+pub record SetsIn {X : Type 0} (path_of : X → List ℕ) (one : X) (old new : List X) : Type 0 where
   pub sorted : IsStrictlySortedBy path_cmp (map path_of new)
   pub each : (x : X) → Contains new x → (x ≡ one) ⊎ (Contains old x × (path_of x ≡ path_of one → ⊥))
   pub own : Contains new one
   pub kept : (x : X) → Contains old x → (path_of x ≡ path_of one → ⊥) → Contains new x
 
 -- `new` is `old` with `one` in place of the package at its path, or added, sorted by path. If `one` has no file, it is left out.
-pub record Puts (one : ParsedPackage) (old new : List ParsedPackage) : Type 0 where
+pub record SetsPackage (one : ParsedPackage) (old new : List ParsedPackage) : Type 0 where
   pub sorted : IsStrictlySortedBy path_cmp (paths_of new)
   pub each : (p : ParsedPackage) → Contains new p → ((p ≡ one) × (has_file one ≡ true)) ⊎ (Contains old p × (p.path.items ≡ one.path.items → ⊥))
   pub own : has_file one ≡ true → Contains new one

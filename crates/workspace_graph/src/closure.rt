@@ -2,19 +2,19 @@
 ghost use Rattle.std.specs.Prelude.{◌≡◌, ◌<◌, ◌↔◌, ℕ, length, IfOk, IsTrue};
 ghost use Rattle.std.specs.List.{All, Contains};
 ghost use Rattle.std.specs.List.Sorted.{IsStrictlyIncreasing};
-ghost use Rattle.workspace_graph.specs.Imports.{AreLinked, HoldImporters, Links, Reaches};
-ghost use Rattle.workspace_graph.specs.Closures.{IsBuiltOn, IsClosed};
-ghost use Rattle.workspace_graph.specs.Search.{AreReached, Flips, HoldsMarked, IsMarked, MarkBack, TellBack};
+ghost use Rattle.workspace_graph.specs.Imports.{AreLinked, AreImporterRows, Links, Reaches};
+ghost use Rattle.workspace_graph.specs.Closures.{IsBuiltOnList, IsClosureList};
+ghost use Rattle.workspace_graph.specs.Search.{AreReached, InvertsMarks, ListsMarked, IsMarked, MarksWayBack, UnmarksBelow};
 
 use crate::link_rows::LinkRows;
 use crate::package_list::PackageList;
 use crate::packages_below::PackagesBelow;
-use crate::search::{reach, spread};
+use crate::search::{reach, visit};
 use std::alloc::{AllocError, Global};
 
 /// The numbers of the marked packages, in increasing order. `room` is their expected number.
 fn marked(alloc: Global, marks: &[bool], room: usize) -> Result<PackageList, AllocError>
-    ensures { IfOk result (HoldsMarked marks.now (length marks.now)) }
+    ensures { IfOk result (ListsMarked marks.now (length marks.now)) }
 {
     let mut list = Vec::with_capacity(alloc, room)?;
     for (number, mark) in marks.iter().enumerate() {
@@ -40,7 +40,7 @@ fn reached_from(alloc: Global, imports: &LinkRows, number: usize) -> Result<Reac
     ensures reached { IfOk result (λ reached. (q : ℕ) → IsMarked reached.marks.items q ↔ Reaches imports.now number q) }
 {
     let mut marks = vec![in alloc; false; imports.len()]?;
-    let found = spread(alloc, imports, &mut marks, number)?;
+    let found = visit(alloc, imports, &mut marks, number)?;
     let count = found.len();
     Ok(Reached { marks, count })
 }
@@ -53,7 +53,7 @@ pub(crate) fn closure_of(
 ) -> Result<PackageList, AllocError>
     requires linked { AreLinked imports.now }
     requires number { number < length imports.now }
-    ensures { IfOk result (IsClosed imports.now number) }
+    ensures { IfOk result (IsClosureList imports.now number) }
 {
     let reached = reached_from(alloc, imports, number)?;
     marked(alloc, &reached.marks, reached.count)
@@ -61,7 +61,7 @@ pub(crate) fn closure_of(
 
 /// Marks each package that has no mark, and removes the other marks.
 fn flip(marks: &mut Vec<bool>)
-    ensures { Flips marks.old.items marks.new.items }
+    ensures { InvertsMarks marks.old.items marks.new.items }
 {
     for number in 0..marks.len() {
         marks[number] = !marks[number];
@@ -79,11 +79,11 @@ fn back_from(
     requires linked { AreLinked importers.now }
     requires number { number < length importers.now }
     requires size { length marks.items ≡ length importers.now }
-    ensures { IfOk result (λ back. (g : Links) → AreLinked g → HoldImporters g (length g) importers.now → ((q : ℕ) → IsMarked marks.items q ↔ Reaches g number q) → TellBack g number back.items) }
+    ensures { IfOk result (λ back. (g : Links) → AreLinked g → AreImporterRows g (length g) importers.now → ((q : ℕ) → IsMarked marks.items q ↔ Reaches g number q) → UnmarksBelow g number back.items) }
 {
     let mut marks = marks;
     flip(&mut marks);
-    spread(alloc, importers, &mut marks, number)?;
+    visit(alloc, importers, &mut marks, number)?;
     Ok(marks)
 }
 
@@ -95,9 +95,9 @@ pub(crate) fn back_marks(
     number: usize,
 ) -> Result<Vec<bool>, AllocError>
     requires linked { AreLinked imports.now }
-    requires back { HoldImporters imports.now (length imports.now) importers.now }
+    requires back { AreImporterRows imports.now (length imports.now) importers.now }
     requires number { number < length imports.now }
-    ensures { IfOk result (λ marks. TellBack imports.now number marks.items) }
+    ensures { IfOk result (λ marks. UnmarksBelow imports.now number marks.items) }
 {
     let reached = reached_from(alloc, imports, number)?;
     back_from(alloc, importers, reached.marks, number)
@@ -106,7 +106,7 @@ pub(crate) fn back_marks(
 /// The packages without a mark in `back`, in increasing order: by the marks of `back_marks`, those that a package reaches and that do not
 /// reach it.
 fn built_on_by(alloc: Global, back: &[bool]) -> Result<PackageList, AllocError>
-    ensures { IfOk result (λ below. (g : Links) (p : ℕ) → TellBack g p back.now → IsBuiltOn g p below) }
+    ensures { IfOk result (λ below. (g : Links) (p : ℕ) → UnmarksBelow g p back.now → IsBuiltOnList g p below) }
 {
     let mut marks = Vec::from_slice(alloc, back)?;
     flip(&mut marks);
@@ -173,10 +173,10 @@ pub(crate) fn below(
     number: usize,
 ) -> Result<PackagesBelow, AllocError>
     requires linked { AreLinked imports.now }
-    requires back { HoldImporters imports.now (length imports.now) importers.now }
+    requires back { AreImporterRows imports.now (length imports.now) importers.now }
     requires number { number < length imports.now }
-    ensures built_on { IfOk result (λ found. IsBuiltOn imports.now number found.built_on) }
-    ensures back { IfOk result (λ found. MarkBack imports.now number found.back.items) }
+    ensures built_on { IfOk result (λ found. IsBuiltOnList imports.now number found.built_on) }
+    ensures back { IfOk result (λ found. MarksWayBack imports.now number found.back.items) }
 {
     let reached = reached_from(alloc, imports, number)?;
     if none_marked(&reached.marks, importers.row(number)) {

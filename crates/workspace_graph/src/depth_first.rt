@@ -102,7 +102,7 @@ impl DepthFirst {
 }
 
 /// All packages, the one that a depth-first search along `links` leaves last first.
-pub(crate) fn latest_first(alloc: Global, links: &LinkRows) -> Result<Vec<usize>, AllocError>
+pub(crate) fn last_left_first(alloc: Global, links: &LinkRows) -> Result<Vec<usize>, AllocError>
     requires { AreLinked links.now }
 {
     let mut walk = DepthFirst::new(alloc, links.len())?;

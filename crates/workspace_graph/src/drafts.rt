@@ -6,19 +6,19 @@ ghost use Rattle.std.specs.List.Sorted.{IsStrictlySortedBy};
 ghost use Rattle.base_files.specs.Packages.{is_of_package};
 ghost use Rattle.base_files.specs.Workspace.{Workspace, path_cmp};
 ghost use Rattle.workspace_graph.specs.Drafts.{AreDraftsAt, HasText, IsDraft, IsDraftAt, IsEmptyAt, draft_paths, packages_of};
-ghost use Rattle.workspace_graph.specs.Drafts.{HoldsImports, MayBeRenewed, PutsFault, PutsTree, SetsFile, SetsFiles, SetsText, TakesFile};
-ghost use Rattle.workspace_graph.specs.Filling.{names};
+ghost use Rattle.workspace_graph.specs.Drafts.{KnowsImports, MayKnowBefore, SetsFaulty, SetsTree, SetsFile, SetsFiles, SetsText, RemovesFile};
+ghost use Rattle.workspace_graph.specs.Borrows.{names};
 ghost use Rattle.workspace_graph.specs.Graphs.{paths_of};
-ghost use Rattle.workspace_graph.specs.NamedFiles.{AreFresh, ArePackages};
-ghost use Rattle.workspace_graph.specs.Staying.{DiffersOnlyAt};
+ghost use Rattle.workspace_graph.specs.ChangedFiles.{CoverChanges, ArePackages};
+ghost use Rattle.workspace_graph.specs.SameGoFiles.{DiffersOnlyAt};
 
 use crate::faulty_file::FaultyFile;
 use crate::file_imports::{FileImport, read_imports};
-use crate::held_files::{fault_at, put_fault, put_tree, take_fault, take_tree, tree_at};
-use crate::named_files::folders_of;
+use crate::folders::folders_of;
+use crate::in_folder::{fault_at, put_fault, put_tree, take_fault, take_tree, tree_at};
 use crate::package::ParsedPackage;
 use crate::parsed::{ParsedFile, parse};
-use crate::renewed_imports::{FileChange, stay};
+use crate::renewed_imports::{ImportsChange, stay};
 use crate::shared_package::{SharedPackage, number_of};
 use base_files::{FileText, Files, Path};
 use go_ast::FileTree;
@@ -43,13 +43,13 @@ fn keeps_imports(
     gone: Option<&FileTree>,
     come: &[FileImport],
 ) -> Result<bool, AllocError>
-    requires { MayBeRenewed draft.now (option_copied gone) come.now }
-    ensures { IfOk result (λ kept. IsTrue kept → HoldsImports draft.now) }
+    requires { MayKnowBefore draft.now (option_copied gone) come.now }
+    ensures { IfOk result (λ kept. IsTrue kept → KnowsImports draft.now) }
 {
     match &draft.imports {
         None => Ok(false),
         Some(imports) => {
-            let change = FileChange {
+            let change = ImportsChange {
                 imports,
                 gone,
                 come,
@@ -67,9 +67,9 @@ fn renew_imports(
     gone: Option<&FileTree>,
     come: &[FileImport],
 ) -> Result<(), AllocError>
-    requires { MayBeRenewed draft.old (option_copied gone) come.now }
+    requires { MayKnowBefore draft.old (option_copied gone) come.now }
     ensures package { draft.new.package ≡ draft.old.package }
-    ensures imports { OnOk result (HoldsImports draft.new) }
+    ensures imports { OnOk result (KnowsImports draft.new) }
 {
     if draft.changed || !keeps_imports(alloc, draft, gone, come)? {
         draft.imports = None;
@@ -81,7 +81,7 @@ fn renew_imports(
 /// Sets the file at the tree's path to this tree.
 fn set_tree(alloc: Global, draft: &mut Draft, tree: FileTree) -> Result<(), AllocError>
     requires { IsDraft draft.old }
-    ensures { OnOk result (PutsTree tree draft.old draft.new) }
+    ensures { OnOk result (SetsTree tree draft.old draft.new) }
 {
     let _ = take_fault(&mut draft.package.faulty, tree.path());
     let come = read_imports(alloc, &tree)?;
@@ -92,7 +92,7 @@ fn set_tree(alloc: Global, draft: &mut Draft, tree: FileTree) -> Result<(), Allo
 /// Sets the file at the path of `file` to this file, which has no tree.
 fn set_fault(alloc: Global, draft: &mut Draft, file: FaultyFile) -> Result<(), AllocError>
     requires { IsDraft draft.old }
-    ensures { OnOk result (PutsFault file draft.old draft.new) }
+    ensures { OnOk result (SetsFaulty file draft.old draft.new) }
 {
     let taken = take_tree(&mut draft.package.trees, file.path());
     put_fault(&mut draft.package.faulty, file)?;
@@ -102,7 +102,7 @@ fn set_fault(alloc: Global, draft: &mut Draft, file: FaultyFile) -> Result<(), A
 /// Removes the file at a path, if there is one.
 fn take_out(alloc: Global, draft: &mut Draft, path: &Path) -> Result<(), AllocError>
     requires { IsDraft draft.old }
-    ensures { OnOk result (TakesFile path.now draft.old draft.new) }
+    ensures { OnOk result (RemovesFile path.now draft.old draft.new) }
 {
     let taken = take_tree(&mut draft.package.trees, path);
     let _ = take_fault(&mut draft.package.faulty, path);
@@ -267,7 +267,7 @@ pub(crate) fn packages_with(
     paths: &[&Path],
 ) -> Result<Vec<SharedPackage>, AllocError>
     requires { IsStrictlySortedBy path_cmp (paths_of before.now) }
-    ensures { IfOk result (λ fresh. (v : Workspace) → ArePackages v before.now → DiffersOnlyAt (names paths.now) v files.now → AreFresh v files.now fresh.items) }
+    ensures { IfOk result (λ fresh. (v : Workspace) → ArePackages v before.now → DiffersOnlyAt (names paths.now) v files.now → CoverChanges v files.now fresh.items) }
 {
     let folders = folders_of(alloc, paths)?;
     let mut drafts = drafts_at(alloc, before, &folders)?;

@@ -3,22 +3,22 @@ ghost use Rattle.std.specs.FinMap as map;
 ghost use Rattle.std.specs.Prelude.{◌≡◌, ◌<◌, ℕ, [], ◌∷◌, true, length, IfOk, OnOk, MatchOption, Some, slice_get};
 ghost use Rattle.std.specs.List.{All, Contains};
 ghost use Rattle.std.specs.List.Sorted.{IsStrictlyIncreasing};
-ghost use Rattle.workspace_graph.specs.Imports.{imports_of};
+ghost use Rattle.workspace_graph.specs.Imports.{row_of};
 ghost use Rattle.base_files.specs.Packages.{package_paths};
 ghost use Rattle.workspace_graph.specs.Packages.{PackageImports, IsInClosure, AreLinksOf};
 ghost use Rattle.workspace_graph.specs.Changed.{KeepsPath, has_file};
-ghost use Rattle.workspace_graph.specs.Filling.{names};
-ghost use Rattle.workspace_graph.specs.Reaching.{AreBackMarks, AreMarkedAbove, BuildsOn, MarkImporting, MarkReaching, MarksAbove};
-ghost use Rattle.workspace_graph.specs.Staying.{DiffersOnlyAt, DiffersOnlyIn, HasFiles};
+ghost use Rattle.workspace_graph.specs.Borrows.{names};
+ghost use Rattle.workspace_graph.specs.Reaching.{AreBackMarks, AreImportersMarked, BuildsOn, MarksClosuresWith, ReachingMarks, AddsClosuresWith};
+ghost use Rattle.workspace_graph.specs.SameGoFiles.{DiffersOnlyAt, DiffersOnlyIn, HasFiles};
 ghost use Rattle.workspace_graph.specs.declared.package.ParsedPackage.{ParsedPackage};
-ghost use Rattle.workspace_graph.specs.NamedFiles.{AreFresh};
+ghost use Rattle.workspace_graph.specs.ChangedFiles.{CoverChanges};
 ghost use Rattle.workspace_graph.specs.Updated.{IsPlace};
 ghost use Rattle.workspace_graph.specs.Graphs.{
   paths_of,
   IsGraph,
   IsPackage,
   OfPackage,
-  HoldsPackages,
+  ListsPackages,
 };
 
 use crate::changed::{keep_paths, keep_rows, replaced};
@@ -134,7 +134,7 @@ impl Graph {
         coming: Coming<'_>,
         files: Files,
     ) -> Result<Graph, AllocError>
-        requires fresh { AreFresh before.now files (coming.one.now ∷ []) }
+        requires fresh { CoverChanges before.now files (coming.one.now ∷ []) }
         requires file { has_file coming.one.now ≡ true }
         requires stands { IsPlace (package_paths before.now) coming.one.now.path.items coming.place }
         ensures { IfOk result (λ graph. graph ≡ files) }
@@ -257,7 +257,7 @@ impl Graph {
     /// The direct imports of all packages, by number.
     pub fn links(&self) -> &ImportLinks
         ensures links { AreLinksOf self.now result.now }
-        ensures rising { (i : ℕ) → i < length result.now → IsStrictlyIncreasing (imports_of result.now i) }
+        ensures rising { (i : ℕ) → i < length result.now → IsStrictlyIncreasing (row_of result.now i) }
     {
         self.parts.links.links()
     }
@@ -265,7 +265,7 @@ impl Graph {
     /// The packages that a package imports directly, in increasing order.
     pub fn imports(&self, number: usize) -> &[usize]
         requires { number < length (package_paths self.now) }
-        ensures imports { OfPackage self.now number (λ p. HoldsPackages self.now (PackageImports self.now p) result.now) }
+        ensures imports { OfPackage self.now number (λ p. ListsPackages self.now (PackageImports self.now p) result.now) }
         ensures rising { IsStrictlyIncreasing result.now }
     {
         self.links().imports(number)
@@ -274,7 +274,7 @@ impl Graph {
     /// The packages that import a package directly, in increasing order.
     pub fn importers(&self, number: usize) -> &[usize]
         requires { number < length (package_paths self.now) }
-        ensures importers { OfPackage self.now number (λ p. HoldsPackages self.now (λ q. PackageImports self.now q p) result.now) }
+        ensures importers { OfPackage self.now number (λ p. ListsPackages self.now (λ q. PackageImports self.now q p) result.now) }
         ensures rising { IsStrictlyIncreasing result.now }
     {
         self.links().importers(number)
@@ -283,7 +283,7 @@ impl Graph {
     /// The closure of a package, in increasing order: itself, and all packages that it imports directly or indirectly. Found by a search.
     pub fn closure(&self, alloc: Global, number: usize) -> Result<PackageList, AllocError>
         requires { number < length (package_paths self.now) }
-        ensures closure { IfOk result (λ closure. OfPackage self.now number (λ p. HoldsPackages self.now (IsInClosure self.now p) closure)) }
+        ensures closure { IfOk result (λ closure. OfPackage self.now number (λ p. ListsPackages self.now (IsInClosure self.now p) closure)) }
         ensures rising { IfOk result IsStrictlyIncreasing }
     {
         self.links().closure(alloc, number)
@@ -301,7 +301,7 @@ impl Graph {
     /// The packages that a package imports directly or indirectly and that do not import it so, in increasing order. Found by a search.
     pub fn built_on(&self, alloc: Global, number: usize) -> Result<PackageList, AllocError>
         requires { number < length (package_paths self.now) }
-        ensures below { IfOk result (λ below. OfPackage self.now number (λ p. HoldsPackages self.now (BuildsOn self.now p) below)) }
+        ensures below { IfOk result (λ below. OfPackage self.now number (λ p. ListsPackages self.now (BuildsOn self.now p) below)) }
         ensures rising { IfOk result IsStrictlyIncreasing }
     {
         self.links().built_on(alloc, number)
@@ -310,7 +310,7 @@ impl Graph {
     /// The packages of `built_on`, with the marks of `back_marks`. Both come from one search.
     pub fn below(&self, alloc: Global, number: usize) -> Result<PackagesBelow, AllocError>
         requires { number < length (package_paths self.now) }
-        ensures built_on { IfOk result (λ found. OfPackage self.now number (λ p. HoldsPackages self.now (BuildsOn self.now p) found.built_on)) }
+        ensures built_on { IfOk result (λ found. OfPackage self.now number (λ p. ListsPackages self.now (BuildsOn self.now p) found.built_on)) }
         ensures rising { IfOk result (λ found. IsStrictlyIncreasing found.built_on) }
         ensures back { IfOk result (λ found. OfPackage self.now number (λ p. AreBackMarks self.now p found.back.items)) }
     {
@@ -326,9 +326,9 @@ impl Graph {
         closure: &[usize],
     ) -> Result<PackagesBelow, AllocError>
         requires number { number < length (package_paths self.now) }
-        requires closure { OfPackage self.now number (λ p. HoldsPackages self.now (IsInClosure self.now p) closure.now) }
+        requires closure { OfPackage self.now number (λ p. ListsPackages self.now (IsInClosure self.now p) closure.now) }
         requires rising { IsStrictlyIncreasing closure.now }
-        ensures built_on { IfOk result (λ found. OfPackage self.now number (λ p. HoldsPackages self.now (BuildsOn self.now p) found.built_on)) }
+        ensures built_on { IfOk result (λ found. OfPackage self.now number (λ p. ListsPackages self.now (BuildsOn self.now p) found.built_on)) }
         ensures rising { IfOk result (λ found. IsStrictlyIncreasing found.built_on) }
         ensures back { IfOk result (λ found. OfPackage self.now number (λ p. AreBackMarks self.now p found.back.items)) }
     {
@@ -338,7 +338,7 @@ impl Graph {
     /// Marks exactly the packages whose closure contains a marked package. One search finds them all.
     pub fn reaching(&self, alloc: Global, marks: &[bool]) -> Result<Vec<bool>, AllocError>
         requires { length marks.now ≡ length (package_paths self.now) }
-        ensures { IfOk result (λ reaching. MarkReaching self.now marks.now reaching.items) }
+        ensures { IfOk result (λ reaching. ReachingMarks self.now marks.now reaching.items) }
     {
         self.links().reaching(alloc, marks)
     }
@@ -353,8 +353,8 @@ impl Graph {
     ) -> Result<(), AllocError>
         requires number { number < length (package_paths self.now) }
         requires size { length marks.old.items ≡ length (package_paths self.now) }
-        requires above { AreMarkedAbove self.now marks.old.items }
-        ensures { OnOk result (OfPackage self.now number (λ q. MarksAbove self.now q marks.old.items marks.new.items)) }
+        requires above { AreImportersMarked self.now marks.old.items }
+        ensures { OnOk result (OfPackage self.now number (λ q. AddsClosuresWith self.now q marks.old.items marks.new.items)) }
     {
         self.links().mark_importing(alloc, marks, number)
     }
@@ -362,7 +362,7 @@ impl Graph {
     /// Marks exactly the packages in whose closure a package is.
     pub fn importing(&self, alloc: Global, number: usize) -> Result<Vec<bool>, AllocError>
         requires { number < length (package_paths self.now) }
-        ensures { IfOk result (λ marks. OfPackage self.now number (λ q. MarkImporting self.now q marks.items)) }
+        ensures { IfOk result (λ marks. OfPackage self.now number (λ q. MarksClosuresWith self.now q marks.items)) }
     {
         let mut marks = vec![in alloc; false; self.len()]?;
         self.mark_importing(alloc, &mut marks, number)?;

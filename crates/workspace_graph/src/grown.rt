@@ -5,11 +5,11 @@ ghost use Rattle.std.specs.List.{Contains};
 ghost use Rattle.std.specs.List.Sorted.{IsStrictlyIncreasing, IsStrictlySortedBy};
 ghost use Rattle.base_files.specs.Workspace.{path_cmp};
 ghost use Rattle.workspace_graph.specs.Graphs.{paths_of};
-ghost use Rattle.workspace_graph.specs.Growth.{AreGrown, AreRows, Grows, ImportsAt, IsGrowing, IsStop};
-ghost use Rattle.workspace_graph.specs.ImportPaths.{SomeImport};
-ghost use Rattle.workspace_graph.specs.Imports.{HoldsBelow};
+ghost use Rattle.workspace_graph.specs.Growth.{AreGrown, AreRows, HasNewPackage, ImportsAt, IsGrowing, IsStop};
+ghost use Rattle.workspace_graph.specs.ImportPaths.{AnyImports};
+ghost use Rattle.workspace_graph.specs.Imports.{ListsBelow};
 ghost use Rattle.workspace_graph.specs.Rows.{IsRow};
-ghost use Rattle.workspace_graph.specs.Shifts.{IsPassed, shifted};
+ghost use Rattle.workspace_graph.specs.Shifts.{Splits, shifted};
 ghost use Rattle.workspace_graph.specs.declared.package.ParsedPackage.{ParsedPackage};
 
 use crate::import_links::ImportLinks;
@@ -28,7 +28,7 @@ pub(crate) struct Grown<'a> {
 
 /// Whether the files of a package import the path.
 fn imports_path(one: &SharedPackage, path: &[u8]) -> bool
-    ensures { IsTrue result ↔ SomeImport one.now.trees.items path.now }
+    ensures { IsTrue result ↔ AnyImports one.now.trees.items path.now }
 {
     let imports = one.imports();
     if imports.is_empty() {
@@ -40,8 +40,8 @@ fn imports_path(one: &SharedPackage, path: &[u8]) -> bool
 /// The index in an increasing list of the first number greater than `number`, where all before `index` are less than `number`.
 fn past(list: &[usize], index: usize, number: usize) -> usize
     requires rising { IsStrictlyIncreasing list.now }
-    requires passed { IsPassed list.now index number }
-    ensures passed { IsPassed list.now result (number + 1) }
+    requires passed { Splits list.now index number }
+    ensures passed { Splits list.now result (number + 1) }
     ensures has { (index < result) ↔ Contains list.now number }
 {
     if index < list.len() && list[index] == number {
@@ -65,7 +65,7 @@ fn number_before(number: usize, place: usize) -> Option<usize>
 /// Such a package does not import the new one.
 fn imports_had(grown: Grown<'_>, number: usize) -> bool
     requires sorted { IsStrictlySortedBy path_cmp (paths_of grown.packages.now) }
-    requires grown { Grows grown.packages.now grown.links.now grown.place }
+    requires grown { HasNewPackage grown.packages.now grown.links.now grown.place }
     requires number { number < length grown.packages.now }
     ensures { IsTrue result → (path : List ℕ) → slice_get (paths_of grown.entry.packages.now) grown.entry.place ≡ Some path → ImportsAt grown.entry.packages.now path number → ⊥ }
 {
@@ -83,7 +83,7 @@ fn imports_had(grown: Grown<'_>, number: usize) -> bool
 /// Whether the files of package `number` import the new package, whose path is `path`.
 fn imports_coming(grown: Grown<'_>, number: usize, path: &[u8]) -> bool
     requires sorted { IsStrictlySortedBy path_cmp (paths_of grown.packages.now) }
-    requires grown { Grows grown.packages.now grown.links.now grown.place }
+    requires grown { HasNewPackage grown.packages.now grown.links.now grown.place }
     requires path { slice_get (paths_of grown.packages.now) grown.place ≡ Some path.now }
     requires number { number < length grown.packages.now }
     ensures { IsTrue result ↔ ImportsAt grown.entry.packages.now path.now number }
@@ -97,9 +97,9 @@ fn imports_coming(grown: Grown<'_>, number: usize, path: &[u8]) -> bool
 /// The packages that import the new package, in increasing order.
 fn importing(alloc: Global, grown: Grown<'_>, path: &[u8]) -> Result<Vec<usize>, AllocError>
     requires sorted { IsStrictlySortedBy path_cmp (paths_of grown.packages.now) }
-    requires grown { Grows grown.packages.now grown.links.now grown.place }
+    requires grown { HasNewPackage grown.packages.now grown.links.now grown.place }
     requires path { slice_get (paths_of grown.packages.now) grown.place ≡ Some path.now }
-    ensures { IfOk result (λ list. HoldsBelow (ImportsAt grown.entry.packages.now path.now) (length grown.entry.packages.now) list.items) }
+    ensures { IfOk result (λ list. ListsBelow (ImportsAt grown.entry.packages.now path.now) (length grown.entry.packages.now) list.items) }
 {
     let mut list = Vec::new(alloc);
     for number in 0..grown.packages.len() {
@@ -148,7 +148,7 @@ fn linked_at(growing: Growing<'_>, index: usize) -> usize
 /// The number, from `number` on, of the next row that is not merely shifted, or the number of rows.
 fn next_stop(growing: Growing<'_>, index: usize, number: usize) -> usize
     requires growing { IsGrowing growing.before.now growing.place growing.linked.now }
-    requires passed { IsPassed growing.linked.now index number }
+    requires passed { Splits growing.linked.now index number }
     requires within { number ≤ length growing.before.now + 1 }
     ensures { IsStop growing.entry.place (length growing.entry.before.now + 1) growing.entry.linked.now index number result }
 {
@@ -173,7 +173,7 @@ fn add_run(growing: Growing<'_>, stop: usize, rows: &mut LinkRows) -> Result<(),
     requires growing { IsGrowing growing.before.now growing.place growing.linked.now }
     requires small { length growing.before.now + 1 < 2 ^ 64 }
     requires grown { AreGrown growing.place growing.own.now growing.linked.now growing.before.now rows.old }
-    requires stop { (index : ℕ) × IsPassed growing.linked.now index (length rows.old) × IsStop growing.place (length growing.before.now + 1) growing.linked.now index (length rows.old) stop }
+    requires stop { (index : ℕ) × Splits growing.linked.now index (length rows.old) × IsStop growing.place (length growing.before.now + 1) growing.linked.now index (length rows.old) stop }
     ensures grown { OnOk result (AreGrown growing.entry.place growing.entry.own.now growing.entry.linked.now growing.entry.before.now rows.new) }
     ensures count { OnOk result (length rows.new ≡ stop) }
 {
@@ -208,10 +208,10 @@ fn add_next(growing: Growing<'_>, index: usize, rows: &mut LinkRows) -> Result<u
     requires growing { IsGrowing growing.before.now growing.place growing.linked.now }
     requires small { length growing.before.now + 1 < 2 ^ 64 }
     requires grown { AreGrown growing.place growing.own.now growing.linked.now growing.before.now rows.old }
-    requires passed { IsPassed growing.linked.now index (length rows.old) }
+    requires passed { Splits growing.linked.now index (length rows.old) }
     requires below { length rows.old < length growing.before.now + 1 }
     ensures grown { OnOk result (AreGrown growing.entry.place growing.entry.own.now growing.entry.linked.now growing.entry.before.now rows.new) }
-    ensures passed { IfOk result (λ next. IsPassed growing.entry.linked.now next (length rows.new)) }
+    ensures passed { IfOk result (λ next. Splits growing.entry.linked.now next (length rows.new)) }
     ensures more { OnOk result (length rows.old < length rows.new) }
 {
     let stop = next_stop(growing, index, rows.len());
@@ -253,9 +253,9 @@ fn grown_by(
     own: &[usize],
     importing: &[usize],
 ) -> Result<ImportLinks, AllocError>
-    requires grown { Grows grown.packages.now grown.links.now grown.place }
+    requires grown { HasNewPackage grown.packages.now grown.links.now grown.place }
     requires own { (p : ParsedPackage) → slice_get grown.packages.now grown.place ≡ Some p → IsRow (paths_of grown.packages.now) p.trees.items own.now }
-    requires importing { (path : List ℕ) → slice_get (paths_of grown.packages.now) grown.place ≡ Some path → HoldsBelow (ImportsAt grown.packages.now path) (length grown.packages.now) importing.now }
+    requires importing { (path : List ℕ) → slice_get (paths_of grown.packages.now) grown.place ≡ Some path → ListsBelow (ImportsAt grown.packages.now path) (length grown.packages.now) importing.now }
     ensures { IfOk result (AreRows grown.entry.packages.now) }
 {
     let forth = Growing {
@@ -278,7 +278,7 @@ fn grown_by(
 /// The links of packages of which one is new.
 pub(crate) fn grown_links(alloc: Global, grown: Grown<'_>) -> Result<ImportLinks, AllocError>
     requires sorted { IsStrictlySortedBy path_cmp (paths_of grown.packages.now) }
-    requires grown { Grows grown.packages.now grown.links.now grown.place }
+    requires grown { HasNewPackage grown.packages.now grown.links.now grown.place }
     ensures { IfOk result (AreRows grown.entry.packages.now) }
 {
     let one = &grown.packages[grown.place];

@@ -1,17 +1,17 @@
 //! `ImportLinks`: which packages import which, and the questions about it.
 ghost use Rattle.std.specs.Prelude.{ℕ, ◌≡◌, ◌<◌, IfOk, IfSome, IsTrue, OnOk, length};
 ghost use Rattle.std.specs.List.Sorted.{IsStrictlyIncreasing};
-ghost use Rattle.workspace_graph.specs.Closures.{IsBuiltOn};
+ghost use Rattle.workspace_graph.specs.Closures.{IsBuiltOnList};
 ghost use Rattle.workspace_graph.specs.Orders.{IsOrder};
 ghost use Rattle.workspace_graph.specs.Imports.{
   AreLinked,
   AreImporters,
-  HoldImporters,
+  AreImporterRows,
   Imports,
   IsClosure,
-  imports_of,
+  row_of,
 };
-ghost use Rattle.workspace_graph.specs.Search.{AreReaching, IsMarked, MarkBack, MarksImporting, TellBack};
+ghost use Rattle.workspace_graph.specs.Search.{AreReaching, IsMarked, MarksWayBack, MarksReachingTo, UnmarksBelow};
 
 use crate::among::share_none;
 use crate::closure::{back_marks, below, closure_of, reached_by, rest_of};
@@ -34,13 +34,13 @@ pub struct ImportLinks {
 
 impl Model for ImportLinks {
     ghost use Rattle.workspace_graph.specs.Imports.{Links};
-    ghost use Rattle.workspace_graph.specs.Closures.{AreAnswers};
+    ghost use Rattle.workspace_graph.specs.Closures.{HaveImporters};
 
     ghost Value = { Links };
 
     ghost view = { λ a. a.imports };
 
-    ghost invariant = { λ a. AreAnswers a.imports a.importers };
+    ghost invariant = { λ a. HaveImporters a.imports a.importers };
 }
 
 impl ImportLinks {
@@ -56,7 +56,7 @@ impl ImportLinks {
     /// The links with these imports, whose importers are known.
     pub(crate) fn with_importers(imports: LinkRows, importers: LinkRows) -> ImportLinks
         requires linked { AreLinked imports }
-        requires importers { HoldImporters imports (length imports) importers }
+        requires importers { AreImporterRows imports (length imports) importers }
         ensures { result ≡ imports }
     {
         ImportLinks { imports, importers }
@@ -71,7 +71,7 @@ impl ImportLinks {
 
     /// The importers of all packages, as rows.
     pub(crate) fn importer_rows(&self) -> &LinkRows
-        ensures { HoldImporters self.now (length self.now) result.now }
+        ensures { AreImporterRows self.now (length self.now) result.now }
     {
         &self.importers
     }
@@ -93,7 +93,7 @@ impl ImportLinks {
     /// The packages that a package imports directly.
     pub fn imports(&self, number: usize) -> &[usize]
         requires { number < length self.now }
-        ensures { result.now ≡ imports_of self.now number }
+        ensures { result.now ≡ row_of self.now number }
     {
         self.imports.row(number)
     }
@@ -102,7 +102,7 @@ impl ImportLinks {
     pub fn importers(&self, number: usize) -> &[usize]
         requires { number < length self.now }
         ensures importers { AreImporters self.now number result.now }
-        ensures rising { ((p : ℕ) → IsStrictlyIncreasing (imports_of self.now p)) → IsStrictlyIncreasing result.now }
+        ensures rising { ((p : ℕ) → IsStrictlyIncreasing (row_of self.now p)) → IsStrictlyIncreasing result.now }
     {
         self.importers.row(number)
     }
@@ -119,7 +119,7 @@ impl ImportLinks {
     /// Of the packages that package `number` reaches, marks exactly those that reach it. All other packages are marked too.
     pub fn back_marks(&self, alloc: Global, number: usize) -> Result<Vec<bool>, AllocError>
         requires { number < length self.now }
-        ensures { IfOk result (λ marks. TellBack self.now number marks.items) }
+        ensures { IfOk result (λ marks. UnmarksBelow self.now number marks.items) }
     {
         back_marks(alloc, &self.imports, &self.importers, number)
     }
@@ -128,8 +128,8 @@ impl ImportLinks {
     /// it. Found by a search.
     pub fn below(&self, alloc: Global, number: usize) -> Result<PackagesBelow, AllocError>
         requires { number < length self.now }
-        ensures built_on { IfOk result (λ found. IsBuiltOn self.now number found.built_on) }
-        ensures back { IfOk result (λ found. MarkBack self.now number found.back.items) }
+        ensures built_on { IfOk result (λ found. IsBuiltOnList self.now number found.built_on) }
+        ensures back { IfOk result (λ found. MarksWayBack self.now number found.back.items) }
     {
         below(alloc, &self.imports, &self.importers, number)
     }
@@ -137,7 +137,7 @@ impl ImportLinks {
     /// The packages that a package reaches and that do not reach it, in increasing order. Found by a search.
     pub fn built_on(&self, alloc: Global, number: usize) -> Result<PackageList, AllocError>
         requires { number < length self.now }
-        ensures { IfOk result (IsBuiltOn self.now number) }
+        ensures { IfOk result (IsBuiltOnList self.now number) }
     {
         let PackagesBelow { built_on, back } = self.below(alloc, number)?;
         drop(back);
@@ -155,8 +155,8 @@ impl ImportLinks {
         requires number { number < length self.now }
         requires closure { IsClosure self.now number closure.now }
         requires rising { IsStrictlyIncreasing closure.now }
-        ensures built_on { IfOk result (λ found. IsBuiltOn self.now number found.built_on) }
-        ensures back { IfOk result (λ found. MarkBack self.now number found.back.items) }
+        ensures built_on { IfOk result (λ found. IsBuiltOnList self.now number found.built_on) }
+        ensures back { IfOk result (λ found. MarksWayBack self.now number found.back.items) }
     {
         if !share_none(self.importers(number), closure) {
             return self.below(alloc, number);
@@ -183,7 +183,7 @@ impl ImportLinks {
         requires number { number < length self.now }
         requires size { length marks.old.items ≡ length self.now }
         requires above { (p q : ℕ) → Imports self.now p q → IsMarked marks.old.items q → IsMarked marks.old.items p }
-        ensures { OnOk result (MarksImporting self.now number marks.old.items marks.new.items) }
+        ensures { OnOk result (MarksReachingTo self.now number marks.old.items marks.new.items) }
     {
         reach(alloc, &self.importers, marks, number)
     }

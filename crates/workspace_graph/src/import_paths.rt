@@ -2,7 +2,7 @@
 ghost use Rattle.std.specs.Prelude.{IfOk, OnOk};
 ghost use Rattle.go_ast.specs.SourceFile.{source_of};
 ghost use Rattle.workspace_graph.specs.Packages.{ImportsPath};
-ghost use Rattle.workspace_graph.specs.ImportPaths.{AddsPaths, HoldsPaths, SomeImport, SomeStandFor, StandsFor};
+ghost use Rattle.workspace_graph.specs.ImportPaths.{AddsPaths, ListsPaths, AnyImports, AnyIsOfPath, IsPathValue};
 
 use crate::file_imports::{FileImport, read_imports};
 use go_ast::FileTree;
@@ -15,7 +15,7 @@ fn add_import(
     paths: &mut BTreeSet<Vec<u8>>,
     import: &FileImport,
 ) -> Result<(), AllocError>
-    ensures { OnOk result (AddsPaths (StandsFor import.now.path) paths.old.keys paths.new.keys) }
+    ensures { OnOk result (AddsPaths (IsPathValue import.now.path) paths.old.keys paths.new.keys) }
 {
     match &import.path {
         None => Ok(()),
@@ -33,7 +33,7 @@ fn add_imports(
     paths: &mut BTreeSet<Vec<u8>>,
     imports: &[FileImport],
 ) -> Result<(), AllocError>
-    ensures { OnOk result (AddsPaths (SomeStandFor imports.now) paths.old.keys paths.new.keys) }
+    ensures { OnOk result (AddsPaths (AnyIsOfPath imports.now) paths.old.keys paths.new.keys) }
 {
     for import in imports {
         add_import(alloc, paths, import)?;
@@ -51,7 +51,7 @@ fn add_file(alloc: Global, paths: &mut BTreeSet<Vec<u8>>, file: &FileTree) -> Re
 
 /// The paths that the files import.
 pub fn import_paths(alloc: Global, files: &[FileTree]) -> Result<BTreeSet<Vec<u8>>, AllocError>
-    ensures { IfOk result (λ paths. HoldsPaths (SomeImport files.now) paths.keys) }
+    ensures { IfOk result (λ paths. ListsPaths (AnyImports files.now) paths.keys) }
 {
     let mut paths = BTreeSet::new(alloc);
     for file in files {

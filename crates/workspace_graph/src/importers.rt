@@ -1,8 +1,8 @@
 //! Finds the importers of each package. They are noted in one list, in which those of one package are chained.
 ghost use Rattle.std.specs.Prelude.{◌≡◌, ◌<◌, ◌++◌, [], ◌∷◌, length, replicate, slice_set, IfOk, OnOk};
 ghost use Rattle.std.specs.List.{All};
-ghost use Rattle.workspace_graph.specs.Chains.{AreChained, AreNoted};
-ghost use Rattle.workspace_graph.specs.Imports.{AreLinked, HoldImporters, Links, imports_of};
+ghost use Rattle.workspace_graph.specs.Chains.{AreChained, AddsChained};
+ghost use Rattle.workspace_graph.specs.Imports.{AreLinked, AreImporterRows, Links, row_of};
 
 use crate::link_rows::LinkRows;
 use std::alloc::{AllocError, Global};
@@ -10,7 +10,7 @@ use std::alloc::{AllocError, Global};
 /// An importer of a package, and the place in the list of the importer noted before it for the same package. Places count from 1; 0 means
 /// none.
 #[derive(Clone, Copy)]
-struct Noted {
+struct NotedImporter {
     importer: usize,
     before: usize,
 }
@@ -19,7 +19,7 @@ struct Noted {
 #[derive(Drop)]
 struct Chains {
     latest: Vec<usize>,
-    noted: Vec<Noted>,
+    noted: Vec<NotedImporter>,
 }
 
 impl Chains {
@@ -37,10 +37,10 @@ impl Chains {
     fn note(&mut self, number: usize, importer: usize) -> Result<(), AllocError>
         requires { number < length self.old.latest.items }
         ensures size { OnOk result (length self.new.latest.items ≡ length self.old.latest.items) }
-        ensures noted { OnOk result ((lists : Links) → AreChained self.old lists → AreChained self.new (slice_set lists number (imports_of lists number ++ importer ∷ []))) }
+        ensures noted { OnOk result ((lists : Links) → AreChained self.old lists → AreChained self.new (slice_set lists number (row_of lists number ++ importer ∷ []))) }
     {
         let before = self.latest[number];
-        self.noted.push(Noted { importer, before })?;
+        self.noted.push(NotedImporter { importer, before })?;
         self.latest[number] = self.noted.len();
         Ok(())
     }
@@ -49,7 +49,7 @@ impl Chains {
     fn note_row(&mut self, row: &[usize], importer: usize) -> Result<(), AllocError>
         requires { All (λ q. q < length self.old.latest.items) row.now }
         ensures size { OnOk result (length self.new.latest.items ≡ length self.old.latest.items) }
-        ensures noted { OnOk result ((lists : Links) → AreChained self.old lists → AreNoted lists row.now importer self.new) }
+        ensures noted { OnOk result ((lists : Links) → AreChained self.old lists → AddsChained lists row.now importer self.new) }
     {
         for number in row {
             self.note(*number, importer)?;
@@ -61,7 +61,7 @@ impl Chains {
     fn fill_row(&self, number: usize, row: &mut Vec<usize>) -> Result<(), AllocError>
         requires number { number < length self.now.latest.items }
         requires chained { (lists : Links) × AreChained self.now lists }
-        ensures { OnOk result ((lists : Links) → AreChained self.now lists → row.new.items ≡ imports_of lists number) }
+        ensures { OnOk result ((lists : Links) → AreChained self.now lists → row.new.items ≡ row_of lists number) }
     {
         row.clear();
         let mut left = self.latest[number];
@@ -92,7 +92,7 @@ impl Chains {
 /// For each package, its importers.
 pub(crate) fn importers(alloc: Global, imports: &LinkRows) -> Result<LinkRows, AllocError>
     requires { AreLinked imports.now }
-    ensures { IfOk result (λ importers. HoldImporters imports.now (length imports.now) importers) }
+    ensures { IfOk result (λ importers. AreImporterRows imports.now (length imports.now) importers) }
 {
     let mut chains = Chains::new(alloc, imports.len())?;
     for importer in 0..imports.len() {

@@ -1,7 +1,7 @@
 //! Links in two lists: the rows of all packages one behind another, and the bounds of the rows.
 ghost use Rattle.std.specs.Prelude.{◌≡◌, ◌<◌, ◌≤◌, ◌+◌, ◌-◌, ◌^◌, ◌++◌, ℕ, [], ◌∷◌, length, map, take, drop, slice_index_or, slice_range, IfOk, IsTrue, OnOk};
 ghost use Rattle.std.specs.List.{All, insert};
-ghost use Rattle.workspace_graph.specs.Imports.{imports_of};
+ghost use Rattle.workspace_graph.specs.Imports.{row_of};
 ghost use Rattle.workspace_graph.specs.LinkRows.{last_bound};
 ghost use Rattle.workspace_graph.specs.Shifts.{row_shifted, shifted};
 
@@ -196,7 +196,7 @@ impl LinkRows {
     /// The row of a package.
     pub(crate) fn row(&self, number: usize) -> &[usize]
         requires { number < length self.now }
-        ensures { result.now ≡ imports_of self.now number }
+        ensures { result.now ≡ row_of self.now number }
     {
         part_at(&self.bounds, &self.numbers, number)
     }

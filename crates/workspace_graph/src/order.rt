@@ -1,13 +1,13 @@
 //! Finds an order of packages in which each comes after those that it reaches and that do not reach it.
 ghost use Rattle.std.specs.Prelude.{ℕ, ◌≡◌, ◌<◌, length, IfOk, IfSome, IsTrue, OnOk};
 ghost use Rattle.std.specs.List.{All, Contains};
-ghost use Rattle.workspace_graph.specs.Imports.{AreLinked, HoldImporters, Reaches};
-ghost use Rattle.workspace_graph.specs.Orders.{AreClear, AreTold, IsOrder};
+ghost use Rattle.workspace_graph.specs.Imports.{AreLinked, AreImporterRows, Reaches};
+ghost use Rattle.workspace_graph.specs.Orders.{AreClear, AreListed, IsOrder};
 ghost use Rattle.workspace_graph.specs.Search.{IsMarked};
 
-use crate::depth_first::latest_first;
+use crate::depth_first::last_left_first;
 use crate::link_rows::LinkRows;
-use crate::search::spread;
+use crate::search::visit;
 use std::alloc::{AllocError, Global};
 
 /// The packages listed so far, in order and as marks in `told`. `barred` keeps a search within one block.
@@ -70,7 +70,7 @@ fn leads_back(
     ensures back { IfOk result (λ back. IsTrue back → (q : ℕ) → Contains block.now q → Reaches importers.now root q) }
 {
     clear(barred, block);
-    spread(alloc, importers, barred, root)?;
+    visit(alloc, importers, barred, root)?;
     Ok(are_marked(barred, block))
 }
 
@@ -98,12 +98,12 @@ impl Blocks {
         root: usize,
     ) -> Result<bool, AllocError>
         requires linked { AreLinked imports.now }
-        requires back { HoldImporters imports.now (length imports.now) importers.now }
+        requires back { AreImporterRows imports.now (length imports.now) importers.now }
         requires root { root < length imports.now }
-        requires told { AreTold imports.now self.old }
-        ensures { IfOk result (λ back. IsTrue back → AreTold imports.now self.new) }
+        requires told { AreListed imports.now self.old }
+        ensures { IfOk result (λ back. IsTrue back → AreListed imports.now self.new) }
     {
-        let block = spread(alloc, imports, &mut self.told, root)?;
+        let block = visit(alloc, imports, &mut self.told, root)?;
         self.order.extend_from_slice(&block)?;
         leads_back(alloc, importers, &mut self.barred, &block, root)
     }
@@ -117,9 +117,9 @@ impl Blocks {
         roots: &[usize],
     ) -> Result<bool, AllocError>
         requires linked { AreLinked imports.now }
-        requires back { HoldImporters imports.now (length imports.now) importers.now }
-        requires told { AreTold imports.now self.old }
-        ensures { IfOk result (λ back. IsTrue back → AreTold imports.now self.new) }
+        requires back { AreImporterRows imports.now (length imports.now) importers.now }
+        requires told { AreListed imports.now self.old }
+        ensures { IfOk result (λ back. IsTrue back → AreListed imports.now self.new) }
     {
         for root in roots {
             if *root < imports.len() {
@@ -143,10 +143,10 @@ pub(crate) fn order(
     importers: &LinkRows,
 ) -> Result<Option<Vec<usize>>, AllocError>
     requires linked { AreLinked imports.now }
-    requires back { HoldImporters imports.now (length imports.now) importers.now }
+    requires back { AreImporterRows imports.now (length imports.now) importers.now }
     ensures { IfOk result (λ found. IfSome found (λ order. IsOrder imports.now order.items)) }
 {
-    let roots = latest_first(alloc, importers)?;
+    let roots = last_left_first(alloc, importers)?;
     let mut blocks = Blocks::new(alloc, imports.len())?;
     if !blocks.add_all(alloc, imports, importers, &roots)? {
         return Ok(None);

@@ -1,6 +1,6 @@
 //! Parses one file of a package.
 ghost use Rattle.std.specs.Prelude.{◌≡◌, IfOk, IfErr};
-ghost use Rattle.go_parser.specs.Parsed.{IsTextRefusedFor};
+ghost use Rattle.go_parser.specs.ParseResults.{IsRefusalOfText};
 ghost use Rattle.go_ast.specs.Faults.{IsFaultOf};
 ghost use Rattle.go_ast.specs.SourceFile.{IsSourceFile, source_of};
 ghost use Rattle.workspace_graph.specs.Parsed.{IsParsedAs};
@@ -8,7 +8,7 @@ ghost use Rattle.workspace_graph.specs.Parsed.{IsParsedAs};
 use crate::faulty_file::FaultyFile;
 use base_files::{FileText, Path};
 use go_ast::FileTree;
-use go_parser::{ParseRefusal, parse_file, parse_file_like};
+use go_parser::{ParseRefusal, parse_file, parse_file_sharing};
 use go_scanner::TextFault;
 use std::alloc::{AllocError, Global};
 
@@ -44,11 +44,11 @@ fn read(
 ) -> Result<FileTree, ParseRefusal>
     ensures path { IfOk result (λ file. file.path ≡ path.now) }
     ensures text { IfOk result (λ file. file.cut.text ≡ text.now) }
-    ensures refused { IfErr result (IsTextRefusedFor text.now) }
+    ensures refused { IfErr result (IsRefusalOfText text.now) }
 {
     match like {
         None => parse_file(alloc, path, text),
-        Some(like) => parse_file_like(alloc, path, text, like),
+        Some(like) => parse_file_sharing(alloc, path, text, like),
     }
 }
 

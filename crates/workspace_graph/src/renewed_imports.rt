@@ -2,8 +2,8 @@
 ghost use Rattle.std.specs.Prelude.{◌⊎◌, ℕ, List, IfOk, IsTrue, OnOk};
 ghost use Rattle.std.specs.Option.{option_copied};
 ghost use Rattle.std.specs.List.{Contains};
-ghost use Rattle.workspace_graph.specs.ImportPaths.{HoldsPaths, SomeImport, SomeStandFor, StandsFor, bytes_of_paths};
-ghost use Rattle.workspace_graph.specs.Drafts.{AreKept, GoneImports, IsRenewed};
+ghost use Rattle.workspace_graph.specs.ImportPaths.{ListsPaths, AnyImports, AnyIsOfPath, IsPathValue, bytes_of_paths};
+ghost use Rattle.workspace_graph.specs.Drafts.{Survive, GoneImports, WereImports};
 
 use crate::file_imports::{FileImport, read_imports};
 use crate::import_paths::import_paths;
@@ -13,7 +13,7 @@ use std::collections::BTreeSet;
 
 /// Whether one of the imports is of the path.
 fn is_imported(imports: &[FileImport], path: &[u8]) -> bool
-    ensures { IsTrue result → SomeStandFor imports.now path.now }
+    ensures { IsTrue result → AnyIsOfPath imports.now path.now }
 {
     for import in imports {
         if let Some(other) = &import.path {
@@ -27,7 +27,7 @@ fn is_imported(imports: &[FileImport], path: &[u8]) -> bool
 
 /// Whether one of the files imports the path.
 fn is_imported_by(alloc: Global, files: &[FileTree], path: &[u8]) -> Result<bool, AllocError>
-    ensures { IfOk result (λ is. IsTrue is → SomeImport files.now path.now) }
+    ensures { IfOk result (λ is. IsTrue is → AnyImports files.now path.now) }
 {
     for file in files {
         let imports = read_imports(alloc, file)?;
@@ -46,7 +46,7 @@ fn is_kept(
     come: &[FileImport],
     files: &[FileTree],
 ) -> Result<bool, AllocError>
-    ensures { IfOk result (λ kept. IsTrue kept → AreKept (StandsFor import.now.path) come.now files.now) }
+    ensures { IfOk result (λ kept. IsTrue kept → Survive (IsPathValue import.now.path) come.now files.now) }
 {
     let Some(path) = &import.path else {
         return Ok(true);
@@ -64,7 +64,7 @@ fn are_kept(
     come: &[FileImport],
     files: &[FileTree],
 ) -> Result<bool, AllocError>
-    ensures { IfOk result (λ kept. IsTrue kept → AreKept (SomeStandFor gone.now) come.now files.now) }
+    ensures { IfOk result (λ kept. IsTrue kept → Survive (AnyIsOfPath gone.now) come.now files.now) }
 {
     for import in gone {
         if !is_kept(alloc, import, come, files)? {
@@ -81,7 +81,7 @@ fn keep_imports(
     come: &[FileImport],
     files: &[FileTree],
 ) -> Result<bool, AllocError>
-    ensures { IfOk result (λ kept. IsTrue kept → AreKept (GoneImports (option_copied gone.entry)) come.now files.now) }
+    ensures { IfOk result (λ kept. IsTrue kept → Survive (GoneImports (option_copied gone.entry)) come.now files.now) }
 {
     match gone {
         None => Ok(true),
@@ -94,7 +94,7 @@ fn keep_imports(
 
 /// Whether the paths of all imports are in the set.
 fn are_among(come: &[FileImport], paths: &BTreeSet<Vec<u8>>) -> bool
-    ensures { IsTrue result → (q : List ℕ) → SomeStandFor come.now q → Contains (bytes_of_paths paths.now.keys) q }
+    ensures { IsTrue result → (q : List ℕ) → AnyIsOfPath come.now q → Contains (bytes_of_paths paths.now.keys) q }
 {
     for import in come {
         if let Some(path) = &import.path {
@@ -109,7 +109,7 @@ fn are_among(come: &[FileImport], paths: &BTreeSet<Vec<u8>>) -> bool
 /// The change of one file of a package. `imports` has the paths that the files imported before it, and `gone` is the removed tree. `come`
 /// has the imports of the new tree, and `files` are all trees after the change.
 #[derive(Clone, Copy)]
-pub(crate) struct FileChange<'a> {
+pub(crate) struct ImportsChange<'a> {
     pub(crate) imports: &'a BTreeSet<Vec<u8>>,
     pub(crate) gone: Option<&'a FileTree>,
     pub(crate) come: &'a [FileImport],
@@ -118,9 +118,9 @@ pub(crate) struct FileChange<'a> {
 
 /// Whether the files still import exactly the paths that they imported before the change. False may be wrong, and the paths are then read
 /// again. Files other than the changed one are read only if it dropped an import path.
-pub(crate) fn stay(alloc: Global, change: FileChange<'_>) -> Result<bool, AllocError>
-    requires { IsRenewed change.imports.now.keys (option_copied change.gone) change.come.now change.files.now }
-    ensures { IfOk result (λ stay. IsTrue stay → HoldsPaths (SomeImport change.entry.files.now) change.entry.imports.now.keys) }
+pub(crate) fn stay(alloc: Global, change: ImportsChange<'_>) -> Result<bool, AllocError>
+    requires { WereImports change.imports.now.keys (option_copied change.gone) change.come.now change.files.now }
+    ensures { IfOk result (λ stay. IsTrue stay → ListsPaths (AnyImports change.entry.files.now) change.entry.imports.now.keys) }
 {
     if !are_among(change.come, change.imports) {
         return Ok(false);

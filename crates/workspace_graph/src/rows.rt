@@ -4,13 +4,13 @@ ghost use Rattle.std.specs.List.{AllZip};
 ghost use Rattle.std.specs.List.Sorted.{IsStrictlyIncreasing, IsStrictlySortedBy};
 ghost use Rattle.base_files.specs.Workspace.{path_cmp};
 ghost use Rattle.workspace_graph.specs.Graphs.{paths_of};
-ghost use Rattle.workspace_graph.specs.Imports.{Holds};
+ghost use Rattle.workspace_graph.specs.Imports.{ListsExactly};
 ghost use Rattle.workspace_graph.specs.ImportPaths.{bytes_of_paths, IsOneOf};
 ghost use Rattle.workspace_graph.specs.Rows.{AddsNumbers, IsRow};
 
 use crate::import_links::ImportLinks;
 use crate::link_rows::LinkRows;
-use crate::shared_package::{SharedPackage, number_near, place_near};
+use crate::shared_package::{SharedPackage, number_by_hint, place_near};
 use std::alloc::{AllocError, Global};
 use std::collections::BTreeSet;
 
@@ -32,7 +32,7 @@ fn add_path(
     requires { IsStrictlySortedBy path_cmp (paths_of packages.now) }
     ensures { OnOk result (AddsNumbers (λ j. slice_get (paths_of packages.now) j ≡ Some path.now) row.old.items row.new.items) }
 {
-    if let Some(number) = number_near(packages, path, near) {
+    if let Some(number) = number_by_hint(packages, path, near) {
         row.push(number)?;
     }
     Ok(())
@@ -46,7 +46,7 @@ fn fill_numbers(
     row: &mut Vec<usize>,
 ) -> Result<(), AllocError>
     requires { IsStrictlySortedBy path_cmp (paths_of packages.now) }
-    ensures { OnOk result (Holds row.new.items (IsOneOf (paths_of packages.now) (bytes_of_paths paths.now.keys))) }
+    ensures { OnOk result (ListsExactly row.new.items (IsOneOf (paths_of packages.now) (bytes_of_paths paths.now.keys))) }
 {
     row.clear();
     for path in paths.iter() {

@@ -1,7 +1,7 @@
 //! A search along links from one package, which passes no marked package.
 ghost use Rattle.std.specs.Prelude.{◌≡◌, ◌<◌, Bool, List, length, slice_index_or, IfOk, OnOk};
 ghost use Rattle.workspace_graph.specs.Imports.{AreLinked, Imports};
-ghost use Rattle.workspace_graph.specs.Search.{Finds, Notes, Spreads, AreClosedUnder, MarksReached};
+ghost use Rattle.workspace_graph.specs.Search.{ListsNewMarks, MarksFound, Visits, AreClosedMarks, MarksReached};
 
 use crate::link_rows::LinkRows;
 use std::alloc::{AllocError, Global};
@@ -10,8 +10,8 @@ use std::alloc::{AllocError, Global};
 fn note(found: &mut Vec<usize>, marks: &mut Vec<bool>, number: usize) -> Result<(), AllocError>
     requires { number < length marks.old.items }
     ensures size { OnOk result (length marks.new.items ≡ length marks.old.items) }
-    ensures finds { OnOk result ((first : List Bool) → Finds first found.old.items marks.old.items → Finds first found.new.items marks.new.items) }
-    ensures noted { OnOk result (Notes found.old.items marks.old.items found.new.items marks.new.items (λ q. q ≡ number)) }
+    ensures finds { OnOk result ((first : List Bool) → ListsNewMarks first found.old.items marks.old.items → ListsNewMarks first found.new.items marks.new.items) }
+    ensures noted { OnOk result (MarksFound found.old.items marks.old.items found.new.items marks.new.items (λ q. q ≡ number)) }
 {
     if !marks[number] {
         found.push(number)?;
@@ -32,8 +32,8 @@ fn follow(
     requires within { slice_index_or found.old.items place 0 < length links.now }
     requires place { place < length found.old.items }
     ensures size { OnOk result (length marks.new.items ≡ length links.now) }
-    ensures finds { OnOk result ((first : List Bool) → Finds first found.old.items marks.old.items → Finds first found.new.items marks.new.items) }
-    ensures noted { OnOk result (Notes found.old.items marks.old.items found.new.items marks.new.items (Imports links.now (slice_index_or found.old.items place 0))) }
+    ensures finds { OnOk result ((first : List Bool) → ListsNewMarks first found.old.items marks.old.items → ListsNewMarks first found.new.items marks.new.items) }
+    ensures noted { OnOk result (MarksFound found.old.items marks.old.items found.new.items marks.new.items (Imports links.now (slice_index_or found.old.items place 0))) }
 {
     for number in links.row(found[place]) {
         note(found, marks, *number)?;
@@ -42,7 +42,7 @@ fn follow(
 }
 
 /// Marks `start` and all packages that it reaches along ways without a marked package. Returns those that it marks.
-pub(crate) fn spread(
+pub(crate) fn visit(
     alloc: Global,
     links: &LinkRows,
     marks: &mut Vec<bool>,
@@ -51,7 +51,7 @@ pub(crate) fn spread(
     requires linked { AreLinked links.now }
     requires size { length marks.old.items ≡ length links.now }
     requires start { start < length links.now }
-    ensures { IfOk result (λ found. Spreads links.now start marks.old.items found.items marks.new.items) }
+    ensures { IfOk result (λ found. Visits links.now start marks.old.items found.items marks.new.items) }
 {
     let mut found = Vec::with_capacity(alloc, links.len())?;
     note(&mut found, marks, start)?;
@@ -73,10 +73,10 @@ pub(crate) fn reach(
     requires linked { AreLinked links.now }
     requires size { length marks.old.items ≡ length links.now }
     requires start { start < length links.now }
-    requires closed { AreClosedUnder links.now marks.old.items }
+    requires closed { AreClosedMarks links.now marks.old.items }
     ensures reached { OnOk result (MarksReached links.now start marks.old.items marks.new.items) }
-    ensures closed { OnOk result (AreClosedUnder links.now marks.new.items) }
+    ensures closed { OnOk result (AreClosedMarks links.now marks.new.items) }
 {
-    spread(alloc, links, marks, start)?;
+    visit(alloc, links, marks, start)?;
     Ok(())
 }

@@ -6,7 +6,7 @@ ghost use Rattle.std.specs.List.Sorted.{IsStrictlySortedBy};
 ghost use Rattle.base_files.specs.Workspace.{path_cmp};
 ghost use Rattle.workspace_graph.specs.Drafts.{IsDraft, IsSamePackage};
 ghost use Rattle.workspace_graph.specs.Graphs.{paths_of};
-ghost use Rattle.workspace_graph.specs.ImportPaths.{HoldsPaths, SomeImport};
+ghost use Rattle.workspace_graph.specs.ImportPaths.{ListsPaths, AnyImports};
 
 use crate::drafts::Draft;
 use crate::import_paths::import_paths;
@@ -26,7 +26,7 @@ struct PackageParts {
 /// The paths that the files of a draft import. They are read where the draft does not know them.
 fn imports_of(alloc: Global, draft: &Draft) -> Result<Arc<BTreeSet<Vec<u8>>, Global>, AllocError>
     requires { IsDraft draft.now }
-    ensures { IfOk result (λ paths. HoldsPaths (SomeImport draft.now.package.trees.items) (arc_value paths).keys) }
+    ensures { IfOk result (λ paths. ListsPaths (AnyImports draft.now.package.trees.items) (arc_value paths).keys) }
 {
     match &draft.imports {
         Some(imports) => Arc::try_clone(imports),
@@ -104,7 +104,7 @@ impl SharedPackage {
 
     /// The paths that the files of the package import.
     pub(crate) fn imports(&self) -> &BTreeSet<Vec<u8>>
-        ensures { HoldsPaths (SomeImport self.now.trees.items) result.now.keys }
+        ensures { ListsPaths (AnyImports self.now.trees.items) result.now.keys }
     {
         &self.parts.imports
     }
@@ -155,7 +155,7 @@ pub(crate) fn place_near(packages: &[SharedPackage], path: &[u8], near: usize) -
 }
 
 /// The number of the package at a path, or `None` where there is no such package. It is first looked for at `near` and beside it.
-pub(crate) fn number_near(packages: &[SharedPackage], path: &[u8], near: usize) -> Option<usize>
+pub(crate) fn number_by_hint(packages: &[SharedPackage], path: &[u8], near: usize) -> Option<usize>
     requires { IsStrictlySortedBy path_cmp (paths_of packages.now) }
     ensures { MatchOption result (Contains (paths_of packages.now) path.now → ⊥) (λ number. slice_get (paths_of packages.now) number ≡ Some path.now) }
 {

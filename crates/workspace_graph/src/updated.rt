@@ -4,8 +4,8 @@ ghost use Rattle.std.specs.List.{insert};
 ghost use Rattle.std.specs.List.Sorted.{IsStrictlySortedBy};
 ghost use Rattle.base_files.specs.Workspace.{path_cmp};
 ghost use Rattle.workspace_graph.specs.Graphs.{paths_of};
-ghost use Rattle.workspace_graph.specs.Growth.{ComesAlone};
-ghost use Rattle.workspace_graph.specs.Updated.{AreUpdated, IsPlace, Puts, TakesOut};
+ghost use Rattle.workspace_graph.specs.Growth.{IsOnlyNew};
+ghost use Rattle.workspace_graph.specs.Updated.{AreUpdated, IsPlace, SetsPackage, Removes};
 
 use crate::changed::has_file;
 use crate::shared_package::SharedPackage;
@@ -22,7 +22,7 @@ fn place_of(packages: &[SharedPackage], path: &[u8]) -> Result<usize, usize>
 /// Removes the package at a path, if there is one. Returns the index at which one would be inserted.
 fn take_out(packages: &mut Vec<SharedPackage>, path: &[u8]) -> usize
     requires { IsStrictlySortedBy path_cmp (paths_of packages.old.items) }
-    ensures { TakesOut (λ p. p.path.items) path.now packages.old.items packages.new.items result }
+    ensures { Removes (λ p. p.path.items) path.now packages.old.items packages.new.items result }
 {
     match place_of(packages, path) {
         Ok(number) => {
@@ -36,7 +36,7 @@ fn take_out(packages: &mut Vec<SharedPackage>, path: &[u8]) -> usize
 /// Sets the package at its path. A package without files is only removed.
 fn put(packages: &mut Vec<SharedPackage>, one: &SharedPackage) -> Result<(), AllocError>
     requires { IsStrictlySortedBy path_cmp (paths_of packages.old.items) }
-    ensures { OnOk result (Puts one.now packages.old.items packages.new.items) }
+    ensures { OnOk result (SetsPackage one.now packages.old.items packages.new.items) }
 {
     let place = take_out(packages, one.path());
     if !has_file(one.package()) {
@@ -75,7 +75,7 @@ pub(crate) fn one_that_comes<'a>(
     fresh: &'a [SharedPackage],
 ) -> Option<Coming<'a>>
     requires { IsStrictlySortedBy path_cmp (paths_of before.now) }
-    ensures { IfSome result (λ coming. ComesAlone before.now fresh.now coming.one.now coming.place) }
+    ensures { IfSome result (λ coming. IsOnlyNew before.now fresh.now coming.one.now coming.place) }
 {
     if fresh.len() != 1 {
         return None;

@@ -14,44 +14,44 @@ use Rattle.base_edits.specs.declared.change.Fate.{Fate}
 use Rattle.base_edits.specs.declared.change.Fate.TheVariants.{Stays, Moves, Dropped}
 use Rattle.base_edits.proofs.Changes.{change_found, path_of_file}
 use Rattle.base_edits.proofs.FilesAfter.{IsOldFile, comes_from, has_file}
-use Rattle.workspace_graph.specs.Filling.{names}
-use Rattle.workspace_graph.specs.Staying.{DiffersOnlyAt}
-use Rattle.workspace_snapshot.specs.Made.{IsMade}
+use Rattle.workspace_graph.specs.Borrows.{names}
+use Rattle.workspace_graph.specs.SameGoFiles.{DiffersOnlyAt}
+use Rattle.workspace_snapshot.specs.Made.{IsMadeByEdits}
 use Rattle.workspace_snapshot.specs.declared.change.Change.{Change}
-use Rattle.workspace_snapshot.specs.Named.{AddsPaths, HoldsPaths, IsNamed, IsOfChange}
+use Rattle.workspace_snapshot.specs.Named.{AddsAll, HasAll, NamesPath, IsPathOfChange}
 
 -- ---- one path more
-pub adds_path : (old new : List (Bor (List ℕ))) (k : Bor (List ℕ)) → new ≡ old ++ k ∷ [] → AddsPaths (λ p. k.now ≡ p) (names old) (names new)
+pub adds_path : (old new : List (Bor (List ℕ))) (k : Bor (List ℕ)) → new ≡ old ++ k ∷ [] → AddsAll (λ p. k.now ≡ p) (names old) (names new)
 adds_path old new k is =
-    subst (AddsPaths (λ p. k.now ≡ p) (names old)) (sym (ap names is ∙ map_push (λ (path : Bor (List ℕ)). path.now) old k)) (record {
+    subst (AddsAll (λ p. k.now ≡ p) (names old)) (sym (ap names is ∙ map_push (λ (path : Bor (List ℕ)). path.now) old k)) (record {
       kept = λ p has. Contains-append_left (names old) (k.now ∷ []) p has;
       each = λ p same. subst (Contains (names old ++ k.now ∷ [])) same (Contains-push (names old) k.now);
     })
 
 -- ---- several
-pub adds_none : (P : List ℕ → Type 0) (old : List (List ℕ)) → ((p : List ℕ) → P p → ⊥) → AddsPaths P old old
+pub adds_none : (P : List ℕ → Type 0) (old : List (List ℕ)) → ((p : List ℕ) → P p → ⊥) → AddsAll P old old
 adds_none P old none = record { kept = λ f has. has; each = λ p is. absurd (none p is) }
 
-pub adds_more : (P Q S : List ℕ → Type 0) (a b c : List (List ℕ)) → ((p : List ℕ) → S p → P p ⊎ Q p) → AddsPaths P a b → AddsPaths Q b c → AddsPaths S a c
+pub adds_more : (P Q S : List ℕ → Type 0) (a b c : List (List ℕ)) → ((p : List ℕ) → S p → P p ⊎ Q p) → AddsAll P a b → AddsAll Q b c → AddsAll S a c
 adds_more P Q S a b c cases first second = record {
   kept = λ f has. second.kept f (first.kept f has);
   each = λ p is. ⊎_elim (λ (x : P p). second.kept p (first.each p x)) (λ (y : Q p). second.each p y) (cases p is);
 }
 
-pub adds_fewer : (P Q : List ℕ → Type 0) (a b : List (List ℕ)) → ((p : List ℕ) → Q p → P p) → AddsPaths P a b → AddsPaths Q a b
+pub adds_fewer : (P Q : List ℕ → Type 0) (a b : List (List ℕ)) → ((p : List ℕ) → Q p → P p) → AddsAll P a b → AddsAll Q a b
 adds_fewer P Q a b gives adds = record { kept = adds.kept; each = λ p is. adds.each p (gives p is) }
 
 -- ---- the paths of one change
-pub change_stays : (c : FileChange) (old new : List (List ℕ)) → new_path c.fate ≡ None → AddsPaths (λ p. c.path ≡ p) old new →
-    AddsPaths (IsOfChange c) old new
-change_stays c old new none adds = adds_fewer (λ p. c.path ≡ p) (IsOfChange c) old new
+pub change_stays : (c : FileChange) (old new : List (List ℕ)) → new_path c.fate ≡ None → AddsAll (λ p. c.path ≡ p) old new →
+    AddsAll (IsPathOfChange c) old new
+change_stays c old new none adds = adds_fewer (λ p. c.path ≡ p) (IsPathOfChange c) old new
     (λ p named. ⊎_elim (λ (same : c.path ≡ p). same) (λ (to : new_path c.fate ≡ Some p). absurd (none-some p (sym none ∙ to))) named)
     adds
 
-pub change_moves : (c : FileChange) (to : List ℕ) (a b d : List (List ℕ)) → new_path c.fate ≡ Some to → AddsPaths (λ p. c.path ≡ p) a b →
-    AddsPaths (λ p. to ≡ p) b d
-    → AddsPaths (IsOfChange c) a d
-change_moves c to a b d is first second = adds_more (λ p. c.path ≡ p) (λ p. to ≡ p) (IsOfChange c) a b d
+pub change_moves : (c : FileChange) (to : List ℕ) (a b d : List (List ℕ)) → new_path c.fate ≡ Some to → AddsAll (λ p. c.path ≡ p) a b →
+    AddsAll (λ p. to ≡ p) b d
+    → AddsAll (IsPathOfChange c) a d
+change_moves c to a b d is first second = adds_more (λ p. c.path ≡ p) (λ p. to ≡ p) (IsPathOfChange c) a b d
     (λ p named. ⊎_elim (λ (same : c.path ≡ p). inl same) (λ (goes : new_path c.fate ≡ Some p). inr (same_Some to p (sym is ∙ goes))) named)
     first second
 
@@ -64,7 +64,7 @@ one_more {X} R xs i item below is p w = ⊎_elim
     (Contains-push_cases (take i xs) (get_or xs i item) w.0 (subst (λ (l : List X). Contains l w.0) (take_more xs i item below) w.1.0))
 
 -- ---- a path that no change names
-module _ (s : FileChanges) (w : Workspace) (path : List ℕ) (apart : IsNamed s path → ⊥) where
+module _ (s : FileChanges) (w : Workspace) (path : List ℕ) (apart : NamesPath s path → ⊥) where
   not_changed : (c : FileChange) → Contains s.changed c → c.path ≡ path → ⊥
   not_changed c has at = apart (inl (c, (has, inl at)))
 
@@ -111,14 +111,14 @@ one_option None None f g = refl
 one_option None (Some t) f g = absurd (none-some t (g t refl))
 one_option (Some t) y f g = sym (f t refl)
 
-pub differs_only_at : (s : FileChanges) (w : Workspace) → Fits s w → (paths : List (List ℕ)) → HoldsPaths (IsNamed s) paths →
+pub differs_only_at : (s : FileChanges) (w : Workspace) → Fits s w → (paths : List (List ℕ)) → HasAll (NamesPath s) paths →
     DiffersOnlyAt paths w (edited s w)
 differs_only_at s w fits paths holds path go apart =
-    let not_named : IsNamed s path → ⊥ = λ named. apart (holds path named) in
+    let not_named : NamesPath s path → ⊥ = λ named. apart (holds path named) in
     one_option (get (edited s w) path) (get w path) (λ t. there_before s w path not_named t) (λ t. there_after s w path not_named fits t)
 
 -- the same of a change whose files are made
-pub made_differs : (change : Change) → IsMade change → (paths : List (List ℕ)) → HoldsPaths (IsNamed change.edits) paths →
+pub made_differs : (change : Change) → IsMadeByEdits change → (paths : List (List ℕ)) → HasAll (NamesPath change.edits) paths →
     DiffersOnlyAt paths change.base change.files
 made_differs change made paths holds =
     subst (DiffersOnlyAt paths change.base) (sym made.files) (differs_only_at change.edits change.base made.fits paths holds)

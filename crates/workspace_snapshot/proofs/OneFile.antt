@@ -13,7 +13,7 @@ use Rattle.base_files.specs.Workspace.{Workspace, path_cmp}
 use Rattle.base_files.proofs.WorkspaceLaws.{path_cmp_total}
 use Rattle.base_edits.specs.Edits.{AreInOrder}
 use Rattle.base_edits.specs.EditSet.{FileChanges, change_in, change_of, file_by, edited}
-use Rattle.base_edits.specs.Fits.{IsEditSet, IsThere, Fits, Gets, path_by_change, path_after}
+use Rattle.base_edits.specs.Fits.{IsEditSet, HasSpans, Fits, MovesTo, path_by_change, path_after}
 use Rattle.base_edits.specs.Inverse.{dropped}
 use Rattle.base_edits.specs.declared.edit.Edit.{Edit}
 use Rattle.base_edits.specs.declared.change.FileChange.{FileChange}
@@ -21,14 +21,14 @@ use Rattle.base_edits.proofs.Held.{nothing_in, first_in, first_or_later}
 use Rattle.base_edits.proofs.Entries.{exact_path, same_path, same_files, some_is, not_true, value_of}
 use Rattle.base_edits.proofs.FilesAfter.{IsOldFile, comes_from, has_file, gets}
 use Rattle.base_edits.proofs.Turned.{is_there}
-use Rattle.workspace_snapshot.specs.Plan.{replaced, put_changes, del_changes}
+use Rattle.workspace_snapshot.specs.Plan.{drop_changes, put_changes, del_changes}
 
 -- the changes leave all files but that of one path, which goes if it is there
 record OneGoes (s : FileChanges) (w : Workspace) (path : List ℕ) : Type 0 where
   others : (q : List ℕ) → (path ≡ q → ⊥) → change_of s q ≡ None
   goes : IsSome (get w path) → path_after s path ≡ None
 
-gets_other : (s : FileChanges) (w : Workspace) (path : List ℕ) → OneGoes s w path → (old new : List ℕ) → Gets s w old new → (path ≡ old → ⊥) × (old ≡ new)
+gets_other : (s : FileChanges) (w : Workspace) (path : List ℕ) → OneGoes s w path → (old new : List ℕ) → MovesTo s w old new → (path ≡ old → ⊥) × (old ≡ new)
 gets_other s w path one old new g =
     let apart : path ≡ old → ⊥ = λ same. none-some new
     (sym (one.goes (subst (λ (p : List ℕ). IsSome (get w p)) (sym same) g.0)) ∙ ap (path_after s) same ∙ g.1) in
@@ -50,10 +50,10 @@ other_path path old q apart = ap (λ b. cond b (Some (dropped (path, old))) None
 own_path : (path old : List ℕ) → change_in (dropped (path, old) ∷ []) path ≡ Some (dropped (path, old))
 own_path path old = ap (λ b. cond b (Some (dropped (path, old))) None) ((bytes_decides path path).1 refl)
 
-dropped_there : (w : Workspace) (path old text : List ℕ) → get w path ≡ Some text → All (IsThere w) (dropped (path, old) ∷ [])
+dropped_there : (w : Workspace) (path old text : List ℕ) → get w path ≡ Some text → All (HasSpans w) (dropped (path, old) ∷ [])
 dropped_there w path old text is =
-    All-cons (IsThere w) (dropped (path, old)) [] (is_there w (dropped (path, old)) text is (All-nil (λ (e : Edit). e.span.end ≤ length text)))
-    (All-nil (IsThere w))
+    All-cons (HasSpans w) (dropped (path, old)) [] (is_there w (dropped (path, old)) text is (All-nil (λ (e : Edit). e.span.end ≤ length text)))
+    (All-nil (HasSpans w))
 
 -- ---- edit sets
 no_paths : IsDistinct {K = List ℕ} (pointwise ◌==◌) []
@@ -78,7 +78,7 @@ dropped_order path = All-cons (λ (c : FileChange). AreInOrder 0 c.edits) (dropp
 pub del_is_set : (path : List ℕ) → IsEditSet (del_changes path)
 del_is_set path = record { in_order = dropped_order path; by_path = one_change path; differ = no_paths }
 
-put_is_set_by : (o : Option (List ℕ)) (path text : List ℕ) → IsEditSet (record { changed = replaced o path; added = (path, text) ∷ [] })
+put_is_set_by : (o : Option (List ℕ)) (path text : List ℕ) → IsEditSet (record { changed = drop_changes o path; added = (path, text) ∷ [] })
 put_is_set_by None path text = record { in_order = All-nil (λ (c : FileChange). AreInOrder 0 c.edits); by_path = no_changes; differ = one_path path }
 put_is_set_by (Some old) path text = record { in_order = dropped_order path; by_path = one_change path; differ = one_path path }
 
@@ -92,7 +92,7 @@ del_set_from path cs es h k =
     let same : ◌≡◌ {A = FileChanges} (del_changes path) (record { changed = cs; added = es }) = (λ i. record { changed = sym h i; added = sym k i }) in
     subst IsEditSet same (del_is_set path)
 
-pub put_set_from : (w : Workspace) (path text : List ℕ) (cs : List FileChange) (es : List (List ℕ × List ℕ)) → cs ≡ replaced (get w path) path →
+pub put_set_from : (w : Workspace) (path text : List ℕ) (cs : List FileChange) (es : List (List ℕ × List ℕ)) → cs ≡ drop_changes (get w path) path →
     es ≡ (path, text) ∷ [] → IsEditSet (record { changed = cs; added = es })
 put_set_from w path text cs es h k =
     let same : ◌≡◌ {A = FileChanges} (put_changes w path text) (record { changed = cs; added = es }) = (λ i. record { changed = sym h i; added = sym k i }) in
@@ -103,19 +103,19 @@ some_from None h = absurd (h refl)
 some_from (Some x) h = refl
 
 -- ---- a put
-put_others : (o : Option (List ℕ)) (path q : List ℕ) → (path ≡ q → ⊥) → change_in (replaced o path) q ≡ None
+put_others : (o : Option (List ℕ)) (path q : List ℕ) → (path ≡ q → ⊥) → change_in (drop_changes o path) q ≡ None
 put_others None path q apart = refl
 put_others (Some old) path q apart = other_path path [] q apart
 
-put_own : (o : Option (List ℕ)) (path : List ℕ) → IsSome o → path_by_change (change_in (replaced o path) path) path ≡ None
+put_own : (o : Option (List ℕ)) (path : List ℕ) → IsSome o → path_by_change (change_in (drop_changes o path) path) path ≡ None
 put_own None path h = absurd (true≢false (sym h))
 put_own (Some old) path h = ap (λ o. path_by_change o path) (own_path path [])
 
 put_goes : (w : Workspace) (path text : List ℕ) → OneGoes (put_changes w path text) w path
 put_goes w path text = record { others = put_others (get w path) path; goes = put_own (get w path) path }
 
-put_there : (w : Workspace) (path : List ℕ) (o : Option (List ℕ)) → get w path ≡ o → All (IsThere w) (replaced o path)
-put_there w path None is = All-nil (IsThere w)
+put_there : (w : Workspace) (path : List ℕ) (o : Option (List ℕ)) → get w path ≡ o → All (HasSpans w) (drop_changes o path)
+put_there w path None is = All-nil (HasSpans w)
 put_there w path (Some old) is = dropped_there w path [] old is
 
 only : (file e : List ℕ × List ℕ) → Contains (file ∷ []) e → file ≡ e

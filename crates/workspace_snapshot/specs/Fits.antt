@@ -11,12 +11,12 @@ abbrev pub total_bytes : Workspace → ℕ
 total_bytes w = sum_by (λ e. length e.1) (files.entries w)
 
 -- Whether each file has at most `most` bytes.
-abbrev pub are_within : ℕ → Workspace → Bool
-are_within most w = list_all (λ e. nat_le (length e.1) most) (files.entries w)
+abbrev pub are_files_within : ℕ → Workspace → Bool
+are_files_within most w = list_all (λ e. nat_le (length e.1) most) (files.entries w)
 
 -- The workspace keeps the limits on the bytes of each file, on the number of files, and on the bytes of all files.
 pub record FilesFit (limits : Limits) (w : Workspace) : Type 0 where
-  pub each : IsTrue (are_within limits.file_bytes w)
+  pub each : IsTrue (are_files_within limits.file_bytes w)
   pub count : files.len w ≤ limits.files
   pub total : total_bytes w ≤ limits.total_bytes
 

@@ -14,13 +14,13 @@ use Rattle.workspace_snapshot.specs.declared.change.Change.{Change}
 use Rattle.workspace_snapshot.specs.declared.change.ChangeKind.TheVariants.{Put, Del}
 
 -- The change that drops the file at the path, if the path has a text; otherwise no change.
-abbrev pub replaced : Option (List ℕ) → List ℕ → List FileChange
-replaced None path = []
-replaced (Some old) path = dropped (path, []) ∷ []
+abbrev pub drop_changes : Option (List ℕ) → List ℕ → List FileChange
+drop_changes None path = []
+drop_changes (Some old) path = dropped (path, []) ∷ []
 
 -- The edit set that sets the text of the file at a path: it drops the old file, if there is one, and adds the new one.
 abbrev pub put_changes : Workspace → List ℕ → List ℕ → FileChanges
-put_changes w path text = record { changed = replaced (files.get w path) path; added = (path, text) ∷ [] }
+put_changes w path text = record { changed = drop_changes (files.get w path) path; added = (path, text) ∷ [] }
 
 -- The edit set that drops the file at a path.
 abbrev pub del_changes : List ℕ → FileChanges

@@ -2,8 +2,8 @@
 ghost use Rattle.std.specs.Prelude.{◌≡◌, IfOk};
 ghost use Rattle.base_edits.specs.EditSet.{edited};
 ghost use Rattle.base_edits.specs.Fits.{Fits};
-ghost use Rattle.workspace_graph.specs.Filling.{names};
-ghost use Rattle.workspace_graph.specs.Staying.{DiffersOnlyAt};
+ghost use Rattle.workspace_graph.specs.Borrows.{names};
+ghost use Rattle.workspace_graph.specs.SameGoFiles.{DiffersOnlyAt};
 
 use crate::change::{Change, ChangeKind};
 use crate::named::named_paths;
@@ -30,7 +30,7 @@ impl Drop for MadeChange {
 impl Model for MadeChange {
     ghost use Rattle.workspace_snapshot.specs.contracts.change.Change.{the_row};
     ghost use Rattle.workspace_snapshot.specs.declared.change.Change.{Change};
-    ghost use Rattle.workspace_snapshot.specs.Made.{IsMade};
+    ghost use Rattle.workspace_snapshot.specs.Made.{IsMadeByEdits};
 
     ghost Value = { Change };
 
@@ -38,7 +38,7 @@ impl Model for MadeChange {
 
     ghost view = { λ a. a.change };
 
-    ghost invariant = { λ a. IsMade a.change };
+    ghost invariant = { λ a. IsMadeByEdits a.change };
 }
 
 /// The graph of the files after an edit set, made from the graph before it. Only files that the edit set names are looked at.

@@ -2,7 +2,7 @@
 ghost use Rattle.std.specs.Prelude.{◌≡◌, ◌≢◌, ◌↔◌, [], IsTrue, IfOk};
 ghost use Rattle.std.specs.FinMap as map;
 ghost use Rattle.base_edits.specs.Inverse.{dropped};
-ghost use Rattle.workspace_snapshot.specs.Plan.{PlansPut, PlansDel, replaced, put_changes, del_changes};
+ghost use Rattle.workspace_snapshot.specs.Plan.{PlansPut, PlansDel, drop_changes, put_changes, del_changes};
 
 use crate::change::ChangeKind;
 use crate::fits::fits_limits;
@@ -44,7 +44,7 @@ fn del_edits(alloc: Global, path: &Path) -> Result<EditSet, AllocError>
 
 /// The change that drops the file at a path, if there is one; otherwise no change.
 fn replacing(alloc: Global, files: &Files, path: &Path) -> Result<Vec<FileChange>, AllocError>
-    ensures { IfOk result (λ changed. changed.items ≡ replaced (map.get files.now path.now) path.now) }
+    ensures { IfOk result (λ changed. changed.items ≡ drop_changes (map.get files.now path.now) path.now) }
 {
     let mut changed = Vec::new(alloc);
     if files.get(path).is_some() {

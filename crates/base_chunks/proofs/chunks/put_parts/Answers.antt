@@ -1,7 +1,7 @@
 -- Both parts have items, and together they have all.
 use Rattle.std.proofs.Common.{◌≡◌, ◌+◌, ◌<◌, ◌∷◌, ◌++◌, length, take, drop, ◌∙◌, arith}
 use Rattle.std.proofs.lemmas.Result.{IfOk-weaker}
-use Rattle.base_chunks.specs.Chunks.{Replaces}
+use Rattle.base_chunks.specs.Chunks.{ReplacesChunk}
 use Rattle.base_chunks.proofs.Joining.{replaces_two}
 use Rattle.base_chunks.proofs.chunks.put_parts.Goals as goal
 use Rattle.base_chunks.proofs.chunks.put_parts.Goals.{then-at-len, else-at-len}
@@ -21,6 +21,6 @@ returns-clause-ok g c =
     let back : c.in_ok-back.back ≡ drop m ws = c.in_ok-back.ensures.back in
     IfOk-weaker c.put_two.result
     (λ _. new ≡ take i old ++ c.in_ok-front.front ∷ c.in_ok-back.back ∷ drop (i + 1) old)
-    (λ _. Replaces old new i ws)
+    (λ _. ReplacesChunk old new i ws)
     (λ _ is. replaces_two old new i ws m low high (is ∙ (λ j. take i old ++ front j ∷ back j ∷ drop (i + 1) old)))
     c.put_two.ensures.ok

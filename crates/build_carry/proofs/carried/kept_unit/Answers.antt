@@ -14,13 +14,13 @@ returns-in_default-get c = λ p at.
     let before : slice_get (package_paths c.args.before.now) c.in-Some.old ≡ Some p = c.in-Some.ensures ∙ ap Some is in
     unfinished_before c.args.before.now c.args.finished.now c.args.after.now p c.in-Some.old before c.in_default-get.ensures
 
-pub returns-then-not-keeps_texts : goal.returns-then-not-keeps_texts
-returns-then-not-keeps_texts c = λ p at.
+pub returns-then-not-keeps_closure : goal.returns-then-not-keeps_closure
+returns-then-not-keeps_closure c = λ p at.
     let is : c.deref.result.now ≡ p = c.deref.ensures.value ∙ same_Some _ _ (sym c.package.ensures.path ∙ at) in
     let before : slice_get (package_paths c.args.before.now) c.in-Some.old ≡ Some p = c.in-Some.ensures ∙ ap Some is in
-    let kept = c.keeps_texts.ensures c.args.before.now c.args.after.now c.requires.before_marks c.requires.after_marks p before at in
+    let kept = c.keeps_closure.ensures c.args.before.now c.args.after.now c.requires.before_marks c.requires.after_marks p before at in
     not_same c.args.before.now c.args.finished.now c.args.after.now p c.in-Some.old before
-    (λ same. false≢true (sym c.if-not-keeps_texts.true ∙ kept.1 (same p before)))
+    (λ same. false≢true (sym c.if-not-keeps_closure.true ∙ kept.1 (same p before)))
 
 pub returns : goal.returns
 returns c = λ p at.
@@ -31,4 +31,4 @@ returns c = λ p at.
     ap (λ (u : PackageUnit). Some (Some u)) (sym unit) in
     keeps_some c.args.before.now c.args.finished.now c.args.after.now p c.in-Some.old before c.in_ok-unit.unit there
     (λ q there. subst (HasSameClosure c.args.before.now c.args.after.now) (same_Some p q (sym before ∙ there))
-    ((c.keeps_texts.ensures c.args.before.now c.args.after.now c.requires.before_marks c.requires.after_marks p before at).0 c.if-not-keeps_texts.false))
+    ((c.keeps_closure.ensures c.args.before.now c.args.after.now c.requires.before_marks c.requires.after_marks p before at).0 c.if-not-keeps_closure.false))

@@ -1,6 +1,6 @@
 -- One place more.
 use Rattle.std.proofs.Common.{[], ◌∷◌, length, length-append, None, sym, ap, subst, arith}
-use Rattle.build_carry.specs.Finished.{Table, HasNone}
+use Rattle.build_carry.specs.Finished.{Table, HasNoUnit}
 use Rattle.build_carry.proofs.FinishedUnits.{none_more}
 use Rattle.build_carry.proofs.finished.unfinished_units.Goals as goal
 
@@ -18,7 +18,7 @@ loop-number-preserved c =
     record {
       size = omega (arith, ap (λ (t : Table). length t) c.in_ok-push.ensures.ok, length-append c.loop-number.all nothing, old.size);
       least = omega (arith, c.loop-number-test.true);
-      none = subst HasNone (sym c.in_ok-push.ensures.ok) (none_more c.loop-number.all old.none);
+      none = subst HasNoUnit (sym c.in_ok-push.ensures.ok) (none_more c.loop-number.all old.none);
     }
 
 pub returns-clause-size : goal.returns-clause-size

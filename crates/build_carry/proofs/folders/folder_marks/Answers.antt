@@ -1,6 +1,6 @@
 -- One more folder: the package that it is, if it is one, is marked.
 use Rattle.std.proofs.Common.{◌+◌, Bool, Global, Vec, take, sym, subst}
-use Rattle.workspace_graph.specs.Filling.{names}
+use Rattle.workspace_graph.specs.Borrows.{names}
 use Rattle.build_carry.specs.Changes.{MarkFolders}
 use Rattle.build_carry.proofs.ChangedFolders.{mark_one, mark_none}
 use Rattle.build_carry.proofs.folders.folder_marks.Goals.{in-Some, in_default}

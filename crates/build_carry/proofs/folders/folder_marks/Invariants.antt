@@ -1,6 +1,6 @@
 -- The packages among the folders that were passed are marked.
 use Rattle.std.proofs.Common.{take}
-use Rattle.workspace_graph.specs.Filling.{names}
+use Rattle.workspace_graph.specs.Borrows.{names}
 use Rattle.build_carry.specs.Changes.{MarkFolders}
 use Rattle.build_carry.proofs.folders.folder_marks.Given as goal
 

@@ -3,7 +3,7 @@ use Rattle.std.proofs.Common.{◌≡◌, Some, length, slice_get, sym, ap, subst
 use Rattle.std.proofs.lemmas.List.{length-set}
 use Rattle.std.proofs.lemmas.Option.{slice_get_within}
 use Rattle.base_files.specs.Packages.{package_paths}
-use Rattle.workspace_check.specs.Told.{TellsVerdict}
+use Rattle.workspace_check.specs.KnownFindings.{IsKnownVerdict}
 use Rattle.workspace_check.proofs.Telling.{known_set}
 use Rattle.build_carry.proofs.learning.take_in.Goals as goal
 
@@ -23,5 +23,5 @@ returns-clause-known c =
     let p = c.args.verdict.now.finding.path in
     let path : c.path-2.result.now ≡ p = c.path-2.ensures ∙ c.path.ensures in
     let at : slice_get (package_paths w) c.in-Some.number ≡ Some p = c.in-Some.ensures ∙ ap Some path in
-    let tells : TellsVerdict w p c.in_ok-copy.copy = subst (TellsVerdict w p) (sym c.in_ok-copy.ensures.cases) c.requires.verdict in
+    let tells : IsKnownVerdict w p c.in_ok-copy.copy = subst (IsKnownVerdict w p) (sym c.in_ok-copy.ensures.cases) c.requires.verdict in
     known_set w c.args.known.now c.set.new.self c.in-Some.number p c.in_ok-copy.copy at c.set.ensures tells c.requires.known

@@ -6,7 +6,7 @@ use Rattle.std.proofs.lemmas.Result.{on_ok_weaker}
 use Rattle.types_expr.specs.View.{type_of}
 use Rattle.build_object.specs.LineView.{global_of}
 use Rattle.build_object.specs.PackagesView.{type_in}
-use Rattle.build_object.specs.Objects.{Variable, variable}
+use Rattle.build_object.specs.Objects.{Variable, known_variable}
 use Rattle.build_object.specs.ObjectText.{declaration_text}
 use Rattle.build_object.specs.DeclarationsView.{initial_view}
 use Rattle.build_object.proofs.declarations.push_named.Goals as goal
@@ -15,7 +15,7 @@ pub returns-in-None : goal.returns-in-None
 returns-in-None c =
     sym (append-nil c.args.text.now.items)
     ∙ ap (λ o. c.args.text.now.items ++ flat_map (declaration_text (type_in c.args.source.now.packages.now))
-    (variable (Some (type_of c.args.own.now)) o (option_map initial_view c.args.value))) c.in-None.ensures
+    (known_variable (Some (type_of c.args.own.now)) o (option_map initial_view c.args.value))) c.in-None.ensures
 
 pub returns-in-Some : goal.returns-in-Some
 returns-in-Some c =
@@ -24,5 +24,5 @@ returns-in-Some c =
     (append-nil (declaration_text (type_in c.args.source.now.packages.now)
     (Variable (global_of c.in-Some.name) (type_of c.args.own.now) (option_map initial_view c.args.value)))))
     ∙ ap (λ o. c.args.text.now.items ++ flat_map (declaration_text (type_in c.args.source.now.packages.now))
-    (variable (Some (type_of c.args.own.now)) o (option_map initial_view c.args.value))) c.in-Some.ensures))
+    (known_variable (Some (type_of c.args.own.now)) o (option_map initial_view c.args.value))) c.in-Some.ensures))
     c.push_variable.ensures

@@ -9,7 +9,7 @@ use Rattle.types_expr.specs.Lists.{operands_in, arguments_in, elements_in}
 use Rattle.build_object.specs.Expressions.{operand_of, operations, argument_lines, keyed_lines, bare_lines, key_position, value_lines}
 use Rattle.build_object.specs.Lines.{With, MakeSlice, line_if_known}
 use Rattle.build_object.specs.LineView.{line_of}
-use Rattle.build_object.specs.Making.{lines_for, standing_of, before_link}
+use Rattle.build_object.specs.Making.{lines_for, mode_of, before_link}
 use Rattle.build_object.specs.Operands.{calling}
 use Rattle.build_object.proofs.Putting.{puts_none, puts_as, puts_then, puts_more}
 use Rattle.types_expr.proofs.Equations.{ok_map}
@@ -70,8 +70,8 @@ operand-returns-in_ok-want-in-Chain t c = on_ok_weaker c.operand-in-Chain.result
     (chain_here (source_of c.args.scope.source.now) c.args.scope.slots.now.places.items _ _ c.in-Chain.is _ _ c.deref-in-Chain-3.ensures
     c.deref-in-Chain-2.ensures.value) ∙ settled_lines c.args.want _)
     (puts_on (operand_of (source_of c.args.scope.source.now) c.args.scope.slots.now.places.items (expr_view c.deref-in-Chain-3.result.now))
-    (ap before_link (ap (λ z. (operand_of (source_of c.args.scope.source.now) c.args.scope.slots.now.places.items (expr_view z)).standing)
-    (c.deref-in-Chain-3.ensures ∙ sym c.deref-in-Chain.ensures) ∙ sym c.standing-head.ensures)) c.in_ok-want-in-Chain.ensures q)) c.operand-in-Chain.ensures
+    (ap before_link (ap (λ z. (operand_of (source_of c.args.scope.source.now) c.args.scope.slots.now.places.items (expr_view z)).mode)
+    (c.deref-in-Chain-3.ensures ∙ sym c.deref-in-Chain.ensures) ∙ sym c.mode-head.ensures)) c.in_ok-want-in-Chain.ensures q)) c.operand-in-Chain.ensures
 
 pub operand-returns-in_ok-operations-in-Binary : goal.operand-returns-in_ok-operations-in-Binary
 operand-returns-in_ok-operations-in-Binary t c = on_ok_weaker c.operand-in-Binary.result
@@ -94,7 +94,7 @@ pub link-returns-in_ok-arguments-in-Call : goal.link-returns-in_ok-arguments-in-
 link-returns-in_ok-arguments-in-Call t c = goes_as
     (λ o. call_here (source_of c.args.scope.source.now) c.args.scope.slots.now.places.items _ _ _ o c.in-Call.is _ c.deref.ensures.value)
     (goes_call _ _ c.args.want (puts_as
-    (ap (λ n. calling n (standing_of c.args.standing)) (ap length c.deref.ensures.value ∙ sym (c.len.ensures ∙ c.in-Call.list.ok.0)))
+    (ap (λ n. calling n (mode_of c.args.mode)) (ap length c.deref.ensures.value ∙ sym (c.len.ensures ∙ c.in-Call.list.ok.0)))
     c.in_ok-put_call-in-Call.ensures) c.in_ok-arguments-in-Call.ensures)
 
 pub chain-loop-i-init : goal.chain-loop-i-init
@@ -103,8 +103,8 @@ chain-loop-i-init t c = over_none (source_of c.args.scope.source.now) c.args.sco
 
 pub chain-loop-i-preserved : goal.chain-loop-i-preserved
 chain-loop-i-preserved t c = over_turn (source_of c.args.scope.source.now) c.args.scope.slots.now.places.items c.args.links.now c.loop-i.i _ c.args.head
-    c.standing_before-standing.result c.args.want c.loop-i.want c.in_ok-want.want c.args.code.now c.loop-i.code c.link.new.code (omega arith) (omega arith)
-    c.index-links-i.is c.loop-i.invariant c.standing_before-standing.ensures c.in_ok-want.ensures
+    c.mode_before-mode.result c.args.want c.loop-i.want c.in_ok-want.want c.args.code.now c.loop-i.code c.link.new.code (omega arith) (omega arith)
+    c.index-links-i.is c.loop-i.invariant c.mode_before-mode.ensures c.in_ok-want.ensures
 
 pub chain-returns : goal.chain-returns
 chain-returns t c = over_end (source_of c.args.scope.source.now) c.args.scope.slots.now.places.items c.args.links.now c.loop-i.i c.args.head c.args.want

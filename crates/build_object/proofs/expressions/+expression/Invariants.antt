@@ -4,7 +4,7 @@ use Rattle.types_expr.specs.Lists.{operands_in, arguments_in, elements_in}
 use Rattle.build_object.specs.LineView.{Puts}
 use Rattle.build_object.specs.SourceView.{source_of}
 use Rattle.build_object.specs.Expressions.{operations, argument_lines, keyed_lines, bare_lines}
-use Rattle.build_object.specs.Making.{GoesOnFrom}
+use Rattle.build_object.specs.Making.{AppliesLines}
 use Rattle.build_object.proofs.Going.{GoesOver}
 use Rattle.build_object.proofs.expressions.+expression.Given as goal
 
@@ -13,7 +13,7 @@ invariant-chain-loop-i l =
     GoesOver (source_of l.scope.source.now) l.scope.slots.now.places.items l.links l.i l.head l.fn.want l.want l.initial.code l.code
 
 abbrev pub invariant-operations-loop-i : goal.invariant-operations-loop-i
-invariant-operations-loop-i l = GoesOnFrom (λ a. operations (source_of l.scope.source.now) l.scope.slots.now.places.items a (operands_in (drop l.i l.rest)))
+invariant-operations-loop-i l = AppliesLines (λ a. operations (source_of l.scope.source.now) l.scope.slots.now.places.items a (operands_in (drop l.i l.rest)))
     l.initial.code l.code
 
 abbrev pub invariant-arguments-loop-i : goal.invariant-arguments-loop-i

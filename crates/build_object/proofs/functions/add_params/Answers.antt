@@ -5,7 +5,7 @@ use Rattle.go_ast.specs.View.{list_view}
 use Rattle.go_ast.specs.FileView.{param_view}
 use Rattle.types_expr.specs.View.{type_of}
 use Rattle.types_expr.specs.WorldView.{world_of}
-use Rattle.types_declared.specs.Bound.{parameter_types}
+use Rattle.types_declared.specs.MeaningOf.{parameter_types}
 use Rattle.build_object.specs.Objects.{all_written, written}
 use Rattle.build_object.proofs.Loops.{rest_step, rest_end}
 use Rattle.build_object.proofs.TypeParts.{for_params}

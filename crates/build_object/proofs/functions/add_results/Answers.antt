@@ -5,7 +5,7 @@ use Rattle.go_ast.specs.View.{type_view}
 use Rattle.go_ast.specs.FileView.{results_view}
 use Rattle.types_expr.specs.View.{type_of}
 use Rattle.types_expr.specs.WorldView.{world_of}
-use Rattle.types_declared.specs.Bound.{result_types}
+use Rattle.types_declared.specs.MeaningOf.{result_types}
 use Rattle.build_object.specs.Objects.{all_written, written}
 use Rattle.build_object.proofs.Headers.{several_results}
 use Rattle.build_object.proofs.TypeParts.{for_results}

@@ -3,7 +3,7 @@ use Rattle.std.proofs.Common.{ap, sym, ◌∙◌, length}
 use Rattle.std.proofs.lemmas.List.{length-map}
 use Rattle.go_ast.specs.View.{item_view, list_view, type_view}
 use Rattle.go_ast.specs.FileView.{results_view}
-use Rattle.types_declared.specs.Bound.{result_types}
+use Rattle.types_declared.specs.MeaningOf.{result_types}
 use Rattle.build_object.proofs.functions.result_count.Goals as goal
 
 pub returns-in-Several : goal.returns-in-Several

@@ -1,7 +1,7 @@
 -- The answers to the goals of `names::add_field`.
 use Rattle.std.proofs.Common.{◌∷◌, [], ◌-◌, ◌++◌, ◌∙◌, ap, length}
 use Rattle.go_ast.specs.View.{list_view}
-use Rattle.go_ast.specs.FileView.{field_view, same_place}
+use Rattle.go_ast.specs.FileView.{field_view, same_index}
 use Rattle.build_object.specs.Names.{positions_from}
 use Rattle.build_object.proofs.NameParts.{positions_within, positions_step, positions_end}
 use Rattle.build_object.proofs.names.add_field.Goals as goal
@@ -22,5 +22,5 @@ unfolding field_view
 returns c =
     positions_end c.args.begin c.loop-name.positions.items _ c.deref-name-items.result.now c.loop-name._name-index c.loop-name-test.false
     c.loop-name.invariant.rest
-    ∙ ap (λ xs. c.args.positions.now.items ++ positions_from (length c.args.positions.now.items - c.args.begin) (list_view same_place xs))
+    ∙ ap (λ xs. c.args.positions.now.items ++ positions_from (length c.args.positions.now.items - c.args.begin) (list_view same_index xs))
     c.deref-name-items.ensures.value

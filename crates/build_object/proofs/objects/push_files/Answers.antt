@@ -1,7 +1,7 @@
 -- The answers to the goals of `objects::push_files`.
 use Rattle.std.proofs.Common.{◌≡◌, subst, length, arith}
 use Rattle.types_declared.specs.PackageView.{package_of}
-use Rattle.build_object.specs.ObjectSteps.{PutsFiles}
+use Rattle.build_object.specs.ObjectSteps.{PrintsFiles}
 use Rattle.build_object.proofs.Whole.{no_files, one_file_more}
 use Rattle.build_object.proofs.objects.push_files.Goals as goal
 
@@ -22,5 +22,5 @@ loop-file-preserved c = record {
 pub returns : goal.returns
 returns c =
     let e : c.loop-file.file ≡ length c.args.origin.unit.files.now = omega arith in
-    subst (λ n. PutsFiles (package_of c.args.origin.unit) n c.args.origin.members.now c.args.origin.packages.now c.args.origin.names.now c.loop-file.others
+    subst (λ n. PrintsFiles (package_of c.args.origin.unit) n c.args.origin.members.now c.args.origin.packages.now c.args.origin.names.now c.loop-file.others
     c.args.text.now.items c.loop-file.text.items) e c.loop-file.invariant.puts

@@ -14,7 +14,7 @@ pub returns-in_ok-put_pops-in-Expr : goal.returns-in_ok-put_pops-in-Expr
 unfolding simple_lines simple_view
 returns-in_ok-put_pops-in-Expr c = on_ok_weaker c.operand.result
     (λ q. puts_as (ap (λ v. simple_lines (source_of c.args.scope.source.now) c.args.scope.slots.now.places.items (simple_view v)) c.in-Expr.is)
-    (puts_then (puts_as (ap pops (sym (c.values.ensures ∙ ap value_count c.standing.ensures))) c.in_ok-put_pops-in-Expr.ensures) q)) c.operand.ensures
+    (puts_then (puts_as (ap pops (sym (c.values.ensures ∙ ap value_count c.mode.ensures))) c.in_ok-put_pops-in-Expr.ensures) q)) c.operand.ensures
 
 pub returns-in-Step : goal.returns-in-Step
 unfolding simple_lines simple_view

@@ -2,7 +2,7 @@
 use Rattle.std.proofs.Common.{ap, sym, ◌∙◌, arith}
 use Rattle.std.specs.Prelude.{slice_get}
 use Rattle.go_ast.specs.SourceFile.{source_of}
-use Rattle.build_object.specs.Walks.{file_positions}
+use Rattle.build_object.specs.RankLookup.{file_positions}
 use Rattle.build_object.proofs.Walking.{walked_next, walked_found, walked_all, nothing_there, positions_of_files}
 use Rattle.build_object.proofs.walks.position_at.Goals as goal
 

@@ -2,7 +2,7 @@
 use Rattle.std.proofs.Common.{◌≡◌, ◌+◌, length, take}
 use Rattle.std.specs.List.{flat_map}
 use Rattle.go_ast.specs.SourceFile.{source_of}
-use Rattle.build_object.specs.Walks.{file_positions}
+use Rattle.build_object.specs.RankLookup.{file_positions}
 use Rattle.build_object.proofs.walks.position_at.Given as goal
 
 abbrev pub invariant-loop-tree : goal.invariant-loop-tree

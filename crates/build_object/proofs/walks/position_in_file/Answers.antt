@@ -3,7 +3,7 @@ use Rattle.std.proofs.Common.{◌+◌, ap, sym, ◌∙◌, arith, length}
 use Rattle.std.specs.Prelude.{slice_get}
 use Rattle.go_ast.specs.FileView.{decl_view}
 use Rattle.types_declared.proofs.DeclaredParts.{decls_from}
-use Rattle.build_object.specs.Walks.{decl_positions}
+use Rattle.build_object.specs.RankLookup.{decl_positions}
 use Rattle.build_object.proofs.Walking.{walked_next, walked_found, walked_all}
 use Rattle.build_object.proofs.walks.position_in_file.Goals as goal
 

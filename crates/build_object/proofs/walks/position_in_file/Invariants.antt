@@ -2,7 +2,7 @@
 use Rattle.std.proofs.Common.{◌≡◌, ◌+◌, length, take}
 use Rattle.std.specs.List.{flat_map}
 use Rattle.go_ast.specs.FileView.{decl_view}
-use Rattle.build_object.specs.Walks.{decl_positions}
+use Rattle.build_object.specs.RankLookup.{decl_positions}
 use Rattle.build_object.proofs.walks.position_in_file.Given as goal
 
 abbrev pub invariant-loop-decl : goal.invariant-loop-decl

@@ -1,7 +1,7 @@
 -- One definition more, and all of them at the end.
 use Rattle.std.proofs.Common.{arith}
 use Rattle.go_ast.specs.FileView.{type_spec_view}
-use Rattle.build_object.specs.Walks.{spec_positions}
+use Rattle.build_object.specs.RankLookup.{spec_positions}
 use Rattle.build_object.proofs.Walking.{walked_next, walked_found, walked_all}
 use Rattle.build_object.proofs.walks.position_in_items.Goals as goal
 

@@ -2,7 +2,7 @@
 use Rattle.std.proofs.Common.{◌≡◌, ◌+◌, length, take}
 use Rattle.std.specs.List.{flat_map}
 use Rattle.go_ast.specs.FileView.{type_spec_view}
-use Rattle.build_object.specs.Walks.{spec_positions}
+use Rattle.build_object.specs.RankLookup.{spec_positions}
 use Rattle.build_object.proofs.walks.position_in_items.Given as goal
 
 abbrev pub invariant-loop-item : goal.invariant-loop-item

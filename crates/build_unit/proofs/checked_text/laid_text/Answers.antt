@@ -3,7 +3,7 @@ use Rattle.std.proofs.Common.{sym, ◌∙◌}
 use Rattle.std.proofs.lemmas.Option.{none-some}
 use Rattle.std.proofs.lemmas.Result.{IfOk-weaker}
 use Rattle.types_declared.specs.States.{state_in}
-use Rattle.types_declared.specs.InterfacesView.{name_in, interface_in}
+use Rattle.types_declared.specs.ExportTablesView.{name_in, export_data_in}
 use Rattle.build_unit.proofs.CheckedText.{parsed_all}
 use Rattle.build_unit.proofs.checked_text.laid_text.Goals as goal
 
@@ -19,7 +19,7 @@ returns-in-None c =
     let w = c.args.at.graph.now in
     let p = c.args.of.path.now in
     let files = c.args.of.files.now in
-    let i = c.args.of.interfaces.now in
+    let i = c.args.of.export_table.now in
     record {
       checked = IfOk-weaker c.no_text.result _ _ (λ made found known seen states. record {
         files = files.trees.items;
@@ -27,7 +27,7 @@ returns-in-None c =
         state = state_in i.states;
         are_states = states;
         name_of = name_in i;
-        interface_of = interface_in i;
+        export_data_of = export_data_in i;
         are_seen = seen;
         is_found = found;
       }) c.no_text.ensures.found;
@@ -36,7 +36,7 @@ returns-in-None c =
 
 pub returns-in-Some : goal.returns-in-Some
 returns-in-Some c =
-    let state = state_in c.args.of.interfaces.now.states in
+    let state = state_in c.args.of.export_table.now.states in
     let laid = c.requires.found c.in-Some.table c.in-Some.is in
     record {
       checked = IfOk-weaker c.table_text.result _ _ (λ made h known seen states. h known state laid seen states) c.table_text.ensures.checked;

@@ -2,13 +2,13 @@
 use Rattle.std.proofs.Common.{sym, subst, ◌∙◌}
 use Rattle.std.proofs.lemmas.Option.{same_Some, slice_get_within}
 use Rattle.base_files.specs.Packages.{package_paths}
-use Rattle.workspace_check.specs.Steps.{IsCheckedIn}
-use Rattle.workspace_check.specs.Told.{known_by}
+use Rattle.workspace_check.specs.Steps.{IsCheckResult}
+use Rattle.workspace_check.specs.KnownFindings.{verdicts_by}
 use Rattle.workspace_check.proofs.Gathering.{known_right}
 use Rattle.build_unit.proofs.checked_text.learn_text.Goals as goal
 
-pub told_text-requires : goal.told_text-requires
-told_text-requires c = record {
+pub gathered_text-requires : goal.gathered_text-requires
+gathered_text-requires c = record {
   at = c.requires.at;
   files = c.requires.files;
   read = c.requires.read;
@@ -28,7 +28,7 @@ learn-requires c =
       right = c.requires.right;
       unknown = c.requires.unknown;
       path = λ q there. c.in_ok-own.ensures.cases ∙ same_Some p q (sym at ∙ there);
-      checked = λ q there. subst (λ r. IsCheckedIn w (known_by all.interfaces) r checked) (same_Some p q (sym at ∙ there)) c.in_ok-made.ensures.checked;
+      checked = λ q there. subst (λ r. IsCheckResult w (verdicts_by all.export_table) r checked) (same_Some p q (sym at ∙ there)) c.in_ok-made.ensures.checked;
     }
 
 pub returns : goal.returns

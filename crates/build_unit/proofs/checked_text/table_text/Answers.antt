@@ -6,9 +6,9 @@ use Rattle.base_files.specs.Packages.{package_paths, package_files}
 use Rattle.go_ast.specs.SourceFile.{source_of}
 use Rattle.workspace_graph.specs.Parsed.{AreParsed}
 use Rattle.types_declared.specs.declared.states.ImportState.{ImportState}
-use Rattle.types_declared.specs.InterfacesView.{name_in, interface_in}
+use Rattle.types_declared.specs.ExportTablesView.{name_in, export_data_in}
 use Rattle.types_info.specs.PackageOf.{IsPackageOf, package_in}
-use Rattle.types_check.specs.Check.{IsLaid, inside}
+use Rattle.types_check.specs.Check.{IsSoundTable, inside}
 use Rattle.build_unit.specs.Compiling.{IsPackageAt}
 use Rattle.build_unit.proofs.CheckedText.{parsed_all}
 use Rattle.build_unit.proofs.checked_text.table_text.Goals as goal
@@ -27,15 +27,15 @@ returns c =
     let p = c.args.of.path.now in
     let at = c.requires.at.has_path in
     let trees = c.as_slice.result.now in
-    let i = c.args.of.interfaces.now in
+    let i = c.args.of.export_table.now in
     let table = c.args.table in
     let parsed : AreParsed (package_files w p) trees [] =
     subst (λ ts. AreParsed (package_files w p) ts []) (sym c.as_slice.ensures.value)
     (parsed_all w c.args.at.number p c.args.of.files.now at c.requires.files c.requires.read) in
-    let own = package_in p (map source_of trees) table (interface_in i) in
-    let here : (state : List ℕ → ImportState) → IsLaid c.args.of.files.now.trees.items state (name_in i) table → IsLaid trees state (name_in i) table =
-    λ state laid. subst (λ ts. IsLaid ts state (name_in i) table) (sym c.as_slice.ensures.value) laid in
-    let mine : (state : List ℕ → ImportState) → IsLaid trees state (name_in i) table → IsPackageOf p trees (name_in i) (interface_in i) own =
+    let own = package_in p (map source_of trees) table (export_data_in i) in
+    let here : (state : List ℕ → ImportState) → IsSoundTable c.args.of.files.now.trees.items state (name_in i) table → IsSoundTable trees state (name_in i) table =
+    λ state laid. subst (λ ts. IsSoundTable ts state (name_in i) table) (sym c.as_slice.ensures.value) laid in
+    let mine : (state : List ℕ → ImportState) → IsSoundTable trees state (name_in i) table → IsPackageOf p trees (name_in i) (export_data_in i) own =
     λ state laid. record { laid = table; is_laid = laid.is_laid; is_package = refl } in
     record {
       checked = IfOk-weaker c.unit_text.result _ _ (λ made checked known state laid seen states. record {
@@ -44,7 +44,7 @@ returns c =
         state = state;
         are_states = states;
         name_of = name_in i;
-        interface_of = interface_in i;
+        export_data_of = export_data_in i;
         are_seen = seen;
         is_found = inside {p = own} (here state laid).faultless (mine state (here state laid)) checked;
       }) c.unit_text.ensures.checked;
@@ -56,7 +56,7 @@ returns c =
           files = trees;
           parsed = parsed;
           name_of = name_in i;
-          interface_of = interface_in i;
+          export_data_of = export_data_in i;
           are_seen = seen;
           is_package = mine state (here state laid);
         };

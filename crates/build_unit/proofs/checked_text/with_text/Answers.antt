@@ -19,7 +19,7 @@ printed-requires c =
     record {
       index = c.requires.index;
       bounds = kept.bounds;
-      definitions = own_found (package_of c.args.unit) checked.faults.items checked.interface kept.faultless c.requires.checked.interface;
+      definitions = own_found (package_of c.args.unit) checked.faults.items checked.export_data kept.faultless c.requires.checked.export_data;
     }
 
 pub returns : goal.returns

@@ -3,7 +3,7 @@ use Rattle.std.proofs.Common.{sym, subst}
 use Rattle.std.proofs.lemmas.Option.{slice_get_within}
 use Rattle.std.specs.List.Sorted.{IsStrictlyIncreasing}
 use Rattle.base_files.specs.Packages.{package_paths}
-use Rattle.workspace_graph.specs.Graphs.{HoldsPackages}
+use Rattle.workspace_graph.specs.Graphs.{ListsPackages}
 use Rattle.workspace_graph.specs.Packages.{IsInClosure}
 use Rattle.build_unit.proofs.compiling.unit_at.Goals as goal
 
@@ -16,7 +16,7 @@ unit_of-requires c =
     let p = c.args.path.now in
     record {
       has_path = c.requires.at;
-      closure = subst (HoldsPackages w (IsInClosure w p)) (sym c.as_slice.ensures) (c.in_ok-closure.ensures.closure p c.requires.at);
+      closure = subst (ListsPackages w (IsInClosure w p)) (sym c.as_slice.ensures) (c.in_ok-closure.ensures.closure p c.requires.at);
       rising = subst IsStrictlyIncreasing (sym c.as_slice.ensures) c.in_ok-closure.ensures.rising;
       known = c.requires.known;
     }

@@ -2,12 +2,12 @@
 use Rattle.std.proofs.Common.{◌≡◌, [], sym, subst, ◌∙◌}
 use Rattle.std.specs.Prelude.{Option, option_copied}
 use Rattle.std.proofs.lemmas.Option.{none-some}
-use Rattle.types_expr.specs.declared.interfaces.Interface.{Interface}
-use Rattle.types_declared.specs.declared.interfaces.Interfaces.{Interfaces}
+use Rattle.types_expr.specs.declared.exports.ExportData.{ExportData}
+use Rattle.types_declared.specs.declared.export_tables.ExportTable.{ExportTable}
 use Rattle.workspace_check.specs.declared.finding.Finding.{Finding}
 use Rattle.workspace_check.proofs.Gathering.{known_right}
 use Rattle.workspace_check.proofs.Members.{vec_empty}
-use Rattle.build_unit.specs.Compiling.{IsFaultlessSeeing}
+use Rattle.build_unit.specs.Compiling.{IsFaultlessBySeen}
 use Rattle.build_unit.proofs.Faultless.{seen_faultless}
 use Rattle.build_unit.proofs.known_text.known_text.Goals as goal
 
@@ -25,13 +25,13 @@ object_of-requires-clause-found c =
     let below = known_right w p all right.right (right.below p c.requires.at.has_path) in
     let empty = subst (λ (g : Finding). g.faults.items ≡ []) c.finding-finding.ensures
     (vec_empty f.faults c.is_empty.result c.is_empty.ensures c.if-not-is_empty.false) in
-    let base : IsFaultlessSeeing w all.interfaces one.known p one.finding.members.items =
-    seen_faultless w p all.interfaces one.known one.finding below c.requires.told c.requires.verdict.right c.requires.verdict.finding empty in
-    let members : IsFaultlessSeeing w all.interfaces one.known p f.members.items =
-    subst (λ (g : Finding). IsFaultlessSeeing w all.interfaces one.known p g.members.items) (sym c.finding-finding.ensures) base in
-    let listed : IsFaultlessSeeing w all.interfaces one.known p c.deref.result.now =
-    subst (IsFaultlessSeeing w all.interfaces one.known p) (sym c.deref.ensures.value) members in
+    let base : IsFaultlessBySeen w all.export_table one.known p one.finding.members.items =
+    seen_faultless w p all.export_table one.known one.finding below c.requires.told c.requires.verdict.right c.requires.verdict.finding empty in
+    let members : IsFaultlessBySeen w all.export_table one.known p f.members.items =
+    subst (λ (g : Finding). IsFaultlessBySeen w all.export_table one.known p g.members.items) (sym c.finding-finding.ensures) base in
+    let listed : IsFaultlessBySeen w all.export_table one.known p c.deref.result.now =
+    subst (IsFaultlessBySeen w all.export_table one.known p) (sym c.deref.ensures.value) members in
     let own = option_copied c.get-own.result in
-    let told : IsFaultlessSeeing w all.interfaces own p c.deref.result.now =
-    subst (λ (k : Option Interface). IsFaultlessSeeing w all.interfaces k p c.deref.result.now) (sym (c.get-own.ensures ∙ c.known.ensures)) listed in
-    subst (λ (i : Interfaces). IsFaultlessSeeing w i own p c.deref.result.now) (sym c.interfaces-seen.ensures) told
+    let told : IsFaultlessBySeen w all.export_table own p c.deref.result.now =
+    subst (λ (k : Option ExportData). IsFaultlessBySeen w all.export_table k p c.deref.result.now) (sym (c.get-own.ensures ∙ c.known.ensures)) listed in
+    subst (λ (i : ExportTable). IsFaultlessBySeen w i own p c.deref.result.now) (sym c.export_table-seen.ensures) told

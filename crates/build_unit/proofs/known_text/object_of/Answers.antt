@@ -5,7 +5,7 @@ use Rattle.std.proofs.lemmas.Option.{same_Some, slice_get_within}
 use Rattle.std.proofs.lemmas.Result.{IfOk-weaker}
 use Rattle.base_files.specs.Packages.{package_paths, package_files}
 use Rattle.workspace_graph.specs.Parsed.{AreParsed}
-use Rattle.types_declared.specs.InterfacesView.{name_in, interface_in, interface_known}
+use Rattle.types_declared.specs.ExportTablesView.{name_in, export_data_in, export_data_known}
 use Rattle.types_info.specs.MemberUses.{uses_in}
 use Rattle.build_object.specs.ObjectView.{OwnDefinitionsOf, IsObjectTextOf}
 use Rattle.build_unit.specs.Compiling.{IsPackageAt}
@@ -35,8 +35,8 @@ object-requires c =
     let i = c.args.seen.now in
     let found = c.requires.found in
     let list = c.definitions_of-definitions.result.now in
-    subst (λ ts. OwnDefinitionsOf p ts (name_in i) (interface_in i) list) (sym c.as_slice-trees.ensures.value)
-    (definitions_by w p found.known one c.args.members.now found.faultless files.trees.items files.faulty.items parsed (name_in i) (interface_in i)
+    subst (λ ts. OwnDefinitionsOf p ts (name_in i) (export_data_in i) list) (sym c.as_slice-trees.ensures.value)
+    (definitions_by w p found.known one c.args.members.now found.faultless files.trees.items files.faulty.items parsed (name_in i) (export_data_in i)
     found.are_seen list c.definitions_of-definitions.ensures)
 
 pub returns : goal.returns
@@ -52,10 +52,10 @@ returns c =
     let found = c.requires.found in
     let packages = c.in_ok-packages.packages in
     let text = c.in_ok-text.text.items in
-    let made = subst (λ ts. IsObjectTextOf p ts (name_in i) (interface_in i) (map uses_in members) packages text) c.as_slice-trees.ensures.value
+    let made = subst (λ ts. IsObjectTextOf p ts (name_in i) (export_data_in i) (map uses_in members) packages text) c.as_slice-trees.ensures.value
     c.in_ok-text.ensures in
-    let compiled : IsCompiled w p (interface_known p one) text =
-    compiled_by w p found.known one members found.faultless files.trees.items files.faulty.items parsed (name_in i) (interface_in i)
+    let compiled : IsCompiled w p (export_data_known p one) text =
+    compiled_by w p found.known one members found.faultless files.trees.items files.faulty.items parsed (name_in i) (export_data_in i)
     found.are_seen packages text (c.in_ok-packages.ensures p c.requires.at.has_path) made in
-    IfOk-weaker c.new.result (λ t. t ≡ text) (IsCompiled w p (interface_known p one)) (λ t is. subst (IsCompiled w p (interface_known p one)) (sym is) compiled)
+    IfOk-weaker c.new.result (λ t. t ≡ text) (IsCompiled w p (export_data_known p one)) (λ t is. subst (IsCompiled w p (export_data_known p one)) (sym is) compiled)
     c.new.ensures

@@ -6,8 +6,8 @@ use Rattle.std.proofs.lemmas.List.Elements.{Contains-get_or}
 use Rattle.std.proofs.lemmas.Option.{slice_get_within}
 use Rattle.base_files.specs.Packages.{package_paths}
 use Rattle.go_ast.specs.SourceFile.{source_of}
-use Rattle.base_files.specs.Entries.{StandsBehind}
-use Rattle.types_info.proofs.BoundLists.{slice_get_some}
+use Rattle.base_files.specs.Entries.{IsAfterAllPaths}
+use Rattle.types_info.proofs.MeaningLists.{slice_get_some}
 use Rattle.workspace_check.proofs.Members.{taken_or_next, still_taken, next_taken}
 use Rattle.workspace_check.proofs.Underway.{above_taken}
 use Rattle.build_unit.specs.Compiling.{IsPackageAt}
@@ -51,7 +51,7 @@ push-requires c =
     let p = slice_get_some (package_paths at.graph.now) at.number c.requires.number in
     let k = c.loop-other.other-index in
     let q = c.package-files.result.now.path.items in
-    subst (λ x. StandsBehind x c.loop-other.names) (sym (c.in_ok-path.ensures q c.package-files.ensures.path))
+    subst (λ x. IsAfterAllPaths x c.loop-other.names) (sym (c.in_ok-path.ensures q c.package-files.ensures.path))
     (c.loop-other.invariant.before (get_or at.closure.now k 0) q c.package-files.ensures.path (above at p.0 (c.requires.at p.0 p.1) k (omega arith)))
 
 pub loop-other-preserved : goal.loop-other-preserved

@@ -3,7 +3,7 @@ use Rattle.std.proofs.Common.{◌∷◌, [], refl}
 use Rattle.go_ast.specs.declared.syntax.Kind.TheVariants as kind
 use Rattle.go_ast.specs.Grammar.{A, One, is, MoreNames}
 use Rattle.go_ast.specs.Flatten.{name_tokens, item_tokens}
-use Rattle.go_ast.specs.FileView.{same_place}
+use Rattle.go_ast.specs.FileView.{same_index}
 use Rattle.go_parser.specs.Machine.{first, later, last}
 use Rattle.go_parser.specs.ListSpelling.{item_spelled}
 use Rattle.go_ast.specs.View.{item_view}
@@ -31,7 +31,7 @@ names-preserved c = record {
 
 pub returns-clause-exact : goal.returns-clause-exact
 returns-clause-exact c = read_as (read_items (items_rest (One (is kind.Name) ∷ A MoreNames ∷ [])) _ refl c.names.invariant.leads c.names-test.false)
-    (all_tokens_map (item_tokens kind.Comma name_tokens) (item_view same_place) _)
+    (all_tokens_map (item_tokens kind.Comma name_tokens) (item_view same_index) _)
 
 pub returns-clause-formed : goal.returns-clause-formed
 returns-clause-formed c = listed_list _ _ _ _ c.names.invariant.formed c.names-test.false

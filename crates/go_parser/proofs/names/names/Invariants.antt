@@ -8,7 +8,7 @@ use Rattle.go_ast.specs.Flatten.{all_tokens}
 use Rattle.go_parser.specs.Parsing.{Leads}
 use Rattle.go_parser.specs.Listed.{IsListed}
 use Rattle.go_ast.specs.View.{item_view}
-use Rattle.go_ast.specs.FileView.{same_place}
+use Rattle.go_ast.specs.FileView.{same_index}
 use Rattle.go_ast.specs.WellFormed.{Any}
 use Rattle.go_parser.proofs.StatementSteps.{flag}
 use Rattle.go_parser.proofs.Lists.{items_rest}
@@ -18,7 +18,7 @@ abbrev pub invariant-names : goal.invariant-names
 invariant-names l = record {
   leads : Leads (One (is kind.Name) ∷ A MoreNames ∷ []) (items_rest (One (is kind.Name) ∷ A MoreNames ∷ []) l.more)
       (all_tokens (item_spelled kind.Comma name_tokens) l.names.items) l.depth l.fn.tokens l.depth l.rest;
-  formed : IsListed (λ x. Any x) (item_view same_place) l.more l.names.items;
+  formed : IsListed (λ x. Any x) (item_view same_index) l.more l.names.items;
 }
 
 abbrev pub decreases-names : goal.decreases-names

@@ -7,10 +7,10 @@ use Rattle.go_parser.proofs.MachineSteps.{refuses_one, at_end, at_token, read_on
 use Rattle.go_parser.proofs.operators.binary_operator.Goals as goal
 
 pub returns-in_default : goal.returns-in_default
-returns-in_default c = rw c.misplaced.ensures (refuses_one is_binary c.args.depth c.args.tokens.now (at_end is_binary c.args.tokens.now c.in_default.ensures))
+returns-in_default c = rw c.bad_token.ensures (refuses_one is_binary c.args.depth c.args.tokens.now (at_end is_binary c.args.tokens.now c.in_default.ensures))
 
 pub returns-in_default-binary_op : goal.returns-in_default-binary_op
-returns-in_default-binary_op c = rw c.misplaced-in_default-binary_op.ensures (refuses_one is_binary c.args.depth c.args.tokens.now
+returns-in_default-binary_op c = rw c.bad_token-in_default-binary_op.ensures (refuses_one is_binary c.args.depth c.args.tokens.now
     (at_token is_binary false c.in-Some.first c.args.tokens.now c.in-Some.rest.now c.in-Some.ensures
     (binary_none c.in-Some.first.kind (sym c.in_default-binary_op.ensures))))
 

@@ -7,11 +7,11 @@ use Rattle.go_parser.proofs.Grouping.{leaf_grouped}
 use Rattle.go_parser.proofs.operators.leaf.Goals as goal
 
 pub returns-in_default-clause-exact : goal.returns-in_default-clause-exact
-returns-in_default-clause-exact c = rw c.misplaced.ensures
+returns-in_default-clause-exact c = rw c.bad_token.ensures
     (refuses_one is_leaf c.args.depth c.args.tokens.now (at_end is_leaf c.args.tokens.now c.in_default.ensures))
 
 pub returns-in_default-leaf_of-clause-exact : goal.returns-in_default-leaf_of-clause-exact
-returns-in_default-leaf_of-clause-exact c = rw c.misplaced-in_default-leaf_of.ensures (refuses_one is_leaf c.args.depth c.args.tokens.now
+returns-in_default-leaf_of-clause-exact c = rw c.bad_token-in_default-leaf_of.ensures (refuses_one is_leaf c.args.depth c.args.tokens.now
     (at_token is_leaf false c.in-Some.first c.args.tokens.now c.in-Some.rest.now c.in-Some.ensures
     (leaf_none c.in-Some.first.place c.in-Some.first.kind (sym c.in_default-leaf_of.ensures))))
 

@@ -7,11 +7,11 @@ use Rattle.go_parser.proofs.MachineSteps.{refuses_opening, opens_too_deep, at_en
 use Rattle.go_parser.proofs.operators.open_prefix.Goals as goal
 
 pub returns-in_default : goal.returns-in_default
-returns-in_default c = rw c.misplaced.ensures (refuses_opening is_prefix c.args.depth c.args.tokens.now
+returns-in_default c = rw c.bad_token.ensures (refuses_opening is_prefix c.args.depth c.args.tokens.now
     (at_end is_prefix c.args.tokens.now c.in_default.ensures))
 
 pub returns-in_default-prefix_op : goal.returns-in_default-prefix_op
-returns-in_default-prefix_op c = rw c.misplaced-in_default-prefix_op.ensures (refuses_opening is_prefix c.args.depth c.args.tokens.now
+returns-in_default-prefix_op c = rw c.bad_token-in_default-prefix_op.ensures (refuses_opening is_prefix c.args.depth c.args.tokens.now
     (at_token is_prefix false c.in-Some.first c.args.tokens.now c.in-Some.rest.now c.in-Some.ensures
     (prefix_none c.in-Some.first.kind (sym c.in_default-prefix_op.ensures))))
 

@@ -14,5 +14,5 @@ returns-then-is_empty-clause-exact c = whole_taken
 
 pub returns-else-is_empty-clause-exact : goal.returns-else-is_empty-clause-exact
 returns-else-is_empty-clause-exact c = λ k left e.
-    subst (Run 0 (A File ∷ []) c.args.tokens.now) (ap outcome_of (sym c.misplaced.ensures ∙ e))
+    subst (Run 0 (A File ∷ []) c.args.tokens.now) (ap outcome_of (sym c.bad_token.ensures ∙ e))
     (whole_left c.in_ok-file.rest.now (sym c.is_empty.ensures ∙ c.if-is_empty.false) c.in_ok-file.ensures.exact)

@@ -2,7 +2,7 @@
 use Rattle.std.proofs.Common.{◌∷◌, ◌++◌, ap, sym, ◌∙◌}
 use Rattle.go_ast.specs.Flatten.{sign}
 use Rattle.go_parser.specs.Spelling.{exprs_spelled}
-use Rattle.go_parser.specs.Words.{set_kind}
+use Rattle.go_parser.specs.TokenClasses.{set_kind}
 use Rattle.go_parser.proofs.MachineSteps.{exits, fails_first, fails_later, read_then}
 use Rattle.go_parser.proofs.StatementSteps.{continued}
 use Rattle.go_parser.proofs.FormedStatements.{assign_formed, define_formed}

@@ -3,7 +3,7 @@ use Rattle.std.proofs.Common.{◌∷◌, [], refl}
 use Rattle.go_ast.specs.declared.syntax.Kind.TheVariants as kind
 use Rattle.go_ast.specs.Grammar.{A, Expression, MoreExpressions, in_head}
 use Rattle.go_parser.specs.Machine.{first, last, later}
-use Rattle.go_parser.specs.Words.{setting_of}
+use Rattle.go_parser.specs.TokenClasses.{setting_of}
 use Rattle.go_parser.proofs.MachineSteps.{exits, fails_first, fails_leads, fails_rule}
 use Rattle.go_parser.proofs.StatementSteps.{continued_items, continued_rule, from_begun, from_more, from_push, leads_item}
 use Rattle.go_parser.proofs.ListedSteps.{listed_list, listed_push}

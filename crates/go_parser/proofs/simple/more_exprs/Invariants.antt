@@ -2,7 +2,7 @@
 use Rattle.std.proofs.Common.{◌∷◌, [], length, ◌+◌}
 use Rattle.go_ast.specs.Grammar.{A, Expression, MoreExpressions, in_head}
 use Rattle.go_parser.specs.Spelling.{exprs_spelled}
-use Rattle.go_parser.specs.Words.{setting_of}
+use Rattle.go_parser.specs.TokenClasses.{setting_of}
 use Rattle.go_parser.specs.Listed.{IsListed}
 use Rattle.go_ast.specs.View.{expr_item_view}
 use Rattle.go_ast.specs.WellFormed.{IsExprIn}

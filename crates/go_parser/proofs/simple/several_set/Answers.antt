@@ -1,9 +1,9 @@
 -- The answers to the goals of `simple::several_set`.
 use Rattle.std.proofs.Common.{◌∷◌, [], sym, refl}
 use Rattle.go_ast.specs.declared.syntax.Kind.TheVariants as kind
-use Rattle.go_ast.specs.Grammar.{A, Expressions, One, in_head, is, sets}
+use Rattle.go_ast.specs.Grammar.{A, Expressions, One, in_head, is, may_set}
 use Rattle.go_parser.specs.Spelling.{expr_spelled}
-use Rattle.go_parser.specs.Words.{setting_of}
+use Rattle.go_parser.specs.TokenClasses.{setting_of}
 use Rattle.go_parser.proofs.MachineSteps.{exits, fails_first, fails_later}
 use Rattle.go_parser.proofs.StatementSteps.{continued, continued_on, continues_then}
 use Rattle.go_parser.proofs.FormedStatements.{begun_list}
@@ -19,7 +19,7 @@ returns-in_err-left-clause-exact c = exits _ _ _ _ c.in_err-left.field-0.0 c.fro
 
 pub returns-clause-exact : goal.returns-clause-exact
 returns-clause-exact c = continues_then (One (is kind.Comma) ∷ A (Expressions (in_head (setting_of c.args.setting))) ∷ [])
-    (One (sets (setting_of c.args.setting)) ∷ A (Expressions (in_head (setting_of c.args.setting))) ∷ []) _ _ _ _ _ _ _ c.assignment.result
+    (One (may_set (setting_of c.args.setting)) ∷ A (Expressions (in_head (setting_of c.args.setting))) ∷ []) _ _ _ _ _ _ _ c.assignment.result
     (continued_on (continued (expr_spelled c.args.first) c.in_ok-comma.ensures (sym c.in_ok-begun.ensures.spelled)) c.in_ok-left.ensures.exact)
     c.assignment.ensures.exact
 

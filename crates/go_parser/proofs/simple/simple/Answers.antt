@@ -1,7 +1,7 @@
 -- The answers to the goals of `simple::simple`.
 use Rattle.std.proofs.Common.{◌∷◌, []}
 use Rattle.go_ast.specs.Grammar.{A, Expression, SimpleRest, in_head}
-use Rattle.go_parser.specs.Words.{setting_of}
+use Rattle.go_parser.specs.TokenClasses.{setting_of}
 use Rattle.go_parser.proofs.MachineSteps.{exits, fails_first}
 use Rattle.go_parser.proofs.StatementSteps.{then_continues}
 use Rattle.go_parser.proofs.simple.simple.Goals as goal

@@ -1,10 +1,10 @@
 -- The answers to the goals of `simple::simple_rest`.
 use Rattle.std.proofs.Common.{◌∷◌, [], sym, ◌∙◌}
 use Rattle.go_ast.specs.declared.syntax.Kind.TheVariants as kind
-use Rattle.go_ast.specs.Grammar.{A, Expression, Expressions, One, in_head, is, is_step, is_update, sets}
+use Rattle.go_ast.specs.Grammar.{A, Expression, Expressions, One, in_head, is, is_step, is_update, may_set}
 use Rattle.go_parser.specs.Machine.{first, last, later}
 use Rattle.go_parser.specs.Spelling.{expr_spelled}
-use Rattle.go_parser.specs.Words.{setting_of}
+use Rattle.go_parser.specs.TokenClasses.{setting_of}
 use Rattle.go_parser.proofs.MachineSteps.{read_end, read_rule}
 use Rattle.go_parser.proofs.StatementSteps.{continued, continues_rule}
 use Rattle.go_parser.proofs.FormedStatements.{alone_formed}
@@ -24,13 +24,13 @@ returns-then-at_update-clause-exact c = continues_rule _ (One is_update ∷ A (E
     c.updated.result (later (sym c.at_step.ensures ∙ c.if-at_step.false) (first (sym c.at_update.ensures ∙ c.if-at_update.true))) c.updated.ensures.exact
 
 pub returns-then-at_set-clause-exact : goal.returns-then-at_set-clause-exact
-returns-then-at_set-clause-exact c = continues_rule _ (One (sets (setting_of c.args.setting)) ∷ A (Expressions (in_head (setting_of c.args.setting))) ∷ [])
+returns-then-at_set-clause-exact c = continues_rule _ (One (may_set (setting_of c.args.setting)) ∷ A (Expressions (in_head (setting_of c.args.setting))) ∷ [])
     _ _ _ _ _ c.one_set.result (later (sym c.at_step.ensures ∙ c.if-at_step.false)
     (later (sym c.at_update.ensures ∙ c.if-at_update.false) (first (sym c.at_set.ensures ∙ c.if-at_set.true)))) c.one_set.ensures.exact
 
 pub returns-then-at-clause-exact : goal.returns-then-at-clause-exact
 returns-then-at-clause-exact c = continues_rule _ (One (is kind.Comma) ∷ A (Expressions (in_head (setting_of c.args.setting))) ∷ One
-    (sets (setting_of c.args.setting)) ∷ A (Expressions (in_head (setting_of c.args.setting))) ∷ []) _ _ _ _ _ c.several_set.result
+    (may_set (setting_of c.args.setting)) ∷ A (Expressions (in_head (setting_of c.args.setting))) ∷ []) _ _ _ _ _ c.several_set.result
     (later (sym c.at_step.ensures ∙ c.if-at_step.false)
     (later (sym c.at_update.ensures ∙ c.if-at_update.false)
     (later (sym c.at_set.ensures ∙ c.if-at_set.false) (first (sym c.at.ensures ∙ c.if-at.true))))) c.several_set.ensures.exact

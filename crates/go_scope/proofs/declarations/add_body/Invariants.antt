@@ -1,9 +1,9 @@
 -- The invariants of the loops of `declarations::add_body`.
 use Rattle.std.proofs.Common.{take}
 use Rattle.std.specs.List.{flat_map}
-use Rattle.go_scope.specs.Found.{source_of, Adds}
+use Rattle.go_scope.specs.IdentifierViews.{as_source, AddsTo}
 use Rattle.go_scope.proofs.FileParts.{field_part}
 use Rattle.go_scope.proofs.declarations.add_body.Given as goal
 
 abbrev pub invariant-loop-item : goal.invariant-loop-item
-invariant-loop-item l = Adds l.initial.found.items l.found.items (flat_map (field_part (source_of l.source)) (take l.item-index l.item-items))
+invariant-loop-item l = AddsTo l.initial.found.items l.found.items (flat_map (field_part (as_source l.source)) (take l.item-index l.item-items))

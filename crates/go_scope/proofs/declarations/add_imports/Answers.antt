@@ -1,6 +1,6 @@
 -- The answers to the goals of `declarations::add_imports`.
 use Rattle.std.proofs.Common.{ap, sym, arith}
-use Rattle.go_scope.specs.Found.{source_of}
+use Rattle.go_scope.specs.IdentifierViews.{as_source}
 use Rattle.go_scope.proofs.Adding.{adds_as, call_adds, each_all}
 use Rattle.go_scope.specs.StatementSites.{group_sites}
 use Rattle.go_scope.specs.FileSites.{spec_sites, import_sites, imports_sites}
@@ -12,11 +12,11 @@ use Rattle.go_scope.proofs.declarations.add_imports.Goals as goal
 pub returns-in-Single : goal.returns-in-Single
 unfolding group_sites group_view imports_sites imports_view
 returns-in-Single c = call_adds _ _ c.add_import_spec.result c.add_import_spec.ensures
-    (ap (λ v. spec_sites (import_sites (source_of c.args.source.now)) (group_view import_view v)) (sym c.in-Single.is))
+    (ap (λ v. spec_sites (import_sites (as_source c.args.source.now)) (group_view import_view v)) (sym c.in-Single.is))
 
 pub returns-after-loop-item : goal.returns-after-loop-item
 unfolding imports_sites imports_view
 returns-after-loop-item c =
-    adds_as (each_all (import_part (source_of c.args.source.now)) c.deref-item-items.result.now c.loop-item.item-index (omega arith) c.loop-item.invariant)
-    (spec_from (import_sites (source_of c.args.source.now)) import_view c.args.decl.now.group c.in-Several.«open» c.in-Several.items c.in-Several.close _
+    adds_as (each_all (import_part (as_source c.args.source.now)) c.deref-item-items.result.now c.loop-item.item-index (omega arith) c.loop-item.invariant)
+    (spec_from (import_sites (as_source c.args.source.now)) import_view c.args.decl.now.group c.in-Several.«open» c.in-Several.items c.in-Several.close _
     c.in-Several.is c.deref-item-items.ensures.value)

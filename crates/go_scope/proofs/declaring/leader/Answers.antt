@@ -3,8 +3,8 @@ use Rattle.std.proofs.Common.{ℕ, ◌≡◌, ◌∷◌, [], ◌∙◌, List, ap
 use Rattle.go_scope.specs.declared.model.Block.{Block}
 use Rattle.go_scope.specs.Bindings.{block_of}
 use Rattle.go_scope.specs.Leading.{IsFirstIn}
-use Rattle.go_scope.specs.Numbering.{told}
-use Rattle.go_scope.specs.Outer.{block_in, outer_of}
+use Rattle.go_scope.specs.Numbering.{numerals}
+use Rattle.go_scope.specs.OuterBlocks.{block_in, outer_of}
 use Rattle.go_scope.specs.Table.{layout_of}
 use Rattle.go_scope.proofs.Linking.{inner_if, block_back}
 use Rattle.go_scope.proofs.declaring.leader.Goals as goal
@@ -17,7 +17,7 @@ first_inside-requires-clause-inner c =
 pub returns-in-Some : goal.returns-in-Some
 returns-in-Some c =
     let l = layout_of c.args.identifiers.now in
-    let names = told c.args.names.now in
+    let names = numerals c.args.names.now in
     let own = block_of (l.role c.args.d) in
     let outer : outer_of own ≡ _ = ap outer_of (sym (c.block.ensures ∙ ap block_of c.role_at.ensures)) ∙ sym c.outer.ensures ∙ c.in-Some.is in
     let N : List ℕ → Type 0 = λ n. IsFirstIn l names n (block_in c.in-Some.block) c.args.d c.first_outside.result in

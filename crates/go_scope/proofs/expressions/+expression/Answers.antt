@@ -1,7 +1,7 @@
 -- The answers to the goals of `expressions::expression`.
 use Rattle.std.proofs.Common.{ap, sym, ◌∙◌, arith}
 use Rattle.go_scope.specs.ExpressionSites.{expr_sites, link_sites}
-use Rattle.go_scope.specs.Found.{source_of}
+use Rattle.go_scope.specs.IdentifierViews.{as_source}
 use Rattle.go_scope.proofs.Adding.{adds_none, adds_as, adds_then, call_adds, each_step, each_all}
 use Rattle.go_scope.proofs.Parts.{leaf_none, link_part, operand_part, argument_part, element_part, chain_from, binary_from, call_from, index_from, literal_read}
 use Rattle.go_ast.specs.View.{expr_view, link_view}
@@ -9,47 +9,47 @@ use Rattle.go_scope.proofs.expressions.+expression.Goals as goal
 
 pub add_expr-returns-in-Name : goal.add_expr-returns-in-Name
 unfolding expr_sites expr_view
-add_expr-returns-in-Name t c = call_adds _ _ c.add.result c.add.ensures (ap (λ v. expr_sites (source_of c.args.source.now) (expr_view v)) (sym c.in-Name.is))
+add_expr-returns-in-Name t c = call_adds _ _ c.add.result c.add.ensures (ap (λ v. expr_sites (as_source c.args.source.now) (expr_view v)) (sym c.in-Name.is))
 
 pub add_expr-returns-in-Blank : goal.add_expr-returns-in-Blank
 unfolding expr_sites expr_view
 add_expr-returns-in-Blank t c = call_adds _ _ c.add-in-Blank.result c.add-in-Blank.ensures
-    (ap (λ v. expr_sites (source_of c.args.source.now) (expr_view v)) (sym c.in-Blank.is))
+    (ap (λ v. expr_sites (as_source c.args.source.now) (expr_view v)) (sym c.in-Blank.is))
 
 pub add_expr-returns-in-Composite : goal.add_expr-returns-in-Composite
 unfolding expr_sites expr_view
 add_expr-returns-in-Composite t c = call_adds _ _ c.add_literal.result c.add_literal.ensures
-    (ap (λ v. expr_sites (source_of c.args.source.now) (expr_view v)) (sym c.in-Composite.is))
+    (ap (λ v. expr_sites (as_source c.args.source.now) (expr_view v)) (sym c.in-Composite.is))
 
 pub add_expr-returns-in-Paren : goal.add_expr-returns-in-Paren
 unfolding expr_sites expr_view
 add_expr-returns-in-Paren t c =
     call_adds _ _ c.add_expr.result c.add_expr.ensures
-    (ap (λ v. expr_sites (source_of c.args.source.now) (expr_view v)) c.deref.ensures ∙
-    ap (λ v. expr_sites (source_of c.args.source.now) (expr_view v)) (sym c.in-Paren.is))
+    (ap (λ v. expr_sites (as_source c.args.source.now) (expr_view v)) c.deref.ensures ∙
+    ap (λ v. expr_sites (as_source c.args.source.now) (expr_view v)) (sym c.in-Paren.is))
 
 pub add_expr-returns-in-Prefix : goal.add_expr-returns-in-Prefix
 unfolding expr_sites expr_view
 add_expr-returns-in-Prefix t c =
     call_adds _ _ c.add_expr-in-Prefix.result c.add_expr-in-Prefix.ensures
-    (ap (λ v. expr_sites (source_of c.args.source.now) (expr_view v)) c.deref-in-Prefix.ensures ∙
-    ap (λ v. expr_sites (source_of c.args.source.now) (expr_view v)) (sym c.in-Prefix.is))
+    (ap (λ v. expr_sites (as_source c.args.source.now) (expr_view v)) c.deref-in-Prefix.ensures ∙
+    ap (λ v. expr_sites (as_source c.args.source.now) (expr_view v)) (sym c.in-Prefix.is))
 
 pub add_expr-returns-in-Address : goal.add_expr-returns-in-Address
 unfolding expr_sites expr_view
 add_expr-returns-in-Address t c = call_adds _ _ c.add_literal-in-Address.result c.add_literal-in-Address.ensures
-    (ap (λ v. expr_sites (source_of c.args.source.now) (expr_view v)) (sym c.in-Address.is))
+    (ap (λ v. expr_sites (as_source c.args.source.now) (expr_view v)) (sym c.in-Address.is))
 
 pub add_expr-returns-after-loop-link : goal.add_expr-returns-after-loop-link
 add_expr-returns-after-loop-link t c =
     adds_as (adds_then c.in_ok-add_expr-in-Chain.ensures
-    (each_all (link_part (source_of c.args.source.now)) c.deref-link-items.result.now c.loop-link.link-index (omega arith) c.loop-link.invariant))
+    (each_all (link_part (as_source c.args.source.now)) c.deref-link-items.result.now c.loop-link.link-index (omega arith) c.loop-link.invariant))
     (chain_from _ _ c.in-Chain.first c.in-Chain.links _ _ c.in-Chain.is c.deref-in-Chain.ensures c.deref-link-items.ensures.value)
 
 pub add_expr-returns-after-loop-operand : goal.add_expr-returns-after-loop-operand
 add_expr-returns-after-loop-operand t c =
     adds_as (adds_then c.in_ok-add_expr-in-Binary.ensures
-    (each_all (operand_part (source_of c.args.source.now)) c.deref-operand-items.result.now c.loop-operand.operand-index (omega arith)
+    (each_all (operand_part (as_source c.args.source.now)) c.deref-operand-items.result.now c.loop-operand.operand-index (omega arith)
     c.loop-operand.invariant))
     (binary_from _ _ c.in-Binary.first c.in-Binary.rest _ _ c.in-Binary.is c.deref-in-Binary.ensures c.deref-operand-items.ensures.value)
 
@@ -63,7 +63,7 @@ add_expr-returns-in-Number-2 t c = adds_as (adds_none c.args.found.now.items) (l
 
 pub add_link-returns-in-Selector : goal.add_link-returns-in-Selector
 unfolding link_sites link_view
-add_link-returns-in-Selector t c = call_adds _ _ c.add.result c.add.ensures (ap (link_part (source_of c.args.source.now)) (sym c.in-Selector.is))
+add_link-returns-in-Selector t c = call_adds _ _ c.add.result c.add.ensures (ap (link_part (as_source c.args.source.now)) (sym c.in-Selector.is))
 
 pub add_link-returns-in-Index : goal.add_link-returns-in-Index
 add_link-returns-in-Index t c = call_adds _ _ c.add_expr.result c.add_expr.ensures
@@ -71,27 +71,27 @@ add_link-returns-in-Index t c = call_adds _ _ c.add_expr.result c.add_expr.ensur
 
 pub add_link-returns-after-loop-argument : goal.add_link-returns-after-loop-argument
 add_link-returns-after-loop-argument t c =
-    adds_as (each_all (argument_part (source_of c.args.source.now)) c.deref-argument-items.result.now c.loop-argument.argument-index (omega arith)
+    adds_as (each_all (argument_part (as_source c.args.source.now)) c.deref-argument-items.result.now c.loop-argument.argument-index (omega arith)
     c.loop-argument.invariant)
     (call_from _ _ c.in-Call.open c.in-Call.arguments c.in-Call.close _ c.in-Call.is c.deref-argument-items.ensures.value)
 
 pub add_literal-returns : goal.add_literal-returns
 add_literal-returns t c =
-    adds_as (adds_then c.in_ok-add_type.ensures (each_all (element_part (source_of c.args.source.now)) c.deref-element-items.result.now
+    adds_as (adds_then c.in_ok-add_type.ensures (each_all (element_part (as_source c.args.source.now)) c.deref-element-items.result.now
     c.loop-element.element-index (omega arith) c.loop-element.invariant))
     (literal_read _ c.args.literal.now _ c.deref-element-items.ensures.value)
 
 pub add_expr-loop-link-preserved : goal.add_expr-loop-link-preserved
 add_expr-loop-link-preserved t c =
-    each_step (link_part (source_of c.args.source.now)) c.deref-link-items.result.now c.loop-link.link-index c.link-item.result (omega arith)
+    each_step (link_part (as_source c.args.source.now)) c.deref-link-items.result.now c.loop-link.link-index c.link-item.result (omega arith)
     c.link-item.is c.loop-link.invariant c.in_ok-add_link-in-Chain.ensures
 
 pub add_expr-loop-operand-preserved : goal.add_expr-loop-operand-preserved
 add_expr-loop-operand-preserved t c =
-    each_step (operand_part (source_of c.args.source.now)) c.deref-operand-items.result.now c.loop-operand.operand-index c.operand-item.result
+    each_step (operand_part (as_source c.args.source.now)) c.deref-operand-items.result.now c.loop-operand.operand-index c.operand-item.result
     (omega arith) c.operand-item.is c.loop-operand.invariant c.in_ok-add_expr-in-Binary-2.ensures
 
 pub add_link-loop-argument-preserved : goal.add_link-loop-argument-preserved
 add_link-loop-argument-preserved t c =
-    each_step (argument_part (source_of c.args.source.now)) c.deref-argument-items.result.now c.loop-argument.argument-index c.argument-item.result
+    each_step (argument_part (as_source c.args.source.now)) c.deref-argument-items.result.now c.loop-argument.argument-index c.argument-item.result
     (omega arith) c.argument-item.is c.loop-argument.invariant c.in_ok-add_expr-in-Call.ensures

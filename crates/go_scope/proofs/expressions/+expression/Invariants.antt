@@ -1,21 +1,21 @@
 -- The invariants of the loops of `expressions::expression`.
 use Rattle.std.proofs.Common.{take}
 use Rattle.std.specs.List.{flat_map}
-use Rattle.go_scope.specs.Found.{source_of, Adds}
+use Rattle.go_scope.specs.IdentifierViews.{as_source, AddsTo}
 use Rattle.go_scope.proofs.Parts.{link_part, operand_part, argument_part, element_part}
 use Rattle.go_scope.proofs.expressions.+expression.Given as goal
 
 abbrev pub invariant-add_expr-loop-link : goal.invariant-add_expr-loop-link
-invariant-add_expr-loop-link l = Adds l.initial.found.items l.found.items (flat_map (link_part (source_of l.source)) (take l.link-index l.link-items))
+invariant-add_expr-loop-link l = AddsTo l.initial.found.items l.found.items (flat_map (link_part (as_source l.source)) (take l.link-index l.link-items))
 
 abbrev pub invariant-add_expr-loop-operand : goal.invariant-add_expr-loop-operand
-invariant-add_expr-loop-operand l = Adds l.initial.found.items l.found.items
-    (flat_map (operand_part (source_of l.source)) (take l.operand-index l.operand-items))
+invariant-add_expr-loop-operand l = AddsTo l.initial.found.items l.found.items
+    (flat_map (operand_part (as_source l.source)) (take l.operand-index l.operand-items))
 
 abbrev pub invariant-add_link-loop-argument : goal.invariant-add_link-loop-argument
-invariant-add_link-loop-argument l = Adds l.initial.found.items l.found.items
-    (flat_map (argument_part (source_of l.source)) (take l.argument-index l.argument-items))
+invariant-add_link-loop-argument l = AddsTo l.initial.found.items l.found.items
+    (flat_map (argument_part (as_source l.source)) (take l.argument-index l.argument-items))
 
 abbrev pub invariant-add_literal-loop-element : goal.invariant-add_literal-loop-element
-invariant-add_literal-loop-element l = Adds l.initial.found.items l.found.items
-    (flat_map (element_part (source_of l.source)) (take l.element-index l.element-items))
+invariant-add_literal-loop-element l = AddsTo l.initial.found.items l.found.items
+    (flat_map (element_part (as_source l.source)) (take l.element-index l.element-items))

@@ -4,7 +4,7 @@ use Rattle.std.proofs.lemmas.Bool.{cases_order}
 use Rattle.go_scope.specs.declared.model.Block.{Block}
 use Rattle.go_scope.specs.declared.model.Block.TheVariants.{Package}
 use Rattle.go_scope.specs.Bindings.{SameBlock, block_of}
-use Rattle.go_scope.specs.Numbering.{told}
+use Rattle.go_scope.specs.Numbering.{numerals}
 use Rattle.go_scope.specs.Scopes.{Nests}
 use Rattle.go_scope.specs.Table.{layout_of}
 use Rattle.go_scope.proofs.Following.{over_apart, stays_open}
@@ -23,7 +23,7 @@ pub loop-at-init : goal.loop-at-init
 loop-at-init c =
     let xs = c.args.identifiers.now in
     let l = layout_of xs in
-    let names = told c.args.names.now in
+    let names = numerals c.args.names.now in
     let d = c.args.d in
     let opened = last_opened xs c.args.names.now d c.args.links.now c.requires.linked c.requires.numbered c.requires.in_range c.number_at.result
     c.number_at.ensures c.index-at.result.now _ c.index-at.ensures in
@@ -80,7 +80,7 @@ pub loop-at-preserved : goal.loop-at-preserved
 loop-at-preserved c =
     let xs = c.args.identifiers.now in
     let l = layout_of xs in
-    let names = told c.args.names.now in
+    let names = numerals c.args.names.now in
     let d = c.args.d in
     let k = c.in-Some.e in
     let known = c.loop-at.invariant.known k c.in-Some.is in
@@ -104,7 +104,7 @@ pub loop-at-smaller : goal.loop-at-smaller
 loop-at-smaller c =
     let xs = c.args.identifiers.now in
     let l = layout_of xs in
-    let names = told c.args.names.now in
+    let names = numerals c.args.names.now in
     let d = c.args.d in
     walk_ends l (length xs) names (names d) d c.args.links.now.around.items c.loop-at.at _ _ c.in-Some.e c.requires.linked.linked c.in-Some.is c.index.ensures
     c.loop-at.invariant.known

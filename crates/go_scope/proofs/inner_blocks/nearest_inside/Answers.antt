@@ -1,7 +1,7 @@
 -- The answers to the goals of `inner_blocks::nearest_inside`.
 use Rattle.std.proofs.Common.{ℕ, ◌≡◌, ◌<◌, arith, length, subst, true, false, Option}
 use Rattle.go_scope.specs.Bindings.{InScope}
-use Rattle.go_scope.specs.Numbering.{told}
+use Rattle.go_scope.specs.Numbering.{numerals}
 use Rattle.go_scope.specs.Table.{layout_of}
 use Rattle.go_scope.proofs.Binding.{last_nearest}
 use Rattle.go_scope.proofs.Following.{over_unseen, seen_behind}
@@ -21,7 +21,7 @@ pub loop-at-init : goal.loop-at-init
 loop-at-init c =
     let xs = c.args.identifiers.now in
     let l = layout_of xs in
-    let names = told c.args.names.now in
+    let names = numerals c.args.names.now in
     let u = c.args.u in
     let opened = last_opened xs c.args.names.now u c.args.links.now c.requires.linked c.requires.numbered c.requires.in_range c.number_at.result
     c.number_at.ensures c.index-at.result.now _ c.index-at.ensures in
@@ -46,7 +46,7 @@ pub loop-at-preserved : goal.loop-at-preserved
 loop-at-preserved c =
     let xs = c.args.identifiers.now in
     let l = layout_of xs in
-    let names = told c.args.names.now in
+    let names = numerals c.args.names.now in
     let u = c.args.u in
     let d = c.in-Some.d in
     let known = c.loop-at.invariant.known d c.in-Some.is in
@@ -69,7 +69,7 @@ pub loop-at-smaller : goal.loop-at-smaller
 loop-at-smaller c =
     let xs = c.args.identifiers.now in
     let l = layout_of xs in
-    let names = told c.args.names.now in
+    let names = numerals c.args.names.now in
     let u = c.args.u in
     walk_ends l (length xs) names (names u) u c.args.links.now.around.items c.loop-at.at _ _ c.in-Some.d c.requires.linked.linked c.in-Some.is
     c.index-at-in-Some.ensures
@@ -79,7 +79,7 @@ pub returns-then-in_scope : goal.returns-then-in_scope
 returns-then-in_scope c =
     let xs = c.args.identifiers.now in
     let l = layout_of xs in
-    let names = told c.args.names.now in
+    let names = numerals c.args.names.now in
     let u = c.args.u in
     let d = c.in-Some.d in
     let known = c.loop-at.invariant.known d c.in-Some.is in

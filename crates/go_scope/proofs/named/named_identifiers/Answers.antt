@@ -1,6 +1,6 @@
 -- The answers to the goals of `named::named_identifiers`.
 use Rattle.std.proofs.Common.{arith, map}
-use Rattle.go_scope.specs.Found.{site_of}
+use Rattle.go_scope.specs.IdentifierViews.{site_of}
 use Rattle.go_scope.specs.Named.{name_given}
 use Rattle.go_scope.proofs.NamedSites.{found_none, found_next}
 use Rattle.go_scope.proofs.named.named_identifiers.Goals as goal

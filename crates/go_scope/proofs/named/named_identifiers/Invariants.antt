@@ -1,6 +1,6 @@
 -- The invariants of the loops of `named::named_identifiers`.
 use Rattle.std.proofs.Common.{◌≡◌, map, take}
-use Rattle.go_scope.specs.Found.{site_of}
+use Rattle.go_scope.specs.IdentifierViews.{site_of}
 use Rattle.go_scope.specs.Named.{name_given, named_sites}
 use Rattle.go_scope.proofs.named.named_identifiers.Given as goal
 

@@ -3,7 +3,7 @@ use Rattle.std.proofs.Common.{ℕ, ◌∷◌, [], List, length, ap, subst, Optio
 use Rattle.go_scope.specs.declared.model.Block.TheVariants.{Universe, Package, File}
 use Rattle.go_scope.specs.declared.model.Position.{Position}
 use Rattle.go_scope.specs.Leading.{IsFirstIn}
-use Rattle.go_scope.specs.Numbering.{told}
+use Rattle.go_scope.specs.Numbering.{numerals}
 use Rattle.go_scope.specs.Table.{layout_of}
 use Rattle.go_scope.proofs.Binding.{none_in, package_nearest, file_nearest, universe_nearest}
 use Rattle.go_scope.proofs.Tables.{may_in_range}
@@ -13,7 +13,7 @@ pub returns-in-Some : goal.returns-in-Some
 returns-in-Some c =
     let xs = c.args.identifiers.now in
     let l = layout_of xs in
-    let names = told c.args.names.now in
+    let names = numerals c.args.names.now in
     let u = c.args.u in
     let N : List ℕ → Type 0 = λ n. IsFirstIn l names n Package (length xs) c.first_outside.result in
     let O : Option ℕ → Type 0 = λ o. IsFirstIn l names (names u) Package (length xs) o in
@@ -24,7 +24,7 @@ pub returns-in-Some-first_outside : goal.returns-in-Some-first_outside
 returns-in-Some-first_outside c =
     let xs = c.args.identifiers.now in
     let l = layout_of xs in
-    let names = told c.args.names.now in
+    let names = numerals c.args.names.now in
     let u = c.args.u in
     let n = length xs in
     let name = ap (λ k. k ∷ []) c.number_at-name.ensures in
@@ -43,7 +43,7 @@ pub returns-in-None-first_outside : goal.returns-in-None-first_outside
 returns-in-None-first_outside c =
     let xs = c.args.identifiers.now in
     let l = layout_of xs in
-    let names = told c.args.names.now in
+    let names = numerals c.args.names.now in
     let u = c.args.u in
     let n = length xs in
     let name = ap (λ k. k ∷ []) c.number_at-name.ensures in

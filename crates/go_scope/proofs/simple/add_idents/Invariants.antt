@@ -1,9 +1,9 @@
 -- The invariants of the loops of `simple::add_idents`.
 use Rattle.std.proofs.Common.{take}
 use Rattle.std.specs.List.{flat_map}
-use Rattle.go_scope.specs.Found.{source_of, Adds}
+use Rattle.go_scope.specs.IdentifierViews.{as_source, AddsTo}
 use Rattle.go_scope.proofs.StatementParts.{ident_part}
 use Rattle.go_scope.proofs.simple.add_idents.Given as goal
 
 abbrev pub invariant-loop-item : goal.invariant-loop-item
-invariant-loop-item l = Adds l.initial.found.items l.found.items (flat_map (ident_part (source_of l.source) l.role) (take l.item-index l.idents))
+invariant-loop-item l = AddsTo l.initial.found.items l.found.items (flat_map (ident_part (as_source l.source) l.role) (take l.item-index l.idents))

@@ -1,6 +1,6 @@
 -- The answers to the goals of `simple::add_simple`.
 use Rattle.std.proofs.Common.{ap, sym}
-use Rattle.go_scope.specs.Found.{source_of}
+use Rattle.go_scope.specs.IdentifierViews.{as_source}
 use Rattle.go_scope.specs.StatementSites.{simple_sites}
 use Rattle.go_scope.proofs.Adding.{call_adds, then_adds}
 use Rattle.go_scope.proofs.StatementParts.{assign_from, define_from}
@@ -10,17 +10,17 @@ use Rattle.go_scope.proofs.simple.add_simple.Goals as goal
 pub returns-in-Expr : goal.returns-in-Expr
 unfolding simple_sites simple_view
 returns-in-Expr c = call_adds _ _ c.add_expr.result c.add_expr.ensures
-    (ap (λ v. simple_sites (source_of c.args.source.now) c.args.block c.args.following (simple_view v)) (sym c.in-Expr.is))
+    (ap (λ v. simple_sites (as_source c.args.source.now) c.args.block c.args.following (simple_view v)) (sym c.in-Expr.is))
 
 pub returns-in-Step : goal.returns-in-Step
 unfolding simple_sites simple_view
 returns-in-Step c = call_adds _ _ c.add_expr-in-Step.result c.add_expr-in-Step.ensures
-    (ap (λ v. simple_sites (source_of c.args.source.now) c.args.block c.args.following (simple_view v)) (sym c.in-Step.is))
+    (ap (λ v. simple_sites (as_source c.args.source.now) c.args.block c.args.following (simple_view v)) (sym c.in-Step.is))
 
 pub returns-in_ok-add_expr-in-Update : goal.returns-in_ok-add_expr-in-Update
 unfolding simple_sites simple_view
 returns-in_ok-add_expr-in-Update c = then_adds _ _ c.add_expr-in-Update-2.result c.in_ok-add_expr-in-Update.ensures c.add_expr-in-Update-2.ensures
-    (ap (λ v. simple_sites (source_of c.args.source.now) c.args.block c.args.following (simple_view v)) (sym c.in-Update.is))
+    (ap (λ v. simple_sites (as_source c.args.source.now) c.args.block c.args.following (simple_view v)) (sym c.in-Update.is))
 
 pub returns-in_ok-add_all_assigned-in-Assign : goal.returns-in_ok-add_all_assigned-in-Assign
 returns-in_ok-add_all_assigned-in-Assign c =

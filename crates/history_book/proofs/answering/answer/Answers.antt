@@ -2,8 +2,8 @@
 use Rattle.std.proofs.Common.{◌≤◌, ◌+◌, List, length, vec_capacity, sym, subst, arith}
 use Rattle.history_machine.specs.declared.entry.Entry.{Entry}
 use Rattle.history_machine.specs.Journal.{ShowsLine}
-use Rattle.history_machine.specs.Kept.{IsEntryIf}
-use Rattle.history_machine.specs.Step.{Keeps}
+use Rattle.history_machine.specs.JournalSteps.{LeavesEntry}
+use Rattle.history_machine.specs.Step.{EntersEvent}
 use Rattle.history_machine.proofs.Stepped.{place_for_one}
 use Rattle.history_book.proofs.Entered.{left_copy, left_kept}
 use Rattle.history_book.proofs.answering.answer.Goals as goal
@@ -20,7 +20,7 @@ returns-clause-keeps g c =
     let old = c.args.content.now in
     let event = g.Q.Question.event c.args.question in
     let asked = c.ask-answered.result in
-    subst (λ a. Keeps old c.args.journal.now.items event (g.Q.Question.reply a) c.ask-answered.new.content c.enter.new.journal.items)
+    subst (λ a. EntersEvent old c.args.journal.now.items event (g.Q.Question.reply a) c.ask-answered.new.content c.enter.new.journal.items)
     (sym c.enter.ensures.answer)
     (left_kept old c.args.journal.now.items event (g.Q.Question.reply asked.answer) c.ask-answered.new.content c.enter.new.journal.items c.args.asked asked.out
     asked.subject asked.made c.enter.result.1 c.ask-answered.ensures.answer
@@ -39,7 +39,7 @@ returns-clause-copy g c =
     let current = c.args.content.now.current.number in
     let event = g.Q.Question.event c.args.question in
     let asked = c.ask-answered.result in
-    subst (λ a. IsEntryIf current event (g.Q.Question.reply a) c.enter.result.1) (sym c.enter.ensures.answer)
+    subst (λ a. LeavesEntry current event (g.Q.Question.reply a) c.enter.result.1) (sym c.enter.ensures.answer)
     (left_copy current event (g.Q.Question.reply asked.answer) c.args.asked asked.out asked.subject asked.made c.enter.result.1
     (record {
       kind_is = c.requires.kind;

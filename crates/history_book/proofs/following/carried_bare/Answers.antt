@@ -2,13 +2,13 @@
 use Rattle.std.proofs.Common.{sym, subst}
 use Rattle.std.proofs.lemmas.Result.{IfOk-weaker}
 use Rattle.base_files.specs.Workspace.{Workspace}
-use Rattle.build_carry.specs.Finished.{HasNone}
+use Rattle.build_carry.specs.Finished.{HasNoUnit}
 use Rattle.build_carry.specs.Carried.{IsCarried}
 use Rattle.history_machine.specs.State.{State}
 use Rattle.history_book.proofs.following.carried_bare.Goals as goal
 
 pub nothing_carried-requires : goal.nothing_carried-requires
-nothing_carried-requires c = subst (λ (s : State). HasNone s.finished) (sym c.current.view_is) c.requires
+nothing_carried-requires c = subst (λ (s : State). HasNoUnit s.finished) (sym c.current.view_is) c.requires
 
 pub returns-clause-units : goal.returns-clause-units
 returns-clause-units c =

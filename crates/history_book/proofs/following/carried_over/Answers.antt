@@ -2,7 +2,7 @@
 use Rattle.std.proofs.Common.{IfOk, sym, ap, subst, ◌∙◌}
 use Rattle.workspace_snapshot.specs.declared.change.Change.{Change}
 use Rattle.workspace_check.specs.Found.{KnowsVerdicts}
-use Rattle.build_carry.specs.Changes.{AreMarks}
+use Rattle.build_carry.specs.Changes.{MarkChanges}
 use Rattle.build_carry.specs.Carried.{IsCarried}
 use Rattle.history_machine.specs.State.{State}
 use Rattle.history_book.proofs.following.carried_over.Goals as goal
@@ -27,10 +27,10 @@ pub carried_by-requires : goal.carried_by-requires
 carried_by-requires c =
     let marks = c.in_ok-marks.marks in
     let files = c.args.change.now.files in record {
-      before = subst (λ (x : Change). AreMarks c.args.current.now.files x.files marks.before.items) (sym c.get.ensures)
-          (subst (λ (s : State). AreMarks s.files files marks.before.items) c.current.view_is c.in_ok-marks.ensures.before);
-      after = subst (λ (x : Change). AreMarks x.files c.args.current.now.files marks.after.items) (sym c.get.ensures)
-          (subst (λ (s : State). AreMarks files s.files marks.after.items) c.current.view_is c.in_ok-marks.ensures.after);
+      before = subst (λ (x : Change). MarkChanges c.args.current.now.files x.files marks.before.items) (sym c.get.ensures)
+          (subst (λ (s : State). MarkChanges s.files files marks.before.items) c.current.view_is c.in_ok-marks.ensures.before);
+      after = subst (λ (x : Change). MarkChanges x.files c.args.current.now.files marks.after.items) (sym c.get.ensures)
+          (subst (λ (s : State). MarkChanges files s.files marks.after.items) c.current.view_is c.in_ok-marks.ensures.after);
     }
 
 pub returns-clause-units : goal.returns-clause-units

@@ -6,9 +6,9 @@ use Rattle.std.proofs.lemmas.List.Elements.{Contains-get_or}
 use Rattle.std.proofs.lemmas.Option.{slice_get_within}
 use Rattle.base_files.specs.Packages.{package_paths}
 use Rattle.build_unit.specs.Inputs.{AreInputs}
-use Rattle.workspace_graph.specs.Graphs.{HoldsPackages}
+use Rattle.workspace_graph.specs.Graphs.{ListsPackages}
 use Rattle.workspace_graph.specs.Packages.{IsInClosure}
-use Rattle.workspace_graph.proofs.Asked.{at_contains}
+use Rattle.workspace_graph.proofs.ByPath.{at_contains}
 use Rattle.history_machine.specs.State.{State}
 use Rattle.history_machine.specs.Deliveries.{IsFresh}
 use Rattle.history_machine.proofs.Fresh.{is_fresh}
@@ -31,7 +31,7 @@ have_inputs-requires c =
     subst (λ (x : State). slice_get (package_paths x.files) n ≡ Some p) (sym c.state.view_is) c.in-Some.ensures.there in
     let numbers = c.as_slice.result.now in
     let is = c.as_slice.ensures in
-    let holds = subst (HoldsPackages w (IsInClosure w p)) (sym is) (c.in_ok-closure.ensures.closure p at) in
+    let holds = subst (ListsPackages w (IsInClosure w p)) (sym is) (c.in_ok-closure.ensures.closure p at) in
     record {
       numbers = λ i d lt.
           let s = (holds (get_or numbers i d)).0 (Contains-get_or numbers i d lt) in
@@ -49,7 +49,7 @@ returns-then-have_inputs c =
     let n = c.in-Some.number in
     let told = c.in-Some.ensures in
     let at : slice_get (package_paths w) n ≡ Some p = subst (λ (x : State). slice_get (package_paths x.files) n ≡ Some p) (sym c.state.view_is) told.there in
-    let holds = subst (HoldsPackages w (IsInClosure w p)) (sym c.as_slice.ensures) (c.in_ok-closure.ensures.closure p at) in
+    let holds = subst (ListsPackages w (IsInClosure w p)) (sym c.as_slice.ensures) (c.in_ok-closure.ensures.closure p at) in
     let both = (c.have_inputs.ensures p (at_contains w n p at) holds).0 c.if-have_inputs.true in
     let here : AreInputs state.files p job.inputs × AreInputs state.files p built.inputs =
     subst (λ (x : State). AreInputs x.files p job.inputs × AreInputs x.files p built.inputs) c.state.view_is both in
@@ -65,6 +65,6 @@ returns c = λ fresh.
     let s : State = record { number = c.state.inside.number; files = w; finished = c.state.inside.finished } in
     let at : slice_get (package_paths w) n ≡ Some p =
     subst (λ (x : State). slice_get (package_paths x.files) n ≡ Some p) (sym c.state.view_is) c.in-Some.ensures.there in
-    let holds = subst (HoldsPackages w (IsInClosure w p)) (sym c.as_slice.ensures) (c.in_ok-closure.ensures.closure p at) in
+    let holds = subst (ListsPackages w (IsInClosure w p)) (sym c.as_slice.ensures) (c.in_ok-closure.ensures.closure p at) in
     let here : IsFresh s job built = subst (λ (x : State). IsFresh x job built) (sym c.state.view_is) fresh in
     false≢true (sym c.if-have_inputs.false ∙ (c.have_inputs.ensures p (at_contains w n p at) holds).1 (here.job_inputs, here.built_inputs))

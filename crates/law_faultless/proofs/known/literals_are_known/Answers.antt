@@ -2,7 +2,7 @@
 use Rattle.std.proofs.Common.{sym, subst}
 use Rattle.types_expr.specs.World.{no_locals}
 use Rattle.types_info.specs.Worlds.{is_init}
-use Rattle.law_faultless.specs.Answered.{IsKnown}
+use Rattle.law_faultless.specs.QuestionAnswers.{IsKnown}
 use Rattle.law_faultless.proofs.Literals.{integer_asked, text_asked}
 use Rattle.law_faultless.proofs.known.literals_are_known.Goals as goal
 

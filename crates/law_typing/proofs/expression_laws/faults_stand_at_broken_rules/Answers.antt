@@ -1,5 +1,5 @@
 -- The answers to the goals of `expression_laws::faults_stand_at_broken_rules`.
-use Rattle.law_typing.proofs.Conclusions.{faults_placed}
+use Rattle.law_typing.proofs.ExpressionLaws.{faults_placed}
 use Rattle.law_typing.proofs.expression_laws.faults_stand_at_broken_rules.Goals as goal
 
 pub returns : goal.returns

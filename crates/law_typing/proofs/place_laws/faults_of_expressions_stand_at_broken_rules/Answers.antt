@@ -1,5 +1,5 @@
 -- The answers to the goals of `place_laws::faults_of_expressions_stand_at_broken_rules`.
-use Rattle.law_typing.proofs.PlacedConclusions.{expression_places}
+use Rattle.law_typing.proofs.PlaceLaws.{expression_places}
 use Rattle.law_typing.proofs.place_laws.faults_of_expressions_stand_at_broken_rules.Goals as goal
 
 pub returns : goal.returns

@@ -1,6 +1,6 @@
 -- The answers to the goals of `place_laws::faults_of_functions_stand_at_broken_rules`.
-use Rattle.law_typing.proofs.PlacedConclusions.{places}
-use Rattle.law_typing.proofs.PlacedHeaders.{function_told}
+use Rattle.law_typing.proofs.PlaceLaws.{places}
+use Rattle.law_typing.proofs.HeaderFaults.{function_told}
 use Rattle.law_typing.proofs.place_laws.faults_of_functions_stand_at_broken_rules.Goals as goal
 
 pub returns : goal.returns

@@ -1,5 +1,5 @@
 -- The answers to the goals of `place_laws::files_that_break_no_rule_are_typed`.
-use Rattle.law_typing.proofs.PlacedConclusions.{unbroken_typed}
+use Rattle.law_typing.proofs.PlaceLaws.{unbroken_typed}
 use Rattle.law_typing.proofs.place_laws.files_that_break_no_rule_are_typed.Goals as goal
 
 pub returns : goal.returns

@@ -1,5 +1,5 @@
 -- The answers to the goals of `place_laws::typed_files_break_no_rule`.
-use Rattle.law_typing.proofs.PlacedConclusions.{typed_breaks_none}
+use Rattle.law_typing.proofs.PlaceLaws.{typed_breaks_none}
 use Rattle.law_typing.proofs.place_laws.typed_files_break_no_rule.Goals as goal
 
 pub returns : goal.returns

@@ -1,5 +1,5 @@
 -- The answers to the goals of `statement_laws::files_are_checked_by_the_rules`.
-use Rattle.law_typing.proofs.StatementConclusions.{file_law}
+use Rattle.law_typing.proofs.StatementLaws.{file_law}
 use Rattle.law_typing.proofs.statement_laws.files_are_checked_by_the_rules.Goals as goal
 
 pub returns : goal.returns

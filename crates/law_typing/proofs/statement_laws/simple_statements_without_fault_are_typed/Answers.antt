@@ -1,5 +1,5 @@
 -- The answers to the goals of `statement_laws::simple_statements_without_fault_are_typed`.
-use Rattle.law_typing.proofs.StatementConclusions.{settled_simple}
+use Rattle.law_typing.proofs.StatementLaws.{settled_simple}
 use Rattle.law_typing.proofs.statement_laws.simple_statements_without_fault_are_typed.Goals as goal
 
 pub returns : goal.returns

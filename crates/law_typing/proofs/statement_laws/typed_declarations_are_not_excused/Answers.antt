@@ -1,5 +1,5 @@
 -- The answers to the goals of `statement_laws::typed_declarations_are_not_excused`.
-use Rattle.law_typing.proofs.Excluding.{decl_not}
+use Rattle.law_typing.proofs.TypedNotExcused.{decl_not}
 use Rattle.law_typing.proofs.statement_laws.typed_declarations_are_not_excused.Goals as goal
 
 pub returns : goal.returns

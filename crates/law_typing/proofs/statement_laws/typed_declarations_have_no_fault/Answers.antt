@@ -1,5 +1,5 @@
 -- The answers to the goals of `statement_laws::typed_declarations_have_no_fault`.
-use Rattle.law_typing.proofs.StatementConclusions.{decl_law}
+use Rattle.law_typing.proofs.StatementLaws.{decl_law}
 use Rattle.law_typing.proofs.statement_laws.typed_declarations_have_no_fault.Goals as goal
 
 pub returns : goal.returns

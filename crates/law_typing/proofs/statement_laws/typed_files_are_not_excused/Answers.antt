@@ -1,5 +1,5 @@
 -- The answers to the goals of `statement_laws::typed_files_are_not_excused`.
-use Rattle.law_typing.proofs.Excluding.{file_not}
+use Rattle.law_typing.proofs.TypedNotExcused.{file_not}
 use Rattle.law_typing.proofs.statement_laws.typed_files_are_not_excused.Goals as goal
 
 pub returns : goal.returns

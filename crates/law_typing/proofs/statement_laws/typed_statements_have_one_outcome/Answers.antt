@@ -1,5 +1,5 @@
 -- The answers to the goals of `statement_laws::typed_statements_have_one_outcome`.
-use Rattle.law_typing.proofs.StatementConclusions.{one_outcome}
+use Rattle.law_typing.proofs.StatementLaws.{one_outcome}
 use Rattle.law_typing.proofs.statement_laws.typed_statements_have_one_outcome.Goals as goal
 
 pub returns : goal.returns

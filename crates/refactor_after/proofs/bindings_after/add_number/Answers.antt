@@ -5,7 +5,7 @@ use Rattle.std.proofs.lemmas.Option.{slice_get_read}
 use Rattle.base_files.specs.Packages.{package_paths}
 use Rattle.refs_binding.proofs.AddingAll.{all_none, call_all}
 use Rattle.refactor_after.specs.Scopes.{package_scoped, MayBeScopes}
-use Rattle.refactor_after.specs.ScopeBindings.{IsBoundIn, IsBoundInNumber}
+use Rattle.refactor_after.specs.ScopeBindings.{IsScopeBoundIn, IsBoundInNumber}
 use Rattle.refactor_after.proofs.ScopeBound.{scoped_here, scoped_there}
 use Rattle.refactor_after.proofs.bindings_after.add_number.Goals as goal
 
@@ -34,5 +34,5 @@ returns-in-Some c =
     subst (λ q. slice_get (package_paths w) n ≡ Some q) (sym c.deref.ensures.value) c.package.ensures.path in
     let are = subst (MayBeScopes w path) c.in-Some.is (c.requires.scoped.each n path o at has) in
     let p = package_scoped path s in
-    call_all c.args.bound.now.items c.add_scopes.new.bound.items (IsBoundIn p) (IsBoundInNumber w n) c.add_scopes.result
+    call_all c.args.bound.now.items c.add_scopes.new.bound.items (IsScopeBoundIn p) (IsBoundInNumber w n) c.add_scopes.result
     (scoped_here w n p are.is_scoped at) (scoped_there w n p are.is_scoped at) c.add_scopes.ensures

@@ -2,10 +2,10 @@
 use Rattle.std.proofs.Common.{◌≡◌, ◌<◌, sym, subst, arith}
 use Rattle.types_declared.specs.PackageView.{package_of}
 use Rattle.refs_binding.specs.Binding.{BindsByScope}
-use Rattle.refs_binding.specs.Bindings.{place_at}
+use Rattle.refs_binding.specs.Bindings.{bound_place}
 use Rattle.refs_binding.specs.Identifiers.{BeginsAt}
 use Rattle.refs_binding.proofs.AddingAll.{none_below, next_below, all_numbers}
-use Rattle.refactor_after.specs.ScopeBindings.{IsBoundIn}
+use Rattle.refactor_after.specs.ScopeBindings.{IsScopeBoundIn}
 use Rattle.refactor_after.proofs.bindings_after.add_unit.Goals as goal
 
 pub loop-u-init : goal.loop-u-init
@@ -19,7 +19,7 @@ pub returns : goal.returns
 returns c =
     let p = package_of c.args.unit in
     let end : c.loop-u.u ≡ p.size = omega arith in
-    all_numbers (λ u b. BeginsAt p (place_at b).path (place_at b).offset u × BindsByScope p u b.declaration) (IsBoundIn p) c.loop-u.u
+    all_numbers (λ u b. BeginsAt p (bound_place b).path (bound_place b).offset u × BindsByScope p u b.declaration) (IsScopeBoundIn p) c.loop-u.u
     c.args.bound.now.items c.loop-u.bound.items
     (λ u b h. (u, h))
     (λ b h. (h.0, subst (λ n. h.0 < n) (sym end) h.1.0.0.0, h.1)) c.loop-u.invariant

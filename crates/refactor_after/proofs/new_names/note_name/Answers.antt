@@ -1,6 +1,6 @@
 -- The answers to the goals of `new_names::note_name`.
 use Rattle.std.proofs.Common.{sym, ◌∙◌}
-use Rattle.refactor_after.proofs.Noting.{gets_rank, keeps_rank}
+use Rattle.refactor_after.proofs.FirstRanks.{gets_rank, keeps_rank}
 use Rattle.refactor_after.proofs.new_names.note_name.Goals as goal
 
 pub returns-then-contains_key : goal.returns-then-contains_key

@@ -5,8 +5,8 @@ use Rattle.base_files.specs.Packages.{package_paths}
 use Rattle.base_edits.specs.Moved.{moved}
 use Rattle.refs_binding.specs.Workspaces.{known_in, IsPackageAt}
 use Rattle.refs_binding.proofs.AddingAll.{none_below, next_below}
-use Rattle.refactor_after.specs.OldPlaces.{HasGone}
-use Rattle.refactor_after.proofs.Gone.{gone_at, all_gone}
+use Rattle.refactor_after.specs.OldPlaces.{HasMovedSpot}
+use Rattle.refactor_after.proofs.MovedPlaces.{gone_at, all_gone}
 use Rattle.refactor_after.proofs.places_before.add_all.Goals as goal
 
 pub loop-number-init : goal.loop-number-init
@@ -24,7 +24,7 @@ loop-number-preserved c =
     let b = c.add_package.new.found.items in
     let lt : n < length all = omega (arith, c.requires.places.size) in
     let are = c.requires.places.each n x (slice_get_read all (length all) n x refl lt c.index-places-number.is) in
-    next_below (λ k. HasGone (IsPackageAt w known k) m) c.args.old.now.items a b n c.loop-number.invariant
+    next_below (λ k. HasMovedSpot (IsPackageAt w known k) m) c.args.old.now.items a b n c.loop-number.invariant
     (gone_at w known m n c.path_of-path.result.now x are c.path_of-path.ensures a b c.in_ok-add_package.ensures)
 
 pub returns : goal.returns

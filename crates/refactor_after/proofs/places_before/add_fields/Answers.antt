@@ -6,8 +6,8 @@ use Rattle.base_edits.specs.Moved.{moved}
 use Rattle.refactor_after.specs.OldPlaces.{field_at}
 use Rattle.refs_binding.specs.Bindings.{AddsAll}
 use Rattle.refs_binding.proofs.AddingAll.{none_below, next_below}
-use Rattle.refactor_after.specs.OldPlaces.{GoesFrom}
-use Rattle.refactor_after.proofs.Gone.{GoesBy, all_go}
+use Rattle.refactor_after.specs.OldPlaces.{IsMovedSpot}
+use Rattle.refactor_after.proofs.MovedPlaces.{GoesBy, all_go}
 use Rattle.refactor_after.proofs.places_before.add_fields.Goals as goal
 
 pub loop-rank-init : goal.loop-rank-init
@@ -23,7 +23,7 @@ loop-rank-preserved c =
     let a = c.loop-rank.found.items in
     let b = c.add_field.new.found.items in
     let lt : n < length places = omega arith in
-    let here = subst (λ o. AddsAll a b (GoesFrom m (member n) o)) (get_or_read places n x lt c.index-fields-rank.is None) c.in_ok-add_field.ensures in
+    let here = subst (λ o. AddsAll a b (IsMovedSpot m (member n) o)) (get_or_read places n x lt c.index-fields-rank.is None) c.in_ok-add_field.ensures in
     next_below (GoesBy m member places) c.args.found.now.items a b n c.loop-rank.invariant here
 
 pub returns : goal.returns

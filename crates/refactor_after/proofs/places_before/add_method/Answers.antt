@@ -3,7 +3,7 @@ use Rattle.std.proofs.Common.{◌≡◌, refl}
 use Rattle.base_edits.specs.Moved.{moved}
 use Rattle.refs_binding.specs.declared.declaration.Declaration.TheVariants.{Method}
 use Rattle.refactor_after.specs.OldPlaces.{method_at}
-use Rattle.refactor_after.proofs.Gone.{nothing_goes, something_goes}
+use Rattle.refactor_after.proofs.MovedPlaces.{nothing_goes, something_goes}
 use Rattle.refactor_after.proofs.places_before.add_method.Goals as goal
 
 pub returns-in_ok-method-in-Some : goal.returns-in_ok-method-in-Some

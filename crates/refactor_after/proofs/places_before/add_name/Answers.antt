@@ -2,7 +2,7 @@
 use Rattle.std.proofs.Common.{◌≡◌, List, ℕ, ap}
 use Rattle.base_edits.specs.Moved.{moved}
 use Rattle.refs_binding.specs.declared.declaration.Declaration.TheVariants.{Declared}
-use Rattle.refactor_after.proofs.Gone.{nothing_goes, something_goes}
+use Rattle.refactor_after.proofs.MovedPlaces.{nothing_goes, something_goes}
 use Rattle.refactor_after.proofs.places_before.add_name.Goals as goal
 
 pub returns-in_ok-package-in-Some : goal.returns-in_ok-package-in-Some

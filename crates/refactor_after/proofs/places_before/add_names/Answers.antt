@@ -6,8 +6,8 @@ use Rattle.base_edits.specs.Moved.{moved}
 use Rattle.refs_binding.specs.declared.declaration.Declaration.TheVariants.{Declared}
 use Rattle.refs_binding.specs.Bindings.{AddsAll}
 use Rattle.refs_binding.proofs.AddingAll.{none_below, next_below}
-use Rattle.refactor_after.specs.OldPlaces.{GoesFrom}
-use Rattle.refactor_after.proofs.Gone.{GoesBy, all_go}
+use Rattle.refactor_after.specs.OldPlaces.{IsMovedSpot}
+use Rattle.refactor_after.proofs.MovedPlaces.{GoesBy, all_go}
 use Rattle.refactor_after.proofs.places_before.add_names.Goals as goal
 
 pub loop-d-init : goal.loop-d-init
@@ -23,7 +23,7 @@ loop-d-preserved c =
     let a = c.loop-d.found.items in
     let b = c.add_name.new.found.items in
     let lt : n < length places = omega arith in
-    let here = subst (λ o. AddsAll a b (GoesFrom m (member n) o)) (get_or_read places n x lt c.index-names-d.is None) c.in_ok-add_name.ensures in
+    let here = subst (λ o. AddsAll a b (IsMovedSpot m (member n) o)) (get_or_read places n x lt c.index-names-d.is None) c.in_ok-add_name.ensures in
     next_below (GoesBy m member places) c.args.found.now.items a b n c.loop-d.invariant here
 
 pub returns : goal.returns

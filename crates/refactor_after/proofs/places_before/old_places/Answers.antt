@@ -3,12 +3,12 @@ use Rattle.base_edits.specs.Moved.{moved}
 use Rattle.refs_binding.specs.Uses.{IsPackage}
 use Rattle.refs_binding.specs.Workspaces.{known_in}
 use Rattle.refs_places.proofs.Identifiers.{all_added}
-use Rattle.refactor_after.specs.OldPlaces.{HasGone}
+use Rattle.refactor_after.specs.OldPlaces.{HasMovedSpot}
 use Rattle.refactor_after.proofs.places_before.old_places.Goals as goal
 
 pub returns : goal.returns
 returns c =
-    let P = HasGone (IsPackage c.args.packages.now.graph.now (known_in c.args.packages.now.found.now)) (moved c.args.moves.now) in
+    let P = HasMovedSpot (IsPackage c.args.packages.now.graph.now (known_in c.args.packages.now.found.now)) (moved c.args.moves.now) in
     let added = all_added c.new-old.result.items c.add_all.new.old.items P c.new-old.ensures.items c.in_ok-add_all.ensures in
     record {
       in_order = c.sort.ensures.order;

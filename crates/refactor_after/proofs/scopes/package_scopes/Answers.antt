@@ -5,8 +5,8 @@ use Rattle.std.proofs.lemmas.Bool.{eqb-false}
 use Rattle.std.proofs.lemmas.Option.{same_Some}
 use Rattle.base_files.specs.Packages.{package_paths, package_files}
 use Rattle.workspace_graph.specs.Parsed.{AreParsed}
-use Rattle.workspace_graph.proofs.Asked.{at_contains}
-use Rattle.types_declared.specs.InterfacesView.{name_in}
+use Rattle.workspace_graph.proofs.ByPath.{at_contains}
+use Rattle.types_declared.specs.ExportTablesView.{name_in}
 use Rattle.workspace_check.proofs.Members.{vec_empty}
 use Rattle.refactor_after.specs.Scopes.{AreScopes}
 use Rattle.refactor_after.proofs.Scoping.{not_scoped, is_scoped}

@@ -6,7 +6,7 @@ use Rattle.base_edits.specs.EditSet.{edited}
 use Rattle.base_edits.specs.RevisionsOfEdits.{revision_of}
 use Rattle.workspace_check.specs.declared.findings.Findings.{Findings}
 use Rattle.refs_binding.specs.Workspaces.{known_in}
-use Rattle.refactor_conflict.specs.Conflicts.{TellsFirst}
+use Rattle.refactor_conflict.specs.Conflicts.{IsFirstConflict}
 use Rattle.refactor_conflict.proofs.first.first_conflict.Goals as goal
 
 pub first_read-requires-clause-after : goal.first_read-requires-clause-after
@@ -15,6 +15,6 @@ first_read-requires-clause-after c = c.requires.after ∙ ap (edited c.args.edit
 pub returns : goal.returns
 returns c =
     let packages = c.in_ok-packages.packages in
-    let tells = λ (w : Workspace) (f : Findings). IfOk c.first_read.result (TellsFirst w (known_in f) (revision_of w c.args.edits.now)) in
+    let tells = λ (w : Workspace) (f : Findings). IfOk c.first_read.result (IsFirstConflict w (known_in f) (revision_of w c.args.edits.now)) in
     subst (λ (w : Workspace). tells w c.args.found.now) c.in_ok-packages.ensures.workspace
     (subst (λ (f : Findings). tells packages.graph.now f) c.in_ok-packages.ensures.found c.first_read.ensures)

@@ -5,11 +5,11 @@ use Rattle.base_files.specs.Workspace.{Workspace}
 use Rattle.base_edits.specs.Moved.{moved}
 use Rattle.refs_binding.specs.Exports.{AreExports}
 use Rattle.refs_binding.specs.Uses.{IsPackage}
-use Rattle.refs_places.specs.DeclaredPlaces.{AreDeclared}
+use Rattle.refs_places.specs.DeclaredPlaces.{AreAllPlaces}
 use Rattle.refactor_after.specs.NewMembers.{AreAllNewMembers}
-use Rattle.refactor_conflict.specs.Conflicts.{IsConflict, Takes, HoldsAhead}
-use Rattle.refactor_after.specs.Read.{workspace_of, verdicts_of}
-use Rattle.refactor_conflict.specs.Judging.{change_by}
+use Rattle.refactor_conflict.specs.Conflicts.{IsConflict, Takes, HoldsBefore}
+use Rattle.refactor_after.specs.ReadPackages.{workspace_of, verdicts_of}
+use Rattle.refactor_conflict.specs.Judging.{revision_by}
 use Rattle.refactor_after.specs.ScopeBindings.{AreScopeBindings}
 use Rattle.refactor_after.specs.OldPlaces.{AreOldPlaces}
 use Rattle.refactor_conflict.specs.Staying.{StaysAt}
@@ -22,14 +22,14 @@ first_judged-requires c =
     record {
       read = c.requires.read;
       exports = subst (AreExports w known) (sym c.deref-2.ensures.value) c.requires.before.exports;
-      places = subst (AreDeclared w known) (sym c.deref-3.ensures.value) c.requires.before.places;
+      places = subst (AreAllPlaces w known) (sym c.deref-3.ensures.value) c.requires.before.places;
       old = subst (AreOldPlaces (IsPackage w known) (moved c.args.moves.now)) (sym c.deref-4.ensures.value) c.requires.before.old;
       after = c.requires.after;
       scoped = c.requires.scoped;
       bound = subst (AreScopeBindings c.args.after.now) (sym c.deref-5.ensures.value) c.in_ok-bound.ensures;
       members =
-          subst (AreAllNewMembers w known (change_by c.args.after.now c.args.moves.now)) (sym c.deref.ensures.value)
-          (subst (λ (v : Workspace). AreAllNewMembers w known (change_by v c.args.moves.now) c.args.before.now.members.items) (sym c.requires.after)
+          subst (AreAllNewMembers w known (revision_by c.args.after.now c.args.moves.now)) (sym c.deref.ensures.value)
+          (subst (λ (v : Workspace). AreAllNewMembers w known (revision_by v c.args.moves.now) c.args.before.now.members.items) (sym c.requires.after)
           c.requires.before.members);
     }
 
@@ -37,12 +37,12 @@ pub returns-clause-takes : goal.returns-clause-takes
 returns-clause-takes c =
     let w = workspace_of c.args.packages.now in
     let known = verdicts_of c.args.packages.now in
-    subst (λ (v : Workspace). IfOk c.first_judged.result (λ first. Takes (IsConflict w known (change_by v c.args.moves.now)) None first)) c.requires.after
+    subst (λ (v : Workspace). IfOk c.first_judged.result (λ first. Takes (IsConflict w known (revision_by v c.args.moves.now)) None first)) c.requires.after
     c.first_judged.ensures.takes
 
 pub returns-clause-stays : goal.returns-clause-stays
 returns-clause-stays c =
     let w = workspace_of c.args.packages.now in
     let known = verdicts_of c.args.packages.now in
-    subst (λ (v : Workspace). IfOk c.first_judged.result (HoldsAhead (StaysAt w known (change_by v c.args.moves.now)))) c.requires.after
+    subst (λ (v : Workspace). IfOk c.first_judged.result (HoldsBefore (StaysAt w known (revision_by v c.args.moves.now)))) c.requires.after
     c.first_judged.ensures.stays

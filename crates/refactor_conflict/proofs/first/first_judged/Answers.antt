@@ -3,22 +3,22 @@ use Rattle.std.proofs.Common.{◌≡◌, length, arith}
 use Rattle.std.specs.Prelude.{None}
 use Rattle.base_files.specs.Packages.{package_paths}
 use Rattle.refactor_conflict.specs.Conflicts.{IsConflict}
-use Rattle.refactor_conflict.specs.Judging.{workspace_in, known_verdicts, change_in}
-use Rattle.refactor_conflict.proofs.Taking.{takes_none, takes_then, still_holds}
+use Rattle.refactor_conflict.specs.Judging.{workspace_in, known_verdicts, revision_in}
+use Rattle.refactor_conflict.proofs.KeepingFirst.{takes_none, takes_then, still_holds}
 use Rattle.refactor_conflict.proofs.Stayed.{StaysInBelow, none_in_number, next_number, all_packages}
 use Rattle.refactor_conflict.proofs.first.first_judged.Goals as goal
 
 pub loop-number-init : goal.loop-number-init
 loop-number-init c =
     let j = c.args.judge.now in
-    (takes_none _ None, none_in_number (workspace_in j) (known_verdicts j) (change_in j) None)
+    (takes_none _ None, none_in_number (workspace_in j) (known_verdicts j) (revision_in j) None)
 
 pub loop-number-preserved : goal.loop-number-preserved
 loop-number-preserved c =
     let j = c.args.judge.now in
     let w = workspace_in j in
     let known = known_verdicts j in
-    let r = change_in j in
+    let r = revision_in j in
     let P = IsConflict w known r in
     let n = c.loop-number.number in
     let a = c.loop-number.first in
@@ -35,4 +35,4 @@ pub returns-clause-stays : goal.returns-clause-stays
 returns-clause-stays c =
     let j = c.args.judge.now in
     let end : c.loop-number.number ≡ length (package_paths (workspace_in j)) = omega arith in
-    all_packages (workspace_in j) (known_verdicts j) (change_in j) c.loop-number.number c.loop-number.first end c.loop-number.invariant.1
+    all_packages (workspace_in j) (known_verdicts j) (revision_in j) c.loop-number.number c.loop-number.first end c.loop-number.invariant.1

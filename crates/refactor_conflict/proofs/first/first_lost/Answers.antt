@@ -4,7 +4,7 @@ use Rattle.std.specs.Prelude.{Option}
 use Rattle.base_files.specs.declared.place.Place.{Place}
 use Rattle.refs_places.specs.Identified.{IsIdentifierAt}
 use Rattle.refactor_conflict.specs.Firsts.{IsFirstPlace}
-use Rattle.refactor_after.specs.Read.{workspace_of, verdicts_of}
+use Rattle.refactor_after.specs.ReadPackages.{workspace_of, verdicts_of}
 use Rattle.refactor_conflict.proofs.first.first_lost.Goals as goal
 
 pub returns-in-None : goal.returns-in-None

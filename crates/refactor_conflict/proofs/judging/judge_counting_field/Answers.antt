@@ -7,7 +7,7 @@ use Rattle.refs_binding.specs.Steps.{AtFound}
 use Rattle.refactor_after.specs.OldPlaces.{field_at}
 use Rattle.refactor_after.specs.MembersAfter.{CountsAfter}
 use Rattle.refactor_conflict.specs.Conflicts.{HoldsAtFound}
-use Rattle.refactor_conflict.specs.Judging.{known_packages, change_in}
+use Rattle.refactor_conflict.specs.Judging.{known_packages, revision_in}
 use Rattle.refactor_conflict.proofs.judging.judge_counting_field.Goals as goal
 
 pub returns-in-None-clause-stays : goal.returns-in-None-clause-stays
@@ -16,6 +16,6 @@ returns-in-None-clause-stays c = λ place ahead found. absurd (subst (λ (o : Op
 pub returns-in-Some-clause-stays : goal.returns-in-Some-clause-stays
 returns-in-Some-clause-stays c =
     let j = c.args.judge.now in
-    let K = CountsAfter (known_packages j) (change_in j) (field_at c.args.unit.path.now c.args.rank) in
+    let K = CountsAfter (known_packages j) (revision_in j) (field_at c.args.unit.path.now c.args.rank) in
     subst (λ (o : Option Position). OnOk c.judge_field.result (HoldsAtFound (package_of c.args.unit) o (λ place. K) c.judge_field.new.first))
     (sym c.in-Some.is) c.judge_field.ensures.stays

@@ -5,13 +5,13 @@ use Rattle.std.proofs.lemmas.Result.{on_ok_weaker}
 use Rattle.base_files.specs.declared.place.Place.{Place}
 use Rattle.types_declared.specs.PackageView.{package_of}
 use Rattle.refs_binding.specs.Identifiers.{BeginsAt}
-use Rattle.refs_places.specs.DeclaredPlaces.{IsFound}
-use Rattle.refactor_conflict.specs.Afterwards.{IsExportAfter, IsBoundByPackage}
-use Rattle.refactor_conflict.specs.Conflicts.{IsConflictIn, IsNoted, Takes, IsAhead}
-use Rattle.refactor_conflict.specs.Judging.{workspace_in, known_verdicts, known_packages, becomes_in, change_in}
+use Rattle.refs_places.specs.DeclaredPlaces.{IsChoice}
+use Rattle.refactor_conflict.specs.BoundAfter.{IsExportAfter, IsBoundByPackage}
+use Rattle.refactor_conflict.specs.Conflicts.{IsConflictIn, IsConflictOf, Takes, IsBefore}
+use Rattle.refactor_conflict.specs.Judging.{workspace_in, known_verdicts, known_packages, becomes_in, revision_in}
 use Rattle.refactor_conflict.specs.Staying.{StaysBound}
-use Rattle.refactor_conflict.proofs.Taking.{call_takes}
-use Rattle.refactor_conflict.proofs.Telling.{package_turned, bound_behind}
+use Rattle.refactor_conflict.proofs.KeepingFirst.{call_takes}
+use Rattle.refactor_conflict.proofs.Conflicts.{package_turned, bound_behind}
 use Rattle.refactor_conflict.proofs.Stayed.{stays_as, begins_nowhere, begins_here}
 use Rattle.refactor_conflict.proofs.judging.judge_exported.Goals as goal
 
@@ -20,17 +20,17 @@ returns-in-Some-clause-takes c =
     let j = c.args.judge.now in
     let w = workspace_in j in
     let known = known_verdicts j in
-    let r = change_in j in
+    let r = revision_in j in
     let p = package_of c.args.of.now.unit in
     let place = c.in-Some.place in
     let old = c.args.old.now in
     let path = c.args.of.now.behind.now in
-    let begins : BeginsAt p place.path place.offset c.args.of.now.u = subst (IsFound (λ (x : Place). BeginsAt p x.path x.offset c.args.of.now.u)) c.in-Some.is
+    let begins : BeginsAt p place.path place.offset c.args.of.now.u = subst (IsChoice (λ (x : Place). BeginsAt p x.path x.offset c.args.of.now.u)) c.in-Some.is
     c.in_ok-beginning.ensures in
     let noted = subst (λ n. OnOk c.note_by_package.result
-    (Takes (IsNoted (becomes_in j) (known_packages j) (IsExportAfter w r path (r.called place n)) place old) c.args.first.now c.note_by_package.new.first))
+    (Takes (IsConflictOf (becomes_in j) (known_packages j) (IsExportAfter w r path (r.called place n)) place old) c.args.first.now c.note_by_package.new.first))
     c.name.ensures c.note_by_package.ensures.takes in
-    call_takes (IsNoted (becomes_in j) (known_packages j) (IsExportAfter w r path (r.called place (p.names c.args.of.now.u))) place old)
+    call_takes (IsConflictOf (becomes_in j) (known_packages j) (IsExportAfter w r path (r.called place (p.names c.args.of.now.u))) place old)
     (IsConflictIn w known r p)
     c.args.first.now c.note_by_package.new.first c.note_by_package.result
     (package_turned w known r p c.args.of.now.u path c.requires.behind.0 c.requires.behind.1 old c.requires.was place begins) noted
@@ -39,15 +39,15 @@ pub returns-in-None-clause-stays : goal.returns-in-None-clause-stays
 returns-in-None-clause-stays c =
     let j = c.args.judge.now in
     let p = package_of c.args.of.now.unit in
-    begins_nowhere p c.args.of.now.u (λ (at : Place). StaysBound (becomes_in j) (IsBoundByPackage (workspace_in j) (change_in j) at p c.args.of.now.u)
+    begins_nowhere p c.args.of.now.u (λ (at : Place). StaysBound (becomes_in j) (IsBoundByPackage (workspace_in j) (revision_in j) at p c.args.of.now.u)
     c.args.old.now)
-    c.args.first.now (subst (IsFound (λ (x : Place). BeginsAt p x.path x.offset c.args.of.now.u)) c.in-None.is c.in_ok-beginning.ensures)
+    c.args.first.now (subst (IsChoice (λ (x : Place). BeginsAt p x.path x.offset c.args.of.now.u)) c.in-None.is c.in_ok-beginning.ensures)
 
 pub returns-in-Some-clause-stays : goal.returns-in-Some-clause-stays
 returns-in-Some-clause-stays c =
     let j = c.args.judge.now in
     let w = workspace_in j in
-    let r = change_in j in
+    let r = revision_in j in
     let B = becomes_in j in
     let p = package_of c.args.of.now.unit in
     let u = c.args.of.now.u in
@@ -55,8 +55,8 @@ returns-in-Some-clause-stays c =
     let old = c.args.old.now in
     let path = c.args.of.now.behind.now in
     let first = c.note_by_package.new.first in
-    let begins : BeginsAt p place.path place.offset u = subst (IsFound (λ (x : Place). BeginsAt p x.path x.offset u)) c.in-Some.is c.in_ok-beginning.ensures in
-    let stays = subst (λ n. OnOk c.note_by_package.result (IsAhead first place → StaysBound B (IsExportAfter w r path (r.called place n)) old)) c.name.ensures
+    let begins : BeginsAt p place.path place.offset u = subst (IsChoice (λ (x : Place). BeginsAt p x.path x.offset u)) c.in-Some.is c.in_ok-beginning.ensures in
+    let stays = subst (λ n. OnOk c.note_by_package.result (IsBefore first place → StaysBound B (IsExportAfter w r path (r.called place n)) old)) c.name.ensures
     c.note_by_package.ensures.stays in
     begins_here p u (λ (at : Place). StaysBound B (IsBoundByPackage w r at p u) old) first place c.note_by_package.result begins
     (on_ok_weaker c.note_by_package.result

@@ -9,24 +9,24 @@ use Rattle.refs_binding.specs.Uses.{IsPackage}
 use Rattle.refs_binding.proofs.NamedPlaces.{one_field_place}
 use Rattle.refactor_after.specs.MembersAfter.{CountsAfter}
 use Rattle.refactor_conflict.specs.Conflicts.{IsConflictIn, IsLostAtFound}
-use Rattle.refactor_conflict.specs.Judging.{known_verdicts, known_packages, change_in}
+use Rattle.refactor_conflict.specs.Judging.{known_verdicts, known_packages, revision_in}
 use Rattle.refactor_after.specs.OldPlaces.{field_at}
-use Rattle.refactor_conflict.proofs.Taking.{takes_none, takes_as, takes_then, still_holds}
-use Rattle.refactor_conflict.proofs.Telling.{field_in}
+use Rattle.refactor_conflict.proofs.KeepingFirst.{takes_none, takes_as, takes_then, still_holds}
+use Rattle.refactor_conflict.proofs.Conflicts.{field_in}
 use Rattle.refactor_conflict.proofs.MembersStay.{Below, none_below, next_below, all_below, FieldStays, names_stay, no_names_stay}
 use Rattle.refactor_conflict.proofs.judging.judge_fields.Goals as goal
 
 pub loop-rank-init : goal.loop-rank-init
 loop-rank-init c =
     let j = c.args.judge.now in
-    (takes_none _ c.args.first.now, none_below (FieldStays (known_packages j) (change_in j) (package_of c.args.unit)) c.args.first.now)
+    (takes_none _ c.args.first.now, none_below (FieldStays (known_packages j) (revision_in j) (package_of c.args.unit)) c.args.first.now)
 
 pub loop-rank-preserved : goal.loop-rank-preserved
 loop-rank-preserved c =
     let j = c.args.judge.now in
     let w = j.packages.now.graph.now in
     let known = known_verdicts j in
-    let r = change_in j in
+    let r = revision_in j in
     let p = package_of c.args.unit in
     let rank = c.loop-rank.rank in
     let places = c.in_ok-fields.fields.items in
@@ -56,5 +56,5 @@ returns-clause-stays c =
     let places = c.in_ok-fields.fields.items in
     let count = c.loop-rank.rank in
     let end : count ≡ length places = omega arith in
-    all_below (FieldStays (known_packages j) (change_in j) p) count c.loop-rank.first
+    all_below (FieldStays (known_packages j) (revision_in j) p) count c.loop-rank.first
     (λ rank place le q. absurd (no_names_stay (IsFieldAt p) p places c.in_ok-fields.ensures rank (omega (arith, end, le)) place q)) c.loop-rank.invariant.1

@@ -7,10 +7,10 @@ use Rattle.types_expr.specs.Found.{use_of}
 use Rattle.types_declared.specs.PackageView.{package_of}
 use Rattle.refs_binding.specs.Members.{definitions_seen}
 use Rattle.refs_binding.proofs.MemberPlaces.{use_at}
-use Rattle.refactor_conflict.specs.Conflicts.{IsMemberConflict, IsMemberConflictAmong, UseStays}
-use Rattle.refactor_conflict.specs.Judging.{known_packages, change_in}
-use Rattle.refactor_conflict.proofs.Taking.{takes_none, takes_as, takes_then, still_holds, holds_as}
-use Rattle.refactor_conflict.proofs.Telling.{among}
+use Rattle.refactor_conflict.specs.Conflicts.{IsMemberConflict, IsMemberConflictIn, UseStays}
+use Rattle.refactor_conflict.specs.Judging.{known_packages, revision_in}
+use Rattle.refactor_conflict.proofs.KeepingFirst.{takes_none, takes_as, takes_then, still_holds, holds_as}
+use Rattle.refactor_conflict.proofs.Conflicts.{among}
 use Rattle.refactor_conflict.proofs.MembersStay.{Below, none_below, next_below, all_below, RankStays, rank_stays}
 use Rattle.refactor_conflict.proofs.judging.judge_file.Goals as goal
 
@@ -18,14 +18,14 @@ pub loop-k-init : goal.loop-k-init
 loop-k-init c =
     let j = c.args.judge.now in
     let ds = definitions_seen c.args.of.now.unit c.args.of.now.own.now in
-    let K = RankStays (known_packages j) (change_in j) ds (package_of c.args.of.now.unit) c.args.file (map use_of c.args.uses.now) in
+    let K = RankStays (known_packages j) (revision_in j) ds (package_of c.args.of.now.unit) c.args.file (map use_of c.args.uses.now) in
     (takes_none _ c.args.first.now, none_below K c.args.first.now)
 
 pub loop-k-preserved : goal.loop-k-preserved
 loop-k-preserved c =
     let p = package_of c.args.of.now.unit in
     let Known = known_packages c.args.judge.now in
-    let r = change_in c.args.judge.now in
+    let r = revision_in c.args.judge.now in
     let ds = definitions_seen c.args.of.now.unit c.args.of.now.own.now in
     let file = c.args.file in
     let uses = map use_of c.args.uses.now in
@@ -33,7 +33,7 @@ loop-k-preserved c =
     let x = c.index-uses-k.result in
     let a = c.loop-k.first in
     let b = c.judge_by_member.new.first in
-    let P = IsMemberConflictAmong Known r ds p file uses in
+    let P = IsMemberConflictIn Known r ds p file uses in
     let K = RankStays Known r ds p file uses in
     let at : slice_get uses k ≡ Some (use_of x) = use_at c.args.uses.now k x (omega arith) c.index-uses-k.is in
     let here = takes_as (IsMemberConflict Known r ds p file (use_of x)) P a b (among Known r ds p file uses k (use_of x) at)
@@ -52,7 +52,7 @@ returns-clause-stays c =
     let j = c.args.judge.now in
     let ds = definitions_seen c.args.of.now.unit c.args.of.now.own.now in
     let uses = map use_of c.args.uses.now in
-    let K = RankStays (known_packages j) (change_in j) ds (package_of c.args.of.now.unit) c.args.file uses in
+    let K = RankStays (known_packages j) (revision_in j) ds (package_of c.args.of.now.unit) c.args.file uses in
     let size : length uses ≡ length c.args.uses.now = length-map c.args.uses.now use_of in
     let end : c.loop-k.k ≡ length c.args.uses.now = omega arith in
     all_below K c.loop-k.k c.loop-k.first

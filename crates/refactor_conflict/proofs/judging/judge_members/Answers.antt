@@ -6,17 +6,17 @@ use Rattle.types_expr.specs.Found.{use_of}
 use Rattle.types_declared.specs.PackageView.{package_of}
 use Rattle.refs_binding.specs.Members.{definitions_seen}
 use Rattle.refs_binding.proofs.MemberParts.{seen_definitions}
-use Rattle.refactor_conflict.specs.Conflicts.{IsConflictIn, IsMemberConflictAmong, Takes, HoldsAhead, UsesStay}
-use Rattle.refactor_conflict.specs.Judging.{known_verdicts, known_packages, change_in}
-use Rattle.refactor_conflict.proofs.Taking.{takes_none, takes_as, takes_then, still_holds, holds_as}
-use Rattle.refactor_conflict.proofs.Telling.{member_in}
+use Rattle.refactor_conflict.specs.Conflicts.{IsConflictIn, IsMemberConflictIn, Takes, HoldsBefore, UsesStay}
+use Rattle.refactor_conflict.specs.Judging.{known_verdicts, known_packages, revision_in}
+use Rattle.refactor_conflict.proofs.KeepingFirst.{takes_none, takes_as, takes_then, still_holds, holds_as}
+use Rattle.refactor_conflict.proofs.Conflicts.{member_in}
 use Rattle.refactor_conflict.proofs.MembersStay.{Below, none_below, next_below, all_below, FileStays, file_stays, no_file_stays, all_files}
 use Rattle.refactor_conflict.proofs.judging.judge_members.Goals as goal
 
 pub loop-file-init : goal.loop-file-init
 loop-file-init c =
     let j = c.args.judge.now in
-    let K = FileStays j.packages.now.graph.now (known_verdicts j) (change_in j) (package_of c.args.unit) in
+    let K = FileStays j.packages.now.graph.now (known_verdicts j) (revision_in j) (package_of c.args.unit) in
     (takes_none _ c.args.first.now, none_below K c.args.first.now)
 
 pub loop-file-preserved : goal.loop-file-preserved
@@ -24,7 +24,7 @@ loop-file-preserved c =
     let j = c.args.judge.now in
     let w = j.packages.now.graph.now in
     let known = known_verdicts j in
-    let r = change_in j in
+    let r = revision_in j in
     let p = package_of c.args.unit in
     let Known = known_packages j in
     let own = c.own_of-own.result.now in
@@ -40,9 +40,9 @@ loop-file-preserved c =
     let b = c.judge_file.new.first in
     let P = IsConflictIn w known r p in
     let K = FileStays w known r p in
-    let found = subst (λ l. Takes (IsMemberConflictAmong Known r ds p file (map use_of l)) a b) c.deref.ensures.value c.in_ok-judge_file.ensures.takes in
-    let stay = subst (λ l. HoldsAhead (UsesStay Known r ds p file (map use_of l)) b) c.deref.ensures.value c.in_ok-judge_file.ensures.stays in
-    let here = takes_as (IsMemberConflictAmong Known r ds p file (map use_of v.items)) P a b (member_in w known r p formed ds are members all file v at)
+    let found = subst (λ l. Takes (IsMemberConflictIn Known r ds p file (map use_of l)) a b) c.deref.ensures.value c.in_ok-judge_file.ensures.takes in
+    let stay = subst (λ l. HoldsBefore (UsesStay Known r ds p file (map use_of l)) b) c.deref.ensures.value c.in_ok-judge_file.ensures.stays in
+    let here = takes_as (IsMemberConflictIn Known r ds p file (map use_of v.items)) P a b (member_in w known r p formed ds are members all file v at)
     found in (
       takes_then P c.args.first.now a b c.loop-file.invariant.0 here,
       next_below K file b (still_holds P (Below K file) a b here c.loop-file.invariant.1)
@@ -58,7 +58,7 @@ returns-clause-stays c =
     let j = c.args.judge.now in
     let w = j.packages.now.graph.now in
     let known = known_verdicts j in
-    let r = change_in j in
+    let r = revision_in j in
     let p = package_of c.args.unit in
     let own = c.own_of-own.result.now in
     let ds = definitions_seen c.args.unit own in

@@ -1,9 +1,9 @@
 -- The answers to the goals of `judging::judge_names`.
 use Rattle.types_declared.specs.PackageView.{package_of}
 use Rattle.refactor_conflict.specs.Conflicts.{IsConflictIn}
-use Rattle.refactor_conflict.specs.Judging.{known_verdicts, known_packages, change_in}
+use Rattle.refactor_conflict.specs.Judging.{known_verdicts, known_packages, revision_in}
 use Rattle.refactor_conflict.specs.Staying.{FieldsStayIn}
-use Rattle.refactor_conflict.proofs.Taking.{call_then, call_both, still_holds}
+use Rattle.refactor_conflict.proofs.KeepingFirst.{call_then, call_both, still_holds}
 use Rattle.refactor_conflict.proofs.MembersStay.{declaring_names_stay}
 use Rattle.refactor_conflict.proofs.judging.judge_names.Goals as goal
 
@@ -12,7 +12,7 @@ returns-clause-takes c =
     let j = c.args.judge.now in
     let w = j.packages.now.graph.now in
     let known = known_verdicts j in
-    let r = change_in j in
+    let r = revision_in j in
     let p = package_of c.args.unit in
     let P = IsConflictIn w known r p in
     call_then P c.args.first.now c.judge_fields.new.first c.judge_methods.new.first c.judge_methods.result c.in_ok-judge_fields.ensures.takes
@@ -23,7 +23,7 @@ returns-clause-stays c =
     let j = c.args.judge.now in
     let w = j.packages.now.graph.now in
     let known = known_verdicts j in
-    let r = change_in j in
+    let r = revision_in j in
     let p = package_of c.args.unit in
     let P = IsConflictIn w known r p in
     let a = c.judge_fields.new.first in

@@ -2,23 +2,23 @@
 use Rattle.std.proofs.Common.{◌≡◌, arith}
 use Rattle.types_declared.specs.PackageView.{package_of}
 use Rattle.refactor_conflict.specs.Conflicts.{IsConflictIn}
-use Rattle.refactor_conflict.specs.Judging.{known_verdicts, change_in}
+use Rattle.refactor_conflict.specs.Judging.{known_verdicts, revision_in}
 use Rattle.refactor_conflict.specs.Staying.{StaysByScope, IfBegins}
-use Rattle.refactor_conflict.proofs.Taking.{takes_none, takes_then, still_holds}
+use Rattle.refactor_conflict.proofs.KeepingFirst.{takes_none, takes_then, still_holds}
 use Rattle.refactor_conflict.proofs.Stayed.{StaysBelow, none_stays, next_stays, all_stay}
 use Rattle.refactor_conflict.proofs.judging.judge_numbers.Goals as goal
 
 pub loop-u-init : goal.loop-u-init
 loop-u-init c =
     let j = c.args.judge.now in
-    (takes_none _ c.args.first.now, none_stays j.packages.now.graph.now (known_verdicts j) (change_in j) (package_of c.args.unit) c.args.first.now)
+    (takes_none _ c.args.first.now, none_stays j.packages.now.graph.now (known_verdicts j) (revision_in j) (package_of c.args.unit) c.args.first.now)
 
 pub loop-u-preserved : goal.loop-u-preserved
 loop-u-preserved c =
     let j = c.args.judge.now in
     let w = j.packages.now.graph.now in
     let known = known_verdicts j in
-    let r = change_in j in
+    let r = revision_in j in
     let p = package_of c.args.unit in
     let u = c.loop-u.u in
     let P = IsConflictIn w known r p in
@@ -41,4 +41,4 @@ returns-clause-stays c =
     let j = c.args.judge.now in
     let p = package_of c.args.unit in
     let end : c.loop-u.u ≡ p.size = omega arith in
-    all_stay j.packages.now.graph.now (known_verdicts j) (change_in j) p c.loop-u.u c.loop-u.first end c.loop-u.invariant.1
+    all_stay j.packages.now.graph.now (known_verdicts j) (revision_in j) p c.loop-u.u c.loop-u.first end c.loop-u.invariant.1

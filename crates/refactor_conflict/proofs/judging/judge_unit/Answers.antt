@@ -1,9 +1,9 @@
 -- The answers to the goals of `judging::judge_unit`.
 use Rattle.types_declared.specs.PackageView.{package_of}
 use Rattle.refactor_conflict.specs.Conflicts.{IsConflictIn}
-use Rattle.refactor_conflict.specs.Judging.{known_verdicts, change_in}
+use Rattle.refactor_conflict.specs.Judging.{known_verdicts, revision_in}
 use Rattle.refactor_conflict.specs.Staying.{NamesStayIn, MembersStayIn}
-use Rattle.refactor_conflict.proofs.Taking.{takes_then, call_then, call_both, still_holds}
+use Rattle.refactor_conflict.proofs.KeepingFirst.{takes_then, call_then, call_both, still_holds}
 use Rattle.refactor_conflict.proofs.Stayed.{stays_all}
 use Rattle.refactor_conflict.proofs.judging.judge_unit.Goals as goal
 
@@ -12,7 +12,7 @@ returns-clause-takes c =
     let j = c.args.judge.now in
     let w = j.packages.now.graph.now in
     let known = known_verdicts j in
-    let r = change_in j in
+    let r = revision_in j in
     let p = package_of c.args.unit in
     let P = IsConflictIn w known r p in
     let members = takes_then P c.args.first.now c.judge_numbers.new.first c.judge_members.new.first c.in_ok-judge_numbers.ensures.takes
@@ -24,7 +24,7 @@ returns-clause-stays c =
     let j = c.args.judge.now in
     let w = j.packages.now.graph.now in
     let known = known_verdicts j in
-    let r = change_in j in
+    let r = revision_in j in
     let p = package_of c.args.unit in
     let P = IsConflictIn w known r p in
     let b = c.judge_members.new.first in

@@ -2,28 +2,28 @@
 use Rattle.std.proofs.Common.{◌≡◌}
 use Rattle.std.specs.Prelude.{Some}
 use Rattle.refactor_after.proofs.OneUse.{one_scope_use}
-use Rattle.refactor_conflict.specs.Afterwards.{IsBoundByScopes}
-use Rattle.refactor_conflict.specs.Conflicts.{IsNoted}
-use Rattle.refactor_conflict.specs.Judging.{known_packages, becomes_in, change_in}
-use Rattle.refactor_conflict.proofs.Nowadays.{counted_use, all_counted}
-use Rattle.refactor_conflict.proofs.Taking.{call_takes}
-use Rattle.refactor_conflict.proofs.Telling.{noted_found}
+use Rattle.refactor_conflict.specs.BoundAfter.{IsBoundByScopes}
+use Rattle.refactor_conflict.specs.Conflicts.{IsConflictOf}
+use Rattle.refactor_conflict.specs.Judging.{known_packages, becomes_in, revision_in}
+use Rattle.refactor_conflict.proofs.BoundAfter.{counted_use, all_counted}
+use Rattle.refactor_conflict.proofs.KeepingFirst.{call_takes}
+use Rattle.refactor_conflict.proofs.Conflicts.{noted_found}
 use Rattle.refactor_conflict.proofs.Stayed.{call_stays}
 use Rattle.refactor_conflict.proofs.judging.note_by_scope.Goals as goal
 
 pub note-requires-clause-counts : goal.note-requires-clause-counts
 note-requires-clause-counts c =
-    let r = change_in c.args.judge.now in
+    let r = revision_in c.args.judge.now in
     all_counted r.after (IsBoundByScopes r c.args.place) c.in_ok-now.now (counted_use r.after (r.moved c.args.place)) c.in_ok-now.ensures
 
 pub returns-clause-takes : goal.returns-clause-takes
 returns-clause-takes c =
     let j = c.args.judge.now in
     let now = c.in_ok-now.now in
-    let r = change_in j in
+    let r = revision_in j in
     let K = IsBoundByScopes r c.args.place in
-    call_takes (IsNoted (becomes_in j) (known_packages j) (λ d. now ≡ Some d) c.args.place c.args.old.now)
-    (IsNoted (becomes_in j) (known_packages j) K c.args.place c.args.old.now)
+    call_takes (IsConflictOf (becomes_in j) (known_packages j) (λ d. now ≡ Some d) c.args.place c.args.old.now)
+    (IsConflictOf (becomes_in j) (known_packages j) K c.args.place c.args.old.now)
     c.args.first.now c.note.new.first c.note.result
     (noted_found (becomes_in j) (known_packages j) K c.args.place c.args.old.now now c.in_ok-now.ensures (one_scope_use r.after (r.moved c.args.place)))
     c.note.ensures.takes
@@ -31,5 +31,5 @@ returns-clause-takes c =
 pub returns-clause-stays : goal.returns-clause-stays
 returns-clause-stays c =
     let j = c.args.judge.now in
-    call_stays (becomes_in j) (IsBoundByScopes (change_in j) c.args.place) c.args.old.now c.in_ok-now.now c.note.new.first c.args.place c.note.result
+    call_stays (becomes_in j) (IsBoundByScopes (revision_in j) c.args.place) c.args.old.now c.in_ok-now.now c.note.new.first c.args.place c.note.result
     c.in_ok-now.ensures c.note.ensures.stays

@@ -1,5 +1,5 @@
 -- The answers to the goals of `laws::conflicts_do_not_stay`.
-use Rattle.refactor_conflict.proofs.Turned.{not_staying}
+use Rattle.refactor_conflict.proofs.ConflictsDiffer.{not_staying}
 use Rattle.refactor_conflict.proofs.laws.conflicts_do_not_stay.Goals as goal
 
 pub returns : goal.returns

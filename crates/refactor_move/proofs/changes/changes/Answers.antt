@@ -5,7 +5,7 @@ use Rattle.std.specs.FinMap as map
 use Rattle.std.specs.Map.Iter.{deref_pair}
 use Rattle.std.proofs.lemmas.Map.Iter.{rest_all, rest_more}
 use Rattle.base_edits.specs.declared.edit.Edit.{Edit}
-use Rattle.refactor_move.specs.Steps.{TellsChange}
+use Rattle.refactor_move.specs.Steps.{FindsChange}
 use Rattle.refactor_move.proofs.Changing.{none_so_far, next_changes, refused_next, all_changes}
 use Rattle.refactor_move.proofs.changes.changes.Goals as goal
 
@@ -21,7 +21,7 @@ loop-path-preserved c =
     let all = map.entries c.args.files.now in
     let e : List ℕ × List ℕ = (c.in-Some.path.now, c.in-Some.field-0-1.now) in
     let left = rest_more deref_pair _ _ _ (c.in-Some.path, c.in-Some.field-0-1) c.in-Some.is c.next.ensures.steps in
-    let told = subst (λ (es : List Edit). TellsChange m e.0 es (Ok c.in-Ok.change)) c.edits_at.ensures c.in-Ok.ensures in
+    let told = subst (λ (es : List Edit). FindsChange m e.0 es (Ok c.in-Ok.change)) c.edits_at.ensures c.in-Ok.ensures in
     next_changes m edits all c.loop-path.path-iterator c.next.new.self c.loop-path.changed.items c.push_some.new.changed.items e c.in-Ok.change left
     c.in_ok-push_some-in-Ok.ensures told c.loop-path.invariant
 
@@ -32,7 +32,7 @@ returns-in-Err c =
     let all = map.entries c.args.files.now in
     let e : List ℕ × List ℕ = (c.in-Some.path.now, c.in-Some.field-0-1.now) in
     let left = rest_more deref_pair _ _ _ (c.in-Some.path, c.in-Some.field-0-1) c.in-Some.is c.next.ensures.steps in
-    let told = subst (λ (es : List Edit). TellsChange m e.0 es (Err c.in-Err.refusal)) c.edits_at.ensures c.in-Err.ensures in
+    let told = subst (λ (es : List Edit). FindsChange m e.0 es (Err c.in-Err.refusal)) c.edits_at.ensures c.in-Err.ensures in
     refused_next m edits all c.loop-path.path-iterator c.next.new.self c.loop-path.changed.items e c.in-Err.refusal left c.loop-path.invariant told
 
 pub returns : goal.returns

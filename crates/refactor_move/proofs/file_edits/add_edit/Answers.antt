@@ -5,7 +5,7 @@ use Rattle.go_scanner.specs.declared.piece.Class.TheVariants.{Name}
 use Rattle.go_ast.specs.SourceFile.{source_of}
 use Rattle.types_declared.specs.PackageView.{package_of}
 use Rattle.refs_binding.specs.Bindings.{AddsAll}
-use Rattle.refactor_move.specs.FileEdits.{ReplacesName}
+use Rattle.refactor_move.specs.FileEdits.{ReplacesPackageName}
 use Rattle.refactor_move.proofs.TokenEdits.{no_path_at_name, names_are_edits}
 use Rattle.refactor_move.proofs.file_edits.add_edit.Goals as goal
 
@@ -18,6 +18,6 @@ returns-then-eq-clause-adds c =
     let a = c.args.edits.now.items in
     let b = c.add_name.new.edits.items in
     let name : c.args.token.class ≡ Name = search rules in
-    let more = λ (k : AddsAll a b (ReplacesName p c.args.of.now.rank f m i)). names_are_edits p c.args.of.now.rank f m i a b
+    let more = λ (k : AddsAll a b (ReplacesPackageName p c.args.of.now.rank f m i)). names_are_edits p c.args.of.now.rank f m i a b
     (λ e h. no_path_at_name f m i c.args.token e c.requires.at name h) k in
     on_ok_weaker c.add_name.result more c.add_name.ensures.adds

@@ -5,7 +5,7 @@ use Rattle.go_scanner.specs.declared.piece.Piece.{Piece}
 use Rattle.go_scanner.specs.CutText.{tokens_in}
 use Rattle.go_ast.specs.SourceFile.{source_of}
 use Rattle.types_declared.specs.PackageView.{package_of}
-use Rattle.refactor_move.specs.FileEdits.{IsEditAt}
+use Rattle.refactor_move.specs.FileEdits.{IsMoveEditAt}
 use Rattle.refactor_move.proofs.TokenEdits.{going_next, all_edits}
 use Rattle.refactor_move.proofs.file_edits.edits_of.Goals as goal
 
@@ -15,7 +15,7 @@ no_piece = record { class = ByteOrderMark; span = record { start = 0; end = 0 } 
 pub loop-number-preserved : goal.loop-number-preserved
 unfolding no_piece
 loop-number-preserved c =
-    going_next (IsEditAt (package_of c.args.unit) c.args.rank (source_of c.args.file.now) c.args.moved.now) (source_of c.args.file.now)
+    going_next (IsMoveEditAt (package_of c.args.unit) c.args.rank (source_of c.args.file.now) c.args.moved.now) (source_of c.args.file.now)
     c.tokens-tokens.result.now c.loop-number.number no_piece c.loop-number.edits.items c.add_edit.new.edits.items c.loop-number-test.true
     c.loop-number.invariant
     c.in_ok-add_edit.ensures.order c.in_ok-add_edit.ensures.adds

@@ -1,7 +1,7 @@
 -- The answers to the goals of `marks::mark_all`.
 use Rattle.std.proofs.Common.{subst, arith}
 use Rattle.std.proofs.lemmas.List.{take_all}
-use Rattle.refactor_move.specs.Steps.{Marks, IsLiteralAmong}
+use Rattle.refactor_move.specs.Steps.{NewMarks, IsLiteralAmong}
 use Rattle.refactor_move.proofs.Marking.{none_marked, next_marked}
 use Rattle.refactor_move.proofs.marks.mark_all.Goals as goal
 
@@ -15,5 +15,5 @@ loop-import-preserved c =
 
 pub returns : goal.returns
 returns c =
-    subst (λ es. Marks c.args.marks.now.items c.loop-import.marks.items (IsLiteralAmong es))
+    subst (λ es. NewMarks c.args.marks.now.items c.loop-import.marks.items (IsLiteralAmong es))
     (take_all c.loop-import.import-index c.args.imports.now (omega (arith, c.loop-import-test.false))) c.loop-import.invariant

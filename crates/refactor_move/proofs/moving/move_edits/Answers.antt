@@ -4,7 +4,7 @@ use Rattle.std.specs.Prelude.{Err}
 use Rattle.std.specs.FinMap.{entries}
 use Rattle.base_files.specs.Workspace.{Workspace}
 use Rattle.refs_binding.specs.Workspaces.{known_in}
-use Rattle.refactor_move.specs.Steps.{AreChangesOf, TellsChanges}
+use Rattle.refactor_move.specs.Steps.{AreChangesOf, FindsChanges}
 use Rattle.refactor_move.proofs.Fitting.{is_edit_set}
 use Rattle.refactor_move.proofs.Planning.{refused_set, planned_set}
 use Rattle.refactor_move.proofs.moving.move_edits.Goals as goal
@@ -15,7 +15,7 @@ returns-in-Err c =
     let m = c.in_ok-moved.moved in
     let edits = c.in_ok-edits.edits in
     refused_set w (known_in c.args.found.now) m edits c.args.from.now c.args.to.now c.args.called.now c.in_ok-moved.ensures c.in-Err.refusal
-    (subst (λ (v : Workspace). TellsChanges {Z = Global} m edits (entries v) (Err c.in-Err.refusal)) c.files.ensures c.in-Err.ensures)
+    (subst (λ (v : Workspace). FindsChanges {Z = Global} m edits (entries v) (Err c.in-Err.refusal)) c.files.ensures c.in-Err.ensures)
 
 pub set_of-requires : goal.set_of-requires
 set_of-requires c =

@@ -2,19 +2,19 @@
 use Rattle.std.proofs.Common.{ap, sym, subst, ◌∙◌}
 use Rattle.base_edits.specs.EditSet.{FileChanges}
 use Rattle.workspace_snapshot.specs.declared.change.Change.{Change}
-use Rattle.refactor_plan.specs.MoveSteps.{moving_by, PlansEdits}
+use Rattle.refactor_plan.specs.MoveSteps.{moving_by, PlansMoveBy}
 use Rattle.refactor_preserve.specs.Planned.{change_in}
 use Rattle.refactor_plan.proofs.move_plan.plan_edits.Goals as goal
 
-pub judged-requires-clause-is_change : goal.judged-requires-clause-is_change
-judged-requires-clause-is_change c =
+pub plan_change-requires-clause-is_change : goal.plan_change-requires-clause-is_change
+plan_change-requires-clause-is_change c =
     let e = c.in_ok-change.ensures in
     e ∙ ap (moving_by c.args.snapshot.now) (sym (ap (λ (x : Change). x.edits) e))
 
 pub returns-clause-planned : goal.returns-clause-planned
 returns-clause-planned c =
-    subst (λ (s : FileChanges). PlansEdits c.args.snapshot.now c.args.from.now s (change_in c.judged.result))
-    (ap (λ (x : Change). x.edits) c.in_ok-change.ensures) c.judged.ensures.planned
+    subst (λ (s : FileChanges). PlansMoveBy c.args.snapshot.now c.args.from.now s (change_in c.plan_change.result))
+    (ap (λ (x : Change). x.edits) c.in_ok-change.ensures) c.plan_change.ensures.planned
 
 pub returns-clause-known : goal.returns-clause-known
-returns-clause-known c = c.judged.ensures.known
+returns-clause-known c = c.plan_change.ensures.known

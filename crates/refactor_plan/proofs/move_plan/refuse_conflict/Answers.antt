@@ -4,7 +4,7 @@ use Rattle.std.specs.Prelude.{Err, Option}
 use Rattle.workspace_check.specs.declared.known.Known.{Known}
 use Rattle.base_edits.specs.RevisionsOfEdits.{revision_of}
 use Rattle.workspace_snapshot.specs.declared.change.Change.{Change}
-use Rattle.refactor_preserve.specs.Preserved.{TellsPreserved}
+use Rattle.refactor_preserve.specs.Preserved.{FindsPreserved}
 use Rattle.refactor_plan.specs.MoveSteps.{RefusesConflict}
 use Rattle.refactor_plan.proofs.move_plan.refuse_conflict.Goals as goal
 
@@ -14,12 +14,12 @@ refusal_of-requires-clause-after c = rw c.get.ensures c.requires.after
 pub refusal_of-requires-clause-not_preserved : goal.refusal_of-requires-clause-not_preserved
 refusal_of-requires-clause-not_preserved c =
     let w = c.args.snapshot.now.files in
-    rw c.get.ensures (subst (λ (o : Option Known). TellsPreserved w (revision_of w c.args.change.now.edits) o) c.in-None.is c.in_ok-known.ensures)
+    rw c.get.ensures (subst (λ (o : Option Known). FindsPreserved w (revision_of w c.args.change.now.edits) o) c.in-None.is c.in_ok-known.ensures)
 
 pub returns-in-Some : goal.returns-in-Some
 returns-in-Some c =
     let w = c.args.snapshot.now.files in
-    subst (λ (o : Option Known). TellsPreserved w (revision_of w c.args.change.now.edits) o) c.in-Some.is c.in_ok-known.ensures
+    subst (λ (o : Option Known). FindsPreserved w (revision_of w c.args.change.now.edits) o) c.in-Some.is c.in_ok-known.ensures
 
 pub returns-in-None : goal.returns-in-None
 returns-in-None c =

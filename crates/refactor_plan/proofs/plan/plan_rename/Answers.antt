@@ -2,7 +2,7 @@
 use Rattle.std.proofs.Common.{rules, subst}
 use Rattle.refs_binding.specs.Uses.{IsFile}
 use Rattle.refactor_rename.specs.NewName.{IsNewName}
-use Rattle.refactor_plan.specs.Steps.{PlansIn}
+use Rattle.refactor_plan.specs.Steps.{PlansAtByte}
 use Rattle.refactor_plan.proofs.Planned.{planned}
 use Rattle.refactor_preserve.specs.Planned.{change_in}
 use Rattle.refactor_plan.proofs.plan.plan_rename.Goals as goal
@@ -15,8 +15,8 @@ returns-clause-planned c =
     let is : IsFile snapshot.files path = search rules in
     let form : IsNewName name = search rules in
     planned snapshot path c.args.offset name is form (change_in c.plan_in.result)
-    (subst (λ n. PlansIn snapshot path c.args.offset n (change_in c.plan_in.result)) c.as_bytes.ensures.value
-    (subst (λ p. PlansIn snapshot p c.args.offset c.as_bytes.result.now (change_in c.plan_in.result)) c.in_ok-path.ensures.0 c.plan_in.ensures.planned))
+    (subst (λ n. PlansAtByte snapshot path c.args.offset n (change_in c.plan_in.result)) c.as_bytes.ensures.value
+    (subst (λ p. PlansAtByte snapshot p c.args.offset c.as_bytes.result.now (change_in c.plan_in.result)) c.in_ok-path.ensures.0 c.plan_in.ensures.planned))
 
 pub returns-clause-known : goal.returns-clause-known
 returns-clause-known c = c.plan_in.ensures.known

@@ -1,5 +1,5 @@
 -- The answers to the goals of `restored::undo_and_redo_restore_bindings`.
-use Rattle.refactor_plan.proofs.Alike.{undo_binds, redo_binds}
+use Rattle.refactor_plan.proofs.BoundAlike.{undo_binds, redo_binds}
 use Rattle.refactor_plan.proofs.restored.undo_and_redo_restore_bindings.Goals as goal
 
 pub returns-clause-undo : goal.returns-clause-undo

@@ -3,7 +3,7 @@ use Rattle.std.proofs.Common.{refl, arith}
 use Rattle.std.specs.Prelude.{Contains}
 use Rattle.base_files.specs.declared.place.Place.{Place}
 use Rattle.base_edits.specs.Moved.{moved}
-use Rattle.refs_index.specs.Sound.{view_in}
+use Rattle.refs_index.specs.FaultlessViews.{view_in}
 use Rattle.refactor_preserve.specs.Steps.{AddsNone}
 use Rattle.refactor_preserve.proofs.Every.{none_yet, one_more, of_each, contained, fails_at}
 use Rattle.refactor_preserve.proofs.adding.add_none.Goals as goal

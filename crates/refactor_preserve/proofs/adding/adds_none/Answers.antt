@@ -4,9 +4,9 @@ use Rattle.std.specs.Prelude.{IsTrue, ◌↔◌, Contains}
 use Rattle.std.proofs.lemmas.Result.{IfOk-weaker}
 use Rattle.base_files.specs.declared.place.Place.{Place}
 use Rattle.base_edits.specs.Moved.{moved}
-use Rattle.refs_binding.specs.declared.bound_spot.BoundSpot.{BoundSpot}
-use Rattle.refs_index.specs.Sound.{view_in, IsBoundHere}
-use Rattle.refactor_preserve.specs.Steps.{AllWere, AddsNone}
+use Rattle.refs_binding.specs.declared.bound_identifier.BoundIdentifier.{BoundIdentifier}
+use Rattle.refs_index.specs.FaultlessViews.{view_in, IsBoundAtPlace}
+use Rattle.refactor_preserve.specs.Steps.{AllCorrespond, AddsNone}
 use Rattle.refactor_preserve.proofs.Every.{were_as}
 use Rattle.refactor_preserve.proofs.adding.adds_none.Goals as goal
 
@@ -19,6 +19,6 @@ returns c =
     let old = c.bound_at.result.now in
     let new = c.bound_at-2.result.now in
     let same : c.in_ok-to.to ≡ to place = c.in_ok-to.ensures in
-    IfOk-weaker c.all_were.result (λ yes. IsTrue yes ↔ AllWere before then to old new) (λ yes. IsTrue yes ↔ AddsNone before then to place)
+    IfOk-weaker c.all_correspond.result (λ yes. IsTrue yes ↔ AllCorrespond before then to old new) (λ yes. IsTrue yes ↔ AddsNone before then to place)
     (λ yes is. were_as before then to place old new yes c.bound_at.ensures
-    (subst (λ (q : Place). (b : BoundSpot) → Contains new b ↔ IsBoundHere then q b) same c.bound_at-2.ensures) is) c.all_were.ensures
+    (subst (λ (q : Place). (b : BoundIdentifier) → Contains new b ↔ IsBoundAtPlace then q b) same c.bound_at-2.ensures) is) c.all_correspond.ensures

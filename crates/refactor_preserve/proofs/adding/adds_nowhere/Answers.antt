@@ -5,7 +5,7 @@ use Rattle.std.proofs.lemmas.Result.{IfOk-weaker}
 use Rattle.base_files.specs.declared.place.Place.{Place}
 use Rattle.base_edits.specs.Moved.{moved}
 use Rattle.refs_places.specs.Identified.{IsIdentifierAt}
-use Rattle.refs_index.specs.Sound.{view_in}
+use Rattle.refs_index.specs.FaultlessViews.{view_in}
 use Rattle.refactor_preserve.specs.Steps.{AddsNone, AddsNowhere}
 use Rattle.refactor_preserve.proofs.Every.{nowhere_as}
 use Rattle.refactor_preserve.proofs.adding.adds_nowhere.Goals as goal

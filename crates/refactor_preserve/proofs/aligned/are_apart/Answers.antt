@@ -3,7 +3,7 @@ use Rattle.std.proofs.Common.{◌≡◌, ◌+◌, length, refl, sym, ap, ◌∙�
 use Rattle.std.specs.Prelude.{Some, slice_get}
 use Rattle.std.proofs.lemmas.Bool.{false≢true}
 use Rattle.std.proofs.lemmas.Option.{same_Some, slice_get_within, slice_get_read, slice_get-get_or}
-use Rattle.refs_binding.specs.Bindings.{place_at}
+use Rattle.refs_binding.specs.Bindings.{bound_place}
 use Rattle.refactor_preserve.proofs.aligned.are_apart.Goals as goal
 
 pub returns-in-None : goal.returns-in-None
@@ -20,4 +20,4 @@ returns-in-Some c = λ t this next at also same.
     let read : slice_get new (k + 1) ≡ Some other =
     slice_get-get_or new (k + 1) other c.in-Some.ensures.lookup.3.0 ∙ ap Some (sym c.in-Some.ensures.lookup.1) in
     let there : other ≡ next = same_Some other next (sym read ∙ also) in
-    c.differ.ensures t (ap place_at here ∙ same ∙ ap place_at (sym there))
+    c.differ.ensures t (ap bound_place here ∙ same ∙ ap bound_place (sym there))

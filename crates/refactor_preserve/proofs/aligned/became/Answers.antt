@@ -4,7 +4,7 @@ use Rattle.std.specs.Prelude.{IsTrue, ◌↔◌}
 use Rattle.std.proofs.lemmas.Result.{IfOk-weaker}
 use Rattle.base_files.specs.declared.place.Place.{Place}
 use Rattle.refactor_preserve.specs.Aligned.{moved_in}
-use Rattle.refs_index.specs.Sound.{view_in}
+use Rattle.refs_index.specs.FaultlessViews.{view_in}
 use Rattle.refs_index.specs.Becoming.{Becomes}
 use Rattle.refs_index.proofs.Becoming.{are_same, by_places}
 use Rattle.refactor_preserve.proofs.aligned.became.Goals as goal

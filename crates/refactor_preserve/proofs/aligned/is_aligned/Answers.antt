@@ -3,7 +3,7 @@ use Rattle.std.proofs.Common.{subst}
 use Rattle.std.specs.Prelude.{IsTrue, IfSome}
 use Rattle.std.proofs.lemmas.Result.{IfOk-weaker}
 use Rattle.refactor_preserve.specs.Aligned.{moved_in, IsPartner, IsAligned}
-use Rattle.refs_index.specs.Sound.{view_in}
+use Rattle.refs_index.specs.FaultlessViews.{view_in}
 use Rattle.refs_index.specs.Becoming.{Becomes}
 use Rattle.refactor_preserve.proofs.aligned.is_aligned.Goals as goal
 

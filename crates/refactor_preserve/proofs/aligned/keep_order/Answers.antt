@@ -2,7 +2,7 @@
 use Rattle.std.specs.Prelude.{IsTrue}
 use Rattle.std.proofs.lemmas.Result.{IfOk-weaker}
 use Rattle.refactor_preserve.specs.Aligned.{moved_in, AreSafe}
-use Rattle.refs_index.specs.Sound.{view_in}
+use Rattle.refs_index.specs.FaultlessViews.{view_in}
 use Rattle.refactor_preserve.specs.Steps.{KeepsAll, AddsNowhere}
 use Rattle.refactor_preserve.proofs.Alignment.{keeps_ordered, adds_ordered}
 use Rattle.refactor_preserve.proofs.aligned.keep_order.Goals as goal

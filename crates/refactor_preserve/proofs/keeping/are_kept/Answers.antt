@@ -1,7 +1,7 @@
 -- The answers to the goals of `keeping::are_kept`.
 use Rattle.std.proofs.Common.{refl, arith}
 use Rattle.base_edits.specs.Moved.{moved}
-use Rattle.refs_index.specs.Sound.{view_in}
+use Rattle.refs_index.specs.FaultlessViews.{view_in}
 use Rattle.refactor_preserve.specs.Steps.{IsKept, KeepsAll}
 use Rattle.refactor_preserve.proofs.Every.{none_yet, one_more, of_each, contained, fails_at, keeps_all, kept_one}
 use Rattle.refactor_preserve.proofs.keeping.are_kept.Goals as goal

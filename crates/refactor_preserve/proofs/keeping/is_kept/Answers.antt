@@ -4,9 +4,9 @@ use Rattle.std.specs.Prelude.{IsTrue, ◌↔◌}
 use Rattle.std.proofs.lemmas.Result.{IfOk-weaker}
 use Rattle.base_files.specs.declared.place.Place.{Place}
 use Rattle.refs_binding.specs.declared.declaration.Declaration.{Declaration}
-use Rattle.refs_binding.specs.Bindings.{place_at}
+use Rattle.refs_binding.specs.Bindings.{bound_place}
 use Rattle.base_edits.specs.Moved.{moved}
-use Rattle.refs_index.specs.Sound.{view_in}
+use Rattle.refs_index.specs.FaultlessViews.{view_in}
 use Rattle.refactor_preserve.specs.Steps.{HasBound, IsBoundBy, IsKept}
 use Rattle.refs_index.specs.Becoming.{Becomes}
 use Rattle.refactor_preserve.proofs.Every.{has_as}
@@ -20,7 +20,7 @@ returns c =
     let b = c.args.bound.now in
     let P : Declaration → Type 0 = λ e. Becomes before then to b.declaration e in
     let here = c.bound_at.result.now in
-    let same : c.in_ok-place.place ≡ to (place_at b) = c.in_ok-place.ensures in
+    let same : c.in_ok-place.place ≡ to (bound_place b) = c.in_ok-place.ensures in
     IfOk-weaker c.some_became.result (λ yes. IsTrue yes ↔ HasBound P here) (λ yes. IsTrue yes ↔ IsKept before then to b)
     (λ yes is. subst (λ (q : Place). IsTrue yes ↔ IsBoundBy then q P) same (has_as then c.in_ok-place.place P here yes c.bound_at.ensures is))
     c.some_became.ensures

@@ -1,9 +1,9 @@
 -- The answers to the goals of `keeping::some_became`.
 use Rattle.std.proofs.Common.{arith}
 use Rattle.base_edits.specs.Moved.{moved}
-use Rattle.refs_binding.specs.declared.bound_spot.BoundSpot.{BoundSpot}
+use Rattle.refs_binding.specs.declared.bound_identifier.BoundIdentifier.{BoundIdentifier}
 use Rattle.refs_binding.specs.declared.declaration.Declaration.{Declaration}
-use Rattle.refs_index.specs.Sound.{view_in}
+use Rattle.refs_index.specs.FaultlessViews.{view_in}
 use Rattle.refs_index.specs.Becoming.{Becomes}
 use Rattle.refactor_preserve.proofs.Every.{Not, none_yet, one_more, fails_not, one_has, none_has}
 use Rattle.refactor_preserve.proofs.keeping.some_became.Goals as goal
@@ -16,7 +16,7 @@ loop-b-preserved c =
     let P = λ (e : Declaration). Becomes (view_in c.args.before.now) (view_in c.args.then.now) (moved c.args.moves.now) c.args.d.now e in
     let b = c.b-item.result in
     one_more (Not P) c.args.bound.now c.loop-b.b-index b c.loop-b-test.true c.b-item.is
-    (fails_not (λ (x : BoundSpot). P x.declaration) b c.in_ok-corresponds.field-0 c.if-branch.false c.in_ok-corresponds.ensures) c.loop-b.invariant
+    (fails_not (λ (x : BoundIdentifier). P x.declaration) b c.in_ok-corresponds.field-0 c.if-branch.false c.in_ok-corresponds.ensures) c.loop-b.invariant
 
 pub returns-then-branch : goal.returns-then-branch
 returns-then-branch c =

@@ -5,14 +5,14 @@ use Rattle.std.specs.Option.{option_copied}
 use Rattle.std.proofs.lemmas.Result.{IfOk-weaker}
 use Rattle.base_edits.specs.Moved.{moved}
 use Rattle.refactor_preserve.specs.Among.{BothGo, BecomesAmong, view_among}
-use Rattle.refs_index.specs.Sound.{packages_of}
+use Rattle.refs_index.specs.FaultlessViews.{view_packages}
 use Rattle.refs_index.proofs.Becoming.{same_names}
 use Rattle.refactor_preserve.proofs.Marked.{become_by}
 use Rattle.refactor_preserve.proofs.keeps_among.became.Goals as goal
 
 pub returns-then-are_predeclared : goal.returns-then-are_predeclared
 returns-then-are_predeclared c = λ t.
-    inl (same_names (packages_of (view_among c.args.before.now)) (packages_of (view_among c.args.then.now)) (moved c.args.moves.now) c.args.d.now
+    inl (same_names (view_packages (view_among c.args.before.now)) (view_packages (view_among c.args.then.now)) (moved c.args.moves.now) c.args.d.now
     c.args.e.now (c.are_predeclared.ensures.0 c.if-are_predeclared.true))
 
 pub returns-then-leaves : goal.returns-then-leaves

@@ -7,7 +7,7 @@ use Rattle.workspace_check.specs.declared.findings.Findings.{Findings}
 use Rattle.refs_binding.specs.Workspaces.{known_in}
 use Rattle.base_edits.specs.RevisionsOfEdits.{revision_of}
 use Rattle.refactor_preserve.specs.Affected.{AreAffected}
-use Rattle.refactor_preserve.specs.Answers.{Tells}
+use Rattle.refactor_preserve.specs.Answers.{AnswersFor}
 use Rattle.refactor_preserve.specs.Preserved.{KeepsBindings}
 use Rattle.refactor_preserve.proofs.keeps_among.keeps_among.Goals as goal
 
@@ -32,7 +32,7 @@ keeps_marked-requires-clause-affected c =
 pub returns : goal.returns
 returns c =
     let before = c.in_ok-before.before.packages in
-    let kept = λ (w : Workspace) (f g : Findings). IfOk c.keeps_marked.result (λ answer. Tells answer
+    let kept = λ (w : Workspace) (f g : Findings). IfOk c.keeps_marked.result (λ answer. AnswersFor answer
     (KeepsBindings w (known_in f) (revision_of w c.args.change.now.edits.now) (known_in g))) in
     subst (λ (w : Workspace). kept w c.args.found.now c.args.found_after.now) c.in_ok-before.ensures.graph
     (subst (λ (f : Findings). kept before.graph.now f c.args.found_after.now) c.in_ok-before.ensures.found

@@ -5,8 +5,8 @@ use Rattle.base_edits.specs.EditSet.{FileChanges}
 use Rattle.base_edits.specs.Moved.{moved}
 use Rattle.refs_binding.specs.Workspaces.{known_in}
 use Rattle.base_edits.specs.RevisionsOfEdits.{revision_of}
-use Rattle.refactor_preserve.specs.Among.{TellsMarked}
-use Rattle.refactor_preserve.specs.Answers.{Tells}
+use Rattle.refactor_preserve.specs.Among.{AnswersForMarked}
+use Rattle.refactor_preserve.specs.Answers.{AnswersFor}
 use Rattle.refactor_preserve.specs.Preserved.{KeepsBindings}
 use Rattle.refactor_preserve.proofs.Losing.{told_by_marked}
 use Rattle.refactor_preserve.proofs.keeps_among.keeps_marked.Goals as goal
@@ -17,7 +17,7 @@ returns c =
     let then = c.args.then.now in
     let s = c.args.edits.now in
     let is = c.in_ok-moves.ensures in
-    IfOk-weaker c.tell_marked.result (λ answer. TellsMarked before then (moved c.in_ok-moves.moves) answer)
-    (λ answer. Tells answer (KeepsBindings before.graph.now (known_in before.found.now) (revision_of before.graph.now s) (known_in then.found.now)))
+    IfOk-weaker c.tell_marked.result (λ answer. AnswersForMarked before then (moved c.in_ok-moves.moves) answer)
+    (λ answer. AnswersFor answer (KeepsBindings before.graph.now (known_in before.found.now) (revision_of before.graph.now s) (known_in then.found.now)))
     (λ answer h. told_by_marked before then s c.requires.before.packages.sound.findings.right c.requires.then.sound.findings.right c.requires.affected
-    c.requires.edited answer (subst (λ (m : FileChanges). TellsMarked before then (moved m) answer) is h)) c.tell_marked.ensures
+    c.requires.edited answer (subst (λ (m : FileChanges). AnswersForMarked before then (moved m) answer) is h)) c.tell_marked.ensures

@@ -2,7 +2,7 @@
 use Rattle.std.specs.Prelude.{IsTrue, ◌↔◌}
 use Rattle.std.proofs.lemmas.Result.{IfOk-weaker}
 use Rattle.base_edits.specs.Moved.{moved}
-use Rattle.refs_index.specs.Sound.{view_in}
+use Rattle.refs_index.specs.FaultlessViews.{view_in}
 use Rattle.refactor_preserve.specs.Steps.{KeepsAll, AddsNowhere}
 use Rattle.refactor_preserve.proofs.Every.{both_hold, first_fails}
 use Rattle.refactor_preserve.proofs.kept.keeps_each.Goals as goal

@@ -1,7 +1,7 @@
 -- The packages that reach those with changed files.
 use Rattle.std.proofs.Common.{Bool, List, length, ap, subst, ◌∙◌}
 use Rattle.std.proofs.lemmas.Result.{IfOk-weaker}
-use Rattle.workspace_graph.specs.Reaching.{MarkReaching}
+use Rattle.workspace_graph.specs.Reaching.{ReachingMarks}
 use Rattle.build_carry.specs.Changes.{MarkClosures}
 use Rattle.build_carry.proofs.ChangedFolders.{closures_marked}
 use Rattle.refactor_preserve.specs.Marking.{folders_of}
@@ -15,6 +15,6 @@ returns c =
     let w = c.args.graph.now in
     let folders = folders_of c.args.changed.now in
     let marks = c.in_ok-marks.marks.items in
-    IfOk-weaker c.reaching.result (λ found. MarkReaching w c.deref.result.now found.items) (λ found. MarkClosures w folders found.items)
+    IfOk-weaker c.reaching.result (λ found. ReachingMarks w c.deref.result.now found.items) (λ found. MarkClosures w folders found.items)
     (λ found are. closures_marked w folders marks found.items c.in_ok-marks.ensures
-    (subst (λ (ms : List Bool). MarkReaching w ms found.items) c.deref.ensures.value are)) c.reaching.ensures
+    (subst (λ (ms : List Bool). ReachingMarks w ms found.items) c.deref.ensures.value are)) c.reaching.ensures

@@ -5,7 +5,7 @@ use Rattle.base_edits.specs.Moved.{moved}
 use Rattle.refs_binding.specs.Workspaces.{known_in}
 use Rattle.base_edits.specs.RevisionsOfEdits.{revision_of}
 use Rattle.refactor_preserve.specs.Preserved.{KeepsBindings}
-use Rattle.refs_index.specs.Sound.{view_in}
+use Rattle.refs_index.specs.FaultlessViews.{view_in}
 use Rattle.refactor_preserve.specs.Steps.{KeepsAll, AddsNowhere}
 use Rattle.refactor_preserve.proofs.Deciding.{bindings_kept}
 use Rattle.refactor_preserve.proofs.preserving.keeps_read.Goals as goal

@@ -3,7 +3,7 @@ use Rattle.std.proofs.lemmas.Result.{IfOk-weaker}
 use Rattle.std.specs.Prelude.{map}
 use Rattle.go_ast.specs.SourceFile.{source_of}
 use Rattle.types_info.specs.PackageOf.{package_in}
-use Rattle.types_declared.specs.InterfacesView.{interface_in}
+use Rattle.types_declared.specs.ExportTablesView.{export_data_in}
 use Rattle.refs_binding.specs.Workspaces.{known_in}
 use Rattle.refactor_preserve.proofs.Laid.{laid_at}
 use Rattle.refactor_preserve.proofs.reading.numbers_laid.Goals as goal
@@ -14,7 +14,7 @@ returns c =
     let files = c.files-files.result.now in
     let table = c.args.table.now in
     let seen = c.args.seen.now in
-    let p = package_in path (map source_of files) table (interface_in seen) in
+    let p = package_in path (map source_of files) table (export_data_in seen) in
     let is = laid_at c.args.graph.now (known_in c.args.found.now) c.args.number path files table seen c.requires.in_range c.path_of-path.ensures
     c.files-files.ensures c.requires.table in
     IfOk-weaker c.numbers_by.result _ _ (λ numbers h. (p, (is, h))) c.numbers_by.ensures

@@ -3,7 +3,7 @@ use Rattle.std.proofs.lemmas.Result.{IfOk-weaker}
 use Rattle.std.specs.Prelude.{map}
 use Rattle.go_ast.specs.SourceFile.{source_of}
 use Rattle.types_info.specs.PackageOf.{package_in}
-use Rattle.types_declared.specs.InterfacesView.{interface_in}
+use Rattle.types_declared.specs.ExportTablesView.{export_data_in}
 use Rattle.refs_binding.specs.Workspaces.{known_in}
 use Rattle.refs_places.specs.DeclaredPlaces.{AreDeclaredIn, AreDeclaredAt}
 use Rattle.refactor_preserve.proofs.Laid.{laid_at}
@@ -18,7 +18,7 @@ returns c =
     let files = c.files-files.result.now in
     let table = c.args.table.now in
     let seen = c.args.seen.now in
-    let p = package_in path (map source_of files) table (interface_in seen) in
+    let p = package_in path (map source_of files) table (export_data_in seen) in
     let is = laid_at w known n path files table seen c.requires.in_range c.path_of-path.ensures c.files-files.ensures c.requires.table in
-    IfOk-weaker c.unit_places.result (AreDeclaredIn p) (AreDeclaredAt w known n)
-    (λ places h. record { inside = p; is_package = is; declared = h }) c.unit_places.ensures
+    IfOk-weaker c.package_places.result (AreDeclaredIn p) (AreDeclaredAt w known n)
+    (λ places h. record { inside = p; is_package = is; declared = h }) c.package_places.ensures

@@ -1,6 +1,6 @@
 -- The answers to the goals of `reading_order::read_marked`.
 use Rattle.std.proofs.Common.{sym, subst}
-use Rattle.refactor_preserve.specs.ReadSoFar.{HoldsAllNumbers}
+use Rattle.refactor_preserve.specs.ReadStates.{HoldsAllNumbers}
 use Rattle.refactor_preserve.proofs.reading_order.read_marked.Goals as goal
 
 pub read_ordered-requires-clause-order : goal.read_ordered-requires-clause-order

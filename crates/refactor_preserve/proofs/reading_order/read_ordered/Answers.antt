@@ -3,7 +3,7 @@ use Rattle.std.proofs.Common.{◌<◌, ◌+◌, take, length, get_or, subst, ari
 use Rattle.std.proofs.lemmas.List.{take_all}
 use Rattle.std.proofs.lemmas.List.Elements.{Contains-get_or}
 use Rattle.workspace_check.proofs.Members.{next_taken, still_taken, taken_or_next}
-use Rattle.refactor_preserve.specs.ReadSoFar.{IsReadSoFar}
+use Rattle.refactor_preserve.specs.ReadStates.{IsReadState}
 use Rattle.refactor_preserve.proofs.ReadingOn.{next_read}
 use Rattle.refactor_preserve.proofs.reading_order.read_ordered.Goals as goal
 
@@ -32,4 +32,4 @@ loop-number-preserved c =
 pub returns : goal.returns
 returns c =
     let order = c.args.order.now in
-    subst (λ l. IsReadSoFar c.args.wanted.now l c.loop-number.so_far) (take_all c.loop-number.number-index order (omega arith)) c.loop-number.invariant
+    subst (λ l. IsReadState c.args.wanted.now l c.loop-number.so_far) (take_all c.loop-number.number-index order (omega arith)) c.loop-number.invariant

@@ -4,7 +4,7 @@ use Rattle.std.specs.Prelude.{Some, Contains, slice_get}
 use Rattle.std.proofs.lemmas.Option.{same_Some, slice_get_within}
 use Rattle.base_files.specs.Packages.{package_paths}
 use Rattle.refs_binding.specs.Workspaces.{known_in}
-use Rattle.types_info.proofs.BoundLists.{slice_get_some}
+use Rattle.types_info.proofs.MeaningLists.{slice_get_some}
 use Rattle.refs_binding.proofs.PackageNumbers.{package_there}
 use Rattle.refactor_rename.proofs.Sources.{trees_in_order, tree_found, none_found}
 use Rattle.refactor_rename.proofs.changes.tree_of.Goals as goal

@@ -3,7 +3,7 @@ use Rattle.std.proofs.Common.{subst}
 use Rattle.std.specs.Prelude.{map}
 use Rattle.go_ast.specs.SourceFile.{source_of}
 use Rattle.types_info.specs.PackageOf.{package_in}
-use Rattle.types_declared.specs.InterfacesView.{interface_in}
+use Rattle.types_declared.specs.ExportTablesView.{export_data_in}
 use Rattle.refs_binding.specs.Workspaces.{known_in}
 use Rattle.refs_binding.proofs.Units.{unit_at, one_at}
 use Rattle.refactor_rename.specs.Naming.{RefusesNameIn}
@@ -13,7 +13,7 @@ pub returns : goal.returns
 returns c = λ p is.
     let w = c.args.graph.now in
     let known = known_in c.args.found.now in
-    let q = package_in c.path_of-path.result.now (map source_of c.trees-files.result.now) c.in_ok-table.table (interface_in c.in_ok-seen.seen) in
+    let q = package_in c.path_of-path.result.now (map source_of c.trees-files.result.now) c.in_ok-table.table (export_data_in c.in_ok-seen.seen) in
     let at = unit_at w known c.args.number c.path_of-path.result.now c.trees-files.result.now c.in_ok-seen.seen c.in_ok-table.table c.requires.in_range
     c.path_of-path.ensures c.trees-files.ensures c.in_ok-seen.ensures.seen c.in_ok-table.ensures in
     subst (λ x. RefusesNameIn x c.args.declaration.now c.args.name.now c.refuse_by.result) (one_at w known c.args.number q p at is) c.refuse_by.ensures

@@ -6,8 +6,8 @@ use Rattle.base_files.specs.Packages.{package_paths}
 use Rattle.types_declared.specs.Package.{Package}
 use Rattle.refs_binding.specs.Uses.{IsPackage}
 use Rattle.refs_binding.specs.Workspaces.{known_in}
-use Rattle.refs_binding.specs.Standing.{InPackage}
-use Rattle.refs_binding.specs.Called.{IsCalledIn}
+use Rattle.refs_binding.specs.DeclaringPlaces.{InPackage}
+use Rattle.refs_binding.specs.DeclaredNames.{HasDeclaredNameIn}
 use Rattle.refs_binding.proofs.PackageNumbers.{package_there, in_package, of_package}
 use Rattle.refactor_rename.specs.NewName.{IsReserved}
 use Rattle.refactor_rename.specs.Naming.{IsMainIn, IsTopLevelIn}
@@ -32,6 +32,6 @@ returns-in-Some c =
     let top = agree (λ q. IsTopLevelIn q d) in
     refuses_as (IsMainIn p d) (InPackage (IsPackage w known) path (λ q. IsMainIn q d)) (IsTopLevelIn p d × IsReserved name)
     (InPackage (IsPackage w known) path (λ q. IsTopLevelIn q d) × IsReserved name)
-    (IsCalledIn p d name) (InPackage (IsPackage w known) path (λ q. IsCalledIn q d name)) main
-    (record { there = λ h. (top.there h.0, h.1); back = λ h. (top.back h.0, h.1) }) (agree (λ q. IsCalledIn q d name)) c.refuse_in_package.result
+    (HasDeclaredNameIn p d name) (InPackage (IsPackage w known) path (λ q. HasDeclaredNameIn q d name)) main
+    (record { there = λ h. (top.there h.0, h.1); back = λ h. (top.back h.0, h.1) }) (agree (λ q. HasDeclaredNameIn q d name)) c.refuse_in_package.result
     (c.refuse_in_package.ensures p x.1)

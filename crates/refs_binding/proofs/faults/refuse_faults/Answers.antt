@@ -2,5 +2,5 @@
 use Rattle.refs_binding.proofs.Refusing.{first_refused}
 use Rattle.refs_binding.proofs.faults.refuse_faults.Goals as goal
 
-pub returns-else-are_sound : goal.returns-else-are_sound
-returns-else-are_sound c = first_refused c.args.graph.now c.args.found.now c.requires c.refuse_first.result c.refuse_first.ensures
+pub returns-else-are_faultless : goal.returns-else-are_faultless
+returns-else-are_faultless c = first_refused c.args.graph.now c.args.found.now c.requires c.refuse_first.result c.refuse_first.ensures

@@ -2,9 +2,9 @@
 use Rattle.std.specs.Prelude.{map}
 use Rattle.std.proofs.lemmas.Result.{IfOk-weaker}
 use Rattle.go_ast.specs.SourceFile.{source_of}
-use Rattle.go_scope.specs.Scoped.{scoped}
+use Rattle.go_scope.specs.Packages.{scoped}
 use Rattle.types_declared.specs.PackageNames.{IsLaidOver}
-use Rattle.types_declared.specs.InterfacesView.{name_in}
+use Rattle.types_declared.specs.ExportTablesView.{name_in}
 use Rattle.refs_binding.specs.Packages.{IsTableAs}
 use Rattle.refs_binding.specs.Workspaces.{known_in}
 use Rattle.refs_binding.proofs.Units.{table_at}

@@ -1,7 +1,7 @@
 -- The answers to the goals of `reading::qualified_of`.
 use Rattle.std.proofs.Common.{◌<◌, length, refl, sym, ap, subst, ◌∙◌}
 use Rattle.std.proofs.lemmas.Option.{slice_get_read}
-use Rattle.types_info.specs.Qualified.{AreQualified}
+use Rattle.types_info.specs.QualifiedIdentifiers.{AreQualified}
 use Rattle.workspace_check.specs.declared.finding.Finding.{Finding}
 use Rattle.refs_binding.proofs.Units.{qualified_at}
 use Rattle.refs_binding.proofs.reading.qualified_of.Goals as goal

@@ -1,8 +1,8 @@
 -- The answers to the goals of `bound_unit::bind_numbers`.
 use Rattle.std.proofs.Common.{◌≡◌, ◌<◌, ◌⊎◌, length, sym, subst, arith}
 use Rattle.types_declared.specs.PackageView.{package_of}
-use Rattle.refs_binding.specs.Binding.{BindsByScope, BindsByPackage}
-use Rattle.refs_binding.specs.Bindings.{BoundIn, place_at}
+use Rattle.refs_binding.specs.Binding.{BindsByScope, BindsQualified}
+use Rattle.refs_binding.specs.Bindings.{BoundIn, bound_place}
 use Rattle.refs_binding.specs.Identifiers.{BeginsAt}
 use Rattle.refs_binding.specs.Uses.{IsPackage}
 use Rattle.refs_binding.specs.Workspaces.{known_in}
@@ -21,6 +21,6 @@ returns c =
     let p = package_of c.args.unit in
     let P = IsPackage c.args.exports.now.graph.now (known_in c.args.exports.now.found.now) in
     let e : c.loop-u.u ≡ length c.args.unit.table.now.sites = omega (arith, c.len-u-end.ensures) in
-    all_numbers (λ u b. BeginsAt p (place_at b).path (place_at b).offset u × (BindsByScope p u b.declaration ⊎ BindsByPackage P p u b.declaration))
-    (BoundIn p (λ u d. BindsByScope p u d ⊎ BindsByPackage P p u d))
+    all_numbers (λ u b. BeginsAt p (bound_place b).path (bound_place b).offset u × (BindsByScope p u b.declaration ⊎ BindsQualified P p u b.declaration))
+    (BoundIn p (λ u d. BindsByScope p u d ⊎ BindsQualified P p u d))
     c.loop-u.u c.args.bound.now.items c.loop-u.bound.items (λ u b h. (u, h)) (λ b h. (h.0, subst (λ n. h.0 < n) (sym e) h.1.0.0.0, h.1)) c.loop-u.invariant

@@ -1,8 +1,8 @@
 -- The invariants of the loops of `bound_unit::bind_numbers`.
 use Rattle.std.proofs.Common.{◌⊎◌}
 use Rattle.types_declared.specs.PackageView.{package_of}
-use Rattle.refs_binding.specs.Binding.{BindsByScope, BindsByPackage}
-use Rattle.refs_binding.specs.Bindings.{AddsAll, place_at}
+use Rattle.refs_binding.specs.Binding.{BindsByScope, BindsQualified}
+use Rattle.refs_binding.specs.Bindings.{AddsAll, bound_place}
 use Rattle.refs_binding.specs.Identifiers.{BeginsAt}
 use Rattle.refs_binding.specs.Uses.{IsPackage}
 use Rattle.refs_binding.specs.Workspaces.{known_in}
@@ -15,4 +15,4 @@ invariant-loop-u l =
     let p = package_of l.unit in
     let P = IsPackage l.exports.graph.now (known_in l.exports.found.now) in
     AddsAll l.initial.bound.items l.bound.items
-    (BelowAll (λ u b. BeginsAt p (place_at b).path (place_at b).offset u × (BindsByScope p u b.declaration ⊎ BindsByPackage P p u b.declaration)) l.u)
+    (BelowAll (λ u b. BeginsAt p (bound_place b).path (bound_place b).offset u × (BindsByScope p u b.declaration ⊎ BindsQualified P p u b.declaration)) l.u)

@@ -3,7 +3,7 @@ use Rattle.std.specs.Prelude.{IsTrue, ◌↔◌}
 use Rattle.std.proofs.Common.{◌≡◌}
 use Rattle.std.proofs.lemmas.Result.{IfOk-weaker}
 use Rattle.base_edits.specs.Moved.{moved}
-use Rattle.refs_index.specs.Sound.{view_in}
+use Rattle.refs_index.specs.FaultlessViews.{view_in}
 use Rattle.refs_index.specs.Becoming.{Becomes}
 use Rattle.refs_index.proofs.Becoming.{are_same, old_nowhere, new_nowhere, by_places}
 use Rattle.refs_index.proofs.corresponding.corresponds.Goals as goal

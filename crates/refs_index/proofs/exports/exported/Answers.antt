@@ -2,7 +2,7 @@
 use Rattle.std.proofs.Common.{◌<◌, ◌∙◌, length, sym, subst, refl}
 use Rattle.std.proofs.lemmas.Option.{slice_get_within, slice_get_read}
 use Rattle.base_files.specs.Packages.{package_paths}
-use Rattle.refs_binding.specs.Exports.{AreNumbersAt}
+use Rattle.refs_binding.specs.Exports.{AreExportsByNameAt}
 use Rattle.refs_binding.specs.Workspaces.{known_in}
 use Rattle.refs_binding.proofs.Exporting.{no_package}
 use Rattle.refs_binding.proofs.ExportNumbers.{not_exported, is_exported}
@@ -19,7 +19,7 @@ returns-in-None-named c =
     let x = c.index-exports-number.result in
     let within : n < length c.args.exports.now = subst (λ m. n < m) (sym c.requires.exports.size)
     (slice_get_within (package_paths w) n c.args.path.now c.in-Some.ensures) in
-    let are : AreNumbersAt w known n x = c.requires.exports.each n x
+    let are : AreExportsByNameAt w known n x = c.requires.exports.each n x
     (slice_get_read c.args.exports.now (length c.args.exports.now) n x refl within c.index-exports-number.is) in
     not_exported w known c.args.path.now c.args.name.now n x c.in-Some.ensures are (sym c.in-None-named.ensures)
 
@@ -31,7 +31,7 @@ returns-in_ok-path-in-Some-named c =
     let x = c.index-exports-number.result in
     let within : n < length c.args.exports.now = subst (λ m. n < m) (sym c.requires.exports.size)
     (slice_get_within (package_paths w) n c.args.path.now c.in-Some.ensures) in
-    let are : AreNumbersAt w known n x = c.requires.exports.each n x
+    let are : AreExportsByNameAt w known n x = c.requires.exports.each n x
     (slice_get_read c.args.exports.now (length c.args.exports.now) n x refl within c.index-exports-number.is) in
     is_exported w known c.args.path.now c.args.name.now n x c.in-Some-named.d c.in-Some.ensures are (sym c.in-Some-named.ensures) _
     (c.in_ok-path-in-Some-named.ensures.cases ∙ c.path_of.ensures c.args.path.now c.in-Some.ensures)

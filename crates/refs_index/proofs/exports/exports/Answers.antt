@@ -1,7 +1,7 @@
 -- The answers to the goals of `exports::exports`.
 use Rattle.std.proofs.Common.{◌≡◌, length, subst, arith}
 use Rattle.base_files.specs.Packages.{package_paths}
-use Rattle.refs_binding.specs.Exports.{AreNumbersAt}
+use Rattle.refs_binding.specs.Exports.{AreExportsByNameAt}
 use Rattle.refs_binding.specs.Packages.{HoldsOfEach}
 use Rattle.refs_binding.specs.Workspaces.{known_in}
 use Rattle.refs_binding.proofs.Each.{none_yet, one_more}
@@ -9,15 +9,15 @@ use Rattle.refs_index.proofs.exports.exports.Goals as goal
 
 pub loop-number-init : goal.loop-number-init
 loop-number-init c =
-    none_yet (AreNumbersAt c.args.packages.now.graph.now (known_in c.args.packages.now.found.now)) c.new-exports.result.items c.new-exports.ensures.items
+    none_yet (AreExportsByNameAt c.args.packages.now.graph.now (known_in c.args.packages.now.found.now)) c.new-exports.result.items c.new-exports.ensures.items
 
 pub loop-number-preserved : goal.loop-number-preserved
 loop-number-preserved c =
-    one_more (AreNumbersAt c.args.packages.now.graph.now (known_in c.args.packages.now.found.now)) c.loop-number.number c.loop-number.exports.items
+    one_more (AreExportsByNameAt c.args.packages.now.graph.now (known_in c.args.packages.now.found.now)) c.loop-number.number c.loop-number.exports.items
     c.push.new.self.items _ c.in_ok-push.ensures.items c.in_ok-numbers_of.ensures c.loop-number.invariant
 
 pub returns : goal.returns
 returns c =
     let w = c.args.packages.now.graph.now in
     let end : c.loop-number.number ≡ length (package_paths w) = omega arith in
-    subst (λ n. HoldsOfEach (AreNumbersAt w (known_in c.args.packages.now.found.now)) n c.loop-number.exports.items) end c.loop-number.invariant
+    subst (λ n. HoldsOfEach (AreExportsByNameAt w (known_in c.args.packages.now.found.now)) n c.loop-number.exports.items) end c.loop-number.invariant

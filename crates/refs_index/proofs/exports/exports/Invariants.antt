@@ -1,8 +1,8 @@
 -- The invariants of the loops of `exports::exports`.
-use Rattle.refs_binding.specs.Exports.{AreNumbersAt}
+use Rattle.refs_binding.specs.Exports.{AreExportsByNameAt}
 use Rattle.refs_binding.specs.Packages.{HoldsOfEach}
 use Rattle.refs_binding.specs.Workspaces.{known_in}
 use Rattle.refs_index.proofs.exports.exports.Given as goal
 
 abbrev pub invariant-loop-number : goal.invariant-loop-number
-invariant-loop-number l = HoldsOfEach (AreNumbersAt l.packages.graph.now (known_in l.packages.found.now)) l.number l.exports.items
+invariant-loop-number l = HoldsOfEach (AreExportsByNameAt l.packages.graph.now (known_in l.packages.found.now)) l.number l.exports.items

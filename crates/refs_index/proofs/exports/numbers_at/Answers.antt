@@ -3,7 +3,7 @@ use Rattle.std.proofs.lemmas.Result.{IfOk-weaker}
 use Rattle.std.specs.Prelude.{map}
 use Rattle.go_ast.specs.SourceFile.{source_of}
 use Rattle.types_info.specs.PackageOf.{package_in}
-use Rattle.types_declared.specs.InterfacesView.{interface_in}
+use Rattle.types_declared.specs.ExportTablesView.{export_data_in}
 use Rattle.refs_binding.specs.Workspaces.{known_in}
 use Rattle.refs_binding.proofs.Units.{unit_at}
 use Rattle.refs_index.proofs.exports.numbers_at.Goals as goal
@@ -13,7 +13,7 @@ seen-requires-clause-whole c = c.requires.sound.findings.whole
 
 pub returns : goal.returns
 returns c =
-    let p = package_in c.path_of-path.result.now (map source_of c.trees-files.result.now) c.in_ok-table.table (interface_in c.in_ok-seen.seen) in
+    let p = package_in c.path_of-path.result.now (map source_of c.trees-files.result.now) c.in_ok-table.table (export_data_in c.in_ok-seen.seen) in
     let is =
     unit_at c.args.graph.now (known_in c.args.found.now) c.args.number c.path_of-path.result.now c.trees-files.result.now c.in_ok-seen.seen c.in_ok-table.table
     c.requires.in_range c.path_of-path.ensures c.trees-files.ensures c.in_ok-seen.ensures.seen c.in_ok-table.ensures

@@ -1,8 +1,8 @@
 -- The invariants of the loops of `exported::exported_as`.
 use Rattle.std.proofs.Common.{ℕ, ◌≡◌, ◌<◌}
-use Rattle.types_check.specs.Interfaces.{IsSeen}
+use Rattle.types_check.specs.Exports.{DoesExport}
 use Rattle.types_declared.specs.PackageView.{package_of}
 use Rattle.refs_lookup.proofs.exported.exported_as.Given as goal
 
 abbrev pub invariant-loop-d : goal.invariant-loop-d
-invariant-loop-d l = (e : ℕ) → e < l.d → IsSeen (package_of l.unit) e → (package_of l.unit).names e ≡ l.name → ⊥
+invariant-loop-d l = (e : ℕ) → e < l.d → DoesExport (package_of l.unit) e → (package_of l.unit).names e ≡ l.name → ⊥

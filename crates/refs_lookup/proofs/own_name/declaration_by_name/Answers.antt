@@ -3,7 +3,7 @@ use Rattle.std.proofs.Common.{ap, sym, subst, ◌∙◌}
 use Rattle.std.proofs.lemmas.Result.{IfOk-weaker}
 use Rattle.go_scope.specs.Bindings.{is_implied}
 use Rattle.types_declared.specs.PackageView.{package_of}
-use Rattle.refs_binding.specs.Steps.{IsDeclarationFound, NamesField}
+use Rattle.refs_binding.specs.Steps.{IsDeclarationResult, DeclaresField}
 use Rattle.refs_binding.proofs.NamedPlaces.{unnamed, found_name, as_field}
 use Rattle.refs_lookup.proofs.own_name.declaration_by_name.Goals as goal
 
@@ -20,9 +20,9 @@ pub returns-in-None : goal.returns-in-None
 returns-in-None c =
     let p = package_of c.args.unit in
     IfOk-weaker c.own_method.result _ _
-    (λ o h. found_name p c.args.u o (subst (IsDeclarationFound (NamesField p c.args.u)) c.in-None.is c.in_ok-own_field.ensures) h) c.own_method.ensures
+    (λ o h. found_name p c.args.u o (subst (IsDeclarationResult (DeclaresField p c.args.u)) c.in-None.is c.in_ok-own_field.ensures) h) c.own_method.ensures
 
 pub returns-in-Some : goal.returns-in-Some
 returns-in-Some c =
     let p = package_of c.args.unit in
-    as_field p c.args.u c.in-Some.declaration (subst (IsDeclarationFound (NamesField p c.args.u)) c.in-Some.is c.in_ok-own_field.ensures)
+    as_field p c.args.u c.in-Some.declaration (subst (IsDeclarationResult (DeclaresField p c.args.u)) c.in-Some.is c.in_ok-own_field.ensures)

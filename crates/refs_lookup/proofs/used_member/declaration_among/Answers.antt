@@ -5,7 +5,7 @@ use Rattle.std.proofs.Math.ListN.{length-map}
 use Rattle.types_expr.specs.Found.{use_of}
 use Rattle.types_declared.specs.PackageView.{package_of}
 use Rattle.refs_binding.specs.Members.{definitions_seen, IsMemberIf}
-use Rattle.refs_binding.specs.Steps.{IsDeclarationFound}
+use Rattle.refs_binding.specs.Steps.{IsDeclarationResult}
 use Rattle.refs_binding.proofs.MemberPlaces.{use_at, none_next, none_among, one_among}
 use Rattle.refs_lookup.proofs.used_member.declaration_among.Goals as goal
 
@@ -16,7 +16,7 @@ loop-k-preserved c =
     let k = c.loop-k.k in
     let x = c.index-uses-k.result in
     none_next ds p c.args.file c.args.token (map use_of c.args.uses.now) k (use_of x) (use_at c.args.uses.now k x (omega arith) c.index-uses-k.is)
-    (subst (IsDeclarationFound (IsMemberIf ds p c.args.file c.args.token (use_of x))) c.in-None.is c.in_ok-declaration_if.ensures) c.loop-k.invariant
+    (subst (IsDeclarationResult (IsMemberIf ds p c.args.file c.args.token (use_of x))) c.in-None.is c.in_ok-declaration_if.ensures) c.loop-k.invariant
 
 pub returns-in-Some : goal.returns-in-Some
 returns-in-Some c =
@@ -26,7 +26,7 @@ returns-in-Some c =
     let x = c.index-uses-k.result in
     one_among ds p c.args.file c.args.token (map use_of c.args.uses.now) k (use_of x) c.in-Some.declaration
     (use_at c.args.uses.now k x (omega arith) c.index-uses-k.is)
-    (subst (IsDeclarationFound (IsMemberIf ds p c.args.file c.args.token (use_of x))) c.in-Some.is c.in_ok-declaration_if.ensures)
+    (subst (IsDeclarationResult (IsMemberIf ds p c.args.file c.args.token (use_of x))) c.in-Some.is c.in_ok-declaration_if.ensures)
 
 pub returns : goal.returns
 returns c =

@@ -1,5 +1,5 @@
 -- The answers to the goals of `declared_places::counts`.
-use Rattle.go_scope.specs.Scoped.{layout_in, names_in}
+use Rattle.go_scope.specs.Packages.{layout_in, names_in}
 use Rattle.refs_places.proofs.Declared.{not_declared, not_bound, own_bound}
 use Rattle.refs_places.proofs.declared_places.counts.Goals as goal
 

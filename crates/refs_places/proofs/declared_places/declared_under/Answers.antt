@@ -3,7 +3,7 @@ use Rattle.std.proofs.Common.{◌≡◌, length, ap, sym, subst, ◌∙◌}
 use Rattle.std.specs.Prelude.{Some, Contains, slice_get}
 use Rattle.std.proofs.lemmas.Option.{slice_get-get_or}
 use Rattle.base_files.specs.Packages.{package_paths}
-use Rattle.refs_binding.specs.Standing.{StandsIn}
+use Rattle.refs_binding.specs.DeclaringPlaces.{DeclaresAt}
 use Rattle.refs_binding.proofs.PackageNumbers.{no_package}
 use Rattle.refs_places.proofs.Found.{beyond}
 use Rattle.refs_places.proofs.Declared.{place_under, no_places_there}
@@ -11,7 +11,7 @@ use Rattle.refs_places.proofs.declared_places.declared_under.Goals as goal
 
 pub returns-in-None : goal.returns-in-None
 returns-in-None c = λ known are place h.
-    no_package c.args.graph.now known c.args.path.now (λ p. StandsIn p c.args.declaration.now place)
+    no_package c.args.graph.now known c.args.path.now (λ p. DeclaresAt p c.args.declaration.now place)
     (subst (λ q. Contains (package_paths c.args.graph.now) q → ⊥) c.path.ensures c.in-None.ensures) h
 
 pub returns-in-None-get : goal.returns-in-None-get

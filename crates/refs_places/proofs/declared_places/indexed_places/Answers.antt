@@ -5,7 +5,7 @@ use Rattle.go_ast.specs.SourceFile.{source_of}
 use Rattle.types_declared.specs.PackageView.{package_of}
 use Rattle.refs_binding.specs.Binding.{IsFieldAt, IsMethodAt}
 use Rattle.refs_binding.proofs.NamedPlaces.{one_field_place, one_method_place}
-use Rattle.refs_binding.specs.Standing.{IsScopeAt}
+use Rattle.refs_binding.specs.DeclaringPlaces.{IsScopeAt}
 use Rattle.refs_places.proofs.Declared.{ranked, one_scope_place}
 use Rattle.refs_places.proofs.declared_places.indexed_places.Goals as goal
 

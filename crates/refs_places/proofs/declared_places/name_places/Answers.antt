@@ -3,7 +3,7 @@ use Rattle.std.proofs.Common.{◌≡◌, ◌<◌, subst, sym, arith}
 use Rattle.types_declared.specs.PackageView.{package_of}
 use Rattle.refs_binding.proofs.Bound.{seen_within}
 use Rattle.refs_binding.proofs.NamedPlaces.{no_places, next_place, all_places}
-use Rattle.refs_binding.specs.Standing.{IsScopeAt}
+use Rattle.refs_binding.specs.DeclaringPlaces.{IsScopeAt}
 use Rattle.refs_places.proofs.declared_places.name_places.Goals as goal
 
 pub loop-d-init : goal.loop-d-init

@@ -10,5 +10,5 @@ returns c =
     let w = c.args.packages.now.graph.now in
     let known = known_in c.args.packages.now.found.now in
     let p = package_of c.unit-unit.result in
-    IfOk-weaker c.unit_places.result (AreDeclaredIn p) (AreDeclaredAt w known c.args.number)
-    (λ places h. record { inside = p; is_package = c.unit-unit.ensures; declared = h }) c.unit_places.ensures
+    IfOk-weaker c.package_places.result (AreDeclaredIn p) (AreDeclaredAt w known c.args.number)
+    (λ places h. record { inside = p; is_package = c.unit-unit.ensures; declared = h }) c.package_places.ensures

@@ -6,7 +6,7 @@ use Rattle.base_files.specs.declared.place.Place.{Place}
 use Rattle.go_scope.specs.Bindings.{is_implied}
 use Rattle.types_declared.specs.PackageView.{package_of}
 use Rattle.refs_binding.specs.Identifiers.{NameBegins, BeginsAt}
-use Rattle.refs_places.specs.DeclaredPlaces.{IsFound}
+use Rattle.refs_places.specs.DeclaredPlaces.{IsChoice}
 use Rattle.refs_places.proofs.Starts.{not_implied, begins_as}
 use Rattle.refs_places.proofs.places.beginning.Goals as goal
 
@@ -17,7 +17,7 @@ pub returns-else-is_implied : goal.returns-else-is_implied
 returns-else-is_implied c =
     let p = package_of c.args.unit in
     let at = c.place.result in
-    IfOk-weaker c.name_beginning.result (IsFound (λ (place : Place). NameBegins (slice_get p.files at.file) at.index place.path place.offset))
-    (IsFound (λ (place : Place). BeginsAt p place.path place.offset c.args.u))
+    IfOk-weaker c.name_beginning.result (IsChoice (λ (place : Place). NameBegins (slice_get p.files at.file) at.index place.path place.offset))
+    (IsChoice (λ (place : Place). BeginsAt p place.path place.offset c.args.u))
     (λ o h. begins_as p c.args.u at o c.requires (ap is_implied (sym c.role.ensures) ∙ sym c.is_implied.ensures ∙ c.if-is_implied.false) c.place.ensures h)
     c.name_beginning.ensures

@@ -7,7 +7,7 @@ use Rattle.std.proofs.lemmas.Option.{slice_get_read}
 use Rattle.types_expr.specs.Found.{use_of}
 use Rattle.types_declared.specs.PackageView.{package_of}
 use Rattle.refs_binding.specs.Members.{definitions_seen, IsMemberUseAmong}
-use Rattle.refs_binding.specs.Steps.{Adds}
+use Rattle.refs_binding.specs.Steps.{AddsMisfits}
 use Rattle.refs_binding.proofs.Adding.{below_none, below_next}
 use Rattle.refs_binding.proofs.MemberParts.{seen_definitions}
 use Rattle.refs_binding.proofs.MemberPlaces.{IsFileUse, one_file, all_members}
@@ -30,13 +30,13 @@ loop-file-preserved c =
     let b = c.add_file_members.new.found.items in
     below_next (IsFileUse ds p d members) c.args.found.now.items a b file c.loop-file.invariant
     (one_file ds p d members file v a b (slice_get_read members (length members) file v refl (omega arith) c.index-of-file.is)
-    (subst (λ (x : Vec FoundUse). Adds a b (IsMemberUseAmong ds p file d (map use_of x.items))) (sym c.index-of-file.is)
-    (subst (λ l. Adds a b (IsMemberUseAmong ds p file d (map use_of l))) c.deref.ensures.value c.in_ok-add_file_members.ensures)))
+    (subst (λ (x : Vec FoundUse). AddsMisfits a b (IsMemberUseAmong ds p file d (map use_of x.items))) (sym c.index-of-file.is)
+    (subst (λ l. AddsMisfits a b (IsMemberUseAmong ds p file d (map use_of l))) c.deref.ensures.value c.in_ok-add_file_members.ensures)))
 
 pub returns : goal.returns
 returns c =
     let own = c.args.of.now.own.now in
     let e : c.loop-file.file ≡ length c.args.of.now.members.now = omega arith in
-    all_members (package_of c.args.of.now.unit) c.is_well_formed.ensures c.one_world.ensures (definitions_seen c.args.of.now.unit own)
+    all_members (package_of c.args.of.now.unit) c.is_well_formed.ensures c.has_one_world.ensures (definitions_seen c.args.of.now.unit own)
     (seen_definitions c.args.of.now.unit own c.requires.own) c.args.of.now.members.now c.requires.members
     c.args.declaration.now c.loop-file.file c.args.found.now.items c.loop-file.found.items e c.loop-file.invariant

@@ -5,10 +5,10 @@ use Rattle.std.specs.Global.{Vec}
 use Rattle.std.proofs.lemmas.Option.{slice_get_read}
 use Rattle.types_expr.specs.declared.found.MemberUse.{MemberUse as FoundUse}
 use Rattle.types_expr.specs.Found.{use_of}
-use Rattle.types_info.proofs.OneWorld.{one_world}
+use Rattle.types_info.proofs.OneWorld.{has_one_world}
 use Rattle.workspace_check.proofs.OnePackage.{layout_formed, files_in_order}
 use Rattle.refs_binding.specs.Members.{definitions_known, IsMemberUseAmong}
-use Rattle.refs_binding.specs.Steps.{Adds}
+use Rattle.refs_binding.specs.Steps.{AddsMisfits}
 use Rattle.refs_binding.proofs.Adding.{below_none, below_next}
 use Rattle.refs_binding.proofs.MemberPlaces.{IsFileUse, one_file, all_members}
 use Rattle.refs_uses.proofs.members_abroad.add_known_members.Goals as goal
@@ -28,13 +28,13 @@ loop-file-preserved c = λ w known p is.
     let b = c.add_file_uses.new.spots.items in
     below_next (IsFileUse ds p d members) c.args.spots.now.items a b file (c.loop-file.invariant w known p is)
     (one_file ds p d members file v a b (slice_get_read members (length members) file v refl (omega arith) c.index-of-file.is)
-    (subst (λ (x : Vec FoundUse). Adds a b (IsMemberUseAmong ds p file d (map use_of x.items))) (sym c.index-of-file.is)
-    (subst (λ l. Adds a b (IsMemberUseAmong ds p file d (map use_of l))) c.deref.ensures.value (c.in_ok-add_file_uses.ensures w known p is))))
+    (subst (λ (x : Vec FoundUse). AddsMisfits a b (IsMemberUseAmong ds p file d (map use_of x.items))) (sym c.index-of-file.is)
+    (subst (λ l. AddsMisfits a b (IsMemberUseAmong ds p file d (map use_of l))) c.deref.ensures.value (c.in_ok-add_file_uses.ensures w known p is))))
 
 pub returns : goal.returns
 returns c = λ w known p is.
     let e : c.loop-file.file ≡ length c.args.of.now.members.now = omega arith in
     let formed = layout_formed w known p.path p is.is_package in
-    all_members p formed (one_world p formed (files_in_order w known p.path p is.is_package)) (definitions_known c.args.of.now.types) is.definitions
+    all_members p formed (has_one_world p formed (files_in_order w known p.path p is.is_package)) (definitions_known c.args.of.now.types) is.definitions
     c.args.of.now.members.now is.members c.args.declaration.now c.loop-file.file c.args.spots.now.items c.loop-file.spots.items e
     (c.loop-file.invariant w known p is)

@@ -3,10 +3,10 @@ use Rattle.std.proofs.Common.{◌≡◌, map, ap, sym, subst, ◌∙◌}
 use Rattle.std.proofs.lemmas.Result.{on_ok_weaker}
 use Rattle.go_ast.specs.SourceFile.{source_of}
 use Rattle.types_declared.specs.Definitions.{AreDefinitions}
-use Rattle.types_declared.specs.InterfacesView.{name_in, interface_in}
+use Rattle.types_declared.specs.ExportTablesView.{name_in, export_data_in}
 use Rattle.types_declared.specs.Package.{Package}
 use Rattle.workspace_check.proofs.OnePackage.{one_sources}
-use Rattle.workspace_check.proofs.OneSeen.{one_interfaces}
+use Rattle.workspace_check.proofs.OneSeen.{one_export_table}
 use Rattle.refs_binding.specs.Members.{definitions_by}
 use Rattle.refs_binding.specs.Workspaces.{known_in}
 use Rattle.refs_binding.proofs.MemberParts.{known_definitions}
@@ -27,9 +27,9 @@ returns c =
     let checked = is.is_package.is_checked in
     let own = c.own_of.result.now in
     let path : c.path_of.result.now ≡ p.path = c.path_of.ensures p.path is.has_number in
-    let sees : p.interface_of ≡ interface_in seen =
-    ap (λ (x : Package). x.interface_of) checked.is_package.is_package ∙
-    one_interfaces w known p.path checked.name_of (name_in seen) checked.interface_of (interface_in seen) checked.are_seen
+    let sees : p.export_data_of ≡ export_data_in seen =
+    ap (λ (x : Package). x.export_data_of) checked.is_package.is_package ∙
+    one_export_table w known p.path checked.name_of (name_in seen) checked.export_data_of (export_data_in seen) checked.are_seen
     (c.requires.seen p.path is.has_number) in
     let definitions : AreDefinitions p (definitions_by c.path_of.result.now own c.definitions.result.now) =
     subst (λ i. AreDefinitions p (definitions_by c.path_of.result.now own i)) (sym c.definitions.ensures)

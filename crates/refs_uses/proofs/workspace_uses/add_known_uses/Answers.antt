@@ -15,6 +15,6 @@ returns c =
     let d = c.args.sought.now.declaration.now in
     let name = name_value c.args.sought.now.name in
     let is = c.requires.unit in
-    call_adds c.args.spots.now.items c.add_unit_uses.new.found.items (UsesIn p (BindsIn p d name)) (IsUseAt w known d name c.args.at.number)
-    c.add_unit_uses.result (λ place q. record { used_in = p; is_package = is; is_use = q })
-    (λ place q. use_from w known d name c.args.at.number p is place q) c.add_unit_uses.ensures
+    call_adds c.args.spots.now.items c.add_uses_in_package.new.found.items (UsesIn p (BindsIn p d name)) (IsUseAt w known d name c.args.at.number)
+    c.add_uses_in_package.result (λ place q. record { used_in = p; is_package = is; is_use = q })
+    (λ place q. use_from w known d name c.args.at.number p is place q) c.add_uses_in_package.ensures

@@ -5,7 +5,7 @@ use Rattle.std.proofs.lemmas.Result.{IfOk-weaker}
 use Rattle.types_declared.specs.PackageView.{package_of}
 use Rattle.refs_binding.specs.declared.declaration.Declaration.TheVariants.{Declared}
 use Rattle.refs_binding.specs.Steps.{IsExportedBy}
-use Rattle.refs_binding.specs.Workspaces.{known_in, bytes_of, IsExportedUnder}
+use Rattle.refs_binding.specs.Workspaces.{known_in, name_bytes, IsExportedUnder}
 use Rattle.refs_binding.proofs.Exporting.{name_exported}
 use Rattle.refs_uses.proofs.workspace_uses.scope_name.Goals as goal
 
@@ -14,10 +14,10 @@ returns-then-is_own c =
     let w = c.args.read.graph.now in
     let known = known_in c.args.read.found.now in
     let p = package_of c.args.unit in
-    IfOk-weaker c.own_name.result (λ name. IsExportedBy p c.args.d (option_map bytes_of name))
-    (λ name. IsExportedUnder w known (Declared c.args.path.now c.args.d) (option_map bytes_of name))
+    IfOk-weaker c.own_name.result (λ name. IsExportedBy p c.args.d (option_map name_bytes name))
+    (λ name. IsExportedUnder w known (Declared c.args.path.now c.args.d) (option_map name_bytes name))
     (λ name h. name_exported w known c.args.path.now c.args.d p c.requires.unit.is_package (sym (c.is_own.ensures.0 c.if-is_own.true))
-    (option_map bytes_of name) h) c.own_name.ensures
+    (option_map name_bytes name) h) c.own_name.ensures
 
 pub declared_name-requires : goal.declared_name-requires
 declared_name-requires c = c.requires.numbered.sound

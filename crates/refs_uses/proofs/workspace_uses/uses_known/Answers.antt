@@ -4,8 +4,8 @@ use Rattle.refs_binding.specs.Workspaces.{known_in}
 use Rattle.refs_lookup.proofs.Asking.{asked, refused, tells_refusal, tells_uses}
 use Rattle.refs_uses.proofs.workspace_uses.uses_known.Goals as goal
 
-pub declaration_in_unit-requires-clause-sound : goal.declaration_in_unit-requires-clause-sound
-declaration_in_unit-requires-clause-sound c = c.requires.numbered.sound
+pub declaration_in_package-requires-clause-sound : goal.declaration_in_package-requires-clause-sound
+declaration_in_package-requires-clause-sound c = c.requires.numbered.sound
 
 pub returns-in-Err : goal.returns-in-Err
 returns-in-Err c =

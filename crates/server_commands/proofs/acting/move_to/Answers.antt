@@ -6,6 +6,6 @@ use Rattle.server_commands.proofs.acting.move_to.Goals as goal
 pub commit_known-requires-clause-seen : goal.commit_known-requires-clause-seen
 commit_known-requires-clause-seen g c =
     let files = c.args.view.now.snapshot.files in
-    known_move_based (g.D.Desk.sees c.plan_target-planned.new.desk) c.args.view.now.snapshot
-    (subst (λ d. g.D.Desk.sees d files) (sym c.plan_target-planned.ensures.same) c.requires) c.as_str.result.now c.as_str-2.result.now
-    c.plan_target-planned.result c.plan_target-planned.ensures.planned
+    known_move_based (g.D.Desk.sees c.move_plan-planned.new.desk) c.args.view.now.snapshot
+    (subst (λ d. g.D.Desk.sees d files) (sym c.move_plan-planned.ensures.same) c.requires) c.as_str.result.now c.as_str-2.result.now
+    c.move_plan-planned.result c.move_plan-planned.ensures.planned

@@ -2,7 +2,7 @@
 use Rattle.std.proofs.Common.{◌≡◌, Some, slice_get, ap, subst, ◌∙◌}
 use Rattle.base_files.specs.Packages.{package_paths}
 use Rattle.base_files.specs.Workspace.{Workspace}
-use Rattle.workspace_graph.proofs.Asked.{at_contains}
+use Rattle.workspace_graph.proofs.ByPath.{at_contains}
 use Rattle.build_carry.proofs.FinishedUnits.{unit_at}
 use Rattle.server_commands.proofs.queries.object.Goals as goal
 

@@ -4,4 +4,4 @@ use Rattle.server_shared.proofs.locked.step_book.Goals as goal
 
 pub returns-clause-kind : goal.returns-clause-kind
 returns-clause-kind g c =
-    may_reply c.args.book.now (g.Q.Question.event c.args.question) (g.Q.Question.reply c.step_kept.result.0) c.step_kept.new.self c.step_kept.ensures.0
+    may_reply c.args.book.now (g.Q.Question.event c.args.question) (g.Q.Question.reply c.journal_step.result.0) c.journal_step.new.self c.journal_step.ensures.0

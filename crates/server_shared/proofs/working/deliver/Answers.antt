@@ -2,7 +2,7 @@
 use Rattle.std.proofs.Common.{subst}
 use Rattle.build_unit.specs.declared.job.JobRecord.{JobRecord}
 use Rattle.history_machine.specs.declared.event.Event.TheVariants.{GiveBack}
-use Rattle.server_shared.specs.Working.{Sends}
+use Rattle.server_shared.specs.Working.{CallsEvent}
 use Rattle.server_shared.proofs.WorkLaws.{after_back, after_taken}
 use Rattle.server_shared.proofs.working.deliver.Goals as goal
 
@@ -16,7 +16,7 @@ pub returns-in-Err : goal.returns-in-Err
 returns-in-Err g c =
     let sent = c.deliver.ensures in
     let returned = rw c.in-Err.is at sent.2 in
-    let given = subst (λ (job : JobRecord). Sends c.deliver.new.seat (GiveBack job) c.give_back.new.seat) returned.1 c.give_back.ensures in (
+    let given = subst (λ (job : JobRecord). CallsEvent c.deliver.new.seat (GiveBack job) c.give_back.new.seat) returned.1 c.give_back.ensures in (
       c.args.built,
       c.requires,
       (sent.0, c.deliver.new.seat, sent.1, after_back c.deliver.new.seat c.args.hand.job sent.0 c.give_back.new.seat returned.0 given),

@@ -1,7 +1,7 @@
 -- The session at the desk, as it is seen at the seat that the desk holds.
 use Rattle.std.proofs.Common.{rules, refl}
-use Rattle.server_socket.specs.Step.{CallsAtSeat}
-use Rattle.server_socket.specs.Wait.{WaitsUntilBuilt}
+use Rattle.server_socket.specs.SeatStep.{CallsAtSeat}
+use Rattle.server_socket.specs.SeatWait.{WaitsUntilBuilt}
 use Rattle.server_socket.proofs.Lifts.{conversed}
 use Rattle.server_socket.proofs.session.session_at_seat.Goals as goal
 

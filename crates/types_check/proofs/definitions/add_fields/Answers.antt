@@ -16,7 +16,7 @@ use Rattle.types_check.proofs.definitions.add_fields.Goals.{then-counting-rank+i
 
 pub loop-rank-preserved : goal.loop-rank-preserved
 loop-rank-preserved c =
-    let p = package_of c.args.of.now.unit in
+    let p = package_of c.args.of.now.pkg in
     let rank = c.loop-rank.rank in
     let old = c.loop-rank.definitions.items in
     let within : rank < length (package_fields p) = omega (arith, length-map c.args.fields.now field_of, ap length c.requires.fields) in
@@ -35,7 +35,7 @@ loop-rank-preserved c =
 
 pub add_field-requires-clause-in_range : goal.add_field-requires-clause-in_range
 add_field-requires-clause-in_range c =
-    let p = package_of c.args.of.now.unit in
+    let p = package_of c.args.of.now.pkg in
     let f = field_of c.index-fields-rank.result in
     let at = item_at field_of c.args.fields.now (package_fields p) c.loop-rank.rank c.index-fields-rank.result c.requires.fields c.loop-rank-test.true
     c.index-fields-rank.is in

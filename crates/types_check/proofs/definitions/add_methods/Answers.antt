@@ -20,7 +20,7 @@ use Rattle.types_check.proofs.definitions.add_methods.Goals.{then-counting-rank+
 
 pub loop-rank-preserved : goal.loop-rank-preserved
 loop-rank-preserved c =
-    let p = package_of c.args.of.now.unit in
+    let p = package_of c.args.of.now.pkg in
     let fields : ℕ = length (package_fields p) in
     let items = c.args.of.now.index.now.declared.functions.items in
     let rank = c.loop-rank.rank in

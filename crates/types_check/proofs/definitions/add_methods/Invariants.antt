@@ -6,4 +6,4 @@ use Rattle.types_check.specs.Building.{HaveMembersBelow}
 use Rattle.types_check.proofs.definitions.add_methods.Given as goal
 
 abbrev pub invariant-loop-rank : goal.invariant-loop-rank
-invariant-loop-rank l = HaveMembersBelow (package_of l.of.unit) (length (package_fields (package_of l.of.unit))) l.rank l.definitions.items
+invariant-loop-rank l = HaveMembersBelow (package_of l.of.pkg) (length (package_fields (package_of l.of.pkg))) l.rank l.definitions.items

@@ -12,7 +12,7 @@ use Rattle.types_check.proofs.definitions.bare_definitions.Goals as goal
 
 pub bare_definition-requires : goal.bare_definition-requires
 bare_definition-requires c =
-    let p = package_of c.args.unit in
+    let p = package_of c.args.pkg in
     let rank = c.loop-rank.rank in
     let within : rank < length (package_types p) = omega (arith, c.loop-rank-test.true, c.requires.all) in
     subst (λ o. IsUnderlyingFound p rank (option_map underlying_of o))
@@ -22,7 +22,7 @@ bare_definition-requires c =
 pub loop-rank-preserved : goal.loop-rank-preserved
 loop-rank-preserved c = record {
   all = search rules;
-  each = each_push (λ r d. IsDefinitionBelow (package_of c.args.unit) 0 0 r (definition_of d)) c.loop-rank.found.items c.push.new.self.items
+  each = each_push (λ r d. IsDefinitionBelow (package_of c.args.pkg) 0 0 r (definition_of d)) c.loop-rank.found.items c.push.new.self.items
       c.loop-rank.rank c.in_ok-bare_definition.field-0 c.in_ok-push.ensures.items
       c.loop-rank.invariant.all c.loop-rank.invariant.each c.in_ok-bare_definition.ensures;
 }

@@ -10,5 +10,5 @@ use Rattle.types_check.proofs.definitions.bare_definitions.Given as goal
 abbrev pub invariant-loop-rank : goal.invariant-loop-rank
 invariant-loop-rank l = record {
   all : length l.found.items ≡ l.rank;
-  each : (rank : ℕ) (d : Definition) → slice_get l.found.items rank ≡ Some d → IsDefinitionBelow (package_of l.unit) 0 0 rank (definition_of d);
+  each : (rank : ℕ) (d : Definition) → slice_get l.found.items rank ≡ Some d → IsDefinitionBelow (package_of l.pkg) 0 0 rank (definition_of d);
 }

@@ -4,4 +4,4 @@ use Rattle.types_check.proofs.Building.{have_definitions}
 use Rattle.types_check.proofs.definitions.definitions.Goals as goal
 
 pub returns : goal.returns
-returns c = have_definitions (package_of c.args.unit) c.add_methods.new.definitions.items c.in_ok-add_methods.ensures
+returns c = have_definitions (package_of c.args.pkg) c.add_methods.new.definitions.items c.in_ok-add_methods.ensures

@@ -12,7 +12,7 @@ use Rattle.types_check.proofs.definitions.underlying_or_struct.Goals as goal
 
 pub returns-in-None : goal.returns-in-None
 returns-in-None c =
-    let p = package_of c.args.unit in
+    let p = package_of c.args.pkg in
     let rank = c.args.rank in
     let none : IsUnderlyingFound p rank None = subst (λ o. IsUnderlyingFound p rank (option_map underlying_of o)) c.in-None.is c.requires in
     IfOk-weaker c.own_struct.result (λ u. underlying_of u ≡ Struct (symbol_in p rank)) (λ u. IsUnderlyingOf p rank (underlying_of u))
@@ -20,7 +20,7 @@ returns-in-None c =
 
 pub returns-in-Some : goal.returns-in-Some
 returns-in-Some c =
-    let p = package_of c.args.unit in
+    let p = package_of c.args.pkg in
     let rank = c.args.rank in
     let own = underlying_of c.in-Some.own in
     let found : IsUnderlyingFound p rank (Some own) = subst (λ o. IsUnderlyingFound p rank (option_map underlying_of o)) c.in-Some.is c.requires in

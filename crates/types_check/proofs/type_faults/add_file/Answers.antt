@@ -8,14 +8,14 @@ use Rattle.types_check.proofs.type_faults.add_file.Goals as goal
 pub returns-clause-faults : goal.returns-clause-faults
 returns-clause-faults c =
     on_ok_weaker c.add.result
-    (λ h. faults_of_file (package_of c.args.of.now.unit) c.requires.one c.args.file (checked_of c.in_ok-checked.checked) c.args.typed.now.faults.items
+    (λ h. faults_of_file (package_of c.args.of.now.pkg) c.requires.one c.args.file (checked_of c.in_ok-checked.checked) c.args.typed.now.faults.items
     c.add.new.self.faults.items c.in_ok-checked.ensures.checked h)
     c.add.ensures.faults
 
 pub returns-clause-members : goal.returns-clause-members
 returns-clause-members c =
     on_ok_weaker c.add.result
-    (λ h. uses_of_file (package_of c.args.of.now.unit) c.args.file (checked_of c.in_ok-checked.checked) c.args.typed.now.members.items
+    (λ h. uses_of_file (package_of c.args.of.now.pkg) c.args.file (checked_of c.in_ok-checked.checked) c.args.typed.now.members.items
     c.add.new.self.members.items
     c.in_ok-checked.ensures.checked h)
     c.add.ensures.members

@@ -8,9 +8,9 @@ use Rattle.types_check.proofs.worlds.file_world.Goals as goal
 
 pub returns : goal.returns
 returns c =
-    let p = package_of c.args.unit in
+    let p = package_of c.args.pkg in
     let w : World = record {
-      «package» = c.args.unit.path;
+      «package» = c.args.pkg.path;
       names = c.args.names;
       bounds = c.args.bounds;
       own = c.args.definitions;

@@ -2,18 +2,18 @@
 use Rattle.std.proofs.Common.{rules, ◌≡◌, ◌++◌, ◌∷◌, [], true, length, sym, subst, ap, ◌∙◌, arith}
 use Rattle.types_declared.specs.Package.{package_types}
 use Rattle.types_declared.specs.PackageView.{package_of}
-use Rattle.types_declared.specs.Spread.{AreLinked}
+use Rattle.types_declared.specs.Reachability.{AreLinksInRange}
 use Rattle.types_declared.specs.Broken.{AreMentions}
 use Rattle.types_declared.proofs.Breaking.{are_linked, are_broken, definition_count}
 use Rattle.types_declared.proofs.broken.broken_definitions.Goals as goal
 
 pub reached-requires-clause-linked : goal.reached-requires-clause-linked
 reached-requires-clause-linked c =
-    subst AreLinked (sym c.deref.ensures.value) (are_linked (package_of c.args.unit) c.in_ok-links.links.items c.in_ok-links.ensures)
+    subst AreLinksInRange (sym c.deref.ensures.value) (are_linked (package_of c.args.pkg) c.in_ok-links.links.items c.in_ok-links.ensures)
 
 pub returns : goal.returns
 returns c =
-    let p = package_of c.args.unit in
+    let p = package_of c.args.pkg in
     let items = c.args.index.now.declared.types.items in
     let count : length items ≡ length (package_types p) = definition_count p items c.requires.types in
     let n : c.len.result ≡ length items = omega (arith, c.len.ensures) in

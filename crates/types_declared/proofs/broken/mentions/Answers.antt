@@ -10,7 +10,7 @@ use Rattle.types_declared.proofs.broken.mentions.Goals as goal
 
 pub loop-rank-init : goal.loop-rank-init
 loop-rank-init c =
-    let p = package_of c.args.unit in
+    let p = package_of c.args.pkg in
     let items = c.args.index.now.declared.types.items in
     let count : length items ≡ length (package_types p) = definition_count p items c.requires.types in
     let n : c.len.result ≡ length items = omega (arith, c.len.ensures) in
@@ -20,7 +20,7 @@ loop-rank-init c =
 pub loop-rank-preserved : goal.loop-rank-preserved
 unfolding type_spec_view
 loop-rank-preserved c =
-    let p = package_of c.args.unit in
+    let p = package_of c.args.pkg in
     let items = c.args.index.now.declared.types.items in
     one_more p c.loop-rank.links.items c.note_definition.new.links.items c.loop-rank.rank (type_of c.index.result.now)
     (item_at type_of items (package_types p) c.loop-rank.rank c.index.result.now c.requires.types
@@ -29,7 +29,7 @@ loop-rank-preserved c =
 
 pub returns : goal.returns
 returns c =
-    let p = package_of c.args.unit in
+    let p = package_of c.args.pkg in
     let items = c.args.index.now.declared.types.items in
     let count : length items ≡ length (package_types p) = definition_count p items c.requires.types in
     let n : c.len-rank-end.result ≡ length items = omega (arith, c.len-rank-end.ensures) in

@@ -4,4 +4,4 @@ use Rattle.types_declared.proofs.Breaking.{MentionsBelow}
 use Rattle.types_declared.proofs.broken.mentions.Given as goal
 
 abbrev pub invariant-loop-rank : goal.invariant-loop-rank
-invariant-loop-rank l = MentionsBelow (package_of l.unit) l.links.items l.rank
+invariant-loop-rank l = MentionsBelow (package_of l.pkg) l.links.items l.rank

@@ -13,7 +13,7 @@ use Rattle.types_declared.proofs.broken.note_definition.Goals as goal
 pub returns-in-Type : goal.returns-in-Type
 unfolding body_view
 returns-in-Type c =
-    let p = package_of c.args.unit in
+    let p = package_of c.args.pkg in
     let file = c.args.definition.now.file in
     let t = type_view c.in-Type.written in
     subst (λ b. OnOk c.note_type.result (AddsLinks c.args.links.now.items c.note_type.new.links.items c.args.rank
@@ -25,7 +25,7 @@ returns-in-Type c =
 pub returns-in-Struct : goal.returns-in-Struct
 unfolding body_view
 returns-in-Struct c =
-    let p = package_of c.args.unit in
+    let p = package_of c.args.pkg in
     let file = c.args.definition.now.file in
     subst (λ b. OnOk c.note_fields.result (AddsLinks c.args.links.now.items c.note_fields.new.links.items c.args.rank
     (IsTargetOfSome p file (written_types (body_view b))))) (sym c.in-Struct.is)

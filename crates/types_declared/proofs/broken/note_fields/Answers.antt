@@ -8,7 +8,7 @@ use Rattle.types_declared.proofs.broken.note_fields.Goals as goal
 
 pub loop-field-preserved : goal.loop-field-preserved
 loop-field-preserved c =
-    let p = package_of c.args.unit in
+    let p = package_of c.args.pkg in
     let file = c.args.at.file in
     let i = c.loop-field.field-index in
     let before = field_types (take i c.args.fields.now) in

@@ -7,4 +7,4 @@ use Rattle.types_declared.proofs.broken.note_fields.Given as goal
 
 abbrev pub invariant-loop-field : goal.invariant-loop-field
 invariant-loop-field l = AddsLinks l.initial.links.items l.links.items l.at.rank
-    (IsTargetOfSome (package_of l.unit) l.at.file (field_types (take l.field-index l.fields)))
+    (IsTargetOfSome (package_of l.pkg) l.at.file (field_types (take l.field-index l.fields)))

@@ -10,7 +10,7 @@ use Rattle.types_declared.proofs.broken.note_type.Goals as goal
 
 pub returns-in-Some : goal.returns-in-Some
 returns-in-Some c =
-    let p = package_of c.args.unit in
+    let p = package_of c.args.pkg in
     let tree = type_view c.args.written.now in
     let one : IsOneTarget p c.args.at.file tree (Some c.in-Some.to) = subst (IsOneTarget p c.args.at.file tree) c.in-Some.is c.in_ok-target.ensures in
     on_ok_weaker c.note.result

@@ -1,7 +1,7 @@
 -- The answers to the goals of `paths::path_of`.
 use Rattle.std.proofs.Common.{ℕ, List, subst, map, IfOk, MatchOption}
 use Rattle.go_ast.specs.SourceFile.{source_of}
-use Rattle.go_scope.specs.Scoped.{ScopedPackage}
+use Rattle.go_scope.specs.Packages.{ScopedPackage}
 use Rattle.types_declared.specs.Laid.{laid_in, IsPathOf}
 use Rattle.types_declared.proofs.paths.path_of.Goals as goal
 

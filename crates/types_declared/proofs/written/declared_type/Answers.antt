@@ -11,9 +11,9 @@ unfolding type_of
 returns-in-Some c = predeclared c.in-Some.basic c.in-Some.ensures
 
 pub returns-in-None : goal.returns-in-None
-returns-in-None c = declares_none (package_of c.args.unit) c.args.d c.in_default.ensures c.in-None.ensures
+returns-in-None c = declares_none (package_of c.args.pkg) c.args.d c.in_default.ensures c.in-None.ensures
 
 pub returns-in_ok-defined_type-in-Some-definition : goal.returns-in_ok-defined_type-in-Some-definition
 returns-in_ok-defined_type-in-Some-definition c =
-    subst (DeclaresPlain (package_of c.args.unit) c.args.d) (sym c.in_ok-defined_type-in-Some-definition.ensures)
+    subst (DeclaresPlain (package_of c.args.pkg) c.args.d) (sym c.in_ok-defined_type-in-Some-definition.ensures)
     (defined {rank = c.in-Some-definition.rank} c.in-Some-definition.ensures)

@@ -8,5 +8,5 @@ returns-in-None c = λ e h. c.in-None.ensures.bound h.import h.binds
 
 pub returns-in-Some : goal.returns-in-Some
 returns-in-Some c =
-    export_by_import (package_of c.args.unit) c.args.file c.args.qualifier c.args.name c.in-Some.d c.export_of_import.result c.in-Some.ensures.bound
+    export_by_import (package_of c.args.pkg) c.args.file c.args.qualifier c.args.name c.in-Some.d c.export_of_import.result c.in-Some.ensures.bound
     c.in-Some.ensures.only c.export_of_import.ensures

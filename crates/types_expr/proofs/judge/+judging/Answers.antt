@@ -5,35 +5,35 @@ use Rattle.std.proofs.Common.{◌≡◌, ◌+◌, List, map, option_map, drop, a
 use Rattle.go_ast.specs.Tree.{no_link}
 use Rattle.go_ast.specs.View.{expr_view, link_view, key_view, type_view}
 use Rattle.go_ast.specs.declared.tree.CompositeLit.{out-CompositeLit}
-use Rattle.types_expr.specs.Judge.{Argued, followed, as_value, judge, judge_value, judge_link, judge_links, judge_operands, judge_arguments, judge_elements}
-use Rattle.types_expr.specs.Judge.{index_of, JudgedElements, judge_type, element_then, element_key, call_of, operation, prefix_of, address_of, none_seen}
+use Rattle.types_expr.specs.Judge.{ListValue, followed, as_value, judge, judge_value, judge_link, judge_links, judge_operands, judge_arguments, judge_elements}
+use Rattle.types_expr.specs.Judge.{index_of, JudgedElements, judge_type, with_element, element_key, call_of, operation, prefix_of, address_of, none_seen}
 use Rattle.types_expr.specs.Places.{place_of}
 use Rattle.types_expr.specs.View.{type_of, kind_of}
 use Rattle.types_expr.specs.WorldView.{world_of}
 use Rattle.types_expr.specs.Lists.{links_in, operands_in, arguments_in, elements_in}
-use Rattle.types_expr.specs.Found.{meaning_of, locals_of, argued_of, seen_of}
+use Rattle.types_expr.specs.Found.{meaning_of, locals_of, list_value, seen_of}
 use Rattle.types_expr.proofs.Items.{next_item}
-use Rattle.types_expr.proofs.Adding.{ReachedList, reached_list_end, argued_at, reached_start, reached_step, reached_end, reached_list_start, reached_list_step}
-use Rattle.types_expr.proofs.Adding.{adds_then, adds_meaning, adds_values, ReachedElements, reached_elements_start, reached_element, reached_elements_end}
-use Rattle.types_expr.proofs.Adding.{reached_elements_as, adds_literal}
+use Rattle.types_expr.proofs.AddedJudgements.{ReachedList, reached_list_end, argued_at, reached_start, reached_step, reached_end, reached_list_start, reached_list_step}
+use Rattle.types_expr.proofs.AddedJudgements.{adds_then, adds_meaning, adds_values, ReachedElements, reached_elements_start, reached_element, reached_elements_end}
+use Rattle.types_expr.proofs.AddedJudgements.{reached_elements_as, adds_literal}
 use Rattle.types_expr.proofs.Equations.{ok_map, adds_as, list_as, number_judged, text_judged, name_judged, blank_judged, composite_judged, paren_judged}
 use Rattle.types_expr.proofs.Equations.{prefix_judged, address_judged, chain_found, binary_found, selector_judged, index_judged, call_judged, links_step}
 use Rattle.types_expr.proofs.Equations.{links_end, operands_step, operands_end, arguments_step, arguments_end, elements_step, elements_end, literal_found}
 use Rattle.types_expr.proofs.judge.+judging.Goals as goal
 
 pub arguments-loop-argument-init : goal.arguments-loop-argument-init
-arguments-loop-argument-init t c = subst (λ (vs : List Argued).
+arguments-loop-argument-init t c = subst (λ (vs : List ListValue).
     ReachedList (judge_arguments (world_of c.args.scope.world.now) (locals_of c.args.scope.locals.now) (arguments_in c.args.list.now))
     (judge_arguments (world_of c.args.scope.world.now) (locals_of c.args.scope.locals.now) (arguments_in c.args.list.now)) c.args.found.now c.args.found.now
-    vs) (ap (map argued_of) (sym c.new-values.ensures.items)) (reached_list_start _)
+    vs) (ap (map list_value) (sym c.new-values.ensures.items)) (reached_list_start _)
 
 pub arguments-loop-argument-preserved : goal.arguments-loop-argument-preserved
 arguments-loop-argument-preserved t c =
-    subst (λ (vs : List Argued). ReachedList (judge_arguments (world_of c.args.scope.world.now) (locals_of c.args.scope.locals.now)
+    subst (λ (vs : List ListValue). ReachedList (judge_arguments (world_of c.args.scope.world.now) (locals_of c.args.scope.locals.now)
     (arguments_in c.args.list.now))
     (judge_arguments (world_of c.args.scope.world.now) (locals_of c.args.scope.locals.now)
     (arguments_in (drop (c.loop-argument.argument-index + 1) c.args.list.now))) c.args.found.now c.judge_value.new.found vs)
-    (sym (ap (map argued_of) c.in_ok-push.ensures.items ∙ map-append argued_of c.loop-argument.values.items _))
+    (sym (ap (map list_value) c.in_ok-push.ensures.items ∙ map-append list_value c.loop-argument.values.items _))
     (reached_list_step _ (judge_value (world_of c.args.scope.world.now) (locals_of c.args.scope.locals.now) (expr_view c.argument-item.result.value))
     (record { place = c.place_of-place.result; kind = option_map kind_of c.into_kind-kind.result })
     c.loop-argument.invariant c.in_ok-judge_value.ensures (argued_at c.place_of-place.ensures c.into_kind-kind.ensures)
@@ -69,7 +69,7 @@ binary-returns t c = record {
 
 pub chain-loop-next-preserved : goal.chain-loop-next-preserved
 chain-loop-next-preserved t c = λ j before a.
-    reached_step _ (λ k. judge_links (world_of c.args.scope.world.now) (locals_of c.args.scope.locals.now) c.args.at.start c.place_behind-place.result k
+    reached_step _ (λ k. judge_links (world_of c.args.scope.world.now) (locals_of c.args.scope.locals.now) c.args.at.start c.place_after_link-place.result k
     (links_in (drop (c.loop-next.next-index + 1) c.args.links.now)))
     (λ m. judge_link (world_of c.args.scope.world.now) (locals_of c.args.scope.locals.now) c.args.at.start c.loop-next.place
     (link_view c.next-item.result no_link) m)
@@ -79,7 +79,7 @@ chain-loop-next-preserved t c = λ j before a.
     ∙ (links_step (world_of c.args.scope.world.now) (locals_of c.args.scope.locals.now) c.args.at.start c.loop-next.place k c.next-item.result _
     ∙ ap (λ p. judge_links (world_of c.args.scope.world.now) (locals_of c.args.scope.locals.now) c.args.at.start p
     (followed k (judge_link (world_of c.args.scope.world.now) (locals_of c.args.scope.locals.now) c.args.at.start c.loop-next.place
-    (link_view c.next-item.result no_link))) (links_in (drop (c.loop-next.next-index + 1) c.args.links.now))) (sym c.place_behind-place.ensures)))
+    (link_view c.next-item.result no_link))) (links_in (drop (c.loop-next.next-index + 1) c.args.links.now))) (sym c.place_after_link-place.ensures)))
 
 pub chain-returns : goal.chain-returns
 chain-returns t c = record {
@@ -123,7 +123,7 @@ pub judge_link-returns-in_ok-values-in-Call : goal.judge_link-returns-in_ok-valu
 judge_link-returns-in_ok-values-in-Call t c = ok_map c.call.result
     (λ m a. adds_as (call_judged (world_of c.args.scope.world.now) (locals_of c.args.scope.locals.now) _ _ _ _ _ _ c.in-Call.is _ c.deref.ensures.value)
     (adds_values (λ vs. call_of (world_of c.args.scope.world.now) c.args.at.start c.args.at.place vs (meaning_of c.args.meaning))
-    (list_as refl (ap (map argued_of) c.deref-in-Call.ensures.value) c.in_ok-values-in-Call.ensures) a)) c.call.ensures
+    (list_as refl (ap (map list_value) c.deref-in-Call.ensures.value) c.in_ok-values-in-Call.ensures) a)) c.call.ensures
 
 pub judge-returns-in_ok-meaning-in-Chain : goal.judge-returns-in_ok-meaning-in-Chain
 judge-returns-in_ok-meaning-in-Chain t c =
@@ -160,7 +160,7 @@ elements-loop-element-preserved t c =
     (seen_of c.loop-element.seen) (elements_in xs)) (next_item _ _ _ c.loop-element-test.true c.element-item.is)
     ∙ (elements_step (world_of c.args.scope.world.now) (locals_of c.args.scope.locals.now) (option_map type_of c.args.own.now) (seen_of c.loop-element.seen)
     c.element-item.result _
-    ∙ ap (λ s. element_then (world_of c.args.scope.world.now)
+    ∙ ap (λ s. with_element (world_of c.args.scope.world.now)
     (element_key (world_of c.args.scope.world.now) (option_map type_of c.args.own.now) (seen_of c.loop-element.seen)
     (key_view c.element-item.result.key)) (place_of (expr_view c.element-item.result.value))
     (judge_value (world_of c.args.scope.world.now) (locals_of c.args.scope.locals.now) (expr_view c.element-item.result.value))

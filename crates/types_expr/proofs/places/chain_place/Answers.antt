@@ -9,7 +9,7 @@ use Rattle.types_expr.proofs.places.chain_place.Goals as goal
 
 pub loop-link-preserved : goal.loop-link-preserved
 unfolding links_in
-loop-link-preserved c = ap (λ p. place_of_links c.args.start p (links_in (drop (c.loop-link.link-index + 1) c.args.links.now))) c.place_behind-place.ensures
+loop-link-preserved c = ap (λ p. place_of_links c.args.start p (links_in (drop (c.loop-link.link-index + 1) c.args.links.now))) c.place_after_link-place.ensures
     ∙ (sym (place_step c.args.start c.loop-link.place c.link-item.result (links_in (drop (c.loop-link.link-index + 1) c.args.links.now)))
     ∙ (ap (λ xs. place_of_links c.args.start c.loop-link.place (links_in xs)) (sym (next_item _ _ _ c.loop-link-test.true c.link-item.is)) ∙
     c.loop-link.invariant))

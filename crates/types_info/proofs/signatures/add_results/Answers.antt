@@ -3,7 +3,7 @@ use Rattle.std.proofs.Common.{arith, ap, sym, ◌∙◌}
 use Rattle.go_ast.specs.Tree as tree
 use Rattle.go_ast.specs.View.{list_view, type_view}
 use Rattle.go_ast.specs.FileView.{results_view}
-use Rattle.types_declared.specs.Bound.{result_types}
+use Rattle.types_declared.specs.MeaningOf.{result_types}
 use Rattle.types_info.specs.SignatureView.{tree_of}
 use Rattle.types_declared.proofs.Appending.{appends_as, appends_all, appends_none, appends_one}
 use Rattle.types_info.proofs.SignatureParts.{type_part, types_from}

@@ -2,7 +2,7 @@
 use Rattle.std.proofs.Common.{ℕ, ◌<◌, length, get_or, arith, subst}
 use Rattle.std.specs.Prelude.{Contains}
 use Rattle.std.proofs.lemmas.List.Elements.{Contains-get_or}
-use Rattle.types_declared.specs.Spread.{Leads}
+use Rattle.types_declared.specs.Reachability.{LinksTo}
 use Rattle.types_members.proofs.Reaching.{turned_none, turned_next}
 use Rattle.types_members.proofs.components.reversed.Goals as goal
 
@@ -14,7 +14,7 @@ note-requires c =
     let row = c.row-to-items.result.now in
     let q : ℕ = get_or row c.loop-to.to-index 0 in
     let held : Contains row q = Contains-get_or row c.loop-to.to-index 0 c.loop-to-test.true in
-    let leads : Leads c.args.links.now c.loop-from.from q = subst (λ xs. Contains xs q) c.row-to-items.ensures held in
+    let leads : LinksTo c.args.links.now c.loop-from.from q = subst (λ xs. Contains xs q) c.row-to-items.ensures held in
     let below : q < length c.args.links.now = c.requires c.loop-from.from q leads in
     omega (arith, c.loop-to.invariant.size)
 
@@ -23,5 +23,5 @@ loop-to-preserved c =
     let row = c.row-to-items.result.now in
     let q : ℕ = get_or row c.loop-to.to-index 0 in
     let held : Contains row q = Contains-get_or row c.loop-to.to-index 0 c.loop-to-test.true in
-    let leads : Leads c.args.links.now c.loop-from.from q = subst (λ xs. Contains xs q) c.row-to-items.ensures held in
+    let leads : LinksTo c.args.links.now c.loop-from.from q = subst (λ xs. Contains xs q) c.row-to-items.ensures held in
     turned_next c.args.links.now c.loop-to.back.items c.note.new.links.items c.loop-from.from q leads c.in_ok-note.ensures c.loop-to.invariant

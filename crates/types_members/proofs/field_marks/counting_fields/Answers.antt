@@ -14,7 +14,7 @@ use Rattle.types_members.proofs.field_marks.counting_fields.Goals as goal
 
 pub loop-field-init : goal.loop-field-init
 loop-field-init c =
-    let K = IsFieldNamed (package_of c.args.unit) in
+    let K = IsFieldNamed (package_of c.args.pkg) in
     record {
       names = names_none K (is_noted c.new-names.result) c.new-names.ensures;
       marks =
@@ -23,7 +23,7 @@ loop-field-init c =
 
 pub loop-field-preserved : goal.loop-field-preserved
 loop-field-preserved c =
-    let p = package_of c.args.unit in
+    let p = package_of c.args.pkg in
     let K = IsFieldNamed p in
     let rank = c.loop-field.field-index in
     let f = field_of c.field-item.result in
@@ -41,7 +41,7 @@ loop-field-preserved c =
 
 pub returns : goal.returns
 returns c =
-    let p = package_of c.args.unit in
+    let p = package_of c.args.pkg in
     let end : c.loop-field.field-index ≡ length c.args.fields.now = omega arith in
     are_counting p c.loop-field.marks.items c.loop-field.field-index (end ∙ sym (length-map c.args.fields.now field_of) ∙ ap length c.requires)
     c.loop-field.invariant.marks

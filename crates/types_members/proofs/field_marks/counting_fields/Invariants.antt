@@ -8,6 +8,6 @@ use Rattle.types_members.proofs.field_marks.counting_fields.Given as goal
 
 abbrev pub invariant-loop-field : goal.invariant-loop-field
 invariant-loop-field l = record {
-  names : AreNamesBelow (IsFieldNamed (package_of l.unit)) l.field-index (is_noted l.names);
-  marks : MarksBelow (IsFirstNamed (IsFieldNamed (package_of l.unit))) l.marks.items l.field-index;
+  names : AreNamesBelow (IsFieldNamed (package_of l.pkg)) l.field-index (is_noted l.names);
+  marks : MarksBelow (IsFirstNamed (IsFieldNamed (package_of l.pkg))) l.marks.items l.field-index;
 }

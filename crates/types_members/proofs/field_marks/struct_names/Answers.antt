@@ -12,11 +12,11 @@ use Rattle.types_members.proofs.FieldNames.{field_named, one_name}
 use Rattle.types_members.proofs.field_marks.struct_names.Goals as goal
 
 pub loop-field-init : goal.loop-field-init
-loop-field-init c = names_none (IsFieldNamed (package_of c.args.unit)) (is_noted c.new-names.result) c.new-names.ensures
+loop-field-init c = names_none (IsFieldNamed (package_of c.args.pkg)) (is_noted c.new-names.result) c.new-names.ensures
 
 pub loop-field-preserved : goal.loop-field-preserved
 loop-field-preserved c =
-    let p = package_of c.args.unit in
+    let p = package_of c.args.pkg in
     let rank = c.loop-field.field-index in
     let f = field_of c.field-item.result in
     let at = item_at field_of c.args.fields.now (package_fields p) rank c.field-item.result c.requires (omega arith) c.field-item.is in
@@ -26,7 +26,7 @@ loop-field-preserved c =
 
 pub returns : goal.returns
 returns c =
-    let p = package_of c.args.unit in
+    let p = package_of c.args.pkg in
     let end : c.loop-field.field-index ≡ length c.args.fields.now = omega arith in
     subst (λ n. AreNamesBelow (IsFieldNamed p) n (is_noted c.loop-field.names)) (end ∙ sym (length-map c.args.fields.now field_of) ∙ ap length c.requires)
     c.loop-field.invariant

@@ -5,4 +5,4 @@ use Rattle.types_declared.specs.PackageView.{package_of}
 use Rattle.types_members.proofs.field_marks.struct_names.Given as goal
 
 abbrev pub invariant-loop-field : goal.invariant-loop-field
-invariant-loop-field l = AreNamesBelow (IsFieldNamed (package_of l.unit)) l.field-index (is_noted l.names)
+invariant-loop-field l = AreNamesBelow (IsFieldNamed (package_of l.pkg)) l.field-index (is_noted l.names)

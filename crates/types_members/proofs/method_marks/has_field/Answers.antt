@@ -16,7 +16,7 @@ returns-in-None c =
     let e = ap (option_map underlying_of) (sym (get_or_read own d c.index-underlying-definition.result short c.index-underlying-definition.is None) ∙
     c.in-None.is) in (
       (λ t. absurd (false≢true t)),
-      (λ f. absurd (no_field_named (package_of c.args.unit) d _ c.args.name.now
+      (λ f. absurd (no_field_named (package_of c.args.pkg) d _ c.args.name.now
           (c.requires.underlying.each d c.requires.in_range) e f)),
     )
 
@@ -27,5 +27,5 @@ returns-in-Some c =
     let short : d < length own = omega (arith, c.requires.underlying.all, c.requires.in_range) in
     let e = ap (option_map underlying_of) (sym (get_or_read own d c.index-underlying-definition.result short c.index-underlying-definition.is None) ∙
     c.in-Some.is) in
-    field_named_by (package_of c.args.unit) c.is_well_formed.ensures d _ (underlying_of c.in-Some.own) c.args.name.now c.underlying_has.result
+    field_named_by (package_of c.args.pkg) c.is_well_formed.ensures d _ (underlying_of c.in-Some.own) c.args.name.now c.underlying_has.result
     (c.requires.underlying.each d c.requires.in_range) e c.underlying_has.ensures

@@ -15,7 +15,7 @@ use Rattle.types_members.proofs.method_marks.method_marks.Goals as goal
 
 pub note_function-requires-clause-owner : goal.note_function-requires-clause-owner
 note_function-requires-clause-owner c =
-    let p = package_of c.args.unit in
+    let p = package_of c.args.pkg in
     let items = c.args.index.now.declared.functions.items in
     let rank = c.loop-rank.rank in
     let here : rank < length items = omega (arith, c.loop-rank-test.true, c.len-rank-end.ensures) in
@@ -24,7 +24,7 @@ note_function-requires-clause-owner c =
 
 pub loop-rank-init : goal.loop-rank-init
 loop-rank-init c =
-    let p = package_of c.args.unit in
+    let p = package_of c.args.pkg in
     record {
       names = names_none (IsMethodNamed p) (is_noted c.new-names.result) c.new-names.ensures;
       marks =
@@ -33,7 +33,7 @@ loop-rank-init c =
 
 pub loop-rank-preserved : goal.loop-rank-preserved
 loop-rank-preserved c =
-    let p = package_of c.args.unit in
+    let p = package_of c.args.pkg in
     let items = c.args.index.now.declared.functions.items in
     let rank = c.loop-rank.rank in
     let f = function_of c.index-function.result.now in
@@ -55,5 +55,5 @@ pub returns : goal.returns
 returns c =
     let items = c.args.index.now.declared.functions.items in
     let end : c.loop-rank.rank ≡ length items = omega (arith, c.len-rank-end.ensures) in
-    are_counting_methods (package_of c.args.unit) c.loop-rank.marks.items c.loop-rank.rank
+    are_counting_methods (package_of c.args.pkg) c.loop-rank.marks.items c.loop-rank.rank
     (end ∙ sym (length-map items function_of) ∙ ap length c.requires.index.functions) c.loop-rank.invariant.marks

@@ -8,6 +8,6 @@ use Rattle.types_members.proofs.method_marks.method_marks.Given as goal
 
 abbrev pub invariant-loop-rank : goal.invariant-loop-rank
 invariant-loop-rank l = record {
-  names : AreNamesBelow (IsMethodNamed (package_of l.unit)) l.rank (is_noted l.names);
-  marks : MarksBelow (CountsAsMethod (package_of l.unit)) l.marks.items l.rank;
+  names : AreNamesBelow (IsMethodNamed (package_of l.pkg)) l.rank (is_noted l.names);
+  marks : MarksBelow (CountsAsMethod (package_of l.pkg)) l.marks.items l.rank;
 }

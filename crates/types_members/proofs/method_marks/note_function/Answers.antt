@@ -14,7 +14,7 @@ returns-in-None c = no_method c.in-None.is (λ d n. refl) refl
 pub returns-in-Some : goal.returns-in-Some
 unfolding func_view
 returns-in-Some c =
-    let p = package_of c.args.unit in
+    let p = package_of c.args.pkg in
     IfOk-weaker c.note_method.result _ _
     (λ counts h. noted_method p _ c.args.owned.owner c.in-Some.definition c.spelling-name.result.now (is_noted c.args.names.now)
     (is_noted c.note_method.new.names) counts c.in-Some.is c.spelling-name.ensures h.0 h.1)

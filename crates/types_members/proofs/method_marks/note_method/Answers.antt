@@ -7,7 +7,7 @@ use Rattle.types_members.proofs.method_marks.note_method.Goals as goal
 pub returns-then-is_new : goal.returns-then-is_new
 returns-then-is_new c = (
   c.in_ok-is_new.ensures.noted,
-  counts_if (package_of c.args.unit) c.args.method.definition c.args.method.name.now
+  counts_if (package_of c.args.pkg) c.args.method.definition c.args.method.name.now
       (is_noted c.args.names.now c.args.method.definition c.args.method.name.now) c.in_ok-is_new.is_new
       c.has_field.result c.in_ok-is_new.ensures.added c.if-is_new.true
       c.has_field.ensures,
@@ -16,7 +16,7 @@ returns-then-is_new c = (
 pub returns-else-is_new : goal.returns-else-is_new
 returns-else-is_new c = (
   c.in_ok-is_new.ensures.noted,
-  counts_not (package_of c.args.unit) c.args.method.definition c.args.method.name.now
+  counts_not (package_of c.args.pkg) c.args.method.definition c.args.method.name.now
       (is_noted c.args.names.now c.args.method.definition c.args.method.name.now) c.in_ok-is_new.is_new
       c.in_ok-is_new.ensures.added c.if-is_new.false,
 )

@@ -9,11 +9,11 @@ use Rattle.types_members.proofs.Owning.{has_owner, owners_none, owners_next, all
 use Rattle.types_members.proofs.methods.owners.Goals as goal
 
 pub loop-rank-init : goal.loop-rank-init
-loop-rank-init c = owners_none (package_of c.args.unit) c.new-owners.result.items c.new-owners.ensures.items
+loop-rank-init c = owners_none (package_of c.args.pkg) c.new-owners.result.items c.new-owners.ensures.items
 
 pub loop-rank-preserved : goal.loop-rank-preserved
 loop-rank-preserved c =
-    let p = package_of c.args.unit in
+    let p = package_of c.args.pkg in
     let items = c.args.index.now.declared.functions.items in
     let rank = c.loop-rank.rank in
     let at = item_at function_of items (package_functions p) rank c.index-function.result.now c.requires.functions
@@ -26,5 +26,5 @@ pub returns : goal.returns
 returns c =
     let items = c.args.index.now.declared.functions.items in
     let end : c.loop-rank.rank ≡ length items = omega (arith, c.len-rank-end.ensures) in
-    all_owners (package_of c.args.unit) c.loop-rank.owners.items c.loop-rank.rank
+    all_owners (package_of c.args.pkg) c.loop-rank.owners.items c.loop-rank.rank
     (end ∙ sym (length-map items function_of) ∙ ap length c.requires.functions) c.loop-rank.invariant

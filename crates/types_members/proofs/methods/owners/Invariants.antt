@@ -4,4 +4,4 @@ use Rattle.types_members.proofs.Owning.{OwnersBelow}
 use Rattle.types_members.proofs.methods.owners.Given as goal
 
 abbrev pub invariant-loop-rank : goal.invariant-loop-rank
-invariant-loop-rank l = OwnersBelow (package_of l.unit) l.owners.items l.rank
+invariant-loop-rank l = OwnersBelow (package_of l.pkg) l.owners.items l.rank

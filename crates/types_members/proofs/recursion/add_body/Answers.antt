@@ -6,7 +6,7 @@ use Rattle.go_ast.specs.View.{type_view}
 use Rattle.go_ast.specs.FileView.{body_view}
 use Rattle.types_declared.specs.PackageView.{package_of}
 use Rattle.types_declared.specs.Written.{written_types}
-use Rattle.types_members.specs.Recursion.{AddsItems, IsHeldAs, IsHeldAsOne}
+use Rattle.types_members.specs.Recursion.{AddsItems, IsBareName, HasBareName}
 use Rattle.types_declared.proofs.Mentioning.{field_types}
 use Rattle.types_members.proofs.Holding.{items_as, one_alone, alone_one}
 use Rattle.types_members.proofs.recursion.add_body.Goals as goal
@@ -14,21 +14,21 @@ use Rattle.types_members.proofs.recursion.add_body.Goals as goal
 pub returns-in-Type : goal.returns-in-Type
 unfolding body_view
 returns-in-Type c =
-    let p = package_of c.args.unit in
+    let p = package_of c.args.pkg in
     let file = c.args.file in
     let t = type_view c.in-Type.written in
-    subst (λ b. OnOk c.add_type.result (AddsItems c.args.found.now.items c.add_type.new.found.items (IsHeldAsOne p file (written_types (body_view b)))))
+    subst (λ b. OnOk c.add_type.result (AddsItems c.args.found.now.items c.add_type.new.found.items (HasBareName p file (written_types (body_view b)))))
     (sym c.in-Type.is)
-    (on_ok_weaker c.add_type.result (λ h. items_as c.args.found.now.items c.add_type.new.found.items (IsHeldAs p file t) (IsHeldAsOne p file (t ∷ []))
+    (on_ok_weaker c.add_type.result (λ h. items_as c.args.found.now.items c.add_type.new.found.items (IsBareName p file t) (HasBareName p file (t ∷ []))
     (alone_one p file t) (one_alone p file t) h)
     c.add_type.ensures)
 
 pub returns-in-Struct : goal.returns-in-Struct
 unfolding body_view
 returns-in-Struct c =
-    let p = package_of c.args.unit in
+    let p = package_of c.args.pkg in
     let file = c.args.file in
-    subst (λ b. OnOk c.add_fields.result (AddsItems c.args.found.now.items c.add_fields.new.found.items (IsHeldAsOne p file (written_types (body_view b)))))
+    subst (λ b. OnOk c.add_fields.result (AddsItems c.args.found.now.items c.add_fields.new.found.items (HasBareName p file (written_types (body_view b)))))
     (sym c.in-Struct.is)
-    (subst (λ fs. OnOk c.add_fields.result (AddsItems c.args.found.now.items c.add_fields.new.found.items (IsHeldAsOne p file (field_types fs))))
+    (subst (λ fs. OnOk c.add_fields.result (AddsItems c.args.found.now.items c.add_fields.new.found.items (HasBareName p file (field_types fs))))
     c.deref.ensures.value c.add_fields.ensures)

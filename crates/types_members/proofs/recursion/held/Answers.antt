@@ -10,12 +10,12 @@ use Rattle.types_members.proofs.Holding.{held_none, held_next, held_all}
 use Rattle.types_members.proofs.recursion.held.Goals as goal
 
 pub loop-rank-init : goal.loop-rank-init
-loop-rank-init c = held_none (package_of c.args.unit) c.new-links.result.items c.new-links.ensures.items
+loop-rank-init c = held_none (package_of c.args.pkg) c.new-links.result.items c.new-links.ensures.items
 
 pub loop-rank-preserved : goal.loop-rank-preserved
 unfolding type_spec_view
 loop-rank-preserved c =
-    let p = package_of c.args.unit in
+    let p = package_of c.args.pkg in
     let items = c.args.index.now.declared.types.items in
     held_next p c.loop-rank.links.items c.push.new.self.items c.loop-rank.rank _ (type_of c.index-definition.result.now) c.in_ok-push.ensures.items
     (item_at type_of items (package_types p) c.loop-rank.rank c.index-definition.result.now c.requires.types
@@ -23,7 +23,7 @@ loop-rank-preserved c =
 
 pub returns : goal.returns
 returns c =
-    let p = package_of c.args.unit in
+    let p = package_of c.args.pkg in
     let items = c.args.index.now.declared.types.items in
     let count : length items ≡ length (package_types p) = definition_count p items c.requires.types in
     let n : c.len-rank-end.result ≡ length items = omega (arith, c.len-rank-end.ensures) in

@@ -4,4 +4,4 @@ use Rattle.types_members.proofs.Holding.{HeldBelow}
 use Rattle.types_members.proofs.recursion.held.Given as goal
 
 abbrev pub invariant-loop-rank : goal.invariant-loop-rank
-invariant-loop-rank l = HeldBelow (package_of l.unit) l.links.items l.rank
+invariant-loop-rank l = HeldBelow (package_of l.pkg) l.links.items l.rank

@@ -2,12 +2,12 @@
 use Rattle.go_ast.specs.FileView.{body_view}
 use Rattle.types_declared.specs.PackageView.{package_of}
 use Rattle.types_declared.specs.Written.{written_types}
-use Rattle.types_members.specs.Recursion.{IsHeldAsOne}
+use Rattle.types_members.specs.Recursion.{HasBareName}
 use Rattle.types_members.proofs.Holding.{items_all}
 use Rattle.types_members.proofs.recursion.held_by.Goals as goal
 
 pub returns : goal.returns
 returns c =
     items_all c.new-found.result.items c.add_body.new.found.items
-    (IsHeldAsOne (package_of c.args.unit) c.args.definition.file (written_types (body_view c.args.definition.spec.now.body))) c.new-found.ensures.items
+    (HasBareName (package_of c.args.pkg) c.args.definition.file (written_types (body_view c.args.definition.spec.now.body))) c.new-found.ensures.items
     c.in_ok-add_body.ensures

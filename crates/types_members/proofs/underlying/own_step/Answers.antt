@@ -9,11 +9,11 @@ use Rattle.types_members.proofs.underlying.own_step.Goals as goal
 pub returns-then-rank-len : goal.returns-then-rank-len
 returns-then-rank-len c =
     let items = c.args.index.now.declared.types.items in
-    let count : length items ≡ length (package_types (package_of c.args.unit)) = definition_count (package_of c.args.unit) items c.requires.types in
+    let count : length items ≡ length (package_types (package_of c.args.pkg)) = definition_count (package_of c.args.pkg) items c.requires.types in
     (refl, omega arith)
 
 pub returns-else-rank-len : goal.returns-else-rank-len
 returns-else-rank-len c =
     let items = c.args.index.now.declared.types.items in
-    let count : length items ≡ length (package_types (package_of c.args.unit)) = definition_count (package_of c.args.unit) items c.requires.types in
-    own_beyond (package_of c.args.unit) c.args.rank (omega arith)
+    let count : length items ≡ length (package_types (package_of c.args.pkg)) = definition_count (package_of c.args.pkg) items c.requires.types in
+    own_beyond (package_of c.args.pkg) c.args.rank (omega arith)

@@ -11,13 +11,13 @@ use Rattle.types_members.proofs.underlying.step_by.Goals as goal
 
 pub returns-in-None : goal.returns-in-None
 returns-in-None c =
-    let p = package_of c.args.unit in
+    let p = package_of c.args.pkg in
     let tree = type_view c.args.written.now in
     by_nothing p c.args.file tree (subst (λ o. IsNamedBy p c.args.file tree (option_map type_of o)) c.in-None.is c.in_ok-named_type.ensures)
 
 pub returns-in-Some : goal.returns-in-Some
 returns-in-Some c =
-    let p = package_of c.args.unit in
+    let p = package_of c.args.pkg in
     let tree = type_view c.args.written.now in
     let names : IsNamedBy p c.args.file tree (Some (type_of c.in-Some.named)) =
     subst (λ o. IsNamedBy p c.args.file tree (option_map type_of o)) c.in-Some.is c.in_ok-named_type.ensures in

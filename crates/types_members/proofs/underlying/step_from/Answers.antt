@@ -9,13 +9,13 @@ use Rattle.types_members.proofs.underlying.step_from.Goals as goal
 
 pub returns-in-Basic : goal.returns-in-Basic
 unfolding type_of underlying_of
-returns-in-Basic c = subst (λ t. HasUnderlying (package_of c.args.unit) t (Plain c.in-Basic.basic)) (sym (ap type_of c.in-Basic.is))
+returns-in-Basic c = subst (λ t. HasUnderlying (package_of c.args.pkg) t (Plain c.in-Basic.basic)) (sym (ap type_of c.in-Basic.is))
     (basic {b = c.in-Basic.basic})
 
 pub returns-in_ok-copy-in-Pointer : goal.returns-in_ok-copy-in-Pointer
 unfolding type_of underlying_of
 returns-in_ok-copy-in-Pointer c =
-    let p = package_of c.args.unit in
+    let p = package_of c.args.pkg in
     let own = type_of c.in_ok-copy-in-Pointer.field-0 in
     let e : Pointer (type_of c.deref.result.now) ≡ type_of c.args.named.now = ap (λ x. Pointer (type_of x)) c.deref.ensures ∙
     sym (ap type_of c.in-Pointer.is) in
@@ -25,7 +25,7 @@ returns-in_ok-copy-in-Pointer c =
 pub returns-in_ok-copy-in-Slice : goal.returns-in_ok-copy-in-Slice
 unfolding type_of underlying_of
 returns-in_ok-copy-in-Slice c =
-    let p = package_of c.args.unit in
+    let p = package_of c.args.pkg in
     let own = type_of c.in_ok-copy-in-Slice.field-0 in
     let e : Slice (type_of c.deref-in-Slice.result.now) ≡ type_of c.args.named.now = ap (λ x. Slice (type_of x)) c.deref-in-Slice.ensures ∙
     sym (ap type_of c.in-Slice.is) in

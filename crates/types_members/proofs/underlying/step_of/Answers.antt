@@ -12,13 +12,13 @@ use Rattle.types_members.proofs.underlying.step_of.Goals as goal
 pub returns-in-Type : goal.returns-in-Type
 unfolding body_view type_spec_view
 returns-in-Type c =
-    IfOk-weaker c.step_by.result _ _ (λ s h. of_type (package_of c.args.unit) c.args.rank (type_of c.args.definition.now) (type_view c.in-Type.written)
+    IfOk-weaker c.step_by.result _ _ (λ s h. of_type (package_of c.args.pkg) c.args.rank (type_of c.args.definition.now) (type_view c.in-Type.written)
     c.requires.definition (ap body_view c.in-Type.is) s h)
     c.step_by.ensures
 
 pub returns-in_ok-own_struct-in-Struct : goal.returns-in_ok-own_struct-in-Struct
 unfolding body_view type_spec_view
 returns-in_ok-own_struct-in-Struct c =
-    of_struct (package_of c.args.unit) c.args.rank (type_of c.args.definition.now) c.in-Struct.at c.in-Struct.«open» c.in-Struct.close
+    of_struct (package_of c.args.pkg) c.args.rank (type_of c.args.definition.now) c.in-Struct.at c.in-Struct.«open» c.in-Struct.close
     (list_view field_view c.in-Struct.fields.items)
     (underlying_of c.in_ok-own_struct-in-Struct.field-0) c.requires.definition (ap body_view c.in-Struct.is) c.in_ok-own_struct-in-Struct.ensures

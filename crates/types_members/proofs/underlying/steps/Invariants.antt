@@ -9,5 +9,5 @@ use Rattle.types_members.proofs.underlying.steps.Given as goal
 abbrev pub invariant-loop-rank : goal.invariant-loop-rank
 invariant-loop-rank l = record {
   all : length l.steps.items ≡ l.rank;
-  each : (rank : ℕ) (s : Step) → slice_get l.steps.items rank ≡ Some s → IsStep (package_of l.unit) rank s;
+  each : (rank : ℕ) (s : Step) → slice_get l.steps.items rank ≡ Some s → IsStep (package_of l.pkg) rank s;
 }

@@ -7,4 +7,4 @@ use Rattle.types_members.proofs.underlying.underlying_types.Goals as goal
 
 pub step_order-requires : goal.step_order-requires
 step_order-requires c =
-    step_within (package_of c.args.unit) c.deref.result.now (subst (AreSteps (package_of c.args.unit)) (sym c.deref.ensures.value) c.in_ok-steps.ensures)
+    step_within (package_of c.args.pkg) c.deref.result.now (subst (AreSteps (package_of c.args.pkg)) (sym c.deref.ensures.value) c.in_ok-steps.ensures)

@@ -3,8 +3,8 @@ use Rattle.std.proofs.Common.{◌≡◌, List, [], ◌∷◌, ◌∙◌, ap, sub
 use Rattle.std.specs.Prelude.{Some, slice_get}
 use Rattle.std.specs.List.{enumerate_from}
 use Rattle.types_declared.specs.Listing.{AddsEach}
-use Rattle.types_declared.proofs.Each.{each_as, each_one}
-use Rattle.types_declared.proofs.Ranked.{next_file, all_files, flat_map-single}
+use Rattle.types_declared.proofs.ItemFaults.{each_as, each_one}
+use Rattle.types_declared.proofs.FileFaults.{next_file, all_files, flat_map-single}
 use Rattle.go_ast.specs.SourceFile.{FileParts, source_of}
 use Rattle.types_declared.specs.Files.{clause_name, package_name}
 use Rattle.types_resolve.specs.Clauses.{IsFaultOfClause}

@@ -1,25 +1,25 @@
 -- The answers to the goals of `imports::add_file`.
 use Rattle.std.proofs.Common.{◌≡◌, List, ◌∙◌, ap, sym, arith, map}
 use Rattle.std.specs.List.{flat_map}
-use Rattle.types_declared.proofs.Each.{each_as, each_step, each_all}
-use Rattle.types_declared.proofs.Ranked.{map-flat_map-map}
+use Rattle.types_declared.proofs.ItemFaults.{each_as, each_step, each_all}
+use Rattle.types_declared.proofs.FileFaults.{map-flat_map-map}
 use Rattle.go_ast.specs.declared.tree.File.{File}
 use Rattle.go_ast.specs.declared.tree.ImportDecl.{ImportDecl}
 use Rattle.go_ast.specs.Tree.{ImportTree}
 use Rattle.go_ast.specs.FileView.{imports_view, file_view}
 use Rattle.go_ast.specs.SourceFile.{FileParts, source_of}
-use Rattle.types_declared.specs.Files.{Ranked, group_items, imports_in}
+use Rattle.types_declared.specs.Files.{RankedSource, group_items, imports_in}
 use Rattle.types_declared.specs.States.{state_in}
 use Rattle.types_resolve.specs.Imports.{IsFaultOfImport, PlacedImport}
 use Rattle.types_resolve.proofs.imports.add_file.Goals as goal
 
-abbrev paired : Ranked → ImportTree → PlacedImport
+abbrev paired : RankedSource → ImportTree → PlacedImport
 paired r i = (r, i)
 
-abbrev decl_part : Ranked → ImportDecl → List PlacedImport
+abbrev decl_part : RankedSource → ImportDecl → List PlacedImport
 decl_part r d = map (paired r) (group_items (imports_view d).imports)
 
-imports_from : (r : Ranked) (tree : File) (ds : List ImportDecl) (f : FileParts) → tree ≡ f.file → ds ≡ tree.imports.items →
+imports_from : (r : RankedSource) (tree : File) (ds : List ImportDecl) (f : FileParts) → tree ≡ f.file → ds ≡ tree.imports.items →
     flat_map (decl_part r) ds ≡ map (paired r) (imports_in (source_of f).tree)
 unfolding file_view
 imports_from r tree ds f et ed =

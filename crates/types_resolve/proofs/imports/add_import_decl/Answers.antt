@@ -1,7 +1,7 @@
 -- The answers to the goals of `imports::add_import_decl`.
 use Rattle.std.proofs.Common.{ℕ, ◌≡◌, List, [], ◌∷◌, ◌∙◌, ap, sym, refl, arith, map}
 use Rattle.std.specs.List.{flat_map}
-use Rattle.types_declared.proofs.Each.{each_as, each_one, each_next, each_all, call_one}
+use Rattle.types_declared.proofs.ItemFaults.{each_as, each_one, each_next, each_all, call_one}
 use Rattle.go_ast.specs.declared.tree.Item.{Item}
 use Rattle.go_ast.specs.declared.tree.Group.{Group}
 use Rattle.go_ast.specs.declared.tree.Group.TheVariants as group

@@ -1,6 +1,6 @@
 -- The answers to the goals of `imports::add_imports`.
 use Rattle.std.proofs.Common.{arith}
-use Rattle.types_declared.proofs.Ranked.{next_file, all_files}
+use Rattle.types_declared.proofs.FileFaults.{next_file, all_files}
 use Rattle.go_ast.specs.SourceFile.{source_of}
 use Rattle.types_declared.specs.States.{state_in}
 use Rattle.types_resolve.specs.Imports.{IsFaultOfImport, placed_imports}

@@ -1,7 +1,7 @@
 -- The answers to the goals of `scoping::add_scopes`.
 use Rattle.std.proofs.Common.{◌≡◌, arith, subst, length}
-use Rattle.types_declared.specs.Listing.{Adds, Below}
-use Rattle.types_declared.proofs.Each.{below_none, below_next}
+use Rattle.types_declared.specs.Listing.{AddsFaults, IsFaultBelow}
+use Rattle.types_declared.proofs.ItemFaults.{below_none, below_next}
 use Rattle.types_resolve.specs.Scoping.{IsFaultOfIdentifier}
 use Rattle.types_declared.specs.Laid.{laid_in}
 use Rattle.types_resolve.proofs.scoping.add_scopes.Goals as goal
@@ -17,4 +17,4 @@ loop-u-preserved c =
 pub returns : goal.returns
 returns c =
     let e : c.loop-u.u ≡ length c.args.table.now.sites = omega arith in
-    subst (λ n. Adds c.args.found.now.items c.loop-u.found.items (Below (IsFaultOfIdentifier (laid_in c.args.table.now)) n)) e c.loop-u.invariant
+    subst (λ n. AddsFaults c.args.found.now.items c.loop-u.found.items (IsFaultBelow (IsFaultOfIdentifier (laid_in c.args.table.now)) n)) e c.loop-u.invariant

@@ -1,7 +1,7 @@
 -- The answers to the goals of `declarations::global_targets`.
 use Rattle.std.proofs.Common.{ℕ, None, ap, sym, ◌∙◌, arith, option_map}
 use Rattle.go_ast.specs.View.{item_view}
-use Rattle.go_ast.specs.FileView.{same_place}
+use Rattle.go_ast.specs.FileView.{same_index}
 use Rattle.go_ast.specs.declared.tree.Item.{Item}
 use Rattle.types_expr.specs.View.{type_of}
 use Rattle.types_stmt.specs.Sides.{Wants}
@@ -22,4 +22,4 @@ pub returns : goal.returns
 returns c =
     all_mapped target_of (λ i. Wants (option_map type_of c.args.own.now)) c.loop-item.targets.items c.args.names.now c.loop-item._item-index (omega arith)
     c.loop-item.invariant
-    ∙ sym (map_map (λ i. Wants (option_map type_of c.args.own.now)) (item_view same_place) c.args.names.now)
+    ∙ sym (map_map (λ i. Wants (option_map type_of c.args.own.now)) (item_view same_index) c.args.names.now)

@@ -5,7 +5,7 @@ use Rattle.go_ast.specs.View.{list_view}
 use Rattle.go_ast.specs.FileView.{field_view, body_view}
 use Rattle.types_expr.specs.WorldView.{world_of}
 use Rattle.types_stmt.specs.Declarations.{field_faults, body_faults}
-use Rattle.types_stmt.proofs.Making.{type_notes, notes_as}
+use Rattle.types_stmt.proofs.CheckedSums.{type_notes, notes_as}
 use Rattle.types_stmt.proofs.declarations.note_body_faults.Goals as goal
 
 pub returns-in_ok-judge_type-in-Type : goal.returns-in_ok-judge_type-in-Type

@@ -6,10 +6,10 @@ use Rattle.go_ast.specs.FileView.{field_view}
 use Rattle.types_expr.specs.Judge.{judge_type}
 use Rattle.types_expr.specs.WorldView.{world_of}
 use Rattle.types_stmt.specs.Declarations.{field_faults}
-use Rattle.types_stmt.proofs.Growing.{grown_faults_step, grown_faults_end}
+use Rattle.types_stmt.proofs.LoopProgress.{grown_faults_step, grown_faults_end}
 use Rattle.types_expr.proofs.Items.{next_item}
-use Rattle.types_stmt.proofs.Making.{type_notes}
-use Rattle.types_stmt.proofs.Sums.{field_faults_step, field_faults_end}
+use Rattle.types_stmt.proofs.CheckedSums.{type_notes}
+use Rattle.types_stmt.proofs.ListEquations.{field_faults_step, field_faults_end}
 use Rattle.types_stmt.proofs.declarations.note_field_faults.Goals as goal
 
 pub loop-item-preserved : goal.loop-item-preserved

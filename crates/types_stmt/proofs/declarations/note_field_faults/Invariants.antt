@@ -4,7 +4,7 @@ use Rattle.go_ast.specs.View.{list_view}
 use Rattle.go_ast.specs.FileView.{field_view}
 use Rattle.types_expr.specs.WorldView.{world_of}
 use Rattle.types_stmt.specs.Declarations.{field_faults}
-use Rattle.types_stmt.proofs.Growing.{GrownFaults}
+use Rattle.types_stmt.proofs.LoopProgress.{GrownFaults}
 use Rattle.types_stmt.proofs.declarations.note_field_faults.Given as goal
 
 abbrev pub invariant-loop-item : goal.invariant-loop-item

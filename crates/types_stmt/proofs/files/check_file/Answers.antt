@@ -6,7 +6,7 @@ use Rattle.types_expr.specs.WorldView.{world_of}
 use Rattle.types_stmt.specs.Declarations.{check_decls, check_file}
 use Rattle.types_stmt.specs.View.{checked_of, is_init_in}
 use Rattle.types_expr.proofs.Items.{next_item}
-use Rattle.types_stmt.proofs.Sums.{decls_step, decls_end}
+use Rattle.types_stmt.proofs.ListEquations.{decls_step, decls_end}
 use Rattle.types_stmt.proofs.files.check_file.Goals as goal
 
 pub loop-decl-preserved : goal.loop-decl-preserved

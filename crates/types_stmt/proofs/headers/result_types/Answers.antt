@@ -8,9 +8,9 @@ use Rattle.types_expr.specs.WorldView.{world_of}
 use Rattle.types_stmt.specs.Sides.{Target}
 use Rattle.types_stmt.specs.Headers.{judge_types}
 use Rattle.types_stmt.specs.View.{target_of}
-use Rattle.types_stmt.proofs.Growing.{GrownResults, grown_results_step, grown_results_end}
+use Rattle.types_stmt.proofs.LoopProgress.{GrownResults, grown_results_step, grown_results_end}
 use Rattle.types_expr.proofs.Items.{next_item}
-use Rattle.types_stmt.proofs.Sums.{judge_types_step, judge_types_end}
+use Rattle.types_stmt.proofs.ListEquations.{judge_types_step, judge_types_end}
 use Rattle.types_stmt.proofs.headers.result_types.Goals as goal
 
 pub loop-item-preserved : goal.loop-item-preserved

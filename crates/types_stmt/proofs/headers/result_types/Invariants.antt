@@ -4,7 +4,7 @@ use Rattle.go_ast.specs.View.{list_view, type_view}
 use Rattle.types_expr.specs.WorldView.{world_of}
 use Rattle.types_stmt.specs.Headers.{judge_types}
 use Rattle.types_stmt.specs.View.{target_of}
-use Rattle.types_stmt.proofs.Growing.{GrownResults}
+use Rattle.types_stmt.proofs.LoopProgress.{GrownResults}
 use Rattle.types_stmt.proofs.headers.result_types.Given as goal
 
 abbrev pub invariant-loop-item : goal.invariant-loop-item

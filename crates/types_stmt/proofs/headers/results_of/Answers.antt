@@ -7,7 +7,7 @@ use Rattle.types_stmt.specs.declared.sides.Target.TheVariants as target
 use Rattle.types_stmt.specs.Headers.{judge_types, judge_results}
 use Rattle.types_stmt.specs.View.{target_of}
 use Rattle.types_expr.proofs.Equations.{ok_map}
-use Rattle.types_stmt.proofs.Growing.{adds_no_results, adds_one_result, results_as}
+use Rattle.types_stmt.proofs.LoopProgress.{adds_no_results, adds_one_result, results_as}
 use Rattle.types_stmt.proofs.headers.results_of.Goals as goal
 
 pub returns-in-None : goal.returns-in-None

@@ -4,7 +4,7 @@ use Rattle.std.proofs.Math.ListN.{drop_of_length-le}
 use Rattle.types_expr.specs.Found.{locals_of}
 use Rattle.types_stmt.specs.Sides.{with_locals}
 use Rattle.types_stmt.proofs.Lists.{next_plain}
-use Rattle.types_stmt.proofs.Sums.{with_locals_step, with_locals_end}
+use Rattle.types_stmt.proofs.ListEquations.{with_locals_step, with_locals_end}
 use Rattle.types_stmt.proofs.locals.declare_broken.Goals as goal
 
 pub loop-name-preserved : goal.loop-name-preserved

@@ -10,7 +10,7 @@ use Rattle.types_expr.specs.Found.{locals_of}
 use Rattle.types_stmt.specs.Sides.{declared_if, named}
 use Rattle.types_stmt.specs.Simple.{written_locals}
 use Rattle.types_stmt.proofs.Lists.{next_plain}
-use Rattle.types_stmt.proofs.Sums.{with_locals_step, with_locals_end}
+use Rattle.types_stmt.proofs.ListEquations.{with_locals_step, with_locals_end}
 use Rattle.types_stmt.proofs.locals.declare_written.Goals as goal
 
 -- the item that the program reads past the end of a list

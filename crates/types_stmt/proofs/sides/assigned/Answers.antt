@@ -7,9 +7,9 @@ use Rattle.types_expr.specs.WorldView.{world_of}
 use Rattle.types_expr.specs.Found.{locals_of}
 use Rattle.types_stmt.specs.Sides.{Target, assigned, assigned_one}
 use Rattle.types_stmt.specs.View.{target_of}
-use Rattle.types_stmt.proofs.Growing.{GrownLefts, grown_lefts_step, grown_lefts_end}
+use Rattle.types_stmt.proofs.LoopProgress.{GrownLefts, grown_lefts_step, grown_lefts_end}
 use Rattle.types_expr.proofs.Items.{next_item}
-use Rattle.types_stmt.proofs.Sums.{assigned_step, assigned_end}
+use Rattle.types_stmt.proofs.ListEquations.{assigned_step, assigned_end}
 use Rattle.types_stmt.proofs.sides.assigned.Goals as goal
 
 pub loop-item-preserved : goal.loop-item-preserved

@@ -5,7 +5,7 @@ use Rattle.types_expr.specs.WorldView.{world_of}
 use Rattle.types_expr.specs.Found.{locals_of}
 use Rattle.types_stmt.specs.Sides.{assigned}
 use Rattle.types_stmt.specs.View.{target_of}
-use Rattle.types_stmt.proofs.Growing.{GrownLefts}
+use Rattle.types_stmt.proofs.LoopProgress.{GrownLefts}
 use Rattle.types_stmt.proofs.sides.assigned.Given as goal
 
 abbrev pub invariant-loop-item : goal.invariant-loop-item

@@ -7,7 +7,7 @@ use Rattle.types_expr.specs.Found.{locals_of}
 use Rattle.types_stmt.specs.Sides.{Takes, Wants, own_type, judge_operand, assigned_one}
 use Rattle.types_stmt.specs.View.{target_of}
 use Rattle.types_stmt.proofs.Cases.{assigned_default}
-use Rattle.types_stmt.proofs.Growing.{adds_left, adds_no_left, lefts_as}
+use Rattle.types_stmt.proofs.LoopProgress.{adds_left, adds_no_left, lefts_as}
 use Rattle.types_stmt.proofs.sides.assigned_one.Goals as goal
 
 pub returns-in-Blank : goal.returns-in-Blank

@@ -2,8 +2,8 @@
 use Rattle.types_expr.specs.WorldView.{world_of}
 use Rattle.types_expr.specs.Found.{locals_of}
 use Rattle.types_expr.proofs.Equations.{ok_map}
-use Rattle.types_stmt.proofs.Growing.{list_as}
-use Rattle.types_stmt.proofs.Sums.{arguments_each}
+use Rattle.types_stmt.proofs.LoopProgress.{list_as}
+use Rattle.types_stmt.proofs.ListEquations.{arguments_each}
 use Rattle.types_stmt.proofs.sides.each_value.Goals as goal
 
 pub returns : goal.returns

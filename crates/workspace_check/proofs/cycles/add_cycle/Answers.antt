@@ -1,6 +1,6 @@
 -- The answers to the goals of `cycles::add_cycle`.
 use Rattle.std.proofs.Common.{sym, subst}
-use Rattle.workspace_graph.specs.Graphs.{HoldsPackages}
+use Rattle.workspace_graph.specs.Graphs.{ListsPackages}
 use Rattle.workspace_graph.specs.Packages.{IsInClosure}
 use Rattle.workspace_graph.specs.Reaching.{AreBackMarks}
 use Rattle.workspace_check.proofs.cycles.add_cycle.Goals as goal
@@ -10,7 +10,7 @@ give_number-requires c =
     let w = c.args.graph.now in
     record {
       in_range = c.requires.in_range;
-      closure = λ p at. subst (HoldsPackages w (IsInClosure w p)) (sym c.as_slice.ensures) (c.in_ok-closure.ensures.closure p at);
+      closure = λ p at. subst (ListsPackages w (IsInClosure w p)) (sym c.as_slice.ensures) (c.in_ok-closure.ensures.closure p at);
       back = λ p at. subst (AreBackMarks w p) (sym c.deref.ensures.value) (c.in_ok-back.ensures p at);
       right = c.requires.right;
     }

@@ -4,7 +4,7 @@ use Rattle.std.specs.Prelude.{Some, slice_get}
 use Rattle.std.proofs.lemmas.Bool.{cases_lt}
 use Rattle.std.proofs.lemmas.Option.{slice_get_within}
 use Rattle.base_files.specs.Packages.{package_paths}
-use Rattle.workspace_check.specs.Cycles.{StandsBehindImports}
+use Rattle.workspace_check.specs.Cycles.{ComesAfterImports}
 use Rattle.workspace_check.proofs.cycles.are_behind_imports.Goals as goal
 
 pub loop-number-init : goal.loop-number-init
@@ -18,7 +18,7 @@ loop-number-preserved c = λ i p lt at.
       | inl before ↦ c.loop-number.invariant i p before at
       | inr after ↦ (
           let is : n ≡ i = omega (arith, lt, after) in
-          subst (StandsBehindImports w c.args.places.now c.args.numbers.now p) is
+          subst (ComesAfterImports w c.args.places.now c.args.numbers.now p) is
           (c.is_behind_imports.ensures c.if-not-is_behind_imports.false p (subst (λ k. slice_get (package_paths w) k ≡ Some p) (sym is) at)))
     ]
 

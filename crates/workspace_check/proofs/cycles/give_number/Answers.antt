@@ -3,7 +3,7 @@ use Rattle.std.proofs.Common.{inl, inr, get_or, sym, ap, subst, ◌∙◌, arith
 use Rattle.std.proofs.lemmas.List.Elements.{Contains-get_or}
 use Rattle.std.proofs.lemmas.Option.{slice_get_within}
 use Rattle.base_files.specs.Packages.{package_paths}
-use Rattle.types_info.proofs.BoundLists.{slice_get_some}
+use Rattle.types_info.proofs.MeaningLists.{slice_get_some}
 use Rattle.workspace_check.specs.Cycles.{HasCycleNumber}
 use Rattle.workspace_check.proofs.CycleNumbers.{renumbered}
 use Rattle.workspace_check.proofs.cycles.give_number.Goals as goal

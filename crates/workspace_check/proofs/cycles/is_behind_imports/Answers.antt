@@ -2,7 +2,7 @@
 use Rattle.std.proofs.Common.{◌≡◌, ◌<◌, inl, inr, get_or, sym, subst, arith}
 use Rattle.std.specs.Prelude.{Contains}
 use Rattle.std.proofs.lemmas.List.{take_all}
-use Rattle.workspace_check.specs.Cycles.{StandsBehind}
+use Rattle.workspace_check.specs.Cycles.{ComesAfter}
 use Rattle.workspace_check.proofs.Members.{nothing_in, taken_or_next}
 use Rattle.workspace_check.proofs.cycles.is_behind_imports.Goals as goal
 
@@ -17,7 +17,7 @@ loop-import-preserved c = λ j has.
     let numbers = c.args.numbers.now in
     elim (taken_or_next items k 0 j c.loop-import-test.true has) [
       | inl before ↦ c.loop-import.invariant j before
-      | inr e ↦ subst (StandsBehind places numbers c.args.number) e (
+      | inr e ↦ subst (ComesAfter places numbers c.args.number) e (
           let told = c.is_behind.ensures c.if-not-is_behind.false in
           let at_own = subst (λ a. (c.number_at.result ≡ a → ⊥) → get_or places c.number_at.result 0 < get_or places a 0) c.number_at-own.ensures told in
           subst (λ b. (b ≡ get_or numbers c.args.number 0 → ⊥) → get_or places b 0 < get_or places (get_or numbers c.args.number 0) 0)

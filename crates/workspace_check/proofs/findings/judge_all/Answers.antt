@@ -4,7 +4,7 @@ use Rattle.std.proofs.lemmas.List.{take_all}
 use Rattle.std.proofs.lemmas.List.Elements.{Contains-get_or}
 use Rattle.std.proofs.lemmas.Option.{slice_get-get_or}
 use Rattle.base_files.specs.Packages.{package_paths}
-use Rattle.types_info.proofs.BoundLists.{slice_get_some}
+use Rattle.types_info.proofs.MeaningLists.{slice_get_some}
 use Rattle.workspace_check.specs.Steps.{AreAllGathered}
 use Rattle.workspace_check.proofs.Adding.{below_before}
 use Rattle.workspace_check.proofs.Gathering.{none_passed, gathered_next}

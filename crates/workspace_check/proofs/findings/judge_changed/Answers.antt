@@ -4,8 +4,8 @@ use Rattle.std.proofs.lemmas.List.{take_all}
 use Rattle.std.proofs.lemmas.List.Elements.{Contains-get_or}
 use Rattle.std.proofs.lemmas.Option.{slice_get-get_or}
 use Rattle.base_files.specs.Packages.{package_paths}
-use Rattle.types_info.proofs.BoundLists.{slice_get_some}
-use Rattle.workspace_check.specs.Earlier.{AreSteady}
+use Rattle.types_info.proofs.MeaningLists.{slice_get_some}
+use Rattle.workspace_check.specs.Earlier.{KeepExportData}
 use Rattle.workspace_check.specs.Steps.{AreAllGathered}
 use Rattle.workspace_check.proofs.Adding.{below_before}
 use Rattle.workspace_check.proofs.Gathering.{none_passed, gathered_next}
@@ -42,8 +42,8 @@ keep_or_judge-requires c =
           (λ q on. below_before w order c.requires.order k n p q there at on);
     }
 
-pub is_steady-same-requires : goal.is_steady-same-requires
-is_steady-same-requires c =
+pub keeps_export_data-same-requires : goal.keeps_export_data-same-requires
+keeps_export_data-same-requires c =
     let order = c.args.order.now in
     let k = c.loop-number.number-index in
     (c.requires.order.each (get_or order k 0)).0 (Contains-get_or order k 0 c.loop-number-test.true)
@@ -74,9 +74,9 @@ loop-number-preserved c =
     subst (λ l. n < l) (sym c.loop-number.invariant.2.size) ((built.each n).0 (Contains-get_or order k 0 lt)) in
     let verdicts = c.args.earlier.now.verdicts.items in (
       all,
-      subst (AreSteady w verdicts new) (sym c.in_ok-pass.ensures.marks)
-          (steady_next w verdicts n q.0 q.1 old new marks within may c.loop-number.invariant.1 c.is_steady-same.result
-          (λ t. c.is_steady-same.ensures t q.0 q.1) (all.each n (next_taken order k 0 lt))),
+      subst (KeepExportData w verdicts new) (sym c.in_ok-pass.ensures.marks)
+          (steady_next w verdicts n q.0 q.1 old new marks within may c.loop-number.invariant.1 c.keeps_export_data-same.result
+          (λ t. c.keeps_export_data-same.ensures t q.0 q.1) (all.each n (next_taken order k 0 lt))),
       c.in_ok-pass.ensures.stirs,
       passed_next w (take k order) (take (k + 1) order) n c.loop-number.steady c.pass.new.self (λ m h. taken_or_next order k 0 m lt h)
           c.in_ok-pass.ensures.passes c.loop-number.invariant.3,

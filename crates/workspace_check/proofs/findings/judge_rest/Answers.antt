@@ -1,7 +1,7 @@
 -- The answers to the goals of `findings::judge_rest`.
 use Rattle.std.proofs.Common.{sym, subst}
 use Rattle.std.proofs.lemmas.Result.{on_ok_weaker}
-use Rattle.workspace_check.specs.Cycles.{TellCycles}
+use Rattle.workspace_check.specs.Cycles.{DecideCycles}
 use Rattle.workspace_check.specs.Steps.{IsBuildOrder}
 use Rattle.workspace_check.proofs.Gathering.{all_known, knows_each}
 use Rattle.workspace_check.proofs.findings.judge_rest.Goals as goal
@@ -9,7 +9,7 @@ use Rattle.workspace_check.proofs.findings.judge_rest.Goals as goal
 pub judge_in-requires : goal.judge_in-requires
 judge_in-requires c = record {
   order = subst (IsBuildOrder c.args.graph.now) (sym c.deref-2.ensures.value) c.in_ok-order.ensures;
-  cycles = subst (TellCycles c.args.graph.now) (sym c.deref-3.ensures.value) c.in_ok-cycles.ensures;
+  cycles = subst (DecideCycles c.args.graph.now) (sym c.deref-3.ensures.value) c.in_ok-cycles.ensures;
   all = c.requires;
 }
 

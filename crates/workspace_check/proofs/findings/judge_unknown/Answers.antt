@@ -2,7 +2,7 @@
 use Rattle.std.proofs.Common.{refl, sym, subst, ◌∙◌}
 use Rattle.std.proofs.lemmas.Option.{same_Some}
 use Rattle.workspace_check.specs.declared.finding.Finding.{Finding}
-use Rattle.workspace_check.specs.Steps.{Learns}
+use Rattle.workspace_check.specs.Steps.{LearnsFinding}
 use Rattle.workspace_check.proofs.findings.judge_unknown.Goals as goal
 
 pub judge_one-requires : goal.judge_one-requires
@@ -18,6 +18,6 @@ pub returns : goal.returns
 returns c = λ p at. record {
   finding = c.in_ok-finding-2.finding;
   is_set = refl;
-  learns = subst (λ (f : Finding). Learns c.args.graph.now p f c.args.all.now.interfaces c.judge_one.new.all) (sym c.in_ok-finding-2.ensures)
+  learns = subst (λ (f : Finding). LearnsFinding c.args.graph.now p f c.args.all.now.export_table c.judge_one.new.all) (sym c.in_ok-finding-2.ensures)
       (c.in_ok-finding.ensures p at);
 }

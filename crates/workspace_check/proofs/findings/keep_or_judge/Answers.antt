@@ -17,7 +17,7 @@ returns-in-Some c = λ p at.
         is_set = c.in_ok-keep.ensures.findings;
         learns = stands_learnt c.args.earlier.now.graph c.args.graph.now c.requires.same c.args.earlier.now.verdicts.items c.in-Some.ensures.told
             c.args.steady.now.marks.items c.args.all.now c.requires.steady p one c.keep.new.self (c.in-Some.ensures.stands p at)
-            c.in_ok-keep.ensures.interfaces;
+            c.in_ok-keep.ensures.export_table;
       },
     )
 

@@ -7,6 +7,6 @@ use Rattle.workspace_check.proofs.found_package.found_package.Goals as goal
 pub returns : goal.returns
 returns c = record {
   finding = c.finding_there.ensures ∙ ap (λ (f : Finding). Some (Some f)) (sym c.in_ok-finding.ensures.cases);
-  interfaces = refl;
+  export_table = refl;
   found = refl;
 }

@@ -1,7 +1,7 @@
 -- The answers to the goals of `gathered::gather`.
 use Rattle.std.proofs.Common.{◌≡◌, ◌<◌, length, arith}
 use Rattle.base_files.specs.Packages.{package_paths}
-use Rattle.types_info.proofs.BoundLists.{slice_get_some}
+use Rattle.types_info.proofs.MeaningLists.{slice_get_some}
 use Rattle.workspace_check.proofs.Rising.{later_path}
 use Rattle.workspace_check.proofs.Taking.{none_gathered}
 use Rattle.workspace_check.proofs.gathered.gather.Goals as goal
@@ -11,7 +11,7 @@ loop-number-init c =
     let none = c.in_ok-all.ensures.none in
     let size : length c.in_ok-all.all.findings.items ≡ length (package_paths c.args.graph.now) = omega (arith, c.in_ok-all.ensures.size) in
     record {
-      right = none_gathered c.args.graph.now _ c.in_ok-all.all size none c.in_ok-all.ensures.names c.in_ok-all.ensures.interfaces;
+      right = none_gathered c.args.graph.now _ c.in_ok-all.all size none c.in_ok-all.ensures.names c.in_ok-all.ensures.export_table;
       unknown = λ n le. none n;
       before = λ m q at above. c.in_ok-all.ensures.behind q;
     }

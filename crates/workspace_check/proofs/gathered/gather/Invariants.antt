@@ -9,5 +9,5 @@ abbrev pub invariant-loop-number : goal.invariant-loop-number
 invariant-loop-number l = record {
   right : AreGathered l.graph (length (package_paths l.graph)) l.taken.all;
   unknown : (n : ℕ) → l.number ≤ n → IsGathered l.taken.all.findings.items n → ⊥;
-  before : StandBefore l.graph (λ n. n < l.number) l.taken.all.interfaces;
+  before : StandBefore l.graph (λ n. n < l.number) l.taken.all.export_table;
 }

@@ -5,7 +5,7 @@ use Rattle.std.proofs.lemmas.Bool.{cases_eq}
 use Rattle.std.proofs.lemmas.List.{take_all}
 use Rattle.std.proofs.lemmas.List.Elements.{Contains-get_or}
 use Rattle.base_files.specs.Packages.{package_paths}
-use Rattle.types_info.proofs.BoundLists.{slice_get_some}
+use Rattle.types_info.proofs.MeaningLists.{slice_get_some}
 use Rattle.workspace_check.specs.Steps.{AreTakenOf, IsGathered}
 use Rattle.workspace_check.proofs.Members.{next_taken, nothing_in, still_taken, taken_or_next}
 use Rattle.workspace_check.proofs.Rising.{later_path}
@@ -20,7 +20,7 @@ loop-number-init c =
     record {
       right = record {
         gathered = record {
-          right = none_gathered c.args.graph.now _ c.in_ok-all.all size none c.in_ok-all.ensures.names c.in_ok-all.ensures.interfaces;
+          right = none_gathered c.args.graph.now _ c.in_ok-all.all size none c.in_ok-all.ensures.names c.in_ok-all.ensures.export_table;
           just = λ n g. absurd (none n g);
         };
         each = λ knew n has. absurd (nothing_in n has);

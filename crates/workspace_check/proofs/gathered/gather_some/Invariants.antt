@@ -8,5 +8,5 @@ use Rattle.workspace_check.proofs.gathered.gather_some.Given as goal
 abbrev pub invariant-loop-number : goal.invariant-loop-number
 invariant-loop-number l = record {
   right : AreTakenOf l.graph (take l.number-index l.numbers) l.taken;
-  before : StandBefore l.graph (Contains (take l.number-index l.numbers)) l.taken.all.interfaces;
+  before : StandBefore l.graph (Contains (take l.number-index l.numbers)) l.taken.all.export_table;
 }

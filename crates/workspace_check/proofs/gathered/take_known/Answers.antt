@@ -1,7 +1,7 @@
 -- The answers to the goals of `gathered::take_known`.
 use Rattle.std.proofs.Common.{◌<◌, length, sym, subst}
 use Rattle.base_files.specs.Packages.{package_paths}
-use Rattle.types_info.proofs.BoundLists.{slice_get_some}
+use Rattle.types_info.proofs.MeaningLists.{slice_get_some}
 use Rattle.workspace_check.proofs.Taking.{taken_before, taken_next, taken_still}
 use Rattle.workspace_check.proofs.gathered.take_known.Goals as goal
 
@@ -20,7 +20,7 @@ returns c =
     let within : n < length old.findings.items = subst (λ k. n < k) (sym c.requires.all.size) c.requires.number in
     record {
       right = taken_next w n p.0 p.1 old new c.requires.all c.requires.unknown told (c.requires.known n p.0 told p.1 c.in-Some.ensures) kept.findings
-          kept.interfaces;
+          kept.export_table;
       others = λ m other g. taken_before old.findings.items new.findings.items n told.finding kept.findings m other g;
       kept = λ m g. taken_still old.findings.items new.findings.items n told.finding within kept.findings m g;
     }

@@ -2,9 +2,9 @@
 use Rattle.std.proofs.Common.{◌<◌, length, sym, subst}
 use Rattle.std.proofs.lemmas.Bool.{false≢true}
 use Rattle.base_files.specs.Packages.{package_paths}
-use Rattle.types_declared.specs.InterfacesView.{EndsAt, IsBehindAll}
-use Rattle.types_declared.proofs.AddingInterfaces.{ends_behind}
-use Rattle.types_info.proofs.BoundLists.{slice_get_some}
+use Rattle.types_declared.specs.ExportTablesView.{EndsAt, ComesAfterAll}
+use Rattle.types_declared.proofs.AddingExports.{ends_behind}
+use Rattle.types_info.proofs.MeaningLists.{slice_get_some}
 use Rattle.workspace_check.proofs.Taking.{taken_before, taken_here, taken_next, taken_still}
 use Rattle.workspace_check.proofs.gathered.take_next.Goals as goal
 
@@ -13,7 +13,7 @@ returns-in_default c = record {
   right = c.requires.all;
   others = λ n other g. g;
   each = record { kept = λ n g. g; before = λ each. absurd (false≢true each); here = λ each. absurd (false≢true each) };
-  end = λ p at. ends_behind c.args.taken.now.all.interfaces p (c.requires.behind p at);
+  end = λ p at. ends_behind c.args.taken.now.all.export_table p (c.requires.behind p at);
 }
 
 pub keep_next-requires : goal.keep_next-requires
@@ -22,7 +22,7 @@ keep_next-requires c =
     let tells = c.requires.known c.args.number p.0 c.in-Some.verdict.now p.1 c.in-Some.ensures in
     record {
       number = subst (λ k. c.args.number < k) (sym c.requires.all.size) c.requires.number;
-      behind = subst (IsBehindAll c.args.taken.now.all.interfaces) (sym tells.finding.finding.has_path) (c.requires.behind p.0 p.1);
+      behind = subst (ComesAfterAll c.args.taken.now.all.export_table) (sym tells.finding.finding.has_path) (c.requires.behind p.0 p.1);
     }
 
 pub returns : goal.returns
@@ -37,12 +37,12 @@ returns c =
     let within : n < length old.findings.items = subst (λ k. n < k) (sym c.requires.all.size) c.requires.number in
     record {
       right = taken_next w n p.0 p.1 old new c.requires.all c.requires.unknown told (c.requires.known n p.0 told p.1 c.in-Some.ensures) kept.findings
-          kept.interfaces;
+          kept.export_table;
       others = λ m other g. taken_before old.findings.items new.findings.items n told.finding kept.findings m other g;
       each = record {
         kept = λ m g. taken_still old.findings.items new.findings.items n told.finding within kept.findings m g;
         before = λ each. each;
         here = λ each. taken_here old.findings.items new.findings.items n told.finding within kept.findings;
       };
-      end = λ q at. subst (EndsAt new.interfaces) (c.requires.known n q told at c.in-Some.ensures).finding.finding.has_path kept.end;
+      end = λ q at. subst (EndsAt new.export_table) (c.requires.known n q told at c.in-Some.ensures).finding.finding.has_path kept.end;
     }

@@ -4,7 +4,7 @@ use Rattle.std.proofs.lemmas.Result.{IfOk-weaker}
 use Rattle.base_files.specs.Workspace.{Workspace}
 use Rattle.workspace_graph.specs.Graphs.{IsPackage, OfPackage}
 use Rattle.workspace_check.specs.Verdicts.{Verdicts}
-use Rattle.workspace_check.specs.Told.{known_by}
+use Rattle.workspace_check.specs.KnownFindings.{verdicts_by}
 use Rattle.workspace_check.specs.Steps.{IsJudged}
 use Rattle.workspace_check.proofs.Members.{vec_empty, vec_holds}
 use Rattle.workspace_check.proofs.judging.judge.Goals as goal
@@ -28,4 +28,4 @@ returns-else-is_empty c =
     let n = c.args.number in
     IfOk-weaker c.judge_unread.result (λ j. (x : Workspace) → (m : ℕ) → (known : Verdicts) → IsPackage x m c.package-files.result.now →
     OfPackage x m (λ p. IsJudged x known p j))
-    (λ j. OfPackage w n (λ p. IsJudged w (known_by c.args.all.now) p j)) (λ j h. h w n (known_by c.args.all.now) c.package-files.ensures) c.judge_unread.ensures
+    (λ j. OfPackage w n (λ p. IsJudged w (verdicts_by c.args.all.now) p j)) (λ j h. h w n (verdicts_by c.args.all.now) c.package-files.ensures) c.judge_unread.ensures

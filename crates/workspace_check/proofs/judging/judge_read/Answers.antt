@@ -4,11 +4,11 @@ use Rattle.std.proofs.lemmas.Option.{same_Some}
 use Rattle.std.proofs.lemmas.Result.{IfOk-weaker}
 use Rattle.base_files.specs.Packages.{package_files}
 use Rattle.workspace_graph.specs.Parsed.{AreParsed}
-use Rattle.workspace_graph.proofs.Asked.{at_contains}
+use Rattle.workspace_graph.proofs.ByPath.{at_contains}
 use Rattle.types_declared.specs.States.{state_in}
-use Rattle.types_declared.specs.InterfacesView.{name_in, interface_in}
-use Rattle.types_check.specs.Check.{IsFoundIn}
-use Rattle.workspace_check.specs.Told.{known_by}
+use Rattle.types_declared.specs.ExportTablesView.{name_in, export_data_in}
+use Rattle.types_check.specs.Check.{IsFindingIn}
+use Rattle.workspace_check.specs.KnownFindings.{verdicts_by}
 use Rattle.workspace_check.proofs.judging.judge_read.Goals as goal
 
 pub judge_stopped-requires : goal.judge_stopped-requires
@@ -26,24 +26,24 @@ pub returns : goal.returns
 returns c =
     let w = c.args.graph.now in
     let files = c.args.files.now in
-    let i = c.in_ok-interfaces.interfaces in
+    let i = c.in_ok-export_table.export_table in
     let checked = c.in_ok-checked.checked in
     IfOk-weaker c.place_checked.result _ _
     (λ j is p at.
     let folder : files.path.items ≡ p = same_Some files.path.items p (sym c.requires.files.path ∙ at) in
     let parsed = subst (λ fs. AreParsed (package_files w p) files.trees.items fs) c.requires.read
     (subst (λ q. AreParsed (package_files w q) files.trees.items files.faulty.items) folder c.requires.files.files) in
-    let found = subst (λ q. IsFoundIn q files.trees.items (state_in i.states) (name_in i) (interface_in i) checked) (c.requires.path p at)
-    (subst (λ ts. IsFoundIn c.args.path.now ts (state_in i.states) (name_in i) (interface_in i) checked) c.deref.ensures.value
+    let found = subst (λ q. IsFindingIn q files.trees.items (state_in i.states) (name_in i) (export_data_in i) checked) (c.requires.path p at)
+    (subst (λ ts. IsFindingIn c.args.path.now ts (state_in i.states) (name_in i) (export_data_in i) checked) c.deref.ensures.value
     c.in_ok-checked.ensures.found) in
-    is w (known_by c.args.all.now) p (at_contains w c.args.number p at) parsed (record {
+    is w (verdicts_by c.args.all.now) p (at_contains w c.args.number p at) parsed (record {
       files = files.trees.items;
       parsed = parsed;
       state = state_in i.states;
-      are_states = c.in_ok-interfaces.ensures.states p at;
+      are_states = c.in_ok-export_table.ensures.states p at;
       name_of = name_in i;
-      interface_of = interface_in i;
-      are_seen = c.in_ok-interfaces.ensures.seen p at;
+      export_data_of = export_data_in i;
+      are_seen = c.in_ok-export_table.ensures.seen p at;
       is_found = found;
     }))
     c.place_checked.ensures.checked

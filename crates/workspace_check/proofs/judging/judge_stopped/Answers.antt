@@ -4,11 +4,11 @@ use Rattle.std.proofs.lemmas.Option.{same_Some}
 use Rattle.std.proofs.lemmas.Result.{IfOk-weaker}
 use Rattle.base_files.specs.Packages.{package_files}
 use Rattle.workspace_graph.specs.Parsed.{AreParsed}
-use Rattle.workspace_graph.proofs.Asked.{at_contains}
+use Rattle.workspace_graph.proofs.ByPath.{at_contains}
 use Rattle.types_declared.specs.States.{state_in}
-use Rattle.types_declared.specs.InterfacesView.{name_in, interface_in}
-use Rattle.types_check.specs.Check.{IsFoundIn}
-use Rattle.workspace_check.specs.Told.{known_by}
+use Rattle.types_declared.specs.ExportTablesView.{name_in, export_data_in}
+use Rattle.types_check.specs.Check.{IsFindingIn}
+use Rattle.workspace_check.specs.KnownFindings.{verdicts_by}
 use Rattle.workspace_check.proofs.Stopping.{stopped_by}
 use Rattle.workspace_check.proofs.judging.judge_stopped.Goals as goal
 
@@ -16,7 +16,7 @@ pub returns : goal.returns
 returns c =
     let w = c.args.graph.now in
     let files = c.args.files.now in
-    let known = known_by c.args.all.now in
+    let known = verdicts_by c.args.all.now in
     let i = c.in_ok-noted.noted in
     let checked = c.in_ok-checked.checked in
     IfOk-weaker c.place_checked.result _ _
@@ -24,10 +24,10 @@ returns c =
     let folder : files.path.items ≡ p = same_Some files.path.items p (sym c.requires.files.path ∙ at) in
     let parsed = subst (λ fs. AreParsed (package_files w p) files.trees.items fs) c.requires.read
     (subst (λ q. AreParsed (package_files w q) files.trees.items files.faulty.items) folder c.requires.files.files) in
-    let found = subst (λ q. IsFoundIn q files.trees.items (state_in i.states) (name_in i) (interface_in i) checked) (c.requires.path p at)
-    (subst (λ ts. IsFoundIn c.args.path.now ts (state_in i.states) (name_in i) (interface_in i) checked) c.deref.ensures.value
+    let found = subst (λ q. IsFindingIn q files.trees.items (state_in i.states) (name_in i) (export_data_in i) checked) (c.requires.path p at)
+    (subst (λ ts. IsFindingIn c.args.path.now ts (state_in i.states) (name_in i) (export_data_in i) checked) c.deref.ensures.value
     c.in_ok-checked.ensures.found) in
     is w known p (at_contains w c.args.number p at) parsed
     (stopped_by w known p files.trees.items parsed (state_in i.states) (c.in_ok-noted.ensures p at) (c.requires.faulty p at)
-    (name_in i) (interface_in i) checked found))
+    (name_in i) (export_data_in i) checked found))
     c.place_checked.ensures.stopped

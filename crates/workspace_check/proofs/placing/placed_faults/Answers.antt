@@ -2,7 +2,7 @@
 use Rattle.std.proofs.Common.{◌↔◌, refl, subst, arith}
 use Rattle.std.specs.Prelude.{Contains}
 use Rattle.std.proofs.lemmas.List.{take_all}
-use Rattle.workspace_check.specs.Steps.{IsPlacedOf}
+use Rattle.workspace_check.specs.Steps.{IsSomePlacedFault}
 use Rattle.workspace_check.proofs.Placed.{none_placed, next_placed}
 use Rattle.workspace_check.proofs.placing.placed_faults.Goals as goal
 
@@ -17,5 +17,5 @@ loop-fault-preserved c = λ f.
 
 pub returns : goal.returns
 returns c = λ f.
-    subst (λ l. Contains c.loop-fault.found.items f ↔ IsPlacedOf c.args.files.now l f) (take_all c.loop-fault.fault-index c.args.faults.now (omega arith))
+    subst (λ l. Contains c.loop-fault.found.items f ↔ IsSomePlacedFault c.args.files.now l f) (take_all c.loop-fault.fault-index c.args.faults.now (omega arith))
     (c.loop-fault.invariant f)

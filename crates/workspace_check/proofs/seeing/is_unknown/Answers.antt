@@ -1,7 +1,7 @@
 -- The answers to the goals of `seeing::is_unknown`.
 use Rattle.std.proofs.Common.{◌≡◌, sym, ap, ◌∙◌}
 use Rattle.std.proofs.lemmas.Option.{same_Some}
-use Rattle.types_declared.specs.InterfacesView.{name_in}
+use Rattle.types_declared.specs.ExportTablesView.{name_in}
 use Rattle.workspace_check.proofs.Noting.{unknown_by}
 use Rattle.workspace_check.proofs.seeing.is_unknown.Goals as goal
 

@@ -6,17 +6,17 @@ use Rattle.std.proofs.lemmas.Option.{same_Some, slice_get_within}
 use Rattle.base_files.specs.Packages.{package_paths}
 use Rattle.workspace_graph.specs.Packages.{PackageImports}
 use Rattle.types_declared.specs.States.{state_in}
-use Rattle.types_declared.specs.InterfacesView.{Notes}
-use Rattle.types_info.proofs.BoundLists.{slice_get_some}
-use Rattle.workspace_check.specs.Told.{known_by}
+use Rattle.types_declared.specs.ExportTablesView.{SetsState}
+use Rattle.types_info.proofs.MeaningLists.{slice_get_some}
+use Rattle.workspace_check.specs.KnownFindings.{verdicts_by}
 use Rattle.workspace_check.proofs.Members.{taken_or_next}
 use Rattle.workspace_check.proofs.Noting.{AreNoted, none_noted, noted_next, all_noted}
 use Rattle.workspace_check.proofs.seeing.note_imports.Goals as goal
 
 pub loop-import-init : goal.loop-import-init
 loop-import-init c = record {
-  noted = λ p at. none_noted c.args.graph.now (known_by c.args.all.now) p _ (state_in c.args.seen.now.states) refl c.requires.nothing;
-  kept = record { names = λ q. refl; interfaces = λ q. refl };
+  noted = λ p at. none_noted c.args.graph.now (verdicts_by c.args.all.now) p _ (state_in c.args.seen.now.states) refl c.requires.nothing;
+  kept = record { names = λ q. refl; export_table = λ q. refl };
 }
 
 pub package-requires : goal.package-requires
@@ -59,13 +59,13 @@ loop-import-preserved c =
           let s = (c.imports-import-items.ensures.imports p at n).0 (Contains-get_or items k 0 lt) in
           let path : c.in_ok-path.path.items ≡ s.0 =
           c.in_ok-path.ensures.items ∙ c.deref.ensures.value ∙ same_Some c.package.result.now.path.items s.0 (sym c.package.ensures.path ∙ s.1) in
-          noted_next w (known_by c.args.all.now) p (take k items) (take (k + 1) items) n s.0 s.1 (λ m h. taken_or_next items k 0 m lt h)
+          noted_next w (verdicts_by c.args.all.now) p (take k items) (take (k + 1) items) n s.0 s.1 (λ m h. taken_or_next items k 0 m lt h)
           (state_in old.states) (state_in new.states) c.state_of.result
-          (subst (λ v. Notes (state_in old.states) (state_in new.states) v c.state_of.result) path c.in_ok-note.ensures.noted)
+          (subst (λ v. SetsState (state_in old.states) (state_in new.states) v c.state_of.result) path c.in_ok-note.ensures.noted)
           (c.state_of.ensures p at s.0 s.1) (c.loop-import.invariant.noted p at);
       kept = record {
         names = λ q. c.note.ensures.names q ∙ c.loop-import.invariant.kept.names q;
-        interfaces = λ q. c.note.ensures.kept q ∙ c.loop-import.invariant.kept.interfaces q;
+        export_table = λ q. c.note.ensures.kept q ∙ c.loop-import.invariant.kept.export_table q;
       };
     }
 
@@ -74,6 +74,6 @@ returns-clause-states c = λ p at.
     let w = c.args.graph.now in
     let items = c.imports-import-items.result.now in
     let state = state_in c.loop-import.seen.states in
-    let whole = subst (λ l. AreNoted w (known_by c.args.all.now) p l state) (take_all c.loop-import.import-index items (omega arith))
+    let whole = subst (λ l. AreNoted w (verdicts_by c.args.all.now) p l state) (take_all c.loop-import.import-index items (omega arith))
     (c.loop-import.invariant.noted p at) in
-    all_noted w (known_by c.args.all.now) p items state (c.imports-import-items.ensures.imports p at) whole
+    all_noted w (verdicts_by c.args.all.now) p items state (c.imports-import-items.ensures.imports p at) whole

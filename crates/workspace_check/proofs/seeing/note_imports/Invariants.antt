@@ -2,13 +2,13 @@
 use Rattle.std.proofs.Common.{take}
 use Rattle.workspace_graph.specs.Graphs.{OfPackage}
 use Rattle.types_declared.specs.States.{state_in}
-use Rattle.workspace_check.specs.Told.{known_by}
-use Rattle.workspace_check.specs.Steps.{KnowsSameOfOthers}
+use Rattle.workspace_check.specs.KnownFindings.{verdicts_by}
+use Rattle.workspace_check.specs.Steps.{HasSameEntries}
 use Rattle.workspace_check.proofs.Noting.{AreNoted}
 use Rattle.workspace_check.proofs.seeing.note_imports.Given as goal
 
 abbrev pub invariant-loop-import : goal.invariant-loop-import
 invariant-loop-import l = record {
-  noted : OfPackage l.graph l.number (λ p. AreNoted l.graph (known_by l.all) p (take l.import-index l.import-items) (state_in l.seen.states));
-  kept : KnowsSameOfOthers l.initial.seen l.seen;
+  noted : OfPackage l.graph l.number (λ p. AreNoted l.graph (verdicts_by l.all) p (take l.import-index l.import-items) (state_in l.seen.states));
+  kept : HasSameEntries l.initial.seen l.seen;
 }

@@ -4,8 +4,8 @@ use Rattle.std.proofs.lemmas.List.{take_all}
 use Rattle.std.proofs.lemmas.List.Elements.{Contains-get_or}
 use Rattle.std.proofs.lemmas.Option.{same_Some, slice_get_within}
 use Rattle.base_files.specs.Packages.{package_paths}
-use Rattle.types_declared.specs.InterfacesView.{EndsAt, IsBehindAll, Shares}
-use Rattle.types_info.proofs.BoundLists.{slice_get_some}
+use Rattle.types_declared.specs.ExportTablesView.{EndsAt, ComesAfterAll, CopiesEntry}
+use Rattle.types_info.proofs.MeaningLists.{slice_get_some}
 use Rattle.workspace_check.proofs.Members.{taken_or_next, still_taken, next_taken}
 use Rattle.workspace_check.proofs.Rising.{later_path}
 use Rattle.workspace_check.proofs.Sharing.{none_shared, shared_next, all_seen, AreShared}
@@ -14,7 +14,7 @@ use Rattle.workspace_check.proofs.seeing.seen_of.Goals as goal
 
 pub loop-other-init : goal.loop-other-init
 loop-other-init c = record {
-  shared = λ p at. none_shared c.args.graph.now p _ c.args.all.now c.in_ok-seen.seen refl c.in_ok-seen.ensures.names c.in_ok-seen.ensures.interfaces
+  shared = λ p at. none_shared c.args.graph.now p _ c.args.all.now c.in_ok-seen.seen refl c.in_ok-seen.ensures.names c.in_ok-seen.ensures.export_table
       c.in_ok-seen.ensures.states;
   before = λ m q at above. c.in_ok-seen.ensures.behind q;
 }
@@ -37,7 +37,7 @@ share_next-requires c =
     let lt : k < length items = omega arith in
     let n = get_or items k 0 in
     let path = c.package.result.now.path.items in
-    subst (IsBehindAll c.loop-other.seen) (sym c.deref.ensures.value)
+    subst (ComesAfterAll c.loop-other.seen) (sym c.deref.ensures.value)
     (c.loop-other.invariant.before n path c.package.ensures.path (λ m has. above_taken items c.requires.rising k m lt has))
 
 pub loop-other-preserved : goal.loop-other-preserved
@@ -52,14 +52,14 @@ loop-other-preserved c =
     let new = c.share_next.new.self in
     let own = Contains-get_or items k 0 lt in
     let path = c.package.result.now.path.items in
-    let set = subst (Shares all old new) c.deref.ensures.value c.in_ok-behind.ensures.shared in
+    let set = subst (CopiesEntry all old new) c.deref.ensures.value c.in_ok-behind.ensures.shared in
     let end = subst (EndsAt new) c.deref.ensures.value c.in_ok-behind.ensures.end in
     record {
       shared = λ p at.
           let s = (c.requires.below p at n).0 own in
           let same : path ≡ s.0 = same_Some path s.0 (sym c.package.ensures.path ∙ s.1) in
           shared_next w p (take k items) (take (k + 1) items) n s.0 s.1 (λ m h. taken_or_next items k 0 m lt h) (λ m h. still_taken items k 0 m lt h)
-          (next_taken items k 0 lt) all old new s.2 (subst (Shares all old new) same set) (c.loop-other.invariant.shared p at);
+          (next_taken items k 0 lt) all old new s.2 (subst (CopiesEntry all old new) same set) (c.loop-other.invariant.shared p at);
       before = λ m q at above. end q (later_path w n m path q c.package.ensures.path at (above n (next_taken items k 0 lt)));
     }
 

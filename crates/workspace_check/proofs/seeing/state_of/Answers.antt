@@ -2,7 +2,7 @@
 use Rattle.std.proofs.Common.{◌≡◌, sym, ap, ◌∙◌}
 use Rattle.std.proofs.lemmas.Bool.{false≢true}
 use Rattle.std.proofs.lemmas.Option.{same_Some}
-use Rattle.types_declared.specs.InterfacesView.{name_in}
+use Rattle.types_declared.specs.ExportTablesView.{name_in}
 use Rattle.workspace_check.specs.Verdicts.{is_on_cycle, is_faulty, is_good}
 use Rattle.workspace_check.proofs.Noting.{builds_by, imported, unknown_by, known_as}
 use Rattle.workspace_check.proofs.seeing.state_of.Goals as goal

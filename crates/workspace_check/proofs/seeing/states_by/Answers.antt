@@ -6,16 +6,16 @@ use Rattle.std.proofs.lemmas.Option.{same_Some, slice_get_within}
 use Rattle.base_files.specs.Packages.{package_paths}
 use Rattle.workspace_graph.specs.Packages.{PackageImports}
 use Rattle.types_declared.specs.States.{state_in}
-use Rattle.types_declared.specs.InterfacesView.{Notes}
-use Rattle.types_info.proofs.BoundLists.{slice_get_some}
-use Rattle.workspace_check.specs.Told.{known_by}
+use Rattle.types_declared.specs.ExportTablesView.{SetsState}
+use Rattle.types_info.proofs.MeaningLists.{slice_get_some}
+use Rattle.workspace_check.specs.KnownFindings.{verdicts_by}
 use Rattle.workspace_check.proofs.Members.{taken_or_next}
 use Rattle.workspace_check.proofs.Noting.{AreNoted, none_noted, noted_next, all_noted}
 use Rattle.workspace_check.proofs.seeing.states_by.Goals as goal
 
 pub loop-import-init : goal.loop-import-init
 loop-import-init c = λ p at.
-    none_noted c.args.graph.now (known_by c.args.all.now) p _ (state_in c.new-noted.result.states) refl c.new-noted.ensures.states
+    none_noted c.args.graph.now (verdicts_by c.args.all.now) p _ (state_in c.new-noted.result.states) refl c.new-noted.ensures.states
 
 pub package-requires : goal.package-requires
 package-requires c =
@@ -56,9 +56,9 @@ loop-import-preserved c = λ p at.
     let s = (c.imports-import-items.ensures.imports p at n).0 (Contains-get_or items k 0 lt) in
     let path : c.in_ok-path.path.items ≡ s.0 =
     c.in_ok-path.ensures.items ∙ c.deref.ensures.value ∙ same_Some c.package.result.now.path.items s.0 (sym c.package.ensures.path ∙ s.1) in
-    noted_next w (known_by c.args.all.now) p (take k items) (take (k + 1) items) n s.0 s.1 (λ m h. taken_or_next items k 0 m lt h)
+    noted_next w (verdicts_by c.args.all.now) p (take k items) (take (k + 1) items) n s.0 s.1 (λ m h. taken_or_next items k 0 m lt h)
     (state_in old.states) (state_in new.states) c.state_by.result
-    (subst (λ v. Notes (state_in old.states) (state_in new.states) v c.state_by.result) path c.in_ok-note.ensures.noted)
+    (subst (λ v. SetsState (state_in old.states) (state_in new.states) v c.state_by.result) path c.in_ok-note.ensures.noted)
     (c.state_by.ensures p at s.0 s.1) (c.loop-import.invariant p at)
 
 pub returns : goal.returns
@@ -66,6 +66,6 @@ returns c = λ p at.
     let w = c.args.graph.now in
     let items = c.imports-import-items.result.now in
     let state = state_in c.loop-import.noted.states in
-    let whole = subst (λ l. AreNoted w (known_by c.args.all.now) p l state) (take_all c.loop-import.import-index items (omega arith))
+    let whole = subst (λ l. AreNoted w (verdicts_by c.args.all.now) p l state) (take_all c.loop-import.import-index items (omega arith))
     (c.loop-import.invariant p at) in
-    all_noted w (known_by c.args.all.now) p items state (c.imports-import-items.ensures.imports p at) whole
+    all_noted w (verdicts_by c.args.all.now) p items state (c.imports-import-items.ensures.imports p at) whole

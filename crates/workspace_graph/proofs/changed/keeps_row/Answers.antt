@@ -3,7 +3,7 @@ use Rattle.std.proofs.Common.{◌≡◌, ℕ, sym, ap, subst, ◌∙◌, arith, 
 use Rattle.std.specs.Cmp.Lexicographic.{bytes_decides}
 use Rattle.std.proofs.lemmas.Option.{slice_get_within}
 use Rattle.workspace_graph.specs.Graphs.{paths_of}
-use Rattle.workspace_graph.specs.Imports.{imports_of}
+use Rattle.workspace_graph.specs.Imports.{row_of}
 use Rattle.workspace_graph.specs.Rows.{IsRow}
 use Rattle.workspace_graph.proofs.ChangedPackages.{at_path}
 use Rattle.workspace_graph.proofs.PackagePaths.{one_number}
@@ -25,7 +25,7 @@ returns c = λ t n at.
     let path = ap Some (sym c.path.ensures) in
     let same : n ≡ c.in-Some.number = one_number paths c.requires.sorted n c.in-Some.number c.path.result.now (at ∙ path) c.in-Some.ensures in
     let trees = c.args.one.now.trees.items in
-    let row : c.fill_row.new.row.items ≡ imports_of c.args.links.now c.in-Some.number = sym c.as_slice.ensures.value ∙
+    let row : c.fill_row.new.row.items ≡ row_of c.args.links.now c.in-Some.number = sym c.as_slice.ensures.value ∙
     (bytes_decides _ _).0 (sym c.eq.ensures ∙ t) ∙
     c.imports-earlier.ensures in
-    subst (λ (k : ℕ). IsRow paths trees (imports_of c.args.links.now k)) (sym same) (subst (IsRow paths trees) row c.in_ok-fill_row.ensures)
+    subst (λ (k : ℕ). IsRow paths trees (row_of c.args.links.now k)) (sym same) (subst (IsRow paths trees) row c.in_ok-fill_row.ensures)

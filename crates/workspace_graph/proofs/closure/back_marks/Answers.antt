@@ -1,7 +1,7 @@
 -- What is found by the marks of what the package reaches.
 use Rattle.std.proofs.Common.{◌<◌, ℕ, sym, subst, ◌∙◌}
 use Rattle.std.proofs.lemmas.Result.{IfOk-weaker}
-use Rattle.workspace_graph.specs.Search.{TellBack}
+use Rattle.workspace_graph.specs.Search.{UnmarksBelow}
 use Rattle.workspace_graph.proofs.Reached.{noted_linked}
 use Rattle.workspace_graph.proofs.closure.back_marks.Goals as goal
 
@@ -17,5 +17,5 @@ back_from-requires c =
 pub returns : goal.returns
 returns c =
     let g = c.args.imports.now in
-    IfOk-weaker c.back_from.result _ (λ back. TellBack g c.args.number back.items)
+    IfOk-weaker c.back_from.result _ (λ back. UnmarksBelow g c.args.number back.items)
     (λ back tells. tells g c.requires.linked c.requires.back c.in_ok-reached.ensures.reached) c.back_from.ensures

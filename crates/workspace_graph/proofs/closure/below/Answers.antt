@@ -2,10 +2,10 @@
 use Rattle.std.proofs.Common.{ℕ, ◌<◌, Bool, List, [], length, sym, subst, ◌∙◌}
 use Rattle.std.specs.List.{All, Contains}
 use Rattle.std.proofs.lemmas.Result.{IfOk-weaker}
-use Rattle.workspace_graph.specs.Imports.{Imports, imports_of}
-use Rattle.workspace_graph.specs.Search.{IsMarked, TellBack}
+use Rattle.workspace_graph.specs.Imports.{Imports, row_of}
+use Rattle.workspace_graph.specs.Search.{IsMarked, UnmarksBelow}
 use Rattle.workspace_graph.proofs.Filled.{ok_both}
-use Rattle.workspace_graph.proofs.NoneBack.{back_alone, built_on_rest, no_importer}
+use Rattle.workspace_graph.proofs.BelowAlone.{back_alone, built_on_rest, no_importer}
 use Rattle.workspace_graph.proofs.Reached.{noted_linked}
 use Rattle.workspace_graph.proofs.closure.below.Goals as goal
 
@@ -19,7 +19,7 @@ none_marked-requires c =
     let within : c.args.number < length noted = subst (λ (n : ℕ). c.args.number < n) (sym size) c.requires.number in
     let row = noted_linked c.args.imports.now noted c.requires.linked c.requires.back c.args.number [] within in
     rw (c.deref.ensures.value, c.row.ensures)
-    (subst (λ (n : ℕ). All (λ q. q < n) (imports_of noted c.args.number)) (size ∙ sym c.in_ok-reached.ensures.size) row)
+    (subst (λ (n : ℕ). All (λ q. q < n) (row_of noted c.args.number)) (size ∙ sym c.in_ok-reached.ensures.size) row)
 
 pub rest_marked-requires : goal.rest_marked-requires
 rest_marked-requires c = subst (λ (n : ℕ). c.args.number < n) (sym c.in_ok-reached.ensures.size) c.requires.number
@@ -63,9 +63,9 @@ pub returns : goal.returns
 returns c =
     let g = c.args.imports.now in
     let number = c.args.number in
-    let tells : TellBack g number c.in_ok-back.back.items =
+    let tells : UnmarksBelow g number c.in_ok-back.back.items =
     c.in_ok-back.ensures g c.requires.linked c.requires.back c.in_ok-reached.ensures.reached in
     record {
-      built_on = c.in_ok-built_on.ensures g number (subst (λ (ms : List Bool). TellBack g number ms) (sym c.deref-2.ensures.value) tells);
+      built_on = c.in_ok-built_on.ensures g number (subst (λ (ms : List Bool). UnmarksBelow g number ms) (sym c.deref-2.ensures.value) tells);
       back = tells.back;
     }

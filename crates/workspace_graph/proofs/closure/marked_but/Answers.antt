@@ -1,6 +1,6 @@
 -- The marks, of which one was taken off.
 use Rattle.std.proofs.lemmas.Result.{IfOk-weaker}
-use Rattle.workspace_graph.proofs.NoneBack.{marked_without}
+use Rattle.workspace_graph.proofs.BelowAlone.{marked_without}
 use Rattle.workspace_graph.proofs.closure.marked_but.Goals as goal
 
 pub returns-clause-each : goal.returns-clause-each

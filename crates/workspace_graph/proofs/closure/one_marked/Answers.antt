@@ -1,6 +1,6 @@
 -- Of no marks one is set.
 use Rattle.std.proofs.Common.{rules, refl}
-use Rattle.workspace_graph.proofs.NoneBack.{one_marked}
+use Rattle.workspace_graph.proofs.BelowAlone.{one_marked}
 use Rattle.workspace_graph.proofs.closure.one_marked.Goals as goal
 
 pub returns : goal.returns

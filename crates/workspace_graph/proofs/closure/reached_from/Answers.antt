@@ -4,8 +4,8 @@ use Rattle.std.proofs.lemmas.List.{length-replicate}
 use Rattle.workspace_graph.proofs.Reached.{marks_reached, none_closed, none_in, reached_alone}
 use Rattle.workspace_graph.proofs.closure.reached_from.Goals as goal
 
-pub spread-requires : goal.spread-requires
-spread-requires c =
+pub visit-requires : goal.visit-requires
+visit-requires c =
     let g = c.args.imports.now in
     let marks = c.in_ok-marks.marks.items in
     let is : marks ≡ replicate (length g) false = subst (λ (n : ℕ). c.in_ok-marks.marks.items ≡ replicate n false) c.len.ensures
@@ -21,7 +21,7 @@ returns c =
     let g = c.args.imports.now in
     let number = c.args.number in
     let first = c.in_ok-marks.marks.items in
-    let marks = c.spread.new.marks.items in
+    let marks = c.visit.new.marks.items in
     let found = c.in_ok-found.found.items in
     let is : first ≡ replicate (length g) false = subst (λ (n : ℕ). c.in_ok-marks.marks.items ≡ replicate n false) c.len.ensures
     (c.in_ok-marks.ensures.items_if_clones_equal (search rules)) in

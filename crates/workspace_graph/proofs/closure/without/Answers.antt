@@ -2,7 +2,7 @@
 use Rattle.std.proofs.Common.{ℕ, ◌≡◌, ◌↔◌, List, get_or, take, refl, sym, subst, arith}
 use Rattle.std.specs.List.{Contains}
 use Rattle.std.proofs.lemmas.List.{take_all}
-use Rattle.workspace_graph.proofs.NoneBack.{IsWithout, without_more, without_none, without_skip}
+use Rattle.workspace_graph.proofs.BelowAlone.{IsWithout, without_more, without_none, without_skip}
 use Rattle.workspace_graph.proofs.closure.without.Goals as goal
 use Rattle.workspace_graph.proofs.closure.without.Goals.{then-number-one+in_ok-push, else-number-one}
 

@@ -1,5 +1,5 @@
 -- Those that were passed, without that one.
-use Rattle.workspace_graph.proofs.NoneBack.{IsWithout}
+use Rattle.workspace_graph.proofs.BelowAlone.{IsWithout}
 use Rattle.workspace_graph.proofs.closure.without.Given as goal
 
 abbrev pub invariant-loop-number : goal.invariant-loop-number

@@ -3,8 +3,8 @@ use Rattle.std.proofs.Common.{◌++◌, ◌∷◌, List, ℕ, ap, sym, ◌∙◌
 use Rattle.std.specs.Map.Iter.{deref}
 use Rattle.std.proofs.lemmas.Map.Iter.{rest_more, rest_all}
 use Rattle.std.proofs.lemmas.List.Elements.{All-push}
-use Rattle.workspace_graph.specs.Drafts.{HoldsDraft, IsDraft, draft_paths}
-use Rattle.workspace_graph.specs.Filling.{names}
+use Rattle.workspace_graph.specs.Drafts.{HasFolderFiles, IsDraft, draft_paths}
+use Rattle.workspace_graph.specs.Borrows.{names}
 use Rattle.workspace_graph.proofs.PackagePaths.{names_sorted}
 use Rattle.workspace_graph.proofs.SetFiles.{paths_push}
 use Rattle.workspace_graph.proofs.drafts.drafts_at.Goals as goal
@@ -19,7 +19,7 @@ loop-folder-preserved c =
       paths = paths_push old one (names c.next.new.self) ∙ ap (λ (p : List ℕ). draft_paths old ++ p ∷ names c.next.new.self) is.path ∙
           ap (λ ks. draft_paths old ++ names ks) (sym left) ∙ c.loop-folder.invariant.paths;
       drafts = All-push IsDraft old one c.loop-folder.invariant.drafts is.draft;
-      files = λ v are. All-push (HoldsDraft v) old one (c.loop-folder.invariant.files v are) (is.files v are);
+      files = λ v are. All-push (HasFolderFiles v) old one (c.loop-folder.invariant.files v are) (is.files v are);
     })
 
 pub returns : goal.returns

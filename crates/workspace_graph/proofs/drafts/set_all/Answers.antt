@@ -4,8 +4,8 @@ use Rattle.std.specs.List.Sorted.{IsStrictlySortedBy}
 use Rattle.std.proofs.lemmas.List.{take_all}
 use Rattle.base_files.specs.Workspace.{path_cmp}
 use Rattle.workspace_graph.specs.Drafts.{SetsFiles}
-use Rattle.workspace_graph.specs.Filling.{names}
-use Rattle.workspace_graph.proofs.NamedFiles.{names_more}
+use Rattle.workspace_graph.specs.Borrows.{names}
+use Rattle.workspace_graph.proofs.ChangedFiles.{names_more}
 use Rattle.workspace_graph.proofs.SetFiles.{sets_more, sets_none}
 use Rattle.workspace_graph.proofs.drafts.set_all.Goals as goal
 

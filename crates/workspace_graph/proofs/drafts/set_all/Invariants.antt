@@ -1,7 +1,7 @@
 -- What is at the paths that were passed is set.
 use Rattle.std.proofs.Common.{take}
 use Rattle.workspace_graph.specs.Drafts.{SetsFiles}
-use Rattle.workspace_graph.specs.Filling.{names}
+use Rattle.workspace_graph.specs.Borrows.{names}
 use Rattle.workspace_graph.proofs.drafts.set_all.Given as goal
 
 abbrev pub invariant-loop-path : goal.invariant-loop-path

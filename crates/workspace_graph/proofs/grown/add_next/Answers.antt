@@ -2,11 +2,11 @@
 use Rattle.std.proofs.Common.{◌≡◌, ◌+◌, length, sym, ap, subst, ◌∙◌, arith}
 use Rattle.std.specs.List.{Contains}
 use Rattle.workspace_graph.specs.Growth.{IsStop}
-use Rattle.workspace_graph.specs.Shifts.{IsPassed}
+use Rattle.workspace_graph.specs.Shifts.{Splits}
 use Rattle.workspace_graph.proofs.grown.add_next.Goals as goal
 
 pub next_stop-stop-requires-clause-passed : goal.next_stop-stop-requires-clause-passed
-next_stop-stop-requires-clause-passed c = subst (IsPassed c.args.growing.linked.now c.args.index) (sym c.len.ensures) c.requires.passed
+next_stop-stop-requires-clause-passed c = subst (Splits c.args.growing.linked.now c.args.index) (sym c.len.ensures) c.requires.passed
 
 pub add_run-requires-clause-stop : goal.add_run-requires-clause-stop
 add_run-requires-clause-stop c = (
@@ -21,7 +21,7 @@ returns-then-stop-len c =
     let at : length c.add_run.new.rows ≡ c.next_stop-stop.result = c.in_ok-add_run.ensures.count in
     record {
       grown = c.in_ok-add_run.ensures.grown;
-      passed = subst (IsPassed c.args.growing.linked.now c.args.index) (sym at) c.next_stop-stop.ensures.passed;
+      passed = subst (Splits c.args.growing.linked.now c.args.index) (sym at) c.next_stop-stop.ensures.passed;
       more = omega (arith, at, c.requires.below, c.if-stop-len.true, c.len-2.ensures);
     }
 
@@ -43,6 +43,6 @@ returns c =
     let next : length c.add_stop.new.rows ≡ c.next_stop-stop.result + 1 = c.in_ok-add_stop.ensures.count ∙ ap (λ n. n + 1) at in
     record {
       grown = c.in_ok-add_stop.ensures.grown;
-      passed = subst (IsPassed c.args.growing.linked.now c.past.result) (sym next) c.past.ensures.passed;
+      passed = subst (Splits c.args.growing.linked.now c.past.result) (sym next) c.past.ensures.passed;
       more = omega (arith, next, c.next_stop-stop.ensures.from, c.len.ensures);
     }

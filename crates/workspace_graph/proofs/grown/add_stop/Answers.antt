@@ -5,7 +5,7 @@ use Rattle.std.proofs.lemmas.List.{length_push}
 use Rattle.std.proofs.lemmas.List.Elements.{All-contains}
 use Rattle.std.proofs.lemmas.Result.{on_ok_weaker}
 use Rattle.workspace_graph.specs.Growth.{AreGrown}
-use Rattle.workspace_graph.specs.Imports.{imports_of}
+use Rattle.workspace_graph.specs.Imports.{row_of}
 use Rattle.workspace_graph.specs.Shifts.{ShiftsRow, row_shifted, shifted}
 use Rattle.workspace_graph.proofs.GrownLinks.{small_row}
 use Rattle.workspace_graph.proofs.GrownSteps.{grown_one, grown_own}
@@ -41,7 +41,7 @@ add_shifted_around-requires-clause-small c =
     let inside : c.in-Some.before < length before =
     shifted_within place c.in-Some.before (length before) c.requires.growing.within (omega (arith, is, c.requires.below)) in
     small_row c.row-row.result.now (length before)
-    (λ q has. All-contains (λ q. q < length before) (imports_of before c.in-Some.before) q (c.requires.growing.numbers c.in-Some.before _ inside)
+    (λ q has. All-contains (λ q. q < length before) (row_of before c.in-Some.before) q (c.requires.growing.numbers c.in-Some.before _ inside)
     (subst (λ (l : List ℕ). Contains l q) c.row-row.ensures has))
     (omega (arith, c.requires.small))
 

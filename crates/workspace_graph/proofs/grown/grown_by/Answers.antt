@@ -1,7 +1,7 @@
 -- The rows and the importers after one came.
 use Rattle.std.proofs.Common.{◌≡◌, ◌+◌, length, sym, ap, subst, ◌∙◌, arith}
 use Rattle.workspace_graph.specs.Growth.{AreGrown, AreRows, IsGrowing}
-use Rattle.workspace_graph.specs.Imports.{Links, imports_of}
+use Rattle.workspace_graph.specs.Imports.{Links, row_of}
 use Rattle.workspace_graph.proofs.GrownLinks.{first_all, growing_importers, growing_imports, importers_grown, one_more}
 use Rattle.workspace_graph.proofs.GrownLinks.{place_inside, place_one, place_path, rows_grown}
 use Rattle.workspace_graph.proofs.Linked.{rows_linked}
@@ -44,7 +44,7 @@ with_importers-requires c =
     rows_grown packages links place grows own importing c.in_ok-imports.imports grown count c.requires.own holds in
     let inside = place_inside packages links place grows in
     let linked = rows_linked packages c.in_ok-imports.imports rows in
-    let own_is : own ≡ imports_of c.in_ok-imports.imports place = sym (grown.own_row (omega (arith, inside, count, one_more packages links place grows))) in
+    let own_is : own ≡ row_of c.in_ok-imports.imports place = sym (grown.own_row (omega (arith, inside, count, one_more packages links place grows))) in
     record {
       linked = linked;
       importers = first_all c.in_ok-imports.imports c.in_ok-importers.importers linked

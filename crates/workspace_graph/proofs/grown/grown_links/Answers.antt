@@ -3,7 +3,7 @@ use Rattle.std.proofs.Common.{ℕ, ◌≡◌, List, length, get_or, Some, sym, a
 use Rattle.std.proofs.lemmas.Option.{same_Some, slice_get-get_or}
 use Rattle.workspace_graph.specs.Graphs.{paths_of}
 use Rattle.workspace_graph.specs.Growth.{ImportsAt}
-use Rattle.workspace_graph.specs.Imports.{HoldsBelow}
+use Rattle.workspace_graph.specs.Imports.{ListsBelow}
 use Rattle.workspace_graph.specs.Rows.{IsRow}
 use Rattle.workspace_graph.specs.declared.package.ParsedPackage.{ParsedPackage}
 use Rattle.workspace_graph.proofs.Filled.{path_at}
@@ -36,5 +36,5 @@ grown_by-requires-clause-importing c = λ path at.
     let one : ParsedPackage = get_or packages place c.index-grown-grown.result in
     let has = path_at packages place one (slice_get-get_or packages place c.index-grown-grown.result inside) in
     let same : c.path.result.now ≡ path = c.path.ensures ∙ same_Some one.path.items path (sym has ∙ at) in
-    subst (λ (l : List ℕ). HoldsBelow (ImportsAt packages path) (length packages) l) (sym c.deref-2.ensures.value)
-    (subst (λ (q : List ℕ). HoldsBelow (ImportsAt packages q) (length packages) c.in_ok-importing.importing.items) same c.in_ok-importing.ensures)
+    subst (λ (l : List ℕ). ListsBelow (ImportsAt packages path) (length packages) l) (sym c.deref-2.ensures.value)
+    (subst (λ (q : List ℕ). ListsBelow (ImportsAt packages q) (length packages) c.in_ok-importing.importing.items) same c.in_ok-importing.ensures)

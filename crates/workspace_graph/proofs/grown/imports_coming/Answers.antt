@@ -2,7 +2,7 @@
 use Rattle.std.proofs.Common.{◌≡◌, get_or, Some, slice_get, sym, subst, ◌∙◌}
 use Rattle.std.proofs.lemmas.Bool.{false≢true}
 use Rattle.std.proofs.lemmas.Option.{same_Some, slice_get-get_or}
-use Rattle.workspace_graph.specs.ImportPaths.{SomeImport}
+use Rattle.workspace_graph.specs.ImportPaths.{AnyImports}
 use Rattle.workspace_graph.specs.declared.package.ParsedPackage.{ParsedPackage}
 use Rattle.workspace_graph.proofs.grown.imports_coming.Goals as goal
 
@@ -22,5 +22,5 @@ returns c =
       λ yes. (p, (at, c.imports_path.ensures.0 yes)),
       λ imports.
           let same : imports.0 ≡ p = same_Some imports.0 p (sym imports.1.0 ∙ at) in
-          c.imports_path.ensures.1 (subst (λ (x : ParsedPackage). SomeImport x.trees.items path) same imports.1.1),
+          c.imports_path.ensures.1 (subst (λ (x : ParsedPackage). AnyImports x.trees.items path) same imports.1.1),
     )

@@ -1,7 +1,7 @@
 -- Its row before, and the paths that its files import.
 use Rattle.std.proofs.Common.{ℕ, ◌≡◌, ◌≤◌, List, length, get_or, Some, slice_get, sym, ap, subst, ◌∙◌}
 use Rattle.std.proofs.lemmas.Option.{same_Some, slice_get-get_or}
-use Rattle.workspace_graph.specs.ImportPaths.{SomeImport}
+use Rattle.workspace_graph.specs.ImportPaths.{AnyImports}
 use Rattle.workspace_graph.specs.declared.package.ParsedPackage.{ParsedPackage}
 use Rattle.workspace_graph.proofs.CountedImports.{none_left}
 use Rattle.workspace_graph.proofs.GrownLinks.{before_inside}
@@ -25,4 +25,4 @@ returns c = λ yes path here imports.
     (ap (slice_get packages) c.in-Some.ensures ∙ at) c.imports-imports.ensures
     (subst (λ (row : List ℕ). length c.imports-imports.result.now.keys ≤ length row) c.imports-row.ensures
     (subst (λ (count : ℕ). count ≤ length c.imports-row.result.now) c.len.ensures.len c.if-len-row.false))
-    here (subst (λ (x : ParsedPackage). SomeImport x.trees.items path) same imports.1.1)
+    here (subst (λ (x : ParsedPackage). AnyImports x.trees.items path) same imports.1.1)

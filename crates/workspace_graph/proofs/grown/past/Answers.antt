@@ -1,6 +1,6 @@
 -- The number stands there, and the index moves on, or it stands nowhere.
 use Rattle.std.proofs.Common.{◌+◌, arith}
-use Rattle.workspace_graph.specs.Shifts.{IsPassed}
+use Rattle.workspace_graph.specs.Shifts.{Splits}
 use Rattle.workspace_graph.proofs.Shifted.{passed_no, passed_none_in, passed_yes}
 use Rattle.workspace_graph.proofs.grown.past.Goals as goal
 use Rattle.workspace_graph.proofs.grown.past.Goals.{else-index-list-via-then-index-list+else-list-index, else-index-list-via-else-index-list}
@@ -20,7 +20,7 @@ returns-else-index-list-clause-passed c =
 pub returns-else-index-list-clause-has : goal.returns-else-index-list-clause-has
 returns-else-index-list-clause-has c =
     let list = c.args.list.now in
-    let after : IsPassed list c.args.index (c.args.number + 1) = passed_no list c.args.index c.args.number c.requires.rising c.requires.passed
+    let after : Splits list c.args.index (c.args.number + 1) = passed_no list c.args.index c.args.number c.requires.rising c.requires.passed
     (λ lt is. elim c.else-index-list.branch [
       | else-index-list-via-then-index-list+else-list-index w ↦ w.if-list-index.false is
       | else-index-list-via-else-index-list w ↦ absurd (omega (arith, lt, w.if-index-list.false))

@@ -1,7 +1,7 @@
 -- One more row.
 use Rattle.std.proofs.Common.{ℕ, List, subst, ◌∙◌}
-use Rattle.workspace_graph.specs.Imports.{NotesRow}
-use Rattle.workspace_graph.proofs.Noted.{HoldImporters-more}
+use Rattle.workspace_graph.specs.Imports.{AddsImporter}
+use Rattle.workspace_graph.proofs.AddedImporters.{HoldImporters-more}
 use Rattle.workspace_graph.proofs.importers.importers.Goals as goal
 
 pub loop-importer-preserved : goal.loop-importer-preserved
@@ -16,6 +16,6 @@ loop-importer-preserved c =
       held = (
         noted.0,
         noted.1,
-        HoldImporters-more g got.0 noted.0 n got.2 (subst (λ (row : List ℕ). NotesRow got.0 row n noted.0) c.row.ensures noted.2),
+        HoldImporters-more g got.0 noted.0 n got.2 (subst (λ (row : List ℕ). AddsImporter got.0 row n noted.0) c.row.ensures noted.2),
       );
     }

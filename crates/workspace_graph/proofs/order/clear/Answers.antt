@@ -3,7 +3,7 @@ use Rattle.std.proofs.Common.{◌≡◌, ◌<◌, inl, inr, ℕ, false, length, 
 use Rattle.std.proofs.Math.ListN.{set}
 use Rattle.std.proofs.lemmas.Bool.{cases_lt}
 use Rattle.std.proofs.lemmas.List.{get_or-set_same, get_or_default, length-set}
-use Rattle.workspace_graph.proofs.Told.{clear_still}
+use Rattle.workspace_graph.proofs.ListedBlocks.{clear_still}
 use Rattle.workspace_graph.proofs.order.clear.Goals as goal
 
 pub index_mut-requires : goal.index_mut-requires

@@ -2,11 +2,11 @@
 use Rattle.std.proofs.Common.{Bool, List, ℕ, ◌<◌, length, subst, ◌∙◌}
 use Rattle.workspace_graph.specs.Search.{IsMarked}
 use Rattle.workspace_graph.proofs.Reached.{noted_linked}
-use Rattle.workspace_graph.proofs.Told.{told_none, order_is}
+use Rattle.workspace_graph.proofs.ListedBlocks.{told_none, order_is}
 use Rattle.workspace_graph.proofs.order.order.Goals as goal
 
-pub latest_first-requires : goal.latest_first-requires
-latest_first-requires c = noted_linked c.args.imports.now c.args.importers.now c.requires.linked c.requires.back
+pub last_left_first-requires : goal.last_left_first-requires
+last_left_first-requires c = noted_linked c.args.imports.now c.args.importers.now c.requires.linked c.requires.back
 
 pub add_all-requires : goal.add_all-requires
 add_all-requires c =

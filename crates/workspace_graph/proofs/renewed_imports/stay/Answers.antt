@@ -2,8 +2,8 @@
 use Rattle.std.proofs.Common.{IsTrue}
 use Rattle.std.specs.Option.{option_copied}
 use Rattle.std.proofs.lemmas.Result.{IfOk-weaker}
-use Rattle.workspace_graph.specs.Drafts.{AreKept, GoneImports}
-use Rattle.workspace_graph.specs.ImportPaths.{HoldsPaths, SomeImport}
+use Rattle.workspace_graph.specs.Drafts.{Survive, GoneImports}
+use Rattle.workspace_graph.specs.ImportPaths.{ListsPaths, AnyImports}
 use Rattle.workspace_graph.proofs.RenewedImports.{stay_imported}
 use Rattle.workspace_graph.proofs.renewed_imports.stay.Goals as goal
 
@@ -13,5 +13,5 @@ returns c =
     let gone = option_copied c.args.change.gone in
     let come = c.args.change.come.now in
     let files = c.args.change.files.now in
-    IfOk-weaker c.keep_imports.result (λ kept. IsTrue kept → AreKept (GoneImports gone) come files) (λ stay. IsTrue stay → HoldsPaths (SomeImport files) keys)
+    IfOk-weaker c.keep_imports.result (λ kept. IsTrue kept → Survive (GoneImports gone) come files) (λ stay. IsTrue stay → ListsPaths (AnyImports files) keys)
     (λ kept are yes. stay_imported keys gone come files c.requires (c.are_among.ensures c.if-not-are_among.false) (are yes)) c.keep_imports.ensures

@@ -2,7 +2,7 @@
 use Rattle.std.proofs.Common.{◌≡◌, ◌+◌, ◌≤◌, length, ℕ, List, get_or, take, arith, sym, subst, ap, ◌∙◌}
 use Rattle.std.specs.List.{Contains}
 use Rattle.std.proofs.lemmas.List.{get_or_read}
-use Rattle.workspace_graph.specs.Imports.{Imports, imports_of}
+use Rattle.workspace_graph.specs.Imports.{Imports, row_of}
 use Rattle.workspace_graph.proofs.SearchSteps.{notes_none, notes_then, notes_as, row_next, row_more, row_all, linked_below, row_imports}
 use Rattle.workspace_graph.proofs.search.follow.Goals as goal
 
@@ -50,8 +50,8 @@ returns-clause-noted c =
     let row = c.row-number-items.result.now in
     let i = c.loop-number.number-index in
     let from : c.index.result.now ≡ get_or found c.args.place 0 = get_or_read found c.args.place c.index.result.now c.requires.place c.index.ensures 0 in
-    let is : row ≡ imports_of g (get_or found c.args.place 0) = c.row-number-items.ensures ∙ ap (imports_of g) from in
+    let is : row ≡ row_of g (get_or found c.args.place 0) = c.row-number-items.ensures ∙ ap (row_of g) from in
     let end : length row ≤ i = omega arith in
-    let all : take i row ≡ imports_of g (get_or found c.args.place 0) = row_all row i end ∙ is in
+    let all : take i row ≡ row_of g (get_or found c.args.place 0) = row_all row i end ∙ is in
     notes_as found c.args.marks.now.items c.loop-number.found.items c.loop-number.marks.items (Contains (take i row)) (Imports g (get_or found c.args.place 0))
     (λ q leads. subst (λ (xs : List ℕ). Contains xs q) (sym all) leads) (λ q has. subst (λ (xs : List ℕ). Contains xs q) all has) c.loop-number.invariant.noted

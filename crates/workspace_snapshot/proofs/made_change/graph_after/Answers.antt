@@ -2,8 +2,8 @@
 use Rattle.std.proofs.Common.{List, ℕ, Bor, sym, subst}
 use Rattle.std.specs.List.{Contains}
 use Rattle.base_files.specs.Workspace.{Workspace}
-use Rattle.workspace_graph.specs.Filling.{names}
-use Rattle.workspace_graph.specs.Staying.{DiffersOnlyAt}
+use Rattle.workspace_graph.specs.Borrows.{names}
+use Rattle.workspace_graph.specs.SameGoFiles.{DiffersOnlyAt}
 use Rattle.workspace_snapshot.proofs.NamedPaths.{differs_only_at}
 use Rattle.workspace_snapshot.proofs.made_change.graph_after.Goals as goal
 

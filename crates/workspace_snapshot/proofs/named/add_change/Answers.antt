@@ -2,7 +2,7 @@
 use Rattle.std.proofs.Common.{ap}
 use Rattle.std.proofs.lemmas.Result.{on_ok_weaker}
 use Rattle.base_edits.specs.Fits.{new_path}
-use Rattle.workspace_graph.specs.Filling.{names}
+use Rattle.workspace_graph.specs.Borrows.{names}
 use Rattle.workspace_snapshot.proofs.NamedPaths.{change_moves, change_stays}
 use Rattle.workspace_snapshot.proofs.named.add_change.Goals as goal
 

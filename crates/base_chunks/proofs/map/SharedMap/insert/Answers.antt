@@ -6,13 +6,13 @@ use Rattle.base_chunks.specs.Entries.{IsAfterAll, IsBeforeAll}
 use Rattle.base_chunks.proofs.Mapping.{part_rises, put_in_chunk, map_put}
 use Rattle.base_chunks.proofs.map.SharedMap.insert.Goals as goal
 
-pub enter-requires-clause-rises : goal.enter-requires-clause-rises
-enter-requires-clause-rises g c = part_rises g.K.Ord.cmp c.self.inside.chunks.items c.chunk_of-at.result c.self.invariant.1
+pub set_entry-requires-clause-rises : goal.set_entry-requires-clause-rises
+set_entry-requires-clause-rises g c = part_rises g.K.Ord.cmp c.self.inside.chunks.items c.chunk_of-at.result c.self.invariant.1
 
 pub invariant_of-self-2 : goal.invariant_of-self-2
 invariant_of-self-2 g c =
     let cs = c.self.inside.chunks.items in
-    let new = c.enter.new.chunks.items in
+    let new = c.set_entry.new.chunks.items in
     let i = c.chunk_of-at.result in
     let k = c.args.key in
     let ws = put g.K.Ord.cmp k c.args.value (get_or cs i []) in
@@ -27,7 +27,7 @@ invariant_of-self-2 g c =
 pub returns-clause-ok : goal.returns-clause-ok
 returns-clause-ok g c =
     let cs = c.self.inside.chunks.items in
-    let new = c.enter.new.chunks.items in
+    let new = c.set_entry.new.chunks.items in
     let i = c.chunk_of-at.result in
     let k = c.args.key in
     let ws = put g.K.Ord.cmp k c.args.value (get_or cs i []) in

@@ -2,7 +2,7 @@
 use Rattle.std.proofs.Common.{◌≡◌, ◌↔◌, IsTrue, subst}
 use Rattle.std.specs.List.{All}
 use Rattle.base_edits.specs.EditSet.{FileChanges}
-use Rattle.base_edits.specs.Fits.{IsThere, AreFree}
+use Rattle.base_edits.specs.Fits.{HasSpans, AreFree}
 use Rattle.base_edits.proofs.Fitting.{fits_from, free_from}
 use Rattle.base_edits.proofs.edit_set.EditSet.fits.Goals as goal
 
@@ -11,7 +11,7 @@ returns-then-are_there c =
     let s = c.args.self.now in
     let w = c.args.files.now in
     let set = c.changed-changed.ensures.set in
-    let there : All (IsThere w) s.changed = subst (All (IsThere w)) c.changed-changed.ensures.changed (c.are_there.ensures.0 c.if-are_there.true) in
+    let there : All (HasSpans w) s.changed = subst (All (HasSpans w)) c.changed-changed.ensures.changed (c.are_there.ensures.0 c.if-are_there.true) in
     let same : ◌≡◌ {A = FileChanges} (record { changed = c.changed-changed.result.now; added = c.added.result.now }) s =
     (λ i. record { changed = c.changed-changed.ensures.changed i; added = c.added.ensures i }) in
     let free : IsTrue c.are_free.result ↔ AreFree s w = subst (λ (t : FileChanges). IsTrue c.are_free.result ↔ AreFree t w) same c.are_free.ensures in

@@ -4,7 +4,7 @@ use Rattle.std.specs.FinMap.{find}
 use Rattle.base_files.specs.Workspace.{path_cmp}
 use Rattle.base_chunks.specs.Entries.{Rises}
 use Rattle.base_chunks.proofs.Standing.{rises}
-use Rattle.base_files.specs.Entries.{IsNumber}
+use Rattle.base_files.specs.Entries.{IsEntryNumber}
 use Rattle.base_files.proofs.Standing.{number_path, number_value}
 use Rattle.base_files.proofs.table.PathTable.entry_from.Goals as goal
 
@@ -16,7 +16,7 @@ returns g c =
     let es = c.self.inside.entries.items in
     let n = c.in_ok-number.number in
     let d = c.index-entry.result.now in
-    let is : IsNumber c.args.path.now es n = subst (λ xs. IsNumber c.args.path.now xs n) c.deref.ensures.value c.in_ok-number.ensures in
+    let is : IsEntryNumber c.args.path.now es n = subst (λ xs. IsEntryNumber c.args.path.now xs n) c.deref.ensures.value c.in_ok-number.ensures in
     let seen : es ≡ c.args.self.now = c.self.view_is in
     let at : d ≡ get_or es n d = c.index-entry.ensures in
     record {

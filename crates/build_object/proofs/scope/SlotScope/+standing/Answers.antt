@@ -1,47 +1,47 @@
--- The answers to the goals of `scope::Scope::standing`.
+-- The answers to the goals of `scope::Scope::mode`.
 use Rattle.std.proofs.Common.{◌-◌, ap, sym, ◌∙◌, refl, arith, inl, inr}
 use Rattle.build_object.specs.SourceView.{source_of}
 use Rattle.build_object.specs.Operands.{Values}
-use Rattle.build_object.specs.Making.{standing_of}
+use Rattle.build_object.specs.Making.{mode_of}
 use Rattle.build_object.proofs.Trees.{number_here, text_here, name_here, blank_here, composite_here, paren_here, address_here, binary_here}
 use Rattle.build_object.proofs.Links.{chain_alone, chain_behind, prefix_stands}
-use Rattle.build_object.proofs.scope.SlotScope.+standing.Goals as goal
+use Rattle.build_object.proofs.scope.SlotScope.+mode.Goals as goal
 
 pub returns-in-Name : goal.returns-in-Name
-returns-in-Name t c = c.name_standing.ensures ∙ sym
-    (ap (λ p. p.standing) (name_here (source_of c.args.self.source.now) c.args.self.slots.now.places.items _ c.in-Name.is))
+returns-in-Name t c = c.name_mode.ensures ∙ sym
+    (ap (λ p. p.mode) (name_here (source_of c.args.self.source.now) c.args.self.slots.now.places.items _ c.in-Name.is))
 
 pub returns-in-Blank : goal.returns-in-Blank
-unfolding standing_of
-returns-in-Blank t c = sym (ap (λ p. p.standing) (blank_here (source_of c.args.self.source.now) c.args.self.slots.now.places.items _ c.in-Blank.is))
+unfolding mode_of
+returns-in-Blank t c = sym (ap (λ p. p.mode) (blank_here (source_of c.args.self.source.now) c.args.self.slots.now.places.items _ c.in-Blank.is))
 
 pub returns-then-is_empty : goal.returns-then-is_empty
-unfolding standing_of
+unfolding mode_of
 returns-then-is_empty t c = sym (chain_alone (source_of c.args.self.source.now) c.args.self.slots.now.places.items _ _ c.in-Chain.is _ c.deref.ensures
-    (grind (c.if-is_empty.true, c.is_empty.ensures, c.in-Chain.links.ok.0, arith)) _ (sym c.standing-head.ensures) ∙ ap Values (sym c.values.ensures))
+    (grind (c.if-is_empty.true, c.is_empty.ensures, c.in-Chain.links.ok.0, arith)) _ (sym c.mode-head.ensures) ∙ ap Values (sym c.values.ensures))
 
 pub returns-else-is_empty : goal.returns-else-is_empty
-unfolding standing_of
+unfolding mode_of
 returns-else-is_empty t c = sym (chain_behind (source_of c.args.self.source.now) c.args.self.slots.now.places.items _ _ c.in-Chain.is _ c.deref.ensures _
     c.deref-in-Chain.ensures.value (c.len.result - 1)
     (let h = c.len.ensures ∙ c.in-Chain.links.ok.0 in grind (h, c.if-is_empty.false, c.is_empty.ensures, c.in-Chain.links.ok.0, arith)) _
-    (sym c.standing-head.ensures) _ c.left_by_links.ensures)
+    (sym c.mode-head.ensures) _ c.left_by_links.ensures)
 
 pub returns-in-Number : goal.returns-in-Number
-unfolding standing_of
+unfolding mode_of
 returns-in-Number t c = elim c.in-Number.is [
-  | inl q ↦ sym (ap (λ p. p.standing) (number_here (source_of c.args.self.source.now) c.args.self.slots.now.places.items _ q.1))
+  | inl q ↦ sym (ap (λ p. p.mode) (number_here (source_of c.args.self.source.now) c.args.self.slots.now.places.items _ q.1))
   | inr r ↦ elim r [
-    | inl q ↦ sym (ap (λ p. p.standing) (text_here (source_of c.args.self.source.now) c.args.self.slots.now.places.items _ q.1))
+    | inl q ↦ sym (ap (λ p. p.mode) (text_here (source_of c.args.self.source.now) c.args.self.slots.now.places.items _ q.1))
     | inr r ↦ elim r [
-      | inl q ↦ sym (ap (λ p. p.standing) (composite_here (source_of c.args.self.source.now) c.args.self.slots.now.places.items _ q.1))
+      | inl q ↦ sym (ap (λ p. p.mode) (composite_here (source_of c.args.self.source.now) c.args.self.slots.now.places.items _ q.1))
       | inr r ↦ elim r [
-        | inl q ↦ sym (ap (λ p. p.standing) (paren_here (source_of c.args.self.source.now) c.args.self.slots.now.places.items _ _ _ q.3 _ refl))
+        | inl q ↦ sym (ap (λ p. p.mode) (paren_here (source_of c.args.self.source.now) c.args.self.slots.now.places.items _ _ _ q.3 _ refl))
         | inr r ↦ elim r [
           | inl q ↦ prefix_stands (source_of c.args.self.source.now) c.args.self.slots.now.places.items _ _ _ q.3
           | inr r ↦ elim r [
-            | inl q ↦ sym (ap (λ p. p.standing) (address_here (source_of c.args.self.source.now) c.args.self.slots.now.places.items _ _ q.2))
-            | inr q ↦ sym (ap (λ p. p.standing) (binary_here (source_of c.args.self.source.now) c.args.self.slots.now.places.items _ _ q.2 _ _ refl refl))
+            | inl q ↦ sym (ap (λ p. p.mode) (address_here (source_of c.args.self.source.now) c.args.self.slots.now.places.items _ _ q.2))
+            | inr q ↦ sym (ap (λ p. p.mode) (binary_here (source_of c.args.self.source.now) c.args.self.slots.now.places.items _ _ q.2 _ _ refl refl))
           ]
         ]
       ]

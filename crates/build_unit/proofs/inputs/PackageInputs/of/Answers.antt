@@ -2,7 +2,7 @@
 use Rattle.std.proofs.Common.{[], get_or}
 use Rattle.std.proofs.lemmas.Option.{slice_get-get_or}
 use Rattle.base_files.specs.Packages.{package_paths}
-use Rattle.workspace_graph.proofs.Asked.{at_contains}
+use Rattle.workspace_graph.proofs.ByPath.{at_contains}
 use Rattle.build_unit.proofs.ClosurePart.{part_inputs}
 use Rattle.build_unit.proofs.inputs.PackageInputs.of.Goals as goal
 

@@ -2,8 +2,8 @@
 use Rattle.std.proofs.Common.{ap, ◌∙◌, sym}
 use Rattle.std.specs.Prelude.{None}
 use Rattle.std.proofs.lemmas.List.{get_or_past}
-use Rattle.go_scope.specs.ByToken.{number_in}
+use Rattle.go_scope.specs.ByToken.{row_number}
 use Rattle.go_scope.proofs.by_token.ByToken.width.Goals as goal
 
 pub returns : goal.returns
-returns c = λ token le. ap (λ r. number_in r token) (sym c.row.ensures) ∙ get_or_past c.row.result.now token None le
+returns c = λ token le. ap (λ r. row_number r token) (sym c.row.ensures) ∙ get_or_past c.row.result.now token None le

@@ -1,6 +1,6 @@
 -- The answers to the goals of `links::Links::link`.
 use Rattle.std.proofs.Common.{◌++◌, ◌∷◌, [], length, ap, ◌∙◌}
-use Rattle.go_scope.specs.Numbering.{told}
+use Rattle.go_scope.specs.Numbering.{numerals}
 use Rattle.go_scope.specs.Table.{layout_of}
 use Rattle.go_scope.proofs.Linking.{linked_next, near_next}
 use Rattle.go_scope.proofs.links.Links.link.Goals as goal
@@ -9,7 +9,7 @@ pub returns : goal.returns
 returns c =
     let xs = c.args.identifiers.now in
     let l = layout_of xs in
-    let names = told c.args.names.now in
+    let names = numerals c.args.names.now in
     let old = c.args.self.now in
     let next = c.in_ok-next.next in
     let more = c.in_ok-push.ensures.items ∙ ap (λ v. v.items ++ (next ∷ [])) c.place.ensures.around in

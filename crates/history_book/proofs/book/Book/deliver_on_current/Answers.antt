@@ -10,7 +10,7 @@ use Rattle.history_machine.specs.Machine.{Machine, with_journal}
 use Rattle.history_machine.specs.Step.{HasRoom, Step, entries_due, refused}
 use Rattle.history_machine.proofs.Legal.{holds_still}
 use Rattle.history_machine.proofs.Stepped.{full_step, lacking_step, place_for_one}
-use Rattle.history_book.specs.Current.{BringsCurrent}
+use Rattle.history_book.specs.CurrentInputs.{HasCurrentInputs}
 use Rattle.history_book.specs.Handed.{handed}
 use Rattle.history_book.proofs.Needed.{place_now, room_is}
 use Rattle.history_book.proofs.OnCurrent.{entered_on}
@@ -52,7 +52,7 @@ enter_delivery-requires c =
     let place = place_now most (length mid + length old.out.jobs) old.out event c.asked_of-asked.result.is_out c.asked_of-asked.ensures.out
     c.in-Ok.ensures.ok in
     record {
-      brings = subst (λ (m : Machine). BringsCurrent m.current.files c.args.job c.args.built) (sym c.self.view_is) c.requires;
+      brings = subst (λ (m : Machine). HasCurrentInputs m.current.files c.args.job c.args.built) (sym c.self.view_is) c.requires;
       room = place_for_one most (length mid) old.out event due place;
     }
 

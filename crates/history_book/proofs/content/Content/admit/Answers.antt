@@ -20,8 +20,8 @@ lacking : (old new : Content) (event : Event) (r : Result (ℕ × FileChanges) R
 lacking old new event (Ok made) alone lacks same = absurd lacks
 lacking old new event (Err refusal) alone lacks same = subst (λ n. AnswersOrLacks old event (Refused n) new) (sym lacks) (alone, same)
 
-pub go_on-requires : goal.go_on-requires
-go_on-requires c = record {
+pub advance-requires : goal.advance-requires
+advance-requires c = record {
   next = subst (λ (m : Content). m.next + 1 < 2 ^ 64) (sym c.self.view_is) c.requires.numbers.next;
   visit = subst (λ (m : Content). m.visit + 1 < 2 ^ 64) (sym c.self.view_is) c.requires.numbers.visit;
   number = c.in_ok-state.ensures.state.numbered;
@@ -33,7 +33,7 @@ returns-clause-answer c =
     let m = c.args.self.now in
     let state = c.in_ok-state.state in
     let after = subst (λ (x : Content). IsStateAfter x.current x.next c.args.change state) c.self.view_is c.in_ok-state.ensures.state in
-    let new = content_of c.go_on.new.self c.self.inside.limits c.self.inside.out in
+    let new = content_of c.advance.new.self c.self.inside.limits c.self.inside.out in
     let gone = subst (λ (x : Content). new ≡ changed x state.files state.finished) c.self.view_is (c.in_ok-number.ensures.ok c.self.inside.out) in (
       (refl, c.requires.base),
       c.in_ok-number.ensures.number ∙ ap (λ (x : Content). x.next) c.self.view_is,
@@ -46,7 +46,7 @@ returns-clause-answer c =
 
 pub returns-in_err-number-clause-answer : goal.returns-in_err-number-clause-answer
 returns-in_err-number-clause-answer c =
-    let new = content_of c.go_on.new.self c.self.inside.limits c.self.inside.out in
+    let new = content_of c.advance.new.self c.self.inside.limits c.self.inside.out in
     let failed = c.from_residual-in_err-number in
     let same = c.in_err-number.ensures.err c.self.inside.limits c.self.inside.out ∙ c.self.view_is in
     lacking c.args.self.now new (Commit c.args.self.now.current.number c.args.change) failed.result (λ b. b) failed.ensures.1 same

@@ -4,7 +4,7 @@ use Rattle.std.proofs.lemmas.Result.{IfOk-at_ok}
 use Rattle.history_machine.specs.Machine.{Content}
 use Rattle.history_book.specs.Histories.{content_of}
 use Rattle.history_book.specs.Handed.{handed}
-use Rattle.history_book.specs.Outcomes.{ComesTo}
+use Rattle.history_book.specs.Outcomes.{HasOutcome}
 use Rattle.history_machine.specs.Step.{AnswersOrLacks}
 use Rattle.history_machine.specs.declared.event.Event.TheVariants.{Deliver}
 use Rattle.history_book.proofs.Comes.{has_table}
@@ -15,9 +15,9 @@ pub take_in-requires : goal.take_in-requires
 take_in-requires c =
     let job = c.args.job in
     let built = c.args.built in
-    let comes = IfOk-at_ok (ComesTo c.args.self.now.current job built) c.in-Ok.is c.requires in
+    let comes = IfOk-at_ok (HasOutcome c.args.self.now.current job built) c.in-Ok.is c.requires in
     has_table c.self.inside.history.current job built c.in-Ok.outcome
-    (subst (λ (x : Content). ComesTo x.current job built c.in-Ok.outcome) (sym c.self.view_is) comes)
+    (subst (λ (x : Content). HasOutcome x.current job built c.in-Ok.outcome) (sym c.self.view_is) comes)
 
 pub returns-in-Ok-take_back : goal.returns-in-Ok-take_back
 returns-in-Ok-take_back c =
@@ -25,8 +25,8 @@ returns-in-Ok-take_back c =
     let built = c.args.built in
     let old : Content = content_of c.self.inside.history c.self.inside.limits c.self.inside.out in
     let new : Content = record old { current = c.take_in.new.current; out = c.take_back.new.self } in
-    let comes = IfOk-at_ok (ComesTo c.args.self.now.current job built) c.in-Ok.is c.requires in
-    let here = subst (λ (x : Content). ComesTo x.current job built c.in-Ok.outcome) (sym c.self.view_is) comes in
+    let comes = IfOk-at_ok (HasOutcome c.args.self.now.current job built) c.in-Ok.is c.requires in
+    let here = subst (λ (x : Content). HasOutcome x.current job built c.in-Ok.outcome) (sym c.self.view_is) comes in
     subst (λ (x : Content). AnswersOrLacks x (Deliver job built) (handed c.take_in.result) new) c.self.view_is
     (settled old job built c.take_back.new.self c.in-Ok-take_back.ensures.1 c.in-Ok.outcome (handed c.take_in.result) c.take_in.new.current here
     c.take_in.ensures)

@@ -2,7 +2,7 @@
 use Rattle.std.proofs.Common.{length, ap}
 use Rattle.refactor_after.specs.NewNames.{rank_of}
 use Rattle.refactor_after.proofs.Firsts.{no_firsts}
-use Rattle.refactor_after.proofs.Noting.{no_rank}
+use Rattle.refactor_after.proofs.FirstRanks.{no_rank}
 use Rattle.refactor_after.proofs.new_names.NewNames.new.Goals as goal
 
 pub returns-clause-names : goal.returns-clause-names

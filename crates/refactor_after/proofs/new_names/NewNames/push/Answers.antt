@@ -1,7 +1,7 @@
 -- The answers to the goals of `new_names::NewNames::push`.
 use Rattle.std.proofs.Common.{◌≡◌, length, subst, refl, arith}
 use Rattle.std.specs.Prelude.{Some}
-use Rattle.refactor_after.specs.NewNames.{rank_of, NotesFirst}
+use Rattle.refactor_after.specs.NewNames.{rank_of, EntersFirst}
 use Rattle.refactor_after.proofs.Firsts.{more_firsts}
 use Rattle.refactor_after.proofs.new_names.NewNames.push.Goals as goal
 
@@ -12,4 +12,4 @@ returns-clause-names c =
     let then = rank_of c.note_first.new.firsts.items in
     let size : c.len.result ≡ length old = omega (arith, c.len.ensures) in
     more_firsts old c.push.new.self.items (Some c.args.new) c.in_ok-push.ensures.items before then c.args.new refl
-    (subst (NotesFirst before then c.args.new.definition c.args.new.name.items) size c.in_ok-note_first.ensures) c.requires
+    (subst (EntersFirst before then c.args.new.definition c.args.new.name.items) size c.in_ok-note_first.ensures) c.requires

@@ -25,4 +25,4 @@ returns c =
     let at = slice_get-get_or (package_paths w) c.args.old [] c.requires.old in
     by_texts w x s.edits.now c.args.old p at s.touched.items c.requires.read.touched
     (λ m. false≢true (sym c.if-is_marked.false ∙ c.is_marked.ensures.1 (rw c.deref.ensures.value m)))
-    c.keeps_texts.result (c.keeps_texts.ensures w x c.requires.read.before_marks c.requires.read.after_marks p at (sym c.requires.same ∙ at))
+    c.keeps_closure.result (c.keeps_closure.ensures w x c.requires.read.before_marks c.requires.read.after_marks p at (sym c.requires.same ∙ at))

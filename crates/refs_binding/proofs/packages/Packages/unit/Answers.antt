@@ -4,8 +4,8 @@ use Rattle.std.specs.Prelude.{map, slice_get, slice_index_or, Some}
 use Rattle.std.proofs.lemmas.Option.{slice_get_read, slice_get-get_or}
 use Rattle.base_files.specs.Packages.{package_paths}
 use Rattle.go_ast.specs.SourceFile.{source_of, FileParts}
-use Rattle.types_declared.specs.InterfacesView.{interface_in}
-use Rattle.types_info.proofs.BoundLists.{slice_get_some}
+use Rattle.types_declared.specs.ExportTablesView.{export_data_in}
+use Rattle.types_info.proofs.MeaningLists.{slice_get_some}
 use Rattle.types_info.specs.PackageOf.{package_in}
 use Rattle.refs_binding.specs.Workspaces.{known_in, IsPackageAt}
 use Rattle.refs_binding.proofs.packages.Packages.unit.Goals as goal
@@ -30,4 +30,4 @@ returns c =
     let at_seen : slice_get self.seen.now n ≡ Some seen = slice_get-get_or self.seen.now n c.index-self-number.result has_seen in
     let x = slice_get_some (package_paths w) n c.requires.in_range in
     let here = read.tables.each n table at_table seen at_seen path (x.1 ∙ ap Some (sym (c.path_of-path.ensures x.0 x.1))) in
-    subst (λ (fs : List FileParts). IsPackageAt w known n (package_in path (map source_of fs) table (interface_in seen))) (sym c.files.ensures) here
+    subst (λ (fs : List FileParts). IsPackageAt w known n (package_in path (map source_of fs) table (export_data_in seen))) (sym c.files.ensures) here

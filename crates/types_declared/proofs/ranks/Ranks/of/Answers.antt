@@ -1,6 +1,6 @@
 -- The answers to the goals of `ranks::Ranks::of`.
 use Rattle.std.proofs.Common.{map, length, ◌∙◌, ap}
-use Rattle.go_scope.specs.Scoped.{layout_in}
+use Rattle.go_scope.specs.Packages.{layout_in}
 use Rattle.types_declared.specs.Package.{variable_place, type_place, function_place}
 use Rattle.types_declared.specs.DeclaredView.{variable_of, type_of, function_of}
 use Rattle.types_declared.proofs.Ranking.{ranks_of_items}

@@ -3,7 +3,7 @@ use Rattle.std.proofs.Common.{◌≡◌, ◌+◌, ◌&&◌, Bool, ap, sym, ◌�
 use Rattle.std.proofs.Math.ListN.{drop_of_length-le}
 use Rattle.types_expr.specs.Judge.{all_misfits}
 use Rattle.types_expr.specs.WorldView.{world_of}
-use Rattle.types_expr.specs.Found.{argued_of}
+use Rattle.types_expr.specs.Found.{list_value}
 use Rattle.types_expr.specs.View.{type_of}
 use Rattle.types_expr.proofs.Items.{next_item}
 use Rattle.types_expr.proofs.Misfits.{Compared, compared_step, compared_end, all_misfits_step, all_misfits_end}
@@ -18,13 +18,13 @@ loop-value-preserved c =
           sym w.none-is
       | else-none w ↦ ap (λ b. b && c.in_ok-fits.fits) w.if-none.false ∙ (sym w.if-none.false ∙ sym w.none-is)
     ] in
-    subst (λ (b : Bool). Compared (all_misfits (world_of c.args.world.now) (map argued_of c.args.values.now) (type_of c.args.wanted.now))
-    (all_misfits (world_of c.args.world.now) (map argued_of (drop (c.loop-value.value-index + 1) c.args.values.now)) (type_of c.args.wanted.now))
+    subst (λ (b : Bool). Compared (all_misfits (world_of c.args.world.now) (map list_value c.args.values.now) (type_of c.args.wanted.now))
+    (all_misfits (world_of c.args.world.now) (map list_value (drop (c.loop-value.value-index + 1) c.args.values.now)) (type_of c.args.wanted.now))
     c.args.self.now c.misfit.new.self b) both
     (compared_step _ c.loop-value.invariant c.in_ok-fits.ensures
-    (ap (λ vs. all_misfits (world_of c.args.world.now) (map argued_of vs) (type_of c.args.wanted.now)) (next_item _ _ _ c.loop-value-test.true c.value-item.is)
+    (ap (λ vs. all_misfits (world_of c.args.world.now) (map list_value vs) (type_of c.args.wanted.now)) (next_item _ _ _ c.loop-value-test.true c.value-item.is)
     ∙ all_misfits_step (world_of c.args.world.now) c.value-item.result _ (type_of c.args.wanted.now)))
 
 pub returns : goal.returns
-returns c = compared_end c.loop-value.invariant (ap (λ vs. all_misfits (world_of c.args.world.now) (map argued_of vs) (type_of c.args.wanted.now))
+returns c = compared_end c.loop-value.invariant (ap (λ vs. all_misfits (world_of c.args.world.now) (map list_value vs) (type_of c.args.wanted.now))
     (drop_of_length-le _ c.loop-value-test.false) ∙ all_misfits_end (world_of c.args.world.now) (type_of c.args.wanted.now))

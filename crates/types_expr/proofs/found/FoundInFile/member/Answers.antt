@@ -4,7 +4,7 @@ use Rattle.types_expr.specs.declared.symbol.Symbol.{Symbol}
 use Rattle.types_expr.specs.View.{type_of}
 use Rattle.types_expr.specs.WorldView.{world_of}
 use Rattle.types_expr.specs.Found.{use_of}
-use Rattle.types_expr.proofs.Adding.{adds_member}
+use Rattle.types_expr.proofs.AddedJudgements.{adds_member}
 use Rattle.types_expr.proofs.Equations.{ok_map}
 use Rattle.types_expr.proofs.found.FoundInFile.member.Goals as goal
 

@@ -61,12 +61,12 @@ check_statement-returns-in-Return t c =
     check_statement (world_of c.args.world.now) (map target_of c.args.results.now) (checked_of c.args.self.now) (stmt_view v)) (sym c.in-Return.is)))
     c.check_return.ensures
 
-pub check_statement-returns-in_ok-check_header-in-For : goal.check_statement-returns-in_ok-check_header-in-For
+pub check_statement-returns-in_ok-check_for_header-in-For : goal.check_statement-returns-in_ok-check_for_header-in-For
 unfolding check_statement stmt_view
-check_statement-returns-in_ok-check_header-in-For t c =
+check_statement-returns-in_ok-check_for_header-in-For t c =
     on_ok_weaker c.check_block-in-For.result (λ q. q ∙
     (ap (λ s. check_block (world_of c.args.world.now) (map target_of c.args.results.now) s (block_view c.in-For.body))
-    c.in_ok-check_header-in-For.ensures ∙
+    c.in_ok-check_for_header-in-For.ensures ∙
     ap (λ v. check_statement (world_of c.args.world.now) (map target_of c.args.results.now) (checked_of c.args.self.now) (stmt_view v))
     (sym c.in-For.is))) c.check_block-in-For.ensures
 

@@ -8,7 +8,7 @@ use Rattle.types_expr.specs.View.{kind_of}
 use Rattle.types_expr.specs.WorldView.{world_of}
 use Rattle.types_expr.specs.Found.{locals_of}
 use Rattle.types_stmt.specs.Simple.{condition_faults, check_condition}
-use Rattle.types_stmt.proofs.Making.{found_then, notes_as}
+use Rattle.types_stmt.proofs.CheckedSums.{found_then, notes_as}
 use Rattle.types_stmt.proofs.checked.CheckedBody.check_condition.Goals as goal
 
 pub returns : goal.returns

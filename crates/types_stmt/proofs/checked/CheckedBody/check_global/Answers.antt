@@ -1,7 +1,7 @@
 -- The answers to the goals of `checked::CheckedBody::check_global`.
 use Rattle.std.proofs.lemmas.Result.{on_ok_weaker}
 use Rattle.types_expr.specs.Found.{locals_of}
-use Rattle.types_stmt.proofs.Making.{noted}
+use Rattle.types_stmt.proofs.CheckedSums.{noted}
 use Rattle.types_stmt.proofs.checked.CheckedBody.check_global.Goals as goal
 
 pub returns : goal.returns

@@ -9,7 +9,7 @@ use Rattle.types_stmt.specs.Checked.{check_items, check_group}
 use Rattle.types_stmt.specs.Declarations.{check_global}
 use Rattle.types_stmt.specs.View.{checked_of}
 use Rattle.types_expr.proofs.Items.{next_item}
-use Rattle.types_stmt.proofs.Sums.{items_step, items_end}
+use Rattle.types_stmt.proofs.ListEquations.{items_step, items_end}
 use Rattle.types_stmt.proofs.checked.CheckedBody.check_globals.Goals as goal
 
 pub returns-in-Single : goal.returns-in-Single

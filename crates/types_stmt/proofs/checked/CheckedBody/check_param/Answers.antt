@@ -10,7 +10,7 @@ use Rattle.types_expr.specs.Found.{locals_of}
 use Rattle.types_stmt.specs.Simple.{written_locals}
 use Rattle.types_stmt.specs.Headers.{check_param}
 use Rattle.types_stmt.specs.View.{checked_with}
-use Rattle.types_stmt.proofs.Making.{declared_then}
+use Rattle.types_stmt.proofs.CheckedSums.{declared_then}
 use Rattle.types_stmt.proofs.checked.CheckedBody.check_param.Goals as goal
 
 pub returns : goal.returns

@@ -8,7 +8,7 @@ use Rattle.types_stmt.specs.Checked.{check_items}
 use Rattle.types_stmt.specs.Headers.{check_param}
 use Rattle.types_stmt.specs.View.{checked_of}
 use Rattle.types_expr.proofs.Items.{next_item}
-use Rattle.types_stmt.proofs.Sums.{items_step, items_end}
+use Rattle.types_stmt.proofs.ListEquations.{items_step, items_end}
 use Rattle.types_stmt.proofs.checked.CheckedBody.check_params.Goals as goal
 
 pub loop-item-preserved : goal.loop-item-preserved

@@ -9,7 +9,7 @@ use Rattle.types_expr.specs.Found.{locals_of}
 use Rattle.types_stmt.specs.Sides.{declared_if, named, with_locals}
 use Rattle.types_stmt.specs.Headers.{judge_receiver, check_receiver}
 use Rattle.types_stmt.specs.View.{checked_with}
-use Rattle.types_stmt.proofs.Making.{declared_then}
+use Rattle.types_stmt.proofs.CheckedSums.{declared_then}
 use Rattle.types_stmt.proofs.checked.CheckedBody.check_receiver.Goals as goal
 
 pub returns : goal.returns

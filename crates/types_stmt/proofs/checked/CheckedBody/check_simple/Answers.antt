@@ -10,8 +10,8 @@ use Rattle.types_stmt.proofs.checked.CheckedBody.check_simple.Goals as goal
 
 pub returns-in-Expr : goal.returns-in-Expr
 unfolding check_simple simple_view
-returns-in-Expr c = on_ok_weaker c.check_alone.result
-    (λ q. q ∙ ap (λ v. check_simple (world_of c.args.world.now) (checked_of c.args.self.now) (simple_view v)) (sym c.in-Expr.is)) c.check_alone.ensures
+returns-in-Expr c = on_ok_weaker c.check_expr_statement.result
+    (λ q. q ∙ ap (λ v. check_simple (world_of c.args.world.now) (checked_of c.args.self.now) (simple_view v)) (sym c.in-Expr.is)) c.check_expr_statement.ensures
 
 pub returns-in-Step : goal.returns-in-Step
 unfolding check_simple simple_view

@@ -2,7 +2,7 @@
 use Rattle.std.proofs.lemmas.Result.{on_ok_weaker}
 use Rattle.go_ast.specs.FileView.{type_spec_view}
 use Rattle.types_expr.specs.Found.{locals_of}
-use Rattle.types_stmt.proofs.Making.{noted}
+use Rattle.types_stmt.proofs.CheckedSums.{noted}
 use Rattle.types_stmt.proofs.checked.CheckedBody.check_type.Goals as goal
 
 pub returns : goal.returns

@@ -9,7 +9,7 @@ use Rattle.types_expr.specs.WorldView.{world_of}
 use Rattle.types_expr.specs.Found.{locals_of}
 use Rattle.types_stmt.specs.Sides.{judge_operand}
 use Rattle.types_stmt.specs.Simple.{update_faults, check_update}
-use Rattle.types_stmt.proofs.Making.{updated, notes_as}
+use Rattle.types_stmt.proofs.CheckedSums.{updated, notes_as}
 use Rattle.types_stmt.proofs.checked.CheckedBody.check_update.Goals as goal
 
 pub returns : goal.returns

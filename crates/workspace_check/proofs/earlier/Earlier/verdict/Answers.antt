@@ -3,7 +3,7 @@ use Rattle.std.proofs.Common.{◌≡◌, List, Some, slice_get, ap, subst, ◌�
 use Rattle.std.specs.Prelude.{Option}
 use Rattle.workspace_check.specs.declared.earlier.EarlierParts.{EarlierParts}
 use Rattle.workspace_check.specs.declared.known.KnownVerdict.{KnownVerdict}
-use Rattle.workspace_check.specs.Earlier.{AreTold}
+use Rattle.workspace_check.specs.Earlier.{AreVerdictsByNumber}
 use Rattle.workspace_check.proofs.earlier.Earlier.verdict.Goals as goal
 
 pub returns-clause-verdict : goal.returns-clause-verdict
@@ -13,4 +13,4 @@ returns-clause-verdict c =
     (c.deref-2.ensures.value ∙ ap (λ (e : EarlierParts). e.verdicts.items) (c.deref.ensures ∙ c.self.view_is)) c.verdict_at.ensures
 
 pub returns-clause-told : goal.returns-clause-told
-returns-clause-told c = subst (λ (e : EarlierParts). AreTold e.graph e.verdicts.items) c.self.view_is c.self.invariant
+returns-clause-told c = subst (λ (e : EarlierParts). AreVerdictsByNumber e.graph e.verdicts.items) c.self.view_is c.self.invariant

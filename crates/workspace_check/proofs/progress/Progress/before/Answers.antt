@@ -1,8 +1,8 @@
 -- The answers to the goals of `progress::Progress::before`.
 use Rattle.std.proofs.Common.{sym, subst}
 use Rattle.base_files.specs.Packages.{package_paths}
-use Rattle.types_info.proofs.BoundLists.{slice_get_some}
-use Rattle.workspace_check.specs.Steps.{HoldAllBelow, KnowsJust}
+use Rattle.types_info.proofs.MeaningLists.{slice_get_some}
+use Rattle.workspace_check.specs.Steps.{HoldAllBelow, KnowsExactly}
 use Rattle.workspace_check.proofs.Just.{just_seen}
 use Rattle.workspace_check.proofs.Underway.{all_below, known_below, not_own}
 use Rattle.workspace_check.proofs.progress.Progress.before.Goals as goal
@@ -32,7 +32,7 @@ returns c =
     let found = c.in_ok-below.ensures in
     let numbers = c.in_ok-below.below.built_on in
     let all = c.in_ok-taken.taken.all in
-    let known = subst (λ l. KnowsJust w l all) c.as_slice.ensures c.in_ok-taken.ensures in
+    let known = subst (λ l. KnowsExactly w l all) c.as_slice.ensures c.in_ok-taken.ensures in
     let own = slice_get_some (package_paths w) n c.requires.in_range in
     record {
       right = record {
@@ -41,6 +41,6 @@ returns c =
         built_on = found.built_on;
         back = found.back;
       };
-      seen = λ p at. just_seen w p numbers all.findings.items all.interfaces (found.built_on p at) known.gathered.right.verdicts known.gathered.just;
+      seen = λ p at. just_seen w p numbers all.findings.items all.export_table (found.built_on p at) known.gathered.right.verdicts known.gathered.just;
       unknown = λ g. not_own w n own.0 own.1 numbers (found.built_on own.0 own.1) (known.gathered.just n g);
     }

@@ -3,9 +3,9 @@ use Rattle.std.proofs.Common.{ℕ, List, [], ◌∷◌, ◌++◌, sym, subst}
 use Rattle.std.specs.Prelude.{Contains}
 use Rattle.std.proofs.lemmas.Result.{IfOk-weaker}
 use Rattle.base_files.specs.Packages.{package_paths}
-use Rattle.types_declared.specs.declared.interfaces.Interfaces.{Interfaces}
-use Rattle.types_info.proofs.BoundLists.{slice_get_some}
-use Rattle.workspace_check.specs.Found.{AreVerdictsOf, IsFoundBy}
+use Rattle.types_declared.specs.declared.export_tables.ExportTable.{ExportTable}
+use Rattle.types_info.proofs.MeaningLists.{slice_get_some}
+use Rattle.workspace_check.specs.Found.{AreVerdictsOf, IsFindingWith}
 use Rattle.workspace_check.proofs.Underway.{found_behind, own_in_range}
 use Rattle.workspace_check.proofs.progress.Progress.finish.Goals as goal
 
@@ -17,8 +17,8 @@ take_or_judge-requires c = record {
   below = c.requires.right.below;
 }
 
-pub found_now-requires : goal.found_now-requires
-found_now-requires c =
+pub new_verdicts-requires : goal.new_verdicts-requires
+new_verdicts-requires c =
     let w = c.args.graph.now in
     let n = c.args.number in
     let p = slice_get_some (package_paths w) n c.requires.in_range in
@@ -43,7 +43,7 @@ returns c =
     let all = c.take_or_judge.new.all in
     record {
       finding = IfOk-weaker c.found_package.result _ _
-          (λ made is p at. subst (λ (i : Interfaces). IsFoundBy w p i made.finding) (sym is.interfaces)
+          (λ made is p at. subst (λ (i : ExportTable). IsFindingWith w p i made.finding) (sym is.export_table)
           (found_behind w p n all made.finding at (c.in_ok-take_or_judge.ensures p at) is.finding))
           c.found_package.ensures;
       verdicts = IfOk-weaker c.found_package.result _ _ (λ made is. subst (AreVerdictsOf w) (sym is.found) c.in_ok-found.ensures) c.found_package.ensures;

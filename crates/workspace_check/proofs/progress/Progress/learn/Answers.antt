@@ -1,6 +1,6 @@
 -- The answers to the goals of `progress::Progress::learn`.
 use Rattle.base_files.specs.Packages.{package_paths}
-use Rattle.types_info.proofs.BoundLists.{slice_get_some}
+use Rattle.types_info.proofs.MeaningLists.{slice_get_some}
 use Rattle.workspace_check.proofs.Underway.{learnt_behind}
 use Rattle.workspace_check.proofs.progress.Progress.learn.Goals as goal
 

@@ -2,8 +2,8 @@
 use Rattle.std.proofs.lemmas.Result.{IfOk-weaker}
 use Rattle.workspace_graph.specs.Graphs.{OfPackage}
 use Rattle.workspace_graph.specs.Reaching.{AreBackMarks}
-use Rattle.workspace_graph.specs.Search.{TellBack}
-use Rattle.workspace_graph.proofs.Asked.{back_are}
+use Rattle.workspace_graph.specs.Search.{UnmarksBelow}
+use Rattle.workspace_graph.proofs.ByPath.{back_are}
 use Rattle.workspace_graph.proofs.graph.Graph.back_marks.Goals as goal
 
 pub back_marks-requires : goal.back_marks-requires
@@ -14,5 +14,5 @@ returns c =
     let w = c.args.self.now in
     let g = c.links.result.now in
     let number = c.args.number in
-    IfOk-weaker c.back_marks.result (λ marks. TellBack g number marks.items) (λ marks. OfPackage w number (λ p. AreBackMarks w p marks.items))
+    IfOk-weaker c.back_marks.result (λ marks. UnmarksBelow g number marks.items) (λ marks. OfPackage w number (λ p. AreBackMarks w p marks.items))
     (λ marks are p at. back_are w g c.links.ensures.links number p marks.items at are.back) c.back_marks.ensures

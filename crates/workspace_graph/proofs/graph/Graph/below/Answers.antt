@@ -1,6 +1,6 @@
 -- What a package builds on, and what leads back to it, in the words of the workspace.
 use Rattle.std.proofs.lemmas.Result.{IfOk-weaker}
-use Rattle.workspace_graph.proofs.Asked.{back_are, below_is}
+use Rattle.workspace_graph.proofs.ByPath.{back_are, below_is}
 use Rattle.workspace_graph.proofs.graph.Graph.below.Goals as goal
 
 pub below-requires : goal.below-requires

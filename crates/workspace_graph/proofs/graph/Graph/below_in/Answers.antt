@@ -3,7 +3,7 @@ use Rattle.std.proofs.Common.{◌≡◌, [], Some, get_or, slice_get}
 use Rattle.std.proofs.lemmas.Option.{slice_get-get_or}
 use Rattle.std.proofs.lemmas.Result.{IfOk-weaker}
 use Rattle.base_files.specs.Packages.{package_paths}
-use Rattle.workspace_graph.proofs.Asked.{back_are, below_is, closure_from}
+use Rattle.workspace_graph.proofs.ByPath.{back_are, below_is, closure_from}
 use Rattle.workspace_graph.proofs.graph.Graph.below_in.Goals as goal
 
 pub below_in-requires : goal.below_in-requires

@@ -6,8 +6,8 @@ use Rattle.base_files.specs.Packages.{package_paths}
 use Rattle.base_files.specs.Workspace.{Workspace, path_cmp}
 use Rattle.workspace_graph.specs.Changed.{KeepsPath}
 use Rattle.workspace_graph.specs.Graphs.{paths_of}
-use Rattle.workspace_graph.specs.NamedFiles.{AreFresh, ArePackages}
-use Rattle.workspace_graph.specs.Staying.{DiffersOnlyIn, HasFiles}
+use Rattle.workspace_graph.specs.ChangedFiles.{CoverChanges, ArePackages}
+use Rattle.workspace_graph.specs.SameGoFiles.{DiffersOnlyIn, HasFiles}
 use Rattle.workspace_graph.specs.Updated.{IsPlace}
 use Rattle.workspace_graph.specs.declared.package.ParsedPackage.{ParsedPackage}
 use Rattle.workspace_graph.proofs.PackagePaths.{paths_sorted}
@@ -42,7 +42,7 @@ replaced-requires c =
           ap package_paths c.before-2.view_is;
       files = all_at (HasFiles v) c.deref.result.now each;
     } in
-    let made : AreFresh v w c.in_ok-fresh.fresh.items = c.in_ok-fresh.ensures v are c.requires in
+    let made : CoverChanges v w c.in_ok-fresh.fresh.items = c.in_ok-fresh.ensures v are c.requires in
     record {
       differs = subst (λ (ps : List ParsedPackage). DiffersOnlyIn (paths_of ps) v w) (sym fresh) made.differs;
       fresh = subst (All (HasFiles w)) (sym fresh) made.files;
@@ -71,9 +71,9 @@ grown-requires c =
           ap package_paths c.before-2.view_is;
       files = all_at (HasFiles v) c.deref.result.now each;
     } in
-    let made : AreFresh v w c.in_ok-fresh.fresh.items = c.in_ok-fresh.ensures v are c.requires in
+    let made : CoverChanges v w c.in_ok-fresh.fresh.items = c.in_ok-fresh.ensures v are c.requires in
     record {
-      fresh = subst (AreFresh v w) (sym c.deref-5.ensures.value ∙ c.in-Some.ensures.alone) made;
+      fresh = subst (CoverChanges v w) (sym c.deref-5.ensures.value ∙ c.in-Some.ensures.alone) made;
       file = c.in-Some.ensures.file;
       stands = subst (λ (ks : List (List ℕ)). IsPlace ks c.in-Some.coming.one.now.path.items c.in-Some.coming.place) paths c.in-Some.ensures.stands;
     }
@@ -90,7 +90,7 @@ updated-requires c =
           ap package_paths c.before-2.view_is;
       files = all_at (HasFiles v) c.deref.result.now each;
     } in
-    let made : AreFresh v w c.in_ok-fresh.fresh.items = c.in_ok-fresh.ensures v are c.requires in
+    let made : CoverChanges v w c.in_ok-fresh.fresh.items = c.in_ok-fresh.ensures v are c.requires in
     record {
       before = subst (λ (ps : List ParsedPackage). IsStrictlySortedBy path_cmp (paths_of ps)) c.deref.ensures.value
           (subst (IsStrictlySortedBy path_cmp) (sym are.paths) (paths_sorted v));
@@ -109,10 +109,10 @@ made-requires c =
           ap package_paths c.before-2.view_is;
       files = all_at (HasFiles v) c.deref.result.now each;
     } in
-    let made : AreFresh v w c.in_ok-fresh.fresh.items = c.in_ok-fresh.ensures v are c.requires in
+    let made : CoverChanges v w c.in_ok-fresh.fresh.items = c.in_ok-fresh.ensures v are c.requires in
     let old = c.deref-old.result.now.packages.items in
     let there : ArePackages v old = subst (ArePackages v) c.deref.ensures.value are in
-    let fresh : AreFresh v w c.deref-6.result.now = subst (AreFresh v w) (sym c.deref-6.ensures.value) made in
+    let fresh : CoverChanges v w c.deref-6.result.now = subst (CoverChanges v w) (sym c.deref-6.ensures.value) made in
     record {
       paths = updated_paths v w old c.deref-6.result.now c.in_ok-packages.packages.items there fresh c.in_ok-packages.ensures;
       files = updated_files v w old c.deref-6.result.now c.in_ok-packages.packages.items there fresh c.in_ok-packages.ensures;

@@ -1,6 +1,6 @@
 -- The importers of a package, in the words of the workspace.
-use Rattle.workspace_graph.proofs.Asked.{importers_are}
-use Rattle.workspace_graph.proofs.Answered.{all_rising}
+use Rattle.workspace_graph.proofs.ByPath.{importers_are}
+use Rattle.workspace_graph.proofs.KeptImporters.{all_rising}
 use Rattle.workspace_graph.proofs.graph.Graph.importers.Goals as goal
 
 pub returns-clause-importers : goal.returns-clause-importers

@@ -1,6 +1,6 @@
 -- The row of a package, in the words of the workspace.
 use Rattle.std.proofs.Common.{arith}
-use Rattle.workspace_graph.proofs.Asked.{imports_are}
+use Rattle.workspace_graph.proofs.ByPath.{imports_are}
 use Rattle.workspace_graph.proofs.graph.Graph.imports.Goals as goal
 
 pub returns-clause-imports : goal.returns-clause-imports

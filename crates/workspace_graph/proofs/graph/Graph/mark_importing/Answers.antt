@@ -1,7 +1,7 @@
 -- The packages that import one, in the words of the workspace.
 use Rattle.std.proofs.Common.{sym, ◌∙◌}
 use Rattle.std.proofs.lemmas.Result.{on_ok_weaker}
-use Rattle.workspace_graph.proofs.Asked.{above_are, importing_are}
+use Rattle.workspace_graph.proofs.ByPath.{above_are, importing_are}
 use Rattle.workspace_graph.proofs.graph.Graph.mark_importing.Goals as goal
 
 pub mark_importing-requires : goal.mark_importing-requires

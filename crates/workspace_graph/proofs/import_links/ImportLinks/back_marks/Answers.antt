@@ -2,7 +2,7 @@
 use Rattle.std.proofs.Common.{◌<◌, length, sym, subst}
 use Rattle.std.proofs.lemmas.Result.{IfOk-weaker}
 use Rattle.workspace_graph.specs.Imports.{Links}
-use Rattle.workspace_graph.specs.Search.{TellBack}
+use Rattle.workspace_graph.specs.Search.{UnmarksBelow}
 use Rattle.workspace_graph.proofs.import_links.ImportLinks.back_marks.Goals as goal
 
 pub back_marks-requires : goal.back_marks-requires
@@ -15,5 +15,5 @@ back_marks-requires c = record {
 pub returns : goal.returns
 returns c =
     let number = c.args.number in
-    IfOk-weaker c.back_marks.result (λ marks. TellBack c.self.inside.imports number marks.items) (λ marks. TellBack c.args.self.now number marks.items)
-    (λ marks is. subst (λ (g : Links). TellBack g number marks.items) c.self.view_is is) c.back_marks.ensures
+    IfOk-weaker c.back_marks.result (λ marks. UnmarksBelow c.self.inside.imports number marks.items) (λ marks. UnmarksBelow c.args.self.now number marks.items)
+    (λ marks is. subst (λ (g : Links). UnmarksBelow g number marks.items) c.self.view_is is) c.back_marks.ensures

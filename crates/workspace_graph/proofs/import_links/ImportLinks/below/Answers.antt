@@ -2,8 +2,8 @@
 use Rattle.std.proofs.Common.{◌<◌, length, sym, subst}
 use Rattle.std.proofs.lemmas.Result.{IfOk-weaker}
 use Rattle.workspace_graph.specs.Imports.{Links}
-use Rattle.workspace_graph.specs.Closures.{IsBuiltOn}
-use Rattle.workspace_graph.specs.Search.{MarkBack}
+use Rattle.workspace_graph.specs.Closures.{IsBuiltOnList}
+use Rattle.workspace_graph.specs.Search.{MarksWayBack}
 use Rattle.workspace_graph.proofs.import_links.ImportLinks.below.Goals as goal
 
 pub below-requires : goal.below-requires
@@ -15,8 +15,8 @@ below-requires c = record {
 
 pub returns-clause-built_on : goal.returns-clause-built_on
 returns-clause-built_on c =
-    IfOk-weaker c.below.result _ _ (λ found is. subst (λ (g : Links). IsBuiltOn g c.args.number found.built_on) c.self.view_is is) c.below.ensures.built_on
+    IfOk-weaker c.below.result _ _ (λ found is. subst (λ (g : Links). IsBuiltOnList g c.args.number found.built_on) c.self.view_is is) c.below.ensures.built_on
 
 pub returns-clause-back : goal.returns-clause-back
 returns-clause-back c =
-    IfOk-weaker c.below.result _ _ (λ found is. subst (λ (g : Links). MarkBack g c.args.number found.back.items) c.self.view_is is) c.below.ensures.back
+    IfOk-weaker c.below.result _ _ (λ found is. subst (λ (g : Links). MarksWayBack g c.args.number found.back.items) c.self.view_is is) c.below.ensures.back

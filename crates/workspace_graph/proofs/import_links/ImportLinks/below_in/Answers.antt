@@ -4,7 +4,7 @@ use Rattle.std.specs.List.{Contains}
 use Rattle.std.proofs.lemmas.Result.{IfOk-weaker}
 use Rattle.workspace_graph.specs.Imports.{Imports}
 use Rattle.workspace_graph.proofs.Filled.{ok_both}
-use Rattle.workspace_graph.proofs.NoneBack.{back_alone, built_on_rest}
+use Rattle.workspace_graph.proofs.BelowAlone.{back_alone, built_on_rest}
 use Rattle.workspace_graph.proofs.import_links.ImportLinks.below_in.Goals as goal
 
 pub rest_of-requires : goal.rest_of-requires

@@ -1,8 +1,8 @@
 -- The importers that were noted.
 use Rattle.std.proofs.Common.{ℕ, sym, subst}
 use Rattle.std.specs.List.Sorted.{IsStrictlyIncreasing}
-use Rattle.workspace_graph.specs.Imports.{Links, AreImporters, imports_of}
-use Rattle.workspace_graph.proofs.Answered.{importers_of_all}
+use Rattle.workspace_graph.specs.Imports.{Links, AreImporters, row_of}
+use Rattle.workspace_graph.proofs.KeptImporters.{importers_of_all}
 use Rattle.workspace_graph.proofs.import_links.ImportLinks.importers.Goals as goal
 
 pub returns-clause-importers : goal.returns-clause-importers
@@ -20,4 +20,4 @@ returns-clause-rising c = λ ups.
     let number = c.args.number in
     let row = c.row.ensures in
     subst IsStrictlyIncreasing (sym row)
-    (c.self.invariant.importers.rising (subst (λ (h : Links). (p : ℕ) → IsStrictlyIncreasing (imports_of h p)) (sym c.self.view_is) ups) number)
+    (c.self.invariant.importers.rising (subst (λ (h : Links). (p : ℕ) → IsStrictlyIncreasing (row_of h p)) (sym c.self.view_is) ups) number)

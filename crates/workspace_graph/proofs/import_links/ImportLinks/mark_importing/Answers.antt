@@ -2,7 +2,7 @@
 use Rattle.std.proofs.Common.{ℕ, ◌<◌, length, ap, sym, subst, ◌∙◌}
 use Rattle.std.proofs.lemmas.Result.{on_ok_weaker}
 use Rattle.workspace_graph.specs.Imports.{Links, Imports}
-use Rattle.workspace_graph.specs.Search.{IsMarked, MarksImporting}
+use Rattle.workspace_graph.specs.Search.{IsMarked, MarksReachingTo}
 use Rattle.workspace_graph.proofs.Reached.{noted_linked, closed_back, marks_importing}
 use Rattle.workspace_graph.proofs.import_links.ImportLinks.mark_importing.Goals as goal
 
@@ -29,6 +29,6 @@ returns c =
     let old = c.args.marks.now.items in
     let new = c.reach.new.marks.items in
     on_ok_weaker c.reach.result
-    (λ are. subst (λ (h : Links). MarksImporting h number old new) c.self.view_is
+    (λ are. subst (λ (h : Links). MarksReachingTo h number old new) c.self.view_is
     (marks_importing g noted c.self.invariant.linked c.self.invariant.importers number old new are))
     c.reach.ensures.reached

@@ -1,8 +1,8 @@
 -- One more package of the row.
 use Rattle.std.proofs.Common.{◌<◌, ◌++◌, ◌∷◌, [], length, get_or, ◌∙◌, arith}
 use Rattle.std.proofs.Math.ListN.{set}
-use Rattle.workspace_graph.specs.Imports.{imports_of}
-use Rattle.workspace_graph.proofs.Noted.{NotesRow-more}
+use Rattle.workspace_graph.specs.Imports.{row_of}
+use Rattle.workspace_graph.proofs.AddedImporters.{NotesRow-more}
 use Rattle.workspace_graph.proofs.importers.Chains.note_row.Goals as goal
 
 pub loop-number-preserved : goal.loop-number-preserved
@@ -16,7 +16,7 @@ loop-number-preserved c =
       noted = λ lists are.
           let got = inv.noted lists are in
           let within : n < length got.0 = omega (arith, c.requires k 0 c.loop-number-test.true, inv.size, got.1.size) in (
-            set got.0 n (imports_of got.0 n ++ c.args.importer ∷ []),
+            set got.0 n (row_of got.0 n ++ c.args.importer ∷ []),
             c.in_ok-note.ensures.noted got.0 got.1,
             NotesRow-more lists got.0 row k c.args.importer c.loop-number-test.true within got.2,
           );

@@ -4,18 +4,18 @@ use Rattle.std.specs.List.{All, Contains}
 use Rattle.workspace_graph.specs.Imports.{Reaches}
 use Rattle.workspace_graph.proofs.Filled.{ok_both}
 use Rattle.workspace_graph.proofs.Reached.{noted_linked}
-use Rattle.workspace_graph.proofs.Told.{found_below, told_more}
+use Rattle.workspace_graph.proofs.ListedBlocks.{found_below, told_more}
 use Rattle.workspace_graph.proofs.order.Blocks.add.Goals as goal
 
-pub spread-requires : goal.spread-requires
-spread-requires c = record { linked = c.requires.linked; size = c.requires.told.size; start = c.requires.root }
+pub visit-requires : goal.visit-requires
+visit-requires c = record { linked = c.requires.linked; size = c.requires.told.size; start = c.requires.root }
 
 pub leads_back-requires : goal.leads_back-requires
 leads_back-requires c =
     let g = c.args.imports.now in
     let noted = c.args.importers.now in
     let size : length noted ≡ length g = c.requires.back.size in
-    let below = found_below g c.args.root c.args.self.now.told.items c.in_ok-block.block.items c.spread.new.marks.items c.in_ok-block.ensures in
+    let below = found_below g c.args.root c.args.self.now.told.items c.in_ok-block.block.items c.visit.new.marks.items c.in_ok-block.ensures in
     record {
       linked = noted_linked g noted c.requires.linked c.requires.back;
       size = c.requires.told.bars ∙ sym size;

@@ -2,20 +2,20 @@
 use Rattle.std.proofs.Common.{ap, subst}
 use Rattle.std.proofs.lemmas.Result.{IfOk-weaker}
 use Rattle.base_edits.specs.EditSet.{FileChanges}
-use Rattle.workspace_graph.specs.Filling.{names}
-use Rattle.workspace_graph.specs.Staying.{DiffersOnlyAt}
-use Rattle.workspace_snapshot.specs.Named.{HoldsPaths, IsNamed}
-use Rattle.workspace_snapshot.specs.Made.{IsMade}
+use Rattle.workspace_graph.specs.Borrows.{names}
+use Rattle.workspace_graph.specs.SameGoFiles.{DiffersOnlyAt}
+use Rattle.workspace_snapshot.specs.Named.{HasAll, NamesPath}
+use Rattle.workspace_snapshot.specs.Made.{IsMadeByEdits}
 use Rattle.workspace_snapshot.specs.declared.change.Change.{Change}
 use Rattle.workspace_snapshot.proofs.NamedPaths.{made_differs}
 use Rattle.workspace_snapshot.proofs.made_change.MadeChange.paths.Goals as goal
 
 pub returns : goal.returns
 returns c =
-    let made = subst IsMade c.self.view_is c.self.invariant in
+    let made = subst IsMadeByEdits c.self.view_is c.self.invariant in
     let edits = ap (λ (x : Change). x.edits) c.self.view_is in
-    IfOk-weaker c.named_paths.result (λ paths. HoldsPaths (IsNamed c.self.inside.change.edits) (names paths.items))
+    IfOk-weaker c.named_paths.result (λ paths. HasAll (NamesPath c.self.inside.change.edits) (names paths.items))
     (λ paths. DiffersOnlyAt (names paths.items) c.args.self.now.base c.args.self.now.files)
     (λ paths holds. made_differs c.args.self.now made (names paths.items)
-    (subst (λ (s : FileChanges). HoldsPaths (IsNamed s) (names paths.items)) edits holds))
+    (subst (λ (s : FileChanges). HasAll (NamesPath s) (names paths.items)) edits holds))
     c.named_paths.ensures

@@ -1,6 +1,0 @@
--- Nothing is known of any package, in whatever workspace.
-use Rattle.workspace_check.proofs.Telling.{known_still}
-use Rattle.build_carry.proofs.knowing.still_nothing.Goals as goal
-
-pub returns : goal.returns
-returns c = λ w. known_still w c.new-nothing.result c.share_earlier.new.self c.share_earlier.ensures (c.new-nothing.ensures.right w)

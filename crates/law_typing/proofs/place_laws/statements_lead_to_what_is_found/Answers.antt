@@ -1,7 +1,0 @@
--- The answers to the goals of `place_laws::statements_lead_to_what_is_found`.
-use Rattle.law_typing.proofs.PlacedConclusions.{outcomes}
-use Rattle.law_typing.proofs.PlacedStatements.{statement_told}
-use Rattle.law_typing.proofs.place_laws.statements_lead_to_what_is_found.Goals as goal
-
-pub returns : goal.returns
-returns c = λ w results s x after. outcomes (statement_told w results) s x after

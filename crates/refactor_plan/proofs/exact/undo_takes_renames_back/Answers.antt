@@ -1,6 +1,0 @@
--- The answers to the goals of `exact::undo_takes_renames_back`.
-use Rattle.refactor_plan.proofs.Renaming.{undo_takes_back}
-use Rattle.refactor_plan.proofs.exact.undo_takes_renames_back.Goals as goal
-
-pub returns : goal.returns
-returns c = undo_takes_back

@@ -1,0 +1,37 @@
+-- A workspace without faults, seen as its texts and the verdicts on its packages.
+use Rattle.std.specs.Prelude.{◌≡◌}
+use Rattle.base_files.specs.Workspace.{Workspace}
+use Rattle.base_files.specs.declared.place.Place.{Place}
+use Rattle.types_declared.specs.Package.{Package}
+use Rattle.workspace_check.specs.Verdicts.{Verdicts}
+use Rattle.refs_binding.specs.declared.bound_identifier.BoundIdentifier.{BoundIdentifier}
+use Rattle.refs_binding.specs.declared.packages.Packages.{Packages}
+use Rattle.refs_binding.specs.Bindings.{IsBound, bound_place}
+use Rattle.refs_binding.specs.Uses.{IsPackage}
+use Rattle.refs_binding.specs.Workspaces.{known_in}
+use Rattle.refs_index.specs.declared.faultless_workspace.FaultlessWorkspace.{FaultlessWorkspace}
+
+-- A workspace and the verdicts on its packages.
+pub record FaultlessView : Type 0 where
+  pub workspace : Workspace
+  pub known : Verdicts
+
+-- The view of packages that were read.
+abbrev pub packages_view : Packages → FaultlessView
+packages_view p = record { workspace = p.graph.now; known = known_in p.found.now }
+
+-- The view of an indexed workspace.
+abbrev pub view_in : FaultlessWorkspace → FaultlessView
+view_in s = packages_view s.packages.now
+
+-- The packages of the workspace, as they are checked.
+abbrev pub view_packages : FaultlessView → Package → Type 0
+view_packages s = IsPackage s.workspace s.known
+
+-- `b` is a bound identifier of the workspace.
+abbrev pub IsBoundInView : FaultlessView → BoundIdentifier → Type 0
+IsBoundInView s b = IsBound s.workspace s.known b
+
+-- `b` is a bound identifier of the workspace and begins at the place.
+abbrev pub IsBoundAtPlace : FaultlessView → Place → BoundIdentifier → Type 0
+IsBoundAtPlace s place b = IsBoundInView s b × (bound_place b ≡ place)

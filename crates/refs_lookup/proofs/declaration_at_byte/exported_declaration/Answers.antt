@@ -1,0 +1,23 @@
+-- The answers to the goals of `declaration_at_byte::exported_declaration`.
+use Rattle.std.proofs.Common.{◌∙◌, sym, subst}
+use Rattle.std.proofs.lemmas.Option.{same_Some, slice_get_within}
+use Rattle.base_files.specs.Packages.{package_paths}
+use Rattle.refs_binding.specs.Workspaces.{known_in, IsExportedNumber}
+use Rattle.refs_binding.proofs.Exporting.{no_package, none_exported}
+use Rattle.refs_lookup.proofs.declaration_at_byte.exported_declaration.Goals as goal
+
+pub returns-in-None : goal.returns-in-None
+returns-in-None c = no_package c.args.graph.now (known_in c.args.found.now) c.args.path.now c.args.name.now c.in-None.ensures
+
+pub returns-in-None-2 : goal.returns-in-None-2
+returns-in-None-2 c =
+    let w = c.args.graph.now in
+    let known = known_in c.args.found.now in
+    let x = subst (IsExportedNumber w known c.in-Some.number c.args.name.now) c.in-None-2.is c.in_ok-exported_number-in-Some.ensures in
+    none_exported w known c.args.path.now c.args.name.now x.0 x.1.0.is_package (same_Some _ _ (sym x.1.0.has_number ∙ c.in-Some.ensures)) x.1.1
+
+pub exported_number-requires : goal.exported_number-requires
+exported_number-requires c = record {
+  in_range = slice_get_within (package_paths c.args.graph.now) c.in-Some.number _ c.in-Some.ensures;
+  sound = c.requires;
+}

@@ -1,0 +1,69 @@
+//! A desk at a seat of a shared book.
+use base_files::Refusal;
+use build_unit::{Built, Job};
+use history_book::{Changing, Handed, HandingIn, Looking, Question, Taking};
+use history_machine::View;
+use server_commands::Desk;
+use server_shared::{Opening, Seat, Shared};
+use std::sync::Wait;
+use workspace_check::Known;
+use workspace_graph::Graph;
+use workspace_snapshot::MadeChange;
+
+/// A desk at a seat of a shared book. It borrows the seat, which keeps the receipts of the events.
+#[derive(Drop)]
+pub struct SeatDesk<'a, L: Opening, R: Wait> {
+    pub rt: &'a R,
+    pub shared: &'a Shared<L>,
+    pub seat: &'a mut Seat<L>,
+}
+
+impl<'a, L: Opening, R: Wait> Desk for SeatDesk<'a, L, R> {
+    ghost use Rattle.std.specs.Prelude.{◌≡◌, ⊤};
+    ghost use Rattle.server_socket.specs.SeatStep.{CallsAtSeat};
+    ghost use Rattle.server_socket.specs.SeatWait.{WaitsUntilBuilt};
+
+    // The desk keeps its seat.
+    ghost steps = { λ old event reply new. (new.seat.ghost_name ≡ old.seat.ghost_name) × CallsAtSeat old.seat.now event reply new.seat.now };
+
+    ghost waits = { λ old outcome new. (new.seat.ghost_name ≡ old.seat.ghost_name) × WaitsUntilBuilt old.seat.now outcome new.seat.now };
+
+    // Other seats change the book too, so nothing is known of the current files.
+    ghost sees = { λ _ _. ⊤ };
+
+    ghost brings = { λ _ _. ⊤ };
+
+    fn step<Q: Question>(&mut self, question: Q) -> Q::Answer {
+        self.shared.call(self.rt, self.seat, question).0
+    }
+
+    fn look(&mut self) -> Result<View, Refusal> {
+        self.step(Looking)
+    }
+
+    /// Its base is compared with the current files under the lock.
+    fn commit(&mut self, basis: u64, change: MadeChange) -> Result<u64, Refusal> {
+        self.step(Changing::Commit(basis, change))
+    }
+
+    fn take(&mut self) -> Result<Job, Refusal> {
+        self.step(Taking)
+    }
+
+    /// The inputs of the Job, and those of what was built, are compared with the current files under the lock.
+    fn deliver(&mut self, job: Job, built: Built) -> Handed {
+        self.step(HandingIn::Deliver(job, built))
+    }
+
+    fn wait(&mut self) -> Result<u64, Refusal> {
+        match self.shared.wait_built(self.rt, self.seat) {
+            Ok(view) => Ok(view.snapshot.number()),
+            Err(refusal) => Err(refusal),
+        }
+    }
+
+    /// It is no event, so the seat gains no receipt.
+    fn learn(&mut self, files: &Graph, known: Known) {
+        self.shared.learn(self.rt, files, known);
+    }
+}

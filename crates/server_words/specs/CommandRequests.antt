@@ -1,0 +1,49 @@
+-- The request of a command line, from what the parser of command lines found in it.
+use Rattle.std.specs.Prelude.{◌≡◌, ◌≤◌, ℕ, List, Option, Some, None, codes}
+use Rattle.std.specs.Str.Parse.{IsNumeral, digits_value, without_leading_plus}
+use Rattle.clap.specs.Words.{Row, Text, first_of, one_of}
+use Rattle.server_words.specs.declared.requests.ServeOptions.{ServeOptions}
+use Rattle.server_words.specs.declared.requests.Words.{Words}
+use Rattle.server_words.specs.declared.requests.Words.TheVariants.{Run, Serve}
+
+-- the option was given this number, which is from 1 to `most`
+abbrev pub IsOptionNumber : Text → ℕ → List Row → ℕ → Type 0
+IsOptionNumber option most rows n = (text : Text) × (one_of option rows ≡ Some text)
+    × IsNumeral 10 (without_leading_plus text) × (n ≡ digits_value 10 (without_leading_plus text)) × (1 ≤ n) × (n ≤ most)
+
+-- the number that the option was given, or none where it was given none from 1 to `most`
+abbrev pub FindsNumber : Text → ℕ → List Row → Option ℕ → Type 0
+FindsNumber option most rows (Some n) = IsOptionNumber option most rows n
+FindsNumber option most rows None = (n : ℕ) → IsOptionNumber option most rows n → ⊥
+
+-- the number of connections after which to end, or none without the option `stop-after`
+abbrev pub IsStopAfter : List Row → Option ℕ → Type 0
+IsStopAfter rows None = first_of (codes "stop-after") rows ≡ None
+IsStopAfter rows (Some n) = IsOptionNumber (codes "stop-after") 1000000 rows n
+
+-- what the option `stop-after` says; none where it was given no number from 1 to 1000000
+abbrev pub FindsStopAfter : List Row → Option (Option ℕ) → Type 0
+FindsStopAfter rows (Some stop) = IsStopAfter rows stop
+FindsStopAfter rows None = (stop : Option ℕ) → IsStopAfter rows stop → ⊥
+
+-- the values of the options of `serve`, each in its range
+pub record AreServeOptions (rows : List Row) (words : ServeOptions) : Type 0 where
+  pub socket : first_of (codes "socket") rows ≡ Some words.socket.now
+  pub workers : IsOptionNumber (codes "workers") 16 rows words.workers
+  pub sessions : IsOptionNumber (codes "sessions") 32 rows words.sessions
+  pub stop_after : IsStopAfter rows words.stop_after
+
+-- the options of `serve`, or none where one is missing or out of its range
+abbrev pub FindsServe : List Row → Option ServeOptions → Type 0
+FindsServe rows (Some words) = AreServeOptions rows words
+FindsServe rows None = (words : ServeOptions) → AreServeOptions rows words → ⊥
+
+-- the subcommand of this name, with these options, makes this request
+abbrev pub MakesRequest : Option (Text × List Row) → Words → Type 0
+MakesRequest named Run = (rows : List Row) × (named ≡ Some (codes "run", rows))
+MakesRequest named (Serve words) = (rows : List Row) × (named ≡ Some (codes "serve", rows)) × AreServeOptions rows words
+
+-- the request that the subcommand makes, or none where it makes none
+abbrev pub FindsRequest : Option (Text × List Row) → Option Words → Type 0
+FindsRequest named (Some words) = MakesRequest named words
+FindsRequest named None = (words : Words) → MakesRequest named words → ⊥

@@ -1,0 +1,100 @@
+//! The request that the matches of a command line make.
+ghost use Rattle.std.specs.Prelude.{◌≡◌, Some, codes, option_map};
+ghost use Rattle.clap.specs.Words.{found_of, rows_of, subcommand_rows_of};
+ghost use Rattle.server_words.specs.CommandRequests.{FindsRequest, FindsNumber, FindsServe, FindsStopAfter};
+
+use clap::ArgMatches;
+
+/// The options of `serve`: the path of the socket, and how many threads build packages and how many serve connections. `stop_after` is the
+/// number of connections after which to end, if there is one.
+#[derive(Clone, Copy)]
+pub struct ServeOptions<'a> {
+    pub socket: &'a str,
+    pub workers: u32,
+    pub sessions: u32,
+    pub stop_after: Option<u32>,
+}
+
+/// The request of a command line.
+#[derive(Clone, Copy)]
+pub enum Words<'a> {
+    /// Serve one session from standard input to standard output.
+    Run,
+    /// Serve sessions on a socket.
+    Serve(ServeOptions<'a>),
+}
+
+/// The number that an option was given, or `None` where it was given none from 1 to `most`.
+fn number(matches: &ArgMatches<'_>, option: &str, most: u32) -> Option<u32>
+    ensures { FindsNumber option.now most (rows_of (found_of matches.now)) result }
+{
+    let number = matches.get_one::<u32>(option)?;
+    if 1 <= number && number <= most {
+        Some(number)
+    } else {
+        None
+    }
+}
+
+/// The number of connections after which to end, or `Some(None)` without the option `stop-after`. It is `None` where the option was given
+/// no number from 1 to 1000000.
+fn stop_after(matches: &ArgMatches<'_>) -> Option<Option<u32>>
+    ensures { FindsStopAfter (rows_of (found_of matches.now)) result }
+{
+    match matches.get_str("stop-after") {
+        None => Some(None),
+        Some(_) => Some(Some(number(matches, "stop-after", 1_000_000)?)),
+    }
+}
+
+/// The options of `serve`, or `None` where one is missing or out of its range.
+fn serve_words<'a>(matches: &ArgMatches<'a>) -> Option<ServeOptions<'a>>
+    ensures { FindsServe (rows_of (found_of matches.now)) result }
+{
+    let socket = matches.get_str("socket")?;
+    let workers = number(matches, "workers", 16)?;
+    let sessions = number(matches, "sessions", 32)?;
+    let stop_after = stop_after(matches)?;
+    Some(ServeOptions {
+        socket,
+        workers,
+        sessions,
+        stop_after,
+    })
+}
+
+/// The name of the subcommand, with its matches.
+fn named<'a, 'b>(matches: &'b ArgMatches<'a>) -> Option<(&'a str, &'b ArgMatches<'a>)>
+    ensures { option_map (λ p. (p.0.now, rows_of (found_of p.1.now))) result ≡ subcommand_rows_of matches.now }
+{
+    matches.subcommand()
+}
+
+/// The request of the subcommand `serve` with these matches.
+fn serve_request<'a>(matches: &ArgMatches<'a>) -> Option<Words<'a>>
+    ensures { FindsRequest (Some (codes "serve", rows_of (found_of matches.now))) result }
+{
+    match serve_words(matches) {
+        Some(words) => Some(Words::Serve(words)),
+        None => None,
+    }
+}
+
+/// The request of the subcommand of this name with these matches.
+fn request_by<'a>(name: &str, matches: &ArgMatches<'a>) -> Option<Words<'a>>
+    ensures { FindsRequest (Some (name.now, rows_of (found_of matches.now))) result }
+{
+    match name {
+        "run" => Some(Words::Run),
+        "serve" => serve_request(matches),
+        _ => None,
+    }
+}
+
+/// The request of a command line with these matches.
+pub(crate) fn asked<'a>(matches: &ArgMatches<'a>) -> Option<Words<'a>>
+    ensures { FindsRequest (subcommand_rows_of matches.now) result }
+{
+    let (name, found) = named(matches)?;
+    request_by(name, found)
+}

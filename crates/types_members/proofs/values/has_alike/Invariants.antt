@@ -1,7 +1,0 @@
--- The invariants of the loops of `values::has_alike`.
-use Rattle.std.proofs.Common.{ℕ, ◌≡◌, get_or}
-use Rattle.types_declared.proofs.Spreading.{IsPassed}
-use Rattle.types_members.proofs.values.has_alike.Given as goal
-
-abbrev pub invariant-loop-number : goal.invariant-loop-number
-invariant-loop-number l = (q : ℕ) → IsPassed l.numbers l.number-index q → get_or l.values q 0 ≡ l.value → ⊥

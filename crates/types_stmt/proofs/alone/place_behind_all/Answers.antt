@@ -1,6 +1,0 @@
--- The answers to the goals of `alone::place_behind_all`.
-use Rattle.types_stmt.proofs.Chains.{no_links}
-use Rattle.types_stmt.proofs.alone.place_behind_all.Goals as goal
-
-pub returns-in-None : goal.returns-in-None
-returns-in-None c = no_links c.args.start c.args.place c.args.links.now c.in-None.ensures.cases

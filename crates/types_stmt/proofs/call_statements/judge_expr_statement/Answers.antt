@@ -1,0 +1,20 @@
+-- The answers to the goals of `call_statements::judge_expr_statement`.
+use Rattle.std.proofs.Common.{◌∙◌, ap}
+use Rattle.types_expr.specs.Judge.{judge}
+use Rattle.types_expr.specs.WorldView.{world_of}
+use Rattle.types_expr.specs.Found.{locals_of}
+use Rattle.types_stmt.specs.Simple.{is_statement}
+use Rattle.types_stmt.proofs.Chains.{chain_is}
+use Rattle.types_expr.proofs.Equations.{ok_map}
+use Rattle.types_stmt.proofs.LoopProgress.{adds_as}
+use Rattle.types_stmt.proofs.call_statements.judge_expr_statement.Goals as goal
+
+pub returns-in-Chain-clause-found : goal.returns-in-Chain-clause-found
+returns-in-Chain-clause-found c =
+    ok_map c.judge_chain.result (λ a q. adds_as q (ap (judge (world_of c.args.scope.world.now) (locals_of c.args.scope.locals.now))
+    (chain_is c.in-Chain.first c.in-Chain.links c.in-Chain.is _ _ c.deref.ensures c.deref-in-Chain.ensures.value))) c.judge_chain.ensures.found
+
+pub returns-in-Chain-clause-stands : goal.returns-in-Chain-clause-stands
+returns-in-Chain-clause-stands c =
+    ok_map c.judge_chain.result (λ a q. q ∙ ap (is_statement (world_of c.args.scope.world.now) (locals_of c.args.scope.locals.now))
+    (chain_is c.in-Chain.first c.in-Chain.links c.in-Chain.is _ _ c.deref.ensures c.deref-in-Chain.ensures.value)) c.judge_chain.ensures.stands

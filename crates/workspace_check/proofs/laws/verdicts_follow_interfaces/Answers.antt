@@ -1,6 +1,0 @@
--- The answers to the goals of `laws::verdicts_follow_interfaces`.
-use Rattle.workspace_check.proofs.Keeping.{verdicts_follow}
-use Rattle.workspace_check.proofs.laws.verdicts_follow_interfaces.Goals as goal
-
-pub returns : goal.returns
-returns c = verdicts_follow

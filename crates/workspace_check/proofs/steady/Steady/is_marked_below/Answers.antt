@@ -1,7 +1,0 @@
--- The answers to the goals of `steady::Steady::is_marked_below`.
-use Rattle.std.proofs.Common.{not, sym, ap, ◌∙◌}
-use Rattle.std.proofs.lemmas.Bool.{false≢true}
-use Rattle.workspace_check.proofs.steady.Steady.is_marked_below.Goals as goal
-
-pub returns : goal.returns
-returns c = λ t stirred. false≢true (sym (ap not (c.is_marked.ensures.1 (rw c.deref.ensures.value stirred))) ∙ t)
