@@ -12,7 +12,7 @@ use base_files::{FileText, Files, Path};
 use std::alloc::{AllocError, Global};
 use std::mem;
 
-/// The files after an edit set, and its inverse. A value cannot be dropped: it ends in `commit` or in `abandon`.
+/// The files after an edit set, and its inverse. A value cannot be dropped: it ends in `commit`.
 #[must_use]
 pub struct Prepared {
     pub files: Files,
@@ -59,12 +59,5 @@ impl Prepared {
         } = self;
         drop(mem::replace(files, made));
         inverse
-    }
-
-    /// Gives the prepared files up. No files change.
-    pub fn abandon(self) {
-        let Prepared { files, inverse } = self;
-        drop(files);
-        inverse.retire();
     }
 }

@@ -1,7 +1,6 @@
 -- The packages whose files a change changes, and the packages in whose closures these are.
 use Rattle.std.specs.Prelude.{◌≡◌, ℕ, ◌↔◌, Bool, List, length, Option, Some, slice_get}
 use Rattle.std.specs.List.{Contains}
-use Rattle.std.specs.FinMap as map
 use Rattle.base_files.specs.Packages.{package_paths, package_files}
 use Rattle.base_files.specs.Workspace.{Workspace}
 use Rattle.workspace_graph.specs.Packages.{IsInClosure}
@@ -13,14 +12,6 @@ use Rattle.build_carry.specs.Finished.{Table, IsFinished}
 -- The package p has the same files, with the same texts, in both workspaces.
 abbrev pub HasSameFiles : Workspace → Workspace → List ℕ → Type 0
 HasSameFiles v w p = (e : List ℕ × List ℕ) → Contains (package_files v p) e ↔ Contains (package_files w p) e
-
--- The workspace w has the file e, a path with a text.
-abbrev pub HasFileText : Workspace → List ℕ × List ℕ → Type 0
-HasFileText w e = map.get w e.0 ≡ Some e.1
-
--- The workspace w has each of these files, with its text.
-abbrev pub HaveTexts : Workspace → List (List ℕ × List ℕ) → Type 0
-HaveTexts w files = (e : List ℕ × List ℕ) → Contains files e → HasFileText w e
 
 -- `folders` lists exactly the packages whose files differ between v and w.
 pub record AreChanged (v w : Workspace) (folders : List (List ℕ)) : Type 0 where

@@ -68,14 +68,6 @@ impl Pieces {
         &self.tokens
     }
 
-    /// The span of the token of this index, from 0.
-    pub fn span(&self, token: usize) -> Span
-        requires { token < length (tokens_in self.now) }
-        ensures { result ≡ (token_at self.now token).span }
-    {
-        self.tokens[token].span
-    }
-
     /// The bytes of the token of this index, from 0. An inserted semicolon has none.
     pub fn text(&self, token: usize) -> &[u8]
         requires { token < length (tokens_in self.now) }

@@ -1,12 +1,10 @@
 //! Estimates how many identifiers and names a package has, so that lists are made with enough room. Only speed depends on it.
 
+use crate::identifiers::PREDECLARED;
 use crate::model::Identifier;
 use go_ast::FileTree;
 use go_ast::tree::{Group, ImportDecl};
 use go_scanner::{Class, Piece};
-
-/// The number of predeclared names.
-const PREDECLARED: usize = 11;
 
 /// The number of specs of an import declaration.
 fn import_count(decl: &ImportDecl) -> usize {

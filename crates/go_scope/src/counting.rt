@@ -1,6 +1,6 @@
 //! Finds which declarations count, and to which one each identifier is bound.
 ghost use Rattle.std.specs.Prelude.{◌≡◌, ◌<◌, ◌↔◌, ◌⊎◌, ◌∷◌, [], true, length, IsTrue};
-ghost use Rattle.go_scope.specs.Bindings.{Counts, IsUse, is_use, is_left_name, is_implied, scope_of};
+ghost use Rattle.go_scope.specs.Bindings.{Counts, IsUse, is_use, is_left_name, is_implied};
 ghost use Rattle.go_scope.specs.Contents.{AreDeclared, IsBinding};
 ghost use Rattle.go_scope.specs.Leading.{IsLead, IsDisplacedImport, IsDeclaredInPackage};
 ghost use Rattle.go_scope.specs.WellFormed.{IsLaidOut};
@@ -10,7 +10,7 @@ ghost use Rattle.go_scope.specs.Table.{layout_of};
 
 use crate::declaring::DeclaredIn;
 use crate::links::Links;
-use crate::model::{Block, Identifier, Role, Scope};
+use crate::model::{Block, Identifier, Role};
 use crate::nearest::binding;
 use crate::numbering::number_at;
 use crate::outer_blocks::{OuterBlock, first_outside};
@@ -45,13 +45,6 @@ impl Role {
             Role::Implied(_, _) => true,
             Role::Use | Role::Declaring(_, _) | Role::LeftName(_, _) | Role::NotLexical(_) => false,
         }
-    }
-
-    /// The scope of a declaration of this role.
-    pub fn scope(self) -> Scope
-        ensures { result ≡ scope_of self }
-    {
-        Scope::in_block(self.block(), self.start())
     }
 }
 

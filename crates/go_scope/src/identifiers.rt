@@ -12,6 +12,9 @@ use base_files::Place;
 use go_ast::FileTree;
 use std::marker::Model;
 
+/// The count of predeclared names, which have the first numbers in each package.
+pub const PREDECLARED: usize = 11;
+
 /// The identifiers of a package, numbered from 0: first the predeclared names, then the identifiers of its files, by path and token.
 #[derive(Drop)]
 pub struct Identifiers<'a> {

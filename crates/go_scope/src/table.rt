@@ -1,6 +1,6 @@
 //! The table of a package: its identifiers, their scopes, and their bindings.
 ghost use Rattle.std.specs.Prelude.{ℕ, ◌≡◌, ◌<◌, ◌↔◌, length, IsTrue, MatchOption};
-ghost use Rattle.go_scope.specs.Bindings.{Declares, Counts, IsUse, scope_of};
+ghost use Rattle.go_scope.specs.Bindings.{Declares, Counts, IsUse};
 ghost use Rattle.go_scope.specs.ByToken.{numbers_in};
 ghost use Rattle.go_scope.specs.Contents.{AreTableContents};
 ghost use Rattle.go_scope.specs.Packages.{layout_in, names_in, IsBoundIn, IsAtPlace};
@@ -9,7 +9,7 @@ ghost use Rattle.go_scope.specs.WellFormed.{WellFormed};
 
 use crate::contents::TableContents;
 use crate::identifiers::Identifiers;
-use crate::model::{Position, Role, Scope};
+use crate::model::{Position, Role};
 use base_files::Place;
 use go_ast::FileTree;
 use std::marker::Model;
@@ -150,14 +150,6 @@ impl<'a> ScopeTable<'a> {
             None => None,
             Some(u) => self.binding(u),
         }
-    }
-
-    /// The scope of a declaration.
-    pub fn scope_of(&self, declaration: DeclId) -> Scope
-        requires { declaration < length self.now.sites }
-        ensures { result ≡ scope_of ((layout_in self.now).role declaration) }
-    {
-        self.role(declaration).scope()
     }
 
     /// Whether a declaration does not count, because of another one of its name.

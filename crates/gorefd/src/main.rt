@@ -42,11 +42,11 @@ fn ended(rt: &impl Eprint, fault: impl Display + Drop) -> ExitCode {
     ExitCode::from(1)
 }
 
-/// Prints the text of words that make no request, and returns the exit status: 0 for help, 2 for a usage text.
+/// Prints the text of words that make no request, and returns the exit status: 0 for help and the version, 2 for a usage text.
 fn print_fault<R: Print + Eprint>(rt: &R, fault: &RequestFault) -> ExitCode {
     match fault {
         RequestFault::Memory => ended(rt, ProgramFault::Memory),
-        RequestFault::Help(text) => match print!(rt; "{text}") {
+        RequestFault::Help(text) | RequestFault::Version(text) => match print!(rt; "{text}") {
             Ok(()) => ExitCode::SUCCESS,
             Err(_) => ended(rt, ProgramFault::Write),
         },

@@ -12,6 +12,7 @@ ghost use Rattle.refactor_after.specs.OldPlaces.{HasMovedTo};
 
 use crate::judge::Judge;
 use base_files::Place;
+use go_scope::identifiers::PREDECLARED;
 use refactor_after::{PackageScopes, before_of, scopes_at};
 use refs_binding::Declaration;
 use refs_index::{are_predeclared, goes_to};
@@ -19,9 +20,6 @@ use refs_places::declared_places::declared_at;
 use refs_places::place_of;
 use std::alloc::AllocError;
 use types_declared::literal_of;
-
-/// How many names are predeclared: they have the first numbers in the table of each package.
-const PREDECLARED: usize = 11;
 
 /// Where the declaring token of a package's own declaration begins.
 fn own_place(scopes: &PackageScopes<'_>, d: usize) -> Result<Option<Place>, AllocError>

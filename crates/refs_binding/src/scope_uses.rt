@@ -6,11 +6,9 @@ ghost use Rattle.refs_binding.specs.Binding.{BindsByScope};
 ghost use Rattle.refs_binding.specs.Steps.{IsDeclarationResult};
 
 use crate::declaration::Declaration;
+use go_scope::identifiers::PREDECLARED;
 use std::alloc::AllocError;
 use types_declared::Package;
-
-/// The count of predeclared names. They have the first numbers in the table of each package.
-const PREDECLARED: usize = 11;
 
 /// Returns the declaration with a number in the table of a package.
 fn numbered(unit: Package<'_>, d: usize) -> Result<Declaration, AllocError>

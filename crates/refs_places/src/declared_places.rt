@@ -20,6 +20,7 @@ ghost use Rattle.refs_places.specs.DeclaredPlaces.{IsChoice, IsChoiceIn, TokenBe
 use crate::places::place_of;
 use base_files::Place;
 use go_ast::FileTree;
+use go_scope::identifiers::PREDECLARED;
 use go_scope::model::Position;
 use go_scope::table::ScopeTable;
 use refs_binding::{Declaration, Packages, field_places, method_places};
@@ -27,9 +28,6 @@ use std::alloc::{AllocError, Global};
 use types_declared::{Index, Package, literal_of};
 use types_expr::symbol::SharedPath;
 use workspace_graph::Graph;
-
-/// The count of predeclared names. They have the first numbers in the table of each package.
-const PREDECLARED: usize = 11;
 
 /// The places of the declarations of a package that count: those of its scopes by number, and fields and methods by rank.
 #[derive(Drop)]

@@ -6,13 +6,11 @@ ghost use Rattle.refs_binding.specs.Binding.{BindsByScope};
 ghost use Rattle.refs_binding.specs.Identifiers.{BeginsAt};
 ghost use Rattle.refs_binding.specs.Steps.{AddsMisfits, UsesIn, IsNumberOf};
 
+use go_scope::identifiers::PREDECLARED;
 use refs_binding::identifiers::add_identifier;
 use refs_binding::{Declaration, PlaceKey};
 use std::alloc::AllocError;
 use types_declared::Package;
-
-/// The count of predeclared names. They have the first numbers in the table of each package.
-const PREDECLARED: usize = 11;
 
 /// Returns the number of a declaration in the table of a package, if the package's scopes can bind an identifier to it.
 fn number_in(unit: Package<'_>, declaration: &Declaration) -> Option<usize>

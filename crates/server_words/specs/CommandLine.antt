@@ -34,7 +34,7 @@ serve_app = with_rule (with_rule (with_rule (with_rule (new_app (codes "serve"))
 
 -- the command line without its subcommands: a subcommand must be given, and there is none named `help`
 abbrev pub bare_app : App
-bare_app = on_top (λ top. record top { subcommand_required = true; disable_help_subcommand = true }) (new_app (codes "gorefd"))
+bare_app = on_top (λ top. record top { has_version = true; subcommand_required = true; disable_help_subcommand = true }) (new_app (codes "gorefd"))
 
 -- the program's command line, with the subcommands `run` and `serve`
 abbrev pub gorefd : App

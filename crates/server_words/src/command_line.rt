@@ -9,6 +9,9 @@ use clap::builder::ValueParser;
 use clap::{Arg, Command};
 use std::alloc::{AllocError, Global};
 
+/// The version that `--version` prints.
+const VERSION: &str = "0.1.0";
+
 /// The option `--socket PATH`.
 fn socket<'a>(alloc: Global) -> Arg<'a>
     ensures rule { rule_of result ≡ socket_rule }
@@ -90,6 +93,7 @@ fn bare_command<'a>(alloc: Global) -> Command<'a>
 {
     Command::new(alloc, "gorefd")
         .about("Renames and moves in Go source, with undo, and builds packages")
+        .version(VERSION)
         .subcommand_required(true)
         .disable_help_subcommand(true)
 }

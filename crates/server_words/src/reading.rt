@@ -17,6 +17,8 @@ pub enum RequestFault {
     Memory,
     /// The words ask for help. The text goes to standard output.
     Help(String),
+    /// The words ask for the program's version. The text goes to standard output.
+    Version(String),
     /// The words are no command line of the program. The text goes to standard error.
     Usage(String),
 }
@@ -38,6 +40,7 @@ fn as_fault(alloc: Global, error: &Error) -> Result<RequestFault, AllocError>
     match error.kind() {
         ErrorKind::OutOfMemory => Ok(RequestFault::Memory),
         ErrorKind::DisplayHelp => Ok(RequestFault::Help(format!(in alloc; "{error}")?)),
+        ErrorKind::DisplayVersion => Ok(RequestFault::Version(format!(in alloc; "{error}")?)),
         _ => Ok(RequestFault::Usage(format!(in alloc; "{error}")?)),
     }
 }
