@@ -12,7 +12,7 @@ use Rattle.types_expr.specs.declared.world.World.{World}
 use Rattle.types_expr.specs.Found.{use_of}
 use Rattle.types_expr.specs.View.{type_of}
 use Rattle.types_expr.specs.World as plain
-use Rattle.types_expr.specs.WorldView.{world_of, name_in, spelling_of}
+use Rattle.types_expr.specs.WorldView.{world_of, name_in, token_spelling}
 use Rattle.types_stmt.specs.Declarations.{check_file}
 use Rattle.types_declared.specs.DeclaredView.{type_of as definition_of}
 use Rattle.types_declared.specs.Package.{Package, declared_types, spelled, spelled_at}
@@ -118,7 +118,7 @@ types_named packages files_of have = fun_ext (λ (s : Symbol).
 -- all of it
 pub is_source : (p : Package) (n : ℕ) (f : SourceFile) (w : World) (uses : List MemberUse) (packages : ObjectNames) (s : Source) → HasOneWorld p →
     slice_get p.files n ≡ Some f →
-    IsTabledSource p n w uses packages s → IsWorldOf p n f (world_of w) → ((token : ℕ) → spelling_of (name_in w token) ≡ spelled p n token) →
+    IsTabledSource p n w uses packages s → IsWorldOf p n f (world_of w) → ((token : ℕ) → token_spelling (name_in w token) ≡ spelled p n token) →
     (files_of : List ℕ → List SourceFile) → HaveNames packages files_of → AreUsesIn p n (map use_of uses) → IsSourceOf p files_of n f (source_of s)
 is_source p n f w uses packages s one at tabled judged spelling files_of have are =
     let same : s.world ≡ w = tabled.world in
@@ -131,7 +131,7 @@ is_source p n f w uses packages s one at tabled judged spelling files_of have ar
           ∙ (used_from [] uses token ∙ ap (λ us. type_before us token) (uses_found p n f (world_of s.world) (map use_of uses) one at judges are)));
       global = λ token. (tabled.marks token).global;
       truth = λ token. (tabled.marks token).truth;
-      number = λ token. ap literal_number (ap (λ v. spelling_of (name_in v token)) same ∙ (spelling token ∙ ap (λ o. spelled_at o token) at));
+      number = λ token. ap literal_number (ap (λ v. token_spelling (name_in v token)) same ∙ (spelling token ∙ ap (λ o. spelled_at o token) at));
       text = λ token. tabled.texts f at token;
       function = λ symbol. ap (λ ps. function_in ps symbol) tabled.packages ∙
           function_at_names symbol.package (files_of symbol.package) (package_names_in packages symbol.package) (tables_in packages symbol.package)

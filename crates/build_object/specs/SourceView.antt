@@ -3,7 +3,7 @@ use Rattle.std.specs.Prelude.{ℕ, Bool, false, List, Option, Some, None, option
 use Rattle.types_expr.specs.declared.found.MemberUse.{MemberUse}
 use Rattle.types_expr.specs.Types.{PlainType}
 use Rattle.types_expr.specs.View.{type_of}
-use Rattle.types_expr.specs.WorldView.{world_of, name_in, spelling_of}
+use Rattle.types_expr.specs.WorldView.{world_of, name_in, token_spelling}
 use Rattle.build_object.specs.declared.source.Mark.{Mark}
 use Rattle.build_object.specs.declared.source.Source.{Source}
 use Rattle.build_object.specs.Source as pure
@@ -35,7 +35,7 @@ source_of s = record {
   before = λ token. type_used s.uses.now (slot_of s.used.places.items token);
   global = λ token. global_in (slice_get s.marks.items token);
   truth = λ token. truth_in (slice_get s.marks.items token);
-  number = λ token. literal_number (spelling_of (name_in s.world token));
+  number = λ token. literal_number (token_spelling (name_in s.world token));
   text = λ token. option_map (λ v. v.items) (slice_index_or s.texts.items token None);
   function = function_in s.packages.now;
   position = position_in s.packages.now;

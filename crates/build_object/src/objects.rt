@@ -4,7 +4,7 @@ ghost use Rattle.go_ast.specs.SourceFile.{SourceFile, source_of};
 ghost use Rattle.go_scope.specs.Packages.{scoped};
 ghost use Rattle.types_declared.specs.Files.{package_name};
 ghost use Rattle.types_declared.specs.PackageNames.{IsLaidOver};
-ghost use Rattle.types_expr.specs.WorldView.{world_of, name_in, spelling_of};
+ghost use Rattle.types_expr.specs.WorldView.{world_of, name_in, token_spelling};
 ghost use Rattle.types_info.specs.MeaningsView.{AreMeanings};
 ghost use Rattle.types_info.specs.PackageOf.{package_in};
 ghost use Rattle.types_info.specs.Worlds.{IsWorldOf};
@@ -69,7 +69,7 @@ fn own_world<'w>(
     requires names { AreNames (package_of unit) file bounds.now names.now }
     requires definitions { AreOwnDefinitions (package_of unit) definitions.now }
     ensures world { (s : SourceFile) → slice_get (package_of unit.entry).files file ≡ Some s → IsWorldOf (package_of unit.entry) file s (world_of result) }
-    ensures spelling { (token : ℕ) → spelling_of (name_in result token) ≡ spelled (package_of unit.entry) file token }
+    ensures spelling { (token : ℕ) → token_spelling (name_in result token) ≡ spelled (package_of unit.entry) file token }
 {
     World {
         package: unit.path,

@@ -11,7 +11,7 @@ use Rattle.go_scope.specs.Site.{Site, Source}
 use Rattle.go_scope.specs.ExpressionSites.{list_sites, expr_sites, exprs_sites}
 use Rattle.go_scope.specs.StatementSites.{left_sites, assigned_sites}
 use Rattle.go_scope.proofs.PlainSites.{plain_expr}
-use Rattle.law_tokens.specs.Tokens.{is_ident}
+use Rattle.law_tokens.specs.Tokens.{is_ident_token}
 use Rattle.law_tokens.proofs.CoveredExpressions.{expr_named}
 use Rattle.types_expr.specs.Types.{PlainType, Kind, Typed, Value}
 use Rattle.types_expr.specs.World.{World, Locals}
@@ -47,28 +47,28 @@ pub left_stands : (B : ℕ → Type 0) (s : Source) (b : Block) (q n m : ℕ) (e
 unfolding expr_tokens
 left_stands B s b q n m (tree.Name p) h = ((let at : p ≡ n = h.0 in let end : suc n ≡ m = h.1.1 in omega arith), tt)
 left_stands B s b q n m (tree.Blank p) h = ((let at : p ≡ n = h.0 in let end : suc n ≡ m = h.1.1 in omega arith), tt)
-left_stands B s b q n m (tree.Number p) h = stand_below B is_ident s n m _ _ (expr_named s (tree.Number p)) h
-left_stands B s b q n m (tree.Text p) h = stand_below B is_ident s n m _ _ (expr_named s (tree.Text p)) h
-left_stands B s b q n m (tree.Composite l) h = stand_below B is_ident s n m _ _ (expr_named s (tree.Composite l)) h
-left_stands B s b q n m (tree.Paren o e c) h = stand_below B is_ident s n m _ _ (expr_named s (tree.Paren o e c)) h
-left_stands B s b q n m (tree.Prefix o p e) h = stand_below B is_ident s n m _ _ (expr_named s (tree.Prefix o p e)) h
-left_stands B s b q n m (tree.Address p l) h = stand_below B is_ident s n m _ _ (expr_named s (tree.Address p l)) h
-left_stands B s b q n m (tree.Chain e ks) h = stand_below B is_ident s n m _ _ (expr_named s (tree.Chain e ks)) h
-left_stands B s b q n m (tree.Binary e os) h = stand_below B is_ident s n m _ _ (expr_named s (tree.Binary e os)) h
+left_stands B s b q n m (tree.Number p) h = stand_below B is_ident_token s n m _ _ (expr_named s (tree.Number p)) h
+left_stands B s b q n m (tree.Text p) h = stand_below B is_ident_token s n m _ _ (expr_named s (tree.Text p)) h
+left_stands B s b q n m (tree.Composite l) h = stand_below B is_ident_token s n m _ _ (expr_named s (tree.Composite l)) h
+left_stands B s b q n m (tree.Paren o e c) h = stand_below B is_ident_token s n m _ _ (expr_named s (tree.Paren o e c)) h
+left_stands B s b q n m (tree.Prefix o p e) h = stand_below B is_ident_token s n m _ _ (expr_named s (tree.Prefix o p e)) h
+left_stands B s b q n m (tree.Address p l) h = stand_below B is_ident_token s n m _ _ (expr_named s (tree.Address p l)) h
+left_stands B s b q n m (tree.Chain e ks) h = stand_below B is_ident_token s n m _ _ (expr_named s (tree.Chain e ks)) h
+left_stands B s b q n m (tree.Binary e os) h = stand_below B is_ident_token s n m _ _ (expr_named s (tree.Binary e os)) h
 
 pub assigned_stands : (B : ℕ → Type 0) (s : Source) (n m : ℕ) (e : ExprTree) → Strung B n (expr_tokens e) m →
     AllByRecursion (λ x. x.place.index < m) (assigned_sites s e)
 unfolding expr_tokens
 assigned_stands B s n m (tree.Blank p) h = ((let at : p ≡ n = h.0 in let end : suc n ≡ m = h.1.1 in omega arith), tt)
-assigned_stands B s n m (tree.Name p) h = stand_below B is_ident s n m _ _ (expr_named s (tree.Name p)) h
-assigned_stands B s n m (tree.Number p) h = stand_below B is_ident s n m _ _ (expr_named s (tree.Number p)) h
-assigned_stands B s n m (tree.Text p) h = stand_below B is_ident s n m _ _ (expr_named s (tree.Text p)) h
-assigned_stands B s n m (tree.Composite l) h = stand_below B is_ident s n m _ _ (expr_named s (tree.Composite l)) h
-assigned_stands B s n m (tree.Paren o e c) h = stand_below B is_ident s n m _ _ (expr_named s (tree.Paren o e c)) h
-assigned_stands B s n m (tree.Prefix o p e) h = stand_below B is_ident s n m _ _ (expr_named s (tree.Prefix o p e)) h
-assigned_stands B s n m (tree.Address p l) h = stand_below B is_ident s n m _ _ (expr_named s (tree.Address p l)) h
-assigned_stands B s n m (tree.Chain e ks) h = stand_below B is_ident s n m _ _ (expr_named s (tree.Chain e ks)) h
-assigned_stands B s n m (tree.Binary e os) h = stand_below B is_ident s n m _ _ (expr_named s (tree.Binary e os)) h
+assigned_stands B s n m (tree.Name p) h = stand_below B is_ident_token s n m _ _ (expr_named s (tree.Name p)) h
+assigned_stands B s n m (tree.Number p) h = stand_below B is_ident_token s n m _ _ (expr_named s (tree.Number p)) h
+assigned_stands B s n m (tree.Text p) h = stand_below B is_ident_token s n m _ _ (expr_named s (tree.Text p)) h
+assigned_stands B s n m (tree.Composite l) h = stand_below B is_ident_token s n m _ _ (expr_named s (tree.Composite l)) h
+assigned_stands B s n m (tree.Paren o e c) h = stand_below B is_ident_token s n m _ _ (expr_named s (tree.Paren o e c)) h
+assigned_stands B s n m (tree.Prefix o p e) h = stand_below B is_ident_token s n m _ _ (expr_named s (tree.Prefix o p e)) h
+assigned_stands B s n m (tree.Address p l) h = stand_below B is_ident_token s n m _ _ (expr_named s (tree.Address p l)) h
+assigned_stands B s n m (tree.Chain e ks) h = stand_below B is_ident_token s n m _ _ (expr_named s (tree.Chain e ks)) h
+assigned_stands B s n m (tree.Binary e os) h = stand_below B is_ident_token s n m _ _ (expr_named s (tree.Binary e os)) h
 
 pub list_stands : (B : ℕ → Type 0) (f : ExprTree → List Site) → ((n m : ℕ) (e : ExprTree) → Strung B n (expr_tokens e) m →
     AllByRecursion (λ x. x.place.index < m) (f e)) →

@@ -15,7 +15,7 @@ use Rattle.go_scope.specs.Site.{Site, Source}
 use Rattle.go_scope.specs.ExpressionSites.{sites_if, list_sites, type_sites, expr_sites, exprs_sites}
 use Rattle.go_scope.specs.StatementSites.{ident_sites, left_sites, assigned_sites, simple_sites, value_sites, local_sites}
 use Rattle.go_scope.proofs.PlainSites.{plain_append, plain_list, plain_if, plain_type, plain_expr, plain_exprs, plain_assigned}
-use Rattle.law_tokens.specs.Tokens.{is_ident}
+use Rattle.law_tokens.specs.Tokens.{is_ident_token}
 use Rattle.law_tokens.proofs.CoveredExpressions.{type_named, expr_named, exprs_named}
 use Rattle.types_expr.specs.Types.{PlainType, Kind}
 use Rattle.types_expr.specs.World.{World, Locals}
@@ -48,10 +48,10 @@ before_append : (m : ℕ) (xs ys : List Site) → Before m xs → Before m ys �
 before_append m xs ys a b = all_append (λ (x : Site). x.place.index < m) xs ys a b
 
 pub expr_stands : (B : ℕ → Type 0) (s : Source) (n m : ℕ) (e : ExprTree) → Strung B n (expr_tokens e) m → Before m (expr_sites s e)
-expr_stands B s n m e h = stand_below B is_ident s n m (expr_sites s e) (expr_tokens e) (expr_named s e) h
+expr_stands B s n m e h = stand_below B is_ident_token s n m (expr_sites s e) (expr_tokens e) (expr_named s e) h
 
 pub exprs_stand : (B : ℕ → Type 0) (s : Source) (n m : ℕ) (es : List (Item ExprTree)) → Strung B n (exprs_tokens es) m → Before m (exprs_sites s es)
-exprs_stand B s n m es h = stand_below B is_ident s n m (exprs_sites s es) (exprs_tokens es) (exprs_named s es) h
+exprs_stand B s n m es h = stand_below B is_ident_token s n m (exprs_sites s es) (exprs_tokens es) (exprs_named s es) h
 
 -- an expression alone, and several
 
@@ -285,7 +285,7 @@ Values = Option (ℕ × List (Item ExprTree))
 
 types_stand : (B : ℕ → Type 0) (s : Source) (n m : ℕ) (o : Option TypeTree) → Strung B n (tokens_if type_tokens o) m → Before m (sites_if (type_sites s) o)
 types_stand B s n m None h = tt
-types_stand B s n m (Some x) h = stand_below B is_ident s n m (type_sites s x) (type_tokens x) (type_named s x) h
+types_stand B s n m (Some x) h = stand_below B is_ident_token s n m (type_sites s x) (type_tokens x) (type_named s x) h
 
 values_stand : (B : ℕ → Type 0) (s : Source) (n m : ℕ) (v : Values) → Strung B n (tokens_if (value_tokens expr_tokens) v) m →
     Before m (sites_if (value_sites s) v)

@@ -14,16 +14,16 @@ use Rattle.go_ast.specs.Tree.{argument, LiteralTree, literal, ElementTrees, no_e
 use Rattle.go_scope.specs.Site.{Site, Source}
 use Rattle.go_scope.specs.ExpressionSites.{type_sites, key_sites, expr_sites, operand_sites, link_sites, argument_sites, literal_sites, element_sites}
 use Rattle.go_scope.specs.ExpressionSites.{exprs_sites}
-use Rattle.law_tokens.specs.Tokens.{is_ident}
+use Rattle.law_tokens.specs.Tokens.{is_ident_token}
 use Rattle.law_tokens.proofs.Covers.{Covers, IsSkipped, ends, skips, takes, selects, keys, covers_append, covers_end, covers_behind, list_covers}
 
 abbrev pub Named : Source → List Site → List Token → Type 0
-Named s xs ts = Covers is_ident s xs ts
+Named s xs ts = Covers is_ident_token s xs ts
 
 pub named_append : (s : Source) (xs ys : List Site) (ts us : List Token) → Named s xs ts → Named s ys us → Named s (xs ++ ys) (ts ++ us)
-named_append s xs ys ts us a b = covers_append is_ident s xs ys ts us a b
+named_append s xs ys ts us a b = covers_append is_ident_token s xs ys ts us a b
 
-no_binary : (op : BinaryOp) → IsSkipped is_ident (binary_kind op)
+no_binary : (op : BinaryOp) → IsSkipped is_ident_token (binary_kind op)
 no_binary binary.Multiply = refl
 no_binary binary.Divide = refl
 no_binary binary.Remainder = refl
@@ -38,7 +38,7 @@ no_binary binary.GreaterEqual = refl
 no_binary binary.And = refl
 no_binary binary.Or = refl
 
-no_prefix : (op : PrefixOp) → IsSkipped is_ident (prefix_kind op)
+no_prefix : (op : PrefixOp) → IsSkipped is_ident_token (prefix_kind op)
 no_prefix prefix.Plus = refl
 no_prefix prefix.Minus = refl
 no_prefix prefix.Not = refl
@@ -65,7 +65,7 @@ mutual
   expr_named s (Name n) = takes refl refl refl ends
   expr_named s (Blank n) = takes refl refl refl ends
   expr_named s (Composite l) = literal_named s l
-  expr_named s (Paren o e c) = skips refl (covers_end is_ident s (expr_sites s e) (expr_tokens e) kind.RightParen c refl (expr_named s e))
+  expr_named s (Paren o e c) = skips refl (covers_end is_ident_token s (expr_sites s e) (expr_tokens e) kind.RightParen c refl (expr_named s e))
   expr_named s (Prefix op p e) = skips (no_prefix op) (expr_named s e)
   expr_named s (Address p l) = skips refl (literal_named s l)
   expr_named s (Chain e ls) = named_append s (expr_sites s e) (link_sites s ls) (expr_tokens e) (link_tokens ls) (expr_named s e) (links_named s ls)
@@ -90,13 +90,13 @@ mutual
   arguments_named s no_argument = ends
   arguments_named s (argument e comma rest) =
       named_append s (expr_sites s e) (argument_sites s rest) (expr_tokens e) (sign_if kind.Comma comma ++ argument_tokens rest) (expr_named s e)
-      (covers_behind is_ident s (argument_sites s rest) (argument_tokens rest) kind.Comma comma refl (arguments_named s rest))
+      (covers_behind is_ident_token s (argument_sites s rest) (argument_tokens rest) kind.Comma comma refl (arguments_named s rest))
 
   literal_named : (s : Source) (l : LiteralTree) → Named s (literal_sites s l) (literal_tokens l)
   literal_named s (literal t o es c) =
       named_append s (type_sites s t) (element_sites s es) (type_tokens t) (sign kind.LeftBrace o ∷ (element_tokens es ++ (sign kind.RightBrace c ∷ [])))
       (type_named s t)
-      (skips refl (covers_end is_ident s (element_sites s es) (element_tokens es) kind.RightBrace c refl (elements_named s es)))
+      (skips refl (covers_end is_ident_token s (element_sites s es) (element_tokens es) kind.RightBrace c refl (elements_named s es)))
 
   elements_named : (s : Source) (es : ElementTrees) → Named s (element_sites s es) (element_tokens es)
   elements_named s no_element = ends
@@ -104,7 +104,7 @@ mutual
       named_append s (key_sites s key) (expr_sites s e ++ element_sites s rest) (key_tokens key)
       (expr_tokens e ++ (sign_if kind.Comma comma ++ element_tokens rest)) (key_named s key)
       (named_append s (expr_sites s e) (element_sites s rest) (expr_tokens e) (sign_if kind.Comma comma ++ element_tokens rest) (expr_named s e)
-      (covers_behind is_ident s (element_sites s rest) (element_tokens rest) kind.Comma comma refl (elements_named s rest)))
+      (covers_behind is_ident_token s (element_sites s rest) (element_tokens rest) kind.Comma comma refl (elements_named s rest)))
 
 pub exprs_named : (s : Source) (es : List (Item ExprTree)) → Named s (exprs_sites s es) (exprs_tokens es)
-exprs_named s es = list_covers is_ident s kind.Comma refl (expr_sites s) expr_tokens (expr_named s) es
+exprs_named s es = list_covers is_ident_token s kind.Comma refl (expr_sites s) expr_tokens (expr_named s) es

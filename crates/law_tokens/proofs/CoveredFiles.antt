@@ -20,7 +20,7 @@ use Rattle.go_scope.specs.StatementSites.{ident_sites, open_of, block_sites}
 use Rattle.go_scope.specs.FileSites.{global_name, member_name, spec_sites, global_sites, field_sites, body_sites, type_spec_sites, receiver_sites}
 use Rattle.go_scope.specs.FileSites.{param_sites, result_sites, func_block, func_role, func_sites, import_purpose, import_name, import_sites, imports_sites}
 use Rattle.go_scope.specs.FileSites.{decl_sites}
-use Rattle.law_tokens.specs.Tokens.{is_ident, is_header_name}
+use Rattle.law_tokens.specs.Tokens.{is_ident_token, is_header_name}
 use Rattle.law_tokens.proofs.Covers.{Covers, is_linked, ends, skips, takes, none_if, covers_append, covers_pad, covers_end, covers_behind, all_covers}
 use Rattle.law_tokens.proofs.Covers.{none_all, list_covers, group_covers, option_covers}
 use Rattle.law_tokens.proofs.CoveredExpressions.{Named, named_append, type_named}
@@ -38,9 +38,9 @@ no_basic s (String n) = skips refl ends
 
 no_basics : (s : Source) (xs : List (Item BasicTree)) → Named s [] (list_tokens kind.Comma basic_tokens xs)
 no_basics s xs =
-    none_all is_ident s (item_tokens kind.Comma basic_tokens)
-    (λ (x : Item BasicTree). covers_pad is_ident s [] (basic_tokens x.value) (sign_if kind.Comma x.separator) (no_basic s x.value)
-    (none_if is_ident s kind.Comma x.separator refl)) xs
+    none_all is_ident_token s (item_tokens kind.Comma basic_tokens)
+    (λ (x : Item BasicTree). covers_pad is_ident_token s [] (basic_tokens x.value) (sign_if kind.Comma x.separator) (no_basic s x.value)
+    (none_if is_ident_token s kind.Comma x.separator refl)) xs
 
 no_values : (s : Source) (v : Option (ℕ × List (Item BasicTree))) → Named s [] (tokens_if (value_tokens basic_tokens) v)
 no_values s None = ends
@@ -51,23 +51,23 @@ unfolding global_sites global_tokens
 global_named s g =
     named_append s (list_sites (global_name s) g.names) (type_sites s g.type_use) (list_tokens kind.Comma name_tokens g.names)
     (type_tokens g.type_use ++ tokens_if (value_tokens basic_tokens) g.values)
-    (list_covers is_ident s kind.Comma refl (global_name s) name_tokens (global_name_named s) g.names)
-    (covers_pad is_ident s (type_sites s g.type_use) (type_tokens g.type_use) (tokens_if (value_tokens basic_tokens) g.values) (type_named s g.type_use)
+    (list_covers is_ident_token s kind.Comma refl (global_name s) name_tokens (global_name_named s) g.names)
+    (covers_pad is_ident_token s (type_sites s g.type_use) (type_tokens g.type_use) (tokens_if (value_tokens basic_tokens) g.values) (type_named s g.type_use)
     (no_values s g.values))
 
 field_named : (s : Source) (f : FieldTree) → Named s (field_sites s f) (field_tokens f)
 unfolding field_sites field_tokens
 field_named s f =
     named_append s (list_sites (member_name s) f.names) (type_sites s f.type_use) (list_tokens kind.Comma name_tokens f.names) (type_tokens f.type_use)
-    (list_covers is_ident s kind.Comma refl (member_name s) name_tokens (member_name_named s) f.names) (type_named s f.type_use)
+    (list_covers is_ident_token s kind.Comma refl (member_name s) name_tokens (member_name_named s) f.names) (type_named s f.type_use)
 
 body_named : (s : Source) (b : BodyTree) → Named s (body_sites s b) (body_tokens b)
 unfolding body_sites body_tokens
 body_named s (Other t) = type_named s t
 body_named s (Struct p o fs c) =
     skips refl (skips refl
-    (covers_end is_ident s (list_sites (field_sites s) fs) (list_tokens kind.Semicolon field_tokens fs) kind.RightBrace c refl
-    (list_covers is_ident s kind.Semicolon refl (field_sites s) field_tokens (field_named s) fs)))
+    (covers_end is_ident_token s (list_sites (field_sites s) fs) (list_tokens kind.Semicolon field_tokens fs) kind.RightBrace c refl
+    (list_covers is_ident_token s kind.Semicolon refl (field_sites s) field_tokens (field_named s) fs)))
 
 type_spec_named : (s : Source) (t : TypeSpecTree) → Named s (type_spec_sites s t) (type_spec_tokens t)
 unfolding type_spec_sites type_spec_tokens
@@ -80,16 +80,16 @@ receiver_named s b start r =
     (named_append s (ident_sites s (Declaring b start) r.name) (site s r.type_name Use ∷ []) (ident_tokens r.name)
     (sign_if kind.Star r.star ++ (sign kind.Name r.type_name ∷ (sign_if kind.Comma r.comma ++ (sign kind.RightParen r.rparen ∷ []))))
     (ident_named s (Declaring b start) refl r.name)
-    (covers_behind is_ident s (site s r.type_name Use ∷ [])
+    (covers_behind is_ident_token s (site s r.type_name Use ∷ [])
     (sign kind.Name r.type_name ∷ (sign_if kind.Comma r.comma ++ (sign kind.RightParen r.rparen ∷ []))) kind.Star r.star refl
-    (takes refl refl refl (covers_behind is_ident s [] (sign kind.RightParen r.rparen ∷ []) kind.Comma r.comma refl (skips refl ends)))))
+    (takes refl refl refl (covers_behind is_ident_token s [] (sign kind.RightParen r.rparen ∷ []) kind.Comma r.comma refl (skips refl ends)))))
 
 param_named : (s : Source) (b : Block) (start : ℕ) (p : ParamTree) → Named s (param_sites s b start p) (param_tokens p)
 unfolding param_sites param_tokens
 param_named s b start p =
     named_append s (list_sites (ident_sites s (Declaring b start)) p.names) (type_sites s p.type_use) (list_tokens kind.Comma ident_tokens p.names)
     (type_tokens p.type_use)
-    (list_covers is_ident s kind.Comma refl (ident_sites s (Declaring b start)) ident_tokens (ident_named s (Declaring b start) refl) p.names)
+    (list_covers is_ident_token s kind.Comma refl (ident_sites s (Declaring b start)) ident_tokens (ident_named s (Declaring b start) refl) p.names)
     (type_named s p.type_use)
 
 result_named : (s : Source) (r : ResultTree) → Named s (result_sites s r) (result_tokens r)
@@ -98,8 +98,8 @@ result_named s no_result = ends
 result_named s (one_result t) = type_named s t
 result_named s (results o ts c) =
     skips refl
-    (covers_end is_ident s (list_sites (type_sites s) ts) (list_tokens kind.Comma type_tokens ts) kind.RightParen c refl
-    (list_covers is_ident s kind.Comma refl (type_sites s) type_tokens (type_named s) ts))
+    (covers_end is_ident_token s (list_sites (type_sites s) ts) (list_tokens kind.Comma type_tokens ts) kind.RightParen c refl
+    (list_covers is_ident_token s kind.Comma refl (type_sites s) type_tokens (type_named s) ts))
 
 func_declared : (r : Option ReceiverTree) (name : List ℕ) → is_linked (func_role r name) ≡ false
 func_declared None name = cond_both (bytes_eq name (codes "init")) (NotLexical purpose.InitFunction) (Declaring Package 0)
@@ -116,12 +116,12 @@ func_named s f =
     (list_sites (param_sites s b start) f.params ++ (result_sites s f.result ++ block_sites s f.body))) (tokens_if receiver_tokens f.receiver)
     (sign kind.Name f.name ∷ sign kind.LeftParen f.lparen ∷
     (list_tokens kind.Comma param_tokens f.params ++ (sign kind.RightParen f.rparen ∷ (result_tokens f.result ++ block_tokens f.body))))
-    (option_covers is_ident s (receiver_sites s b start) receiver_tokens (receiver_named s b start) f.receiver)
+    (option_covers is_ident_token s (receiver_sites s b start) receiver_tokens (receiver_named s b start) f.receiver)
     (takes refl (func_declared f.receiver (s.spell f.name)) refl (skips refl
     (named_append s (list_sites (param_sites s b start) f.params) (result_sites s f.result ++ block_sites s f.body)
     (list_tokens kind.Comma param_tokens f.params)
     (sign kind.RightParen f.rparen ∷ (result_tokens f.result ++ block_tokens f.body))
-    (list_covers is_ident s kind.Comma refl (param_sites s b start) param_tokens (param_named s b start) f.params)
+    (list_covers is_ident_token s kind.Comma refl (param_sites s b start) param_tokens (param_named s b start) f.params)
     (skips refl (named_append s (result_sites s f.result) (block_sites s f.body) (result_tokens f.result) (block_tokens f.body) (result_named s f.result)
     (block_named s f.body))))))
 
@@ -129,16 +129,16 @@ decl_named : (s : Source) (d : DeclTree) → Named s (decl_sites s d) (decl_toke
 unfolding decl_sites decl_tokens
 decl_named s (VarDecl k g semicolon) =
     skips refl
-    (covers_end is_ident s (spec_sites (global_sites s) g) (group_tokens global_tokens g) kind.Semicolon semicolon refl
-    (group_covers is_ident s refl refl refl (λ following. global_sites s) global_tokens (λ n. global_named s) 0 g))
+    (covers_end is_ident_token s (spec_sites (global_sites s) g) (group_tokens global_tokens g) kind.Semicolon semicolon refl
+    (group_covers is_ident_token s refl refl refl (λ following. global_sites s) global_tokens (λ n. global_named s) 0 g))
 decl_named s (TypeDecl k g semicolon) =
     skips refl
-    (covers_end is_ident s (spec_sites (type_spec_sites s) g) (group_tokens type_spec_tokens g) kind.Semicolon semicolon refl
-    (group_covers is_ident s refl refl refl (λ following. type_spec_sites s) type_spec_tokens (λ n. type_spec_named s) 0 g))
-decl_named s (FuncDecl k f semicolon) = skips refl (covers_end is_ident s (func_sites s f) (func_tokens f) kind.Semicolon semicolon refl (func_named s f))
+    (covers_end is_ident_token s (spec_sites (type_spec_sites s) g) (group_tokens type_spec_tokens g) kind.Semicolon semicolon refl
+    (group_covers is_ident_token s refl refl refl (λ following. type_spec_sites s) type_spec_tokens (λ n. type_spec_named s) 0 g))
+decl_named s (FuncDecl k f semicolon) = skips refl (covers_end is_ident_token s (func_sites s f) (func_tokens f) kind.Semicolon semicolon refl (func_named s f))
 
 pub decls_named : (s : Source) (ds : List DeclTree) → Named s (flat_map (decl_sites s) ds) (all_tokens decl_tokens ds)
-decls_named s ds = all_covers is_ident s (decl_sites s) decl_tokens (decl_named s) ds
+decls_named s ds = all_covers is_ident_token s (decl_sites s) decl_tokens (decl_named s) ds
 
 -- imports, with their literals
 

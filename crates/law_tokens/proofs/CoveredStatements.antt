@@ -20,15 +20,15 @@ use Rattle.go_scope.specs.Site.{Source}
 use Rattle.go_scope.specs.ExpressionSites.{sites_if, list_sites, type_sites, expr_sites, exprs_sites}
 use Rattle.go_scope.specs.StatementSites.{ident_sites, left_sites, assigned_sites, simple_sites, value_sites, local_sites, init_sites, for_sites, open_of}
 use Rattle.go_scope.specs.StatementSites.{statement_sites, block_sites, statements_sites, if_sites, else_sites}
-use Rattle.law_tokens.specs.Tokens.{is_ident}
+use Rattle.law_tokens.specs.Tokens.{is_ident_token}
 use Rattle.law_tokens.proofs.Covers.{IsSkipped, is_linked, ends, skips, takes, covers_end, covers_behind, list_covers, group_covers, option_covers}
 use Rattle.law_tokens.proofs.CoveredExpressions.{Named as AtNames, named_append, type_named, expr_named, exprs_named}
 
-no_step : (op : StepOp) → IsSkipped is_ident (step_kind op)
+no_step : (op : StepOp) → IsSkipped is_ident_token (step_kind op)
 no_step step.Increment = refl
 no_step step.Decrement = refl
 
-no_update : (op : UpdateOp) → IsSkipped is_ident (update_kind op)
+no_update : (op : UpdateOp) → IsSkipped is_ident_token (update_kind op)
 no_update update.Add = refl
 no_update update.Subtract = refl
 no_update update.Multiply = refl
@@ -53,16 +53,16 @@ assigned_named s e = expr_named s e
 simple_named : (s : Source) (b : Block) (following : ℕ) (x : SimpleTree) → AtNames s (simple_sites s b following x) (simple_tokens x)
 unfolding simple_sites simple_tokens
 simple_named s b following (Alone e) = expr_named s e
-simple_named s b following (Step e op p) = covers_end is_ident s (expr_sites s e) (expr_tokens e) (step_kind op) p (no_step op) (expr_named s e)
+simple_named s b following (Step e op p) = covers_end is_ident_token s (expr_sites s e) (expr_tokens e) (step_kind op) p (no_step op) (expr_named s e)
 simple_named s b following (Update e op p f) =
     named_append s (expr_sites s e) (expr_sites s f) (expr_tokens e) (sign (update_kind op) p ∷ expr_tokens f) (expr_named s e)
     (skips (no_update op) (expr_named s f))
 simple_named s b following (Assign es p fs) =
     named_append s (list_sites (assigned_sites s) es) (exprs_sites s fs) (exprs_tokens es) (sign kind.Assign p ∷ exprs_tokens fs)
-    (list_covers is_ident s kind.Comma refl (assigned_sites s) expr_tokens (assigned_named s) es) (skips refl (exprs_named s fs))
+    (list_covers is_ident_token s kind.Comma refl (assigned_sites s) expr_tokens (assigned_named s) es) (skips refl (exprs_named s fs))
 simple_named s b following (Define es p fs) =
     named_append s (list_sites (left_sites s b following) es) (exprs_sites s fs) (exprs_tokens es) (sign kind.Define p ∷ exprs_tokens fs)
-    (list_covers is_ident s kind.Comma refl (left_sites s b following) expr_tokens (left_named s b following) es) (skips refl (exprs_named s fs))
+    (list_covers is_ident_token s kind.Comma refl (left_sites s b following) expr_tokens (left_named s b following) es) (skips refl (exprs_named s fs))
 
 value_named : (s : Source) (v : ℕ × List (Item ExprTree)) → AtNames s (value_sites s v) (value_tokens expr_tokens v)
 value_named s v = skips refl (exprs_named s v.1)
@@ -73,17 +73,17 @@ local_named s b following l =
     named_append s (list_sites (ident_sites s (Declaring b following)) l.names) (sites_if (type_sites s) l.type_use ++ sites_if (value_sites s) l.values)
     (list_tokens kind.Comma ident_tokens l.names)
     (tokens_if type_tokens l.type_use ++ tokens_if (value_tokens expr_tokens) l.values)
-    (list_covers is_ident s kind.Comma refl (ident_sites s (Declaring b following)) ident_tokens (ident_named s (Declaring b following) refl) l.names)
+    (list_covers is_ident_token s kind.Comma refl (ident_sites s (Declaring b following)) ident_tokens (ident_named s (Declaring b following) refl) l.names)
     (named_append s (sites_if (type_sites s) l.type_use) (sites_if (value_sites s) l.values) (tokens_if type_tokens l.type_use)
     (tokens_if (value_tokens expr_tokens) l.values)
-    (option_covers is_ident s (type_sites s) type_tokens (type_named s) l.type_use)
-    (option_covers is_ident s (value_sites s) (value_tokens expr_tokens) (value_named s) l.values))
+    (option_covers is_ident_token s (type_sites s) type_tokens (type_named s) l.type_use)
+    (option_covers is_ident_token s (value_sites s) (value_tokens expr_tokens) (value_named s) l.values))
 
 init_named : (s : Source) (b : Block) (i : InitTree) → AtNames s (init_sites s b i) (init_tokens i)
 unfolding init_sites init_tokens
 init_named s b i =
-    covers_end is_ident s (sites_if (simple_sites s b i.semicolon) i.simple) (tokens_if simple_tokens i.simple) kind.Semicolon i.semicolon refl
-    (option_covers is_ident s (simple_sites s b i.semicolon) simple_tokens (simple_named s b i.semicolon) i.simple)
+    covers_end is_ident_token s (sites_if (simple_sites s b i.semicolon) i.simple) (tokens_if simple_tokens i.simple) kind.Semicolon i.semicolon refl
+    (option_covers is_ident_token s (simple_sites s b i.semicolon) simple_tokens (simple_named s b i.semicolon) i.simple)
 
 for_named : (s : Source) (b : Block) (open_brace : ℕ) (f : ForTree) → AtNames s (for_sites s b open_brace f) (for_tokens f)
 unfolding for_sites for_tokens
@@ -93,19 +93,19 @@ for_named s b open_brace (clauses init first condition second post) =
     named_append s (sites_if (simple_sites s b first) init) (sites_if (expr_sites s) condition ++ sites_if (simple_sites s b open_brace) post)
     (tokens_if simple_tokens init)
     (sign kind.Semicolon first ∷ (tokens_if expr_tokens condition ++ (sign kind.Semicolon second ∷ tokens_if simple_tokens post)))
-    (option_covers is_ident s (simple_sites s b first) simple_tokens (simple_named s b first) init)
+    (option_covers is_ident_token s (simple_sites s b first) simple_tokens (simple_named s b first) init)
     (skips refl
     (named_append s (sites_if (expr_sites s) condition) (sites_if (simple_sites s b open_brace) post) (tokens_if expr_tokens condition)
     (sign kind.Semicolon second ∷ tokens_if simple_tokens post)
-    (option_covers is_ident s (expr_sites s) expr_tokens (expr_named s) condition)
-    (skips refl (option_covers is_ident s (simple_sites s b open_brace) simple_tokens (simple_named s b open_brace) post))))
+    (option_covers is_ident_token s (expr_sites s) expr_tokens (expr_named s) condition)
+    (skips refl (option_covers is_ident_token s (simple_sites s b open_brace) simple_tokens (simple_named s b open_brace) post))))
 
 mutual
   unfolding statement_sites block_sites statements_sites if_sites else_sites statement_tokens block_tokens statements_tokens if_tokens else_tokens
 
   statement_named : (s : Source) (b : Block) (following : ℕ) (x : StatementTree) → AtNames s (statement_sites s b following x) (statement_tokens x)
   statement_named s b following Empty = ends
-  statement_named s b following (Var p g) = skips refl (group_covers is_ident s refl refl refl (local_sites s b) local_tokens (local_named s b) following g)
+  statement_named s b following (Var p g) = skips refl (group_covers is_ident_token s refl refl refl (local_sites s b) local_tokens (local_named s b) following g)
   statement_named s b following (Simple x) = simple_named s b following x
   statement_named s b following (Inner x) = block_named s x
   statement_named s b following (If x) = if_named s following x
@@ -120,7 +120,7 @@ mutual
   pub block_named : (s : Source) (x : BlockTree) → AtNames s (block_sites s x) (block_tokens x)
   block_named s (block o ss c) =
       skips refl
-      (covers_end is_ident s (statements_sites s (blocks.Inner s.rank o c) c ss) (statements_tokens ss) kind.RightBrace c refl
+      (covers_end is_ident_token s (statements_sites s (blocks.Inner s.rank o c) c ss) (statements_tokens ss) kind.RightBrace c refl
       (statements_named s (blocks.Inner s.rank o c) c ss))
 
   statements_named : (s : Source) (b : Block) (close : ℕ) (ss : StatementTrees) → AtNames s (statements_sites s b close ss) (statements_tokens ss)
@@ -129,7 +129,7 @@ mutual
       named_append s (statement_sites s b (unwrap_or semicolon close) x) (statements_sites s b close rest) (statement_tokens x)
       (sign_if kind.Semicolon semicolon ++ statements_tokens rest)
       (statement_named s b (unwrap_or semicolon close) x)
-      (covers_behind is_ident s (statements_sites s b close rest) (statements_tokens rest) kind.Semicolon semicolon refl (statements_named s b close rest))
+      (covers_behind is_ident_token s (statements_sites s b close rest) (statements_tokens rest) kind.Semicolon semicolon refl (statements_named s b close rest))
 
   if_named : (s : Source) (following : ℕ) (x : IfTree) → AtNames s (if_sites s following x) (if_tokens x)
   if_named s following (if_tree p init e x rest) =
@@ -137,7 +137,7 @@ mutual
       (named_append s (sites_if (init_sites s (blocks.Inner s.rank p following)) init) (expr_sites s e ++ (block_sites s x ++ else_sites s following rest))
       (tokens_if init_tokens init)
       (expr_tokens e ++ (block_tokens x ++ else_tokens rest))
-      (option_covers is_ident s (init_sites s (blocks.Inner s.rank p following)) init_tokens (init_named s (blocks.Inner s.rank p following)) init)
+      (option_covers is_ident_token s (init_sites s (blocks.Inner s.rank p following)) init_tokens (init_named s (blocks.Inner s.rank p following)) init)
       (named_append s (expr_sites s e) (block_sites s x ++ else_sites s following rest) (expr_tokens e) (block_tokens x ++ else_tokens rest) (expr_named s e)
       (named_append s (block_sites s x) (else_sites s following rest) (block_tokens x) (else_tokens rest) (block_named s x) (else_named s following rest))))
 

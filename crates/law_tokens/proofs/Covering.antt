@@ -15,7 +15,7 @@ use Rattle.go_scope.specs.declared.model.Role.TheVariants.{Use, Declaring, LeftN
 use Rattle.go_scope.specs.Bindings.{is_implied}
 use Rattle.go_scope.specs.Site.{Site, Source, site}
 use Rattle.go_scope.specs.FileSites.{imports_sites, decl_sites, file_sites}
-use Rattle.law_tokens.specs.Tokens.{is_ident, is_header_name, begins_declaration, names_among, identifiers_among}
+use Rattle.law_tokens.specs.Tokens.{is_ident_token, is_header_name, begins_declaration, names_among, identifiers_among}
 use Rattle.law_tokens.specs.Covered.{CoverTokens, place_in}
 use Rattle.law_tokens.proofs.Covers.{Covers, is_link, is_linked, IsTaken, ends, skips, takes, selects, keys}
 use Rattle.law_tokens.proofs.CoveredFiles.{imports_covered, decls_named}
@@ -140,7 +140,7 @@ file_pairs s f =
     let whole : Pairs s sites (among is_header_name header ++ names_among rest) =
     pairs_append s (flat_map (imports_sites s) f.imports) (flat_map (decl_sites s) f.decls) (among is_header_name header) (names_among rest)
     (pairs_of is_header_name s (flat_map (imports_sites s) f.imports) header (imports_covered s f.imports))
-    (pairs_of is_ident s (flat_map (decl_sites s) f.decls) rest (decls_named s f.decls)) in
+    (pairs_of is_ident_token s (flat_map (decl_sites s) f.decls) rest (decls_named s f.decls)) in
     (refl, refl, subst (λ l. Pairs s sites l) (sym split) whole)
 
 -- places and spellings

@@ -29,7 +29,7 @@ use Rattle.go_scope.specs.Trees.{AreNumbered, IsNumbered}
 use Rattle.go_scope.proofs.Declared.{file_numbered, no_numbers}
 use Rattle.go_scope.proofs.NamedSites.{place_stays}
 use Rattle.law_tokens.specs.Order.{StandInOrder}
-use Rattle.law_tokens.specs.Tokens.{is_ident, is_header_name, begins_declaration, names_among, identifiers_among}
+use Rattle.law_tokens.specs.Tokens.{is_ident_token, is_header_name, begins_declaration, names_among, identifiers_among}
 use Rattle.law_tokens.specs.Covered.{AreSourceFiles}
 use Rattle.law_tokens.specs.Bytes.{TokenCovers, CoversByte, AreCut, HaveOwnPaths}
 use Rattle.law_tokens.proofs.Ordered.{package_ordered, one_stands, same_length}
@@ -134,7 +134,7 @@ kept_mark false i t ts us f h = inr (f h)
 
 names_mark : (i : ℕ) (ts : List Token) → Marks i (names_among ts) → Marks i ts
 names_mark i [] h = h
-names_mark i (t ∷ ts) h = kept_mark (is_ident t.kind) i t ts (names_among ts) (names_mark i ts) h
+names_mark i (t ∷ ts) h = kept_mark (is_ident_token t.kind) i t ts (names_among ts) (names_mark i ts) h
 
 identifiers_mark : (i : ℕ) (ts : List Token) → Marks i (identifiers_among ts) → Marks i ts
 unfolding identifiers_among

@@ -12,7 +12,7 @@ use Rattle.go_scope.specs.declared.model.Role.{Role}
 use Rattle.go_scope.specs.declared.model.Role.TheVariants.{NotLexical}
 use Rattle.go_scope.specs.Site.{Site, Source}
 use Rattle.go_scope.specs.FileSites.{imports_sites, decl_sites, file_sites}
-use Rattle.law_tokens.specs.Tokens.{is_ident, is_header_name}
+use Rattle.law_tokens.specs.Tokens.{is_ident_token, is_header_name}
 use Rattle.law_tokens.proofs.Covers.{Covers, is_link, is_linked, ends, skips, takes, selects, keys}
 use Rattle.law_tokens.proofs.CoveredFiles.{imports_covered, decls_named}
 use Rattle.law_tokens.proofs.Covering.{neither}
@@ -62,7 +62,7 @@ file_linked s f =
     let decls = flat_map (decl_sites s) f.decls in
     skip refl (take refl refl refl (skip refl
     (linked_append s imports decls header rest (linked is_header_name s imports header (imports_covered s f.imports))
-    (linked is_ident s decls rest (decls_named s f.decls)))))
+    (linked is_ident_token s decls rest (decls_named s f.decls)))))
 
 -- tokens numbered one by one
 

@@ -18,7 +18,7 @@ use Rattle.go_scope.specs.Table.{LiesAt}
 use Rattle.go_scope.specs.Trees.{AreRising, IsNumbered, AreNumbered}
 use Rattle.go_scope.proofs.NamedSites.{place_stays}
 use Rattle.law_tokens.specs.Order.{ComesBefore, StandInOrder}
-use Rattle.law_tokens.specs.Tokens.{is_ident, is_header_name, begins_declaration, names_among, identifiers_among}
+use Rattle.law_tokens.specs.Tokens.{is_ident_token, is_header_name, begins_declaration, names_among, identifiers_among}
 use Rattle.law_tokens.proofs.Covering.{Pairs, file_pairs}
 
 -- identifiers of one file, each behind the one before, the first at that token or behind it
@@ -42,7 +42,7 @@ rising_kept false n t ts le h = rising_from n (suc t.place) ts (omega arith) h
 
 pub rising_names : (n : ℕ) (ts : List Token) → AreRising n ts → AreRising n (names_among ts)
 rising_names n [] h = tt
-rising_names n (t ∷ ts) h = rising_kept (is_ident t.kind) n t (names_among ts) h.0 (rising_names (suc t.place) ts h.1)
+rising_names n (t ∷ ts) h = rising_kept (is_ident_token t.kind) n t (names_among ts) h.0 (rising_names (suc t.place) ts h.1)
 
 pub rising_identifiers : (n : ℕ) (ts : List Token) → AreRising n ts → AreRising n (identifiers_among ts)
 unfolding identifiers_among

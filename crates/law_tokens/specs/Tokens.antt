@@ -5,10 +5,10 @@ use Rattle.go_ast.specs.declared.syntax.Kind.TheVariants as kind
 use Rattle.go_ast.specs.declared.syntax.Token.{Token}
 
 -- Whether a kind is that of an identifier token, `_` among them.
-abbrev pub is_ident : Kind → Bool
-is_ident kind.Name = true
-is_ident kind.Blank = true
-is_ident _ = false
+abbrev pub is_ident_token : Kind → Bool
+is_ident_token kind.Name = true
+is_ident_token kind.Blank = true
+is_ident_token _ = false
 
 -- Whether a kind is that of an identifier token, `_` or a string. Before the first declaration of a file, each string is that of an import.
 abbrev pub is_header_name : Kind → Bool
@@ -26,7 +26,7 @@ begins_declaration _ = false
 
 -- The identifier tokens among tokens.
 abbrev pub names_among : List Token → List Token
-names_among ts = filter (λ t. is_ident t.kind) ts
+names_among ts = filter (λ t. is_ident_token t.kind) ts
 
 -- The identifier tokens of a file, and the strings before its first declaration.
 unfoldable pub identifiers_among : List Token → List Token

@@ -8,29 +8,29 @@ use Rattle.std.proofs.lemmas.Result.{on_ok_weaker}
 use Rattle.base_files.specs.declared.place.Place.{Place}
 use Rattle.refs_binding.specs.Places.{place_cmp}
 use Rattle.refs_binding.proofs.PlaceOrder.{place_cmp_total}
-use Rattle.refactor_conflict.specs.Conflicts.{Takes, IsBefore, HoldsBefore}
+use Rattle.refactor_conflict.specs.Conflicts.{Takes, IsPlaceBefore, HoldsBefore}
 use Rattle.refactor_conflict.specs.declared.conflict.Conflict.{Conflict}
 use Rattle.refactor_conflict.proofs.Firsts.{less_of}
 
 -- The places before the first conflict found so far.
-pub ahead_of_none : (first : Option Conflict) (place : Place) → first ≡ None → IsTrue true ↔ IsBefore first place
-ahead_of_none first place none = ((λ t. subst (λ o. IsBefore o place) (sym none) tt), (λ h. refl))
+pub ahead_of_none : (first : Option Conflict) (place : Place) → first ≡ None → IsTrue true ↔ IsPlaceBefore first place
+ahead_of_none first place none = ((λ t. subst (λ o. IsPlaceBefore o place) (sym none) tt), (λ h. refl))
 
 pub ahead_of_some : (first : Option Conflict) (c : Conflict) (place : Place) → first ≡ Some c → (told : Bool) → told ≡ is_lt (place_cmp place c.used) →
-    IsTrue told ↔ IsBefore first place
+    IsTrue told ↔ IsPlaceBefore first place
 ahead_of_some first c place some told is = (
-  (λ t. subst (λ o. IsBefore o place) (sym some) (less_of (place_cmp place c.used) (sym is ∙ t))),
-  (λ h. let less : place_cmp place c.used ≡ Less = subst (λ o. IsBefore o place) some h in is ∙ ap is_lt less),
+  (λ t. subst (λ o. IsPlaceBefore o place) (sym some) (less_of (place_cmp place c.used) (sym is ∙ t))),
+  (λ h. let less : place_cmp place c.used ≡ Less = subst (λ o. IsPlaceBefore o place) some h in is ∙ ap is_lt less),
 )
 
-ahead_before : (first : Option Conflict) (used : Place) → IsBefore first used → (place : Place) → place_cmp place used ≡ Less → IsBefore first place
+ahead_before : (first : Option Conflict) (used : Place) → IsPlaceBefore first used → (place : Place) → place_cmp place used ≡ Less → IsPlaceBefore first place
 ahead_before None used h place less = tt
 ahead_before (Some c) used h place less = place_cmp_total.trans place used c.used less h
 
 -- A place before the conflict that is first after a step was before the one that was first before it.
-pub ahead_of : (P : Conflict → Type 0) (a b : Option Conflict) → Takes P a b → (place : Place) → IsBefore b place → IsBefore a place
-ahead_of P a b (inl e) place h = subst (λ o. IsBefore o place) e h
-ahead_of P a b (inr x) place h = ahead_before a x.0.used x.1.1.1 place (subst (λ o. IsBefore o place) x.1.0 h)
+pub ahead_of : (P : Conflict → Type 0) (a b : Option Conflict) → Takes P a b → (place : Place) → IsPlaceBefore b place → IsPlaceBefore a place
+ahead_of P a b (inl e) place h = subst (λ o. IsPlaceBefore o place) e h
+ahead_of P a b (inr x) place h = ahead_before a x.0.used x.1.1.1 place (subst (λ o. IsPlaceBefore o place) x.1.0 h)
 
 pub takes_none : (P : Conflict → Type 0) (a : Option Conflict) → Takes P a a
 takes_none P a = inl refl

@@ -17,7 +17,7 @@ use Rattle.refs_binding.specs.Places.{place_cmp}
 use Rattle.refs_binding.proofs.Folders.{some_file}
 use Rattle.base_edits.specs.Revisions.{Revision}
 use Rattle.refactor_after.specs.FilesAfter.{IsAfterPlace}
-use Rattle.refactor_conflict.specs.Conflicts.{AreAfter, IsBefore, HoldsBefore}
+use Rattle.refactor_conflict.specs.Conflicts.{AreAfter, IsPlaceBefore, HoldsBefore}
 use Rattle.refactor_conflict.specs.Staying.{StaysIn}
 use Rattle.refactor_conflict.specs.declared.conflict.Conflict.{Conflict}
 use Rattle.refactor_conflict.proofs.Firsts.{behind, less_of}
@@ -42,4 +42,4 @@ module _ (files : List FileParts) (p : Package) (own : p.files ≡ map source_of
       let lies : IsAfterPlace h.0.used f.0 = All-contains (IsAfterPlace h.0.used) files f.0 h.1.1 f.1.0 in
       let less : path_cmp h.0.used.path place.path ≡ Less =
       subst (λ (q : List ℕ). path_cmp h.0.used.path q ≡ Less) f.1.1 (less_of (path_cmp h.0.used.path f.0.path) lies) in
-      absurd (later place h.0.used less (subst (λ (o : Option Conflict). IsBefore o place) h.1.0 ahead))
+      absurd (later place h.0.used less (subst (λ (o : Option Conflict). IsPlaceBefore o place) h.1.0 ahead))

@@ -36,7 +36,7 @@ use Rattle.refs_binding.specs.DeclaringPlaces.{TokenBegins, TokenAt}
 use Rattle.refs_places.proofs.Starts.{token_once}
 use Rattle.refactor_after.specs.OldPlaces.{field_at, method_at}
 use Rattle.refactor_after.specs.MembersAfter.{CountsAfter, IsMemberAfter}
-use Rattle.refactor_conflict.specs.Conflicts.{IsBefore, HoldsBefore, HoldsAtToken, HoldsAtFound, UsedAfter, UseStays, UsesStay}
+use Rattle.refactor_conflict.specs.Conflicts.{IsPlaceBefore, HoldsBefore, HoldsAtToken, HoldsAtFound, UsedAfter, UseStays, UsesStay}
 use Rattle.refactor_conflict.specs.Staying.{StaysByMember, MembersStayIn, FieldsStayIn, MethodsStayIn, DeclaringNamesStayIn}
 use Rattle.refactor_conflict.specs.declared.conflict.Conflict.{Conflict}
 use Rattle.refactor_conflict.proofs.MemberUses.{in_world, definitions_in}
@@ -76,11 +76,11 @@ token_of p at place h =
     subst (λ (x : Position). TokenAt p x place) (sym (stands_once p u at h.1.1)) (named_token (file_of p u) (p.layout.place u).index place h.1.0.1)
 
 pub holds_there : {E : Type 0} (p : Package) (at : Position) (K : Place → Type 0) (first : Option Conflict) (place : Place) (r : Result (Unit {0}) E) →
-    AtToken p at place → OnOk r (IsBefore first place → K place) → OnOk r (HoldsAtToken p at K first)
+    AtToken p at place → OnOk r (IsPlaceBefore first place → K place) → OnOk r (HoldsAtToken p at K first)
 holds_there p at K first place r is h =
     on_ok_weaker r (λ k x ahead token.
     let same : place ≡ x = token_once (slice_get p.files at.file) at.index place x (token_of p at place is) (token_of p at x token) in
-    subst K same (k (subst (IsBefore first) (sym same) ahead))) h
+    subst K same (k (subst (IsPlaceBefore first) (sym same) ahead))) h
 
 -- a use that was a member, and one that was none
 pub use_stays : {E : Type 0} (Known : Package → Type 0) (r : Revision) (ds : Symbol → Definition) (p : Package) (file : ℕ) (x : MemberUse)

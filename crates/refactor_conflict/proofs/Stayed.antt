@@ -15,7 +15,7 @@ use Rattle.refs_binding.specs.Steps.{IsDeclarationResult}
 use Rattle.refs_binding.specs.Workspaces.{IsPackageAt}
 use Rattle.refs_binding.proofs.Units.{numbered, number_within, one_at}
 use Rattle.refs_places.proofs.Starts.{begins_once}
-use Rattle.refactor_conflict.specs.Conflicts.{IsBefore, HoldsBefore}
+use Rattle.refactor_conflict.specs.Conflicts.{IsPlaceBefore, HoldsBefore}
 use Rattle.refactor_conflict.specs.Staying.{StaysBound, StaysByScope, StaysByPackage, NameStays, StaysIn, StaysInNumber, StaysAt, IfBegins}
 use Rattle.refactor_conflict.specs.Staying.{NamesStayIn, MembersStayIn, DeclaringNamesStayIn}
 use Rattle.refactor_conflict.specs.declared.conflict.Conflict.{Conflict}
@@ -29,7 +29,7 @@ stays_as Becomes K L old to h = record { declaration = h.declaration; bound = to
 -- An identifier that stays bound to the declaration found stays bound to the one that this is.
 pub call_stays : {E : Type 0} (Becomes : Declaration → Declaration → Type 0) (K : Declaration → Type 0) (old : Declaration) (now : Option Declaration)
     (first : Option Conflict) (place : Place) (r : Result (Unit {0}) E) → IsDeclarationResult K now →
-    OnOk r (IsBefore first place → StaysBound Becomes (λ e. now ≡ Some e) old) → OnOk r (IsBefore first place → StaysBound Becomes K old)
+    OnOk r (IsPlaceBefore first place → StaysBound Becomes (λ e. now ≡ Some e) old) → OnOk r (IsPlaceBefore first place → StaysBound Becomes K old)
 call_stays Becomes K old now first place r found h =
     on_ok_weaker r (λ k ahead. stays_as Becomes (λ e. now ≡ Some e) K old (λ e is. found_so K now found e is) (k ahead)) h
 
@@ -39,11 +39,11 @@ pub begins_nowhere : (p : Package) (u : ℕ) (K : Place → Type 0) (first : Opt
 begins_nowhere p u K first none = λ place ahead begins. absurd (none place begins)
 
 pub begins_here : {E : Type 0} (p : Package) (u : ℕ) (K : Place → Type 0) (first : Option Conflict) (place : Place) (r : Result (Unit {0}) E) →
-    BeginsAt p place.path place.offset u → OnOk r (IsBefore first place → K place) → OnOk r (HoldsBefore (IfBegins p u K) first)
+    BeginsAt p place.path place.offset u → OnOk r (IsPlaceBefore first place → K place) → OnOk r (HoldsBefore (IfBegins p u K) first)
 begins_here p u K first place r begins h =
     on_ok_weaker r (λ k x ahead at.
     let same : place ≡ x = begins_once p u place x begins at in
-    subst K same (k (subst (IsBefore first) (sym same) ahead))) h
+    subst K same (k (subst (IsPlaceBefore first) (sym same) ahead))) h
 
 -- Identifiers that were bound to nothing, and identifiers that were bound to one declaration.
 pub all_of_none : (p : Package) (u : ℕ) (K : Place → Declaration → Type 0) (Was : Declaration → Type 0) (first : Option Conflict) →

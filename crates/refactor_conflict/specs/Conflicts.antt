@@ -129,17 +129,17 @@ abbrev pub IsFirstConflict : Workspace → Verdicts → Revision → Option Conf
 IsFirstConflict w known r told = MatchOption told (HasNoIdentifiers w known) (IsReported w known r)
 
 -- The place comes before the place of the first conflict found so far. Every place does where none is found.
-abbrev pub IsBefore : Option Conflict → Place → Type 0
-IsBefore None place = ⊤
-IsBefore (Some c) place = place_cmp place c.used ≡ Less
+abbrev pub IsPlaceBefore : Option Conflict → Place → Type 0
+IsPlaceBefore None place = ⊤
+IsPlaceBefore (Some c) place = place_cmp place c.used ≡ Less
 
 -- The first conflict found so far stays `old`, or becomes an earlier conflict of which `P` holds.
 abbrev pub Takes : (Conflict → Type 0) → Option Conflict → Option Conflict → Type 0
-Takes P old new = (new ≡ old) ⊎ ((c : Conflict) × ((new ≡ Some c) × (P c × IsBefore old c.used)))
+Takes P old new = (new ≡ old) ⊎ ((c : Conflict) × ((new ≡ Some c) × (P c × IsPlaceBefore old c.used)))
 
 -- `K` holds of each place before the first conflict found so far, and of every place where none is found.
 abbrev pub HoldsBefore : (Place → Type 0) → Option Conflict → Type 0
-HoldsBefore K first = (place : Place) → IsBefore first place → K place
+HoldsBefore K first = (place : Place) → IsPlaceBefore first place → K place
 
 -- A conflict is found, and all these files come after its file in the order of paths.
 abbrev pub AreAfter : Option Conflict → List FileParts → Type 0

@@ -3,7 +3,7 @@ ghost use Rattle.std.specs.Prelude.{◌≡◌, ◌↔◌, Some, IsTrue, IfOk, On
 ghost use Rattle.refs_binding.specs.declared.declaration.Declaration.{Declaration as Bound};
 ghost use Rattle.refs_binding.specs.declared.declaration.Declaration.TheVariants.{Predeclared, Declared, Field, Method};
 ghost use Rattle.refs_binding.specs.Places.{place_cmp};
-ghost use Rattle.refactor_conflict.specs.Conflicts.{IsBefore, IsConflictBy, IsCapturer, IsConflictOf, IsOtherMember, Takes};
+ghost use Rattle.refactor_conflict.specs.Conflicts.{IsPlaceBefore, IsConflictBy, IsCapturer, IsConflictOf, IsOtherMember, Takes};
 ghost use Rattle.refactor_conflict.specs.Judging.{KnowsChange, known_packages, becomes_in};
 ghost use Rattle.refactor_conflict.specs.ScopesAfter.{IsBindable};
 ghost use Rattle.refactor_conflict.specs.Staying.{StaysBound};
@@ -80,7 +80,7 @@ pub fn compare(a: &Place, b: &Place) -> Ordering
 
 /// Whether a place comes before the first conflict found so far. True where none is found.
 fn is_before(place: &Place, first: &Option<Conflict>) -> bool
-    ensures { IsTrue result ↔ IsBefore first.now place.now }
+    ensures { IsTrue result ↔ IsPlaceBefore first.now place.now }
 {
     match first {
         None => true,
@@ -91,7 +91,7 @@ fn is_before(place: &Place, first: &Option<Conflict>) -> bool
 /// Makes this conflict the first one, if it comes before the first found so far.
 fn keep(first: &mut Option<Conflict>, used: Place, by: Option<Capturer>)
     ensures takes { Takes (IsConflictBy used by) first.old first.new }
-    ensures behind { IsBefore first.new used → ⊥ }
+    ensures behind { IsPlaceBefore first.new used → ⊥ }
 {
     if !is_before(&used, first) {
         return;
@@ -140,7 +140,7 @@ fn note_other(
     requires counts { IsBindable judge.now.after.now e.now }
     requires other { becomes_in judge.now old.now e.now → ⊥ }
     ensures takes { OnOk result (Takes (IsConflictOf (becomes_in judge.now) (known_packages judge.now) (λ d. d ≡ e.now) used old.now) first.old first.new) }
-    ensures behind { OnOk result (IsBefore first.new used → ⊥) }
+    ensures behind { OnOk result (IsPlaceBefore first.new used → ⊥) }
 {
     let by = capturer_after(judge, e)?;
     keep(first, used, by);
@@ -158,7 +158,7 @@ fn note_bound(
     requires knows { KnowsChange judge.now }
     requires counts { IsBindable judge.now.after.now e.now }
     ensures takes { OnOk result (Takes (IsConflictOf (becomes_in judge.now) (known_packages judge.now) (λ d. d ≡ e.now) used old.now) first.old first.new) }
-    ensures stays { OnOk result (IsBefore first.new used → becomes_in judge.now old.now e.now) }
+    ensures stays { OnOk result (IsPlaceBefore first.new used → becomes_in judge.now old.now e.now) }
 {
     if has_become(judge, old, e)? {
         Ok(())
@@ -179,7 +179,7 @@ pub fn note(
     requires knows { KnowsChange judge.now }
     requires counts { MatchOption now (Unit {0}) (IsBindable judge.now.after.now) }
     ensures takes { OnOk result (Takes (IsConflictOf (becomes_in judge.now) (known_packages judge.now) (λ e. now ≡ Some e) used old.now) first.old first.new) }
-    ensures stays { OnOk result (IsBefore first.new used → StaysBound (becomes_in judge.now) (λ e. now ≡ Some e) old.now) }
+    ensures stays { OnOk result (IsPlaceBefore first.new used → StaysBound (becomes_in judge.now) (λ e. now ≡ Some e) old.now) }
 {
     match now {
         None => {
@@ -200,7 +200,7 @@ fn note_other_member(
 ) -> Result<(), AllocError>
     requires { KnowsChange judge.now }
     ensures takes { OnOk result (Takes (IsOtherMember (known_packages judge.now) (λ e. e ≡ now.now) used old.now) first.old first.new) }
-    ensures stays { OnOk result (IsBefore first.new used → old.now ≡ now.now) }
+    ensures stays { OnOk result (IsPlaceBefore first.new used → old.now ≡ now.now) }
 {
     if is_same(old, now) {
         return Ok(());
@@ -221,7 +221,7 @@ pub fn note_member(
 ) -> Result<(), AllocError>
     requires { KnowsChange judge.now }
     ensures takes { OnOk result (Takes (IsOtherMember (known_packages judge.now) (λ e. now ≡ Some e) used old.now) first.old first.new) }
-    ensures stays { OnOk result (IsBefore first.new used → now ≡ Some old.now) }
+    ensures stays { OnOk result (IsPlaceBefore first.new used → now ≡ Some old.now) }
 {
     match now {
         None => {
@@ -235,7 +235,7 @@ pub fn note_member(
 /// Notes the declaring identifier at `used` of a field or method as lost.
 pub fn note_lost(first: &mut Option<Conflict>, used: Place)
     ensures takes { Takes (IsConflictBy used None) first.old first.new }
-    ensures behind { IsBefore first.new used → ⊥ }
+    ensures behind { IsPlaceBefore first.new used → ⊥ }
 {
     keep(first, used, None);
 }

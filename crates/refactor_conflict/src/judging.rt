@@ -10,7 +10,7 @@ ghost use Rattle.refs_binding.specs.Members.{definitions_seen};
 ghost use Rattle.refs_binding.specs.Workspaces.{IsPackageAt};
 ghost use Rattle.refactor_after.specs.MembersAfter.{CountsAfter};
 ghost use Rattle.refactor_conflict.specs.BoundAfter.{IsBoundByScopes, IsBoundByPackage, IsExportAfter, SelectsAfter};
-ghost use Rattle.refactor_conflict.specs.Conflicts.{IsConflictIn, IsConflictOf, IsOtherMember, IsOtherAt, IsLostAt, IsLostAtFound, IsLostThere, IsMemberConflict, IsMemberConflictIn, IsOnlyQualifiedBy, IsBefore, HoldsBefore, HoldsAtToken, HoldsAtFound, UseStays, UsesStay, Takes};
+ghost use Rattle.refactor_conflict.specs.Conflicts.{IsConflictIn, IsConflictOf, IsOtherMember, IsOtherAt, IsLostAt, IsLostAtFound, IsLostThere, IsMemberConflict, IsMemberConflictIn, IsOnlyQualifiedBy, IsPlaceBefore, HoldsBefore, HoldsAtToken, HoldsAtFound, UseStays, UsesStay, Takes};
 ghost use Rattle.refactor_conflict.specs.Judging.{KnowsChange, workspace_in, known_verdicts, known_packages, revision_in, becomes_in};
 ghost use Rattle.refactor_after.specs.OldPlaces.{field_at, method_at};
 ghost use Rattle.refactor_conflict.specs.Staying.{StaysBound, StaysByScope, StaysByPackage, StaysIn, NamesStayIn, MembersStayIn, FieldsStayIn, MethodsStayIn, DeclaringNamesStayIn, IfBegins};
@@ -76,7 +76,7 @@ fn note_by_scope(
 ) -> Result<(), AllocError>
     requires { KnowsChange judge.now }
     ensures takes { OnOk result (Takes (IsConflictOf (becomes_in judge.now) (known_packages judge.now) (IsBoundByScopes (revision_in judge.now) place) place old.now) first.old first.new) }
-    ensures stays { OnOk result (IsBefore first.new place → StaysBound (becomes_in judge.now) (IsBoundByScopes (revision_in judge.now) place) old.now) }
+    ensures stays { OnOk result (IsPlaceBefore first.new place → StaysBound (becomes_in judge.now) (IsBoundByScopes (revision_in judge.now) place) old.now) }
 {
     let now = after_by_scope(judge, &place)?;
     note(judge, first, place, old, now)
@@ -137,7 +137,7 @@ fn note_by_package(
     requires there { Contains (package_paths (workspace_in judge.now)) export.path.now }
     ensures takes { OnOk result (Takes (IsConflictOf (becomes_in judge.now) (known_packages judge.now) (IsExportAfter (workspace_in judge.now) (revision_in judge.now) export.entry.path.now (new_name_at judge.now.moves.now place export.entry.name.now)) place old.now) first.old first.new) }
     ensures stays { let now = IsExportAfter (workspace_in judge.now) (revision_in judge.now) export.entry.path.now (new_name_at judge.now.moves.now place export.entry.name.now) in
-        OnOk result (IsBefore first.new place → StaysBound (becomes_in judge.now) now old.now) }
+        OnOk result (IsPlaceBefore first.new place → StaysBound (becomes_in judge.now) now old.now) }
 {
     let now = after_by_package(alloc, judge, export.path, &place, export.name)?;
     note(judge, first, place, old, now)
@@ -255,7 +255,7 @@ fn note_by_member(
     requires { KnowsChange judge.now }
     ensures takes { let now = SelectsAfter (known_packages judge.now) (revision_in judge.now) (definitions_seen used.now.unit used.now.own.now) (package_of used.now.unit) used.now.at (type_of used.now.found.now.before) place in
         OnOk result (Takes (IsOtherMember (known_packages judge.now) now place old.now) first.old first.new) }
-    ensures stays { OnOk result (IsBefore first.new place → SelectsAfter (known_packages judge.now) (revision_in judge.now) (definitions_seen used.now.unit used.now.own.now) (package_of used.now.unit) used.now.at (type_of used.now.found.now.before) place old.now) }
+    ensures stays { OnOk result (IsPlaceBefore first.new place → SelectsAfter (known_packages judge.now) (revision_in judge.now) (definitions_seen used.now.unit used.now.own.now) (package_of used.now.unit) used.now.at (type_of used.now.found.now.before) place old.now) }
 {
     let name = used.unit.spelling(used.at.file, used.at.index);
     let now = after_by_member(judge, used.unit, used.own, used.found, &place, name)?;
@@ -366,7 +366,7 @@ fn note_by_name(
 ) -> Result<(), AllocError>
     requires { KnowsChange judge.now }
     ensures takes { OnOk result (Takes (IsLostThere (known_packages judge.now) (revision_in judge.now) place old.now) first.old first.new) }
-    ensures stays { OnOk result (IsBefore first.new place → CountsAfter (known_packages judge.now) (revision_in judge.now) old.now) }
+    ensures stays { OnOk result (IsPlaceBefore first.new place → CountsAfter (known_packages judge.now) (revision_in judge.now) old.now) }
 {
     if counts(&judge.types(), old)? {
         return Ok(());

@@ -10,14 +10,14 @@ use Rattle.refs_binding.specs.declared.place_key.PlaceKey.{PlaceKey}
 use Rattle.refs_binding.specs.Identifiers.{BeginsAt}
 use Rattle.refs_binding.specs.declared.declaration.Declaration.{Declaration}
 use Rattle.refs_binding.specs.Binding.{BindsByScope, BindsByMember, DeclaresMember}
-use Rattle.refs_binding.specs.Steps.{AddsMisfits, UsesIn, QualifiesAs, BindsIn, by_scope, by_package, by_member, by_name, place_of}
+use Rattle.refs_binding.specs.Steps.{AddsPlaces, UsesIn, QualifiesAs, BindsIn, by_scope, by_package, by_member, by_name, place_of}
 
 -- nothing is added
-pub adds_none : (a : List PlaceKey) (P : Place → Type 0) → ((place : Place) → P place → ⊥) → AddsMisfits a a P
+pub adds_none : (a : List PlaceKey) (P : Place → Type 0) → ((place : Place) → P place → ⊥) → AddsPlaces a a P
 adds_none a P none = record { keeps = λ s h. h; holds = λ s h. absurd (none (place_of s) h); only = λ s h. inl h }
 
 -- The added places may be given by an equivalent condition.
-pub adds_as : (a b : List PlaceKey) (P Q : Place → Type 0) → ((place : Place) → P place → Q place) → ((place : Place) → Q place → P place) → AddsMisfits a b P → AddsMisfits a b Q
+pub adds_as : (a b : List PlaceKey) (P Q : Place → Type 0) → ((place : Place) → P place → Q place) → ((place : Place) → Q place → P place) → AddsPlaces a b P → AddsPlaces a b Q
 adds_as a b P Q to from h = record {
   keeps = h.keeps;
   holds = λ s q. h.holds s (from (place_of s) q);
@@ -25,7 +25,7 @@ adds_as a b P Q to from h = record {
 }
 
 -- one thing is added, and then another
-pub adds_then : (a b c : List PlaceKey) (P Q : Place → Type 0) → AddsMisfits a b P → AddsMisfits b c Q → AddsMisfits a c (λ place. P place ⊎ Q place)
+pub adds_then : (a b c : List PlaceKey) (P Q : Place → Type 0) → AddsPlaces a b P → AddsPlaces b c Q → AddsPlaces a c (λ place. P place ⊎ Q place)
 adds_then a b c P Q h k = record {
   keeps = λ s x. k.keeps s (h.keeps s x);
   holds = λ s x. elim x [ inl p ↦ k.keeps s (h.holds s p) | inr q ↦ k.holds s q ];
@@ -34,11 +34,11 @@ adds_then a b c P Q h k = record {
 
 pub call_adds : {E : Type 0} (a b : List PlaceKey) (P Q : Place → Type 0) (r : Result (Unit {0}) E) → ((place : Place) → P place → Q place) →
     ((place : Place) → Q place → P place) →
-    OnOk r (AddsMisfits a b P) → OnOk r (AddsMisfits a b Q)
+    OnOk r (AddsPlaces a b P) → OnOk r (AddsPlaces a b Q)
 call_adds a b P Q r to from k = on_ok_weaker r (λ h. adds_as a b P Q to from h) k
 
 -- a place is pushed
-pub adds_one : (a b : List PlaceKey) (s : PlaceKey) (P : Place → Type 0) → b ≡ a ++ s ∷ [] → P (place_of s) → ((t : PlaceKey) → P (place_of t) → s ≡ t) → AddsMisfits a b P
+pub adds_one : (a b : List PlaceKey) (s : PlaceKey) (P : Place → Type 0) → b ≡ a ++ s ∷ [] → P (place_of s) → ((t : PlaceKey) → P (place_of t) → s ≡ t) → AddsPlaces a b P
 adds_one a b s P e p one = record {
   keeps = λ t h. subst (λ l. Contains l t) (sym e) (Contains-append_left a (s ∷ []) t h);
   holds = λ t h. subst (λ l. Contains l t) (sym e) (subst (Contains (a ++ s ∷ [])) (one t h) (Contains-push a s));
@@ -52,7 +52,7 @@ adds_one a b s P e p one = record {
 abbrev pub Below : (ℕ → Place → Type 0) → ℕ → Place → Type 0
 Below Q n place = (u : ℕ) × (u < n) × Q u place
 
-pub below_none : (Q : ℕ → Place → Type 0) (a : List PlaceKey) → AddsMisfits a a (Below Q 0)
+pub below_none : (Q : ℕ → Place → Type 0) (a : List PlaceKey) → AddsPlaces a a (Below Q 0)
 below_none Q a = adds_none a (Below Q 0) (λ place h. let lt : h.0 < 0 = h.1 in absurd (omega arith))
 
 below_to : (Q : ℕ → Place → Type 0) (i : ℕ) (place : Place) → Below Q i place ⊎ Q i place → Below Q (i + 1) place
@@ -67,33 +67,33 @@ below_from Q i place h = elim (cases_lt h.0 i) [
   | inr ge ↦ inr (let lt : h.0 < i + 1 = h.1 in let e : h.0 ≡ i = omega arith in subst (λ u. Q u place) e h.2)
 ]
 
-pub below_next : (Q : ℕ → Place → Type 0) (a b c : List PlaceKey) (i : ℕ) → AddsMisfits a b (Below Q i) → AddsMisfits b c (Q i) → AddsMisfits a c (Below Q (i + 1))
+pub below_next : (Q : ℕ → Place → Type 0) (a b c : List PlaceKey) (i : ℕ) → AddsPlaces a b (Below Q i) → AddsPlaces b c (Q i) → AddsPlaces a c (Below Q (i + 1))
 below_next Q a b c i h k = adds_as a c (λ place. Below Q i place ⊎ Q i place) (Below Q (i + 1)) (below_to Q i) (below_from Q i)
     (adds_then a b c (Below Q i) (Q i) h k)
 
 -- The places of all identifiers of a package that satisfy `K`.
 pub all_below : (p : Package) (K : ℕ → Type 0) (n : ℕ) (a b : List PlaceKey) → n ≡ p.size →
-    AddsMisfits a b (Below (λ u place. BeginsAt p place.path place.offset u × K u) n) → AddsMisfits a b (UsesIn p K)
+    AddsPlaces a b (Below (λ u place. BeginsAt p place.path place.offset u × K u) n) → AddsPlaces a b (UsesIn p K)
 all_below p K n a b e h =
     adds_as a b (Below (λ u place. BeginsAt p place.path place.offset u × K u) n) (UsesIn p K)
     (λ place q. (q.0, q.2))
     (λ place q. (q.0, subst (λ m. q.0 < m) (sym e) q.1.0.0.0, q.1)) h
 
 -- Nothing is added if no identifier satisfies `K`.
-pub uses_none : (p : Package) (K : ℕ → Type 0) (a : List PlaceKey) → ((u : ℕ) → K u → ⊥) → AddsMisfits a a (UsesIn p K)
+pub uses_none : (p : Package) (K : ℕ → Type 0) (a : List PlaceKey) → ((u : ℕ) → K u → ⊥) → AddsPlaces a a (UsesIn p K)
 uses_none p K a none = adds_none a (UsesIn p K) (λ place q. none q.0 q.1.1)
 
 -- The uses may be given by an equivalent condition.
 pub uses_as : {E : Type 0} (p : Package) (K L : ℕ → Type 0) (a b : List PlaceKey) (r : Result (Unit {0}) E) → ((u : ℕ) → K u → L u) → ((u : ℕ) → L u → K u) →
-    OnOk r (AddsMisfits a b (UsesIn p K)) → OnOk r (AddsMisfits a b (UsesIn p L))
+    OnOk r (AddsPlaces a b (UsesIn p K)) → OnOk r (AddsPlaces a b (UsesIn p L))
 uses_as p K L a b r to from h = call_adds a b (UsesIn p K) (UsesIn p L) r (λ place q. (q.0, (q.1.0, to q.0 q.1.1)))
     (λ place q. (q.0, (q.1.0, from q.0 q.1.1))) h
 
 -- the uses of one kind after the other
 pub bound_in : {E : Type 0} (p : Package) (d : Declaration) (name : Option (List ℕ)) (a b c e f : List PlaceKey) (r : Result (Unit {0}) E) →
-    AddsMisfits a b (UsesIn p (λ u. BindsByScope p u d)) → AddsMisfits b c (UsesIn p (QualifiesAs p d name)) → AddsMisfits c e (UsesIn p (λ u. BindsByMember p u d)) →
-    OnOk r (AddsMisfits e f (UsesIn p (λ u. DeclaresMember p u d))) →
-    OnOk r (AddsMisfits a f (UsesIn p (BindsIn p d name)))
+    AddsPlaces a b (UsesIn p (λ u. BindsByScope p u d)) → AddsPlaces b c (UsesIn p (QualifiesAs p d name)) → AddsPlaces c e (UsesIn p (λ u. BindsByMember p u d)) →
+    OnOk r (AddsPlaces e f (UsesIn p (λ u. DeclaresMember p u d))) →
+    OnOk r (AddsPlaces a f (UsesIn p (BindsIn p d name)))
 bound_in p d name a b c e f r scope exported member own =
     on_ok_weaker r (λ named.
     adds_as a f _ (UsesIn p (BindsIn p d name))

@@ -34,7 +34,7 @@ use Rattle.refs_binding.specs.Binding.{by_package, by_member, by_name}
 use Rattle.refs_binding.specs.Bindings.{AddsAll, BoundIn, bound_to, bound_place}
 use Rattle.refs_binding.specs.Identifiers.{BeginsAt}
 use Rattle.refs_binding.specs.Members.{member_at, IsMemberUseOf, IsMemberUseAt, IsMemberUseAmong}
-use Rattle.refs_binding.specs.Steps.{AddsMisfits, AtToken, AtFound, ArePlaces}
+use Rattle.refs_binding.specs.Steps.{AddsPlaces, AtToken, AtFound, ArePlaces}
 use Rattle.refs_binding.specs.Uses.{IsPackage}
 use Rattle.refs_binding.proofs.AddingAll.{all_as, all_none, all_then, call_all, BelowAll, all_numbers}
 use Rattle.refs_binding.proofs.MemberPlaces.{IsFileUse, to_bound, from_bound}
@@ -72,7 +72,7 @@ all_attached a b spots d e = record {
 
 -- the places that were found for it
 pub attached_as : {E : Type 0} (a b : List BoundIdentifier) (spots : List PlaceKey) (d : Declaration) (P : Place → Type 0) (r : Result (Unit {0}) E) →
-    AddsMisfits [] spots P → OnOk r (b ≡ a ++ map (bound_to d) spots) →
+    AddsPlaces [] spots P → OnOk r (b ≡ a ++ map (bound_to d) spots) →
     OnOk r (AddsAll a b (λ x. P (bound_place x) × (x.declaration ≡ d)))
 attached_as a b spots d P r added h =
     on_ok_weaker r (λ e.

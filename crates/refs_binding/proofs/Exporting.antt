@@ -14,7 +14,7 @@ use Rattle.types_info.specs.QualifiedIdentifiers.{IsQualifiedByPath}
 use Rattle.refs_binding.specs.Binding.{Binds, BindsByScope, BindsQualified, BindsByMember, DeclaresMember}
 use Rattle.refs_binding.specs.Binding as binding
 use Rattle.refs_binding.specs.Steps as step
-use Rattle.refs_binding.specs.Steps.{AddsMisfits, UsesIn, BindsIn, QualifiesAs, IsExportedBy, IsDeclarationResult}
+use Rattle.refs_binding.specs.Steps.{AddsPlaces, UsesIn, BindsIn, QualifiesAs, IsExportedBy, IsDeclarationResult}
 use Rattle.refs_binding.specs.Uses.{IsPackage, IsBoundTo, IsUseOf}
 use Rattle.refs_binding.specs.Workspaces.{IsPackageAt, ExportsAs, IsExportedUnder, IsUseAt, BindsMember}
 use Rattle.refs_binding.proofs.Adding.{Below, adds_as}
@@ -57,8 +57,8 @@ module _ (w : Workspace) (known : Verdicts) where
 
   -- what is found in all packages is what is used
   pub all_uses : (d : Declaration) (name : Option (List ℕ)) → IsExportedUnder w known d name → (n : ℕ) (a b : List PlaceKey) → n ≡ length (package_paths w) →
-      AddsMisfits a b (Below (IsUseAt w known d name) n) →
-      AddsMisfits a b (IsUseOf w known d)
+      AddsPlaces a b (Below (IsUseAt w known d name) n) →
+      AddsPlaces a b (IsUseOf w known d)
   all_uses d name is n a b e h =
       adds_as a b (Below (IsUseAt w known d name) n) (IsUseOf w known d)
       (λ place q. let x = q.2 in

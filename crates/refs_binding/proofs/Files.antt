@@ -12,7 +12,7 @@ use Rattle.go_scope.specs.Packages.{IsPlaceOf}
 use Rattle.types_declared.proofs.PathParts.{source_at as file_at}
 use Rattle.refs_binding.specs.declared.place_key.PlaceKey.{PlaceKey}
 use Rattle.refs_binding.specs.Identifiers.{IsName, NameBegins}
-use Rattle.refs_binding.specs.Steps.{AddsMisfits}
+use Rattle.refs_binding.specs.Steps.{AddsPlaces}
 use Rattle.refs_binding.proofs.Adding.{adds_none, adds_one}
 
 pub no_file : (files : List FileParts) (k : ℕ) → length files ≤ k → slice_get (map source_of files) k ≡ None
@@ -42,25 +42,25 @@ same_spot f token s t h k = ap (λ p. spot_from p s.offset) (sym h.1 ∙ k.1) �
 -- the place of a name of a file is pushed
 pub name_pushed : (a b : List PlaceKey) (f : SourceFile) (token : ℕ) (s : PlaceKey) → IsName (slice_get (tokens_in f.cut) token) → b ≡ a ++ s ∷ [] →
     f.path ≡ s.path → offset_of f token ≡ s.offset →
-    AddsMisfits a b (λ place. NameBegins (Some f) token place.path place.offset)
+    AddsPlaces a b (λ place. NameBegins (Some f) token place.path place.offset)
 name_pushed a b f token s named pushed path_is offset_is =
     adds_one a b s (λ place. NameBegins (Some f) token place.path place.offset) pushed (named, path_is, offset_is)
     (λ t h. same_spot f token s t (named, path_is, offset_is) h)
 
 -- a token that is no name
 pub not_a_name : (a : List PlaceKey) (f : SourceFile) (token : ℕ) → (IsName (slice_get (tokens_in f.cut) token) → ⊥) →
-    AddsMisfits a a (λ place. NameBegins (Some f) token place.path place.offset)
+    AddsPlaces a a (λ place. NameBegins (Some f) token place.path place.offset)
 not_a_name a f token none = adds_none a (λ place. NameBegins (Some f) token place.path place.offset) (λ place h. none h.0)
 
 -- the same by the number of the file
 pub name_in_file : {E : Type 0} (a b : List PlaceKey) (r : Result (Unit {0}) E) (files : List FileParts) (k token : ℕ) (f : FileParts) → k < length files →
     f ≡ get_or files k f →
-    OnOk r (AddsMisfits a b (λ place. NameBegins (Some (source_of f)) token place.path place.offset)) →
-    OnOk r (AddsMisfits a b (λ place. NameBegins (slice_get (map source_of files) k) token place.path place.offset))
-name_in_file a b r files k token f lt e h = subst (λ o. OnOk r (AddsMisfits a b (λ place. NameBegins o token place.path place.offset)))
+    OnOk r (AddsPlaces a b (λ place. NameBegins (Some (source_of f)) token place.path place.offset)) →
+    OnOk r (AddsPlaces a b (λ place. NameBegins (slice_get (map source_of files) k) token place.path place.offset))
+name_in_file a b r files k token f lt e h = subst (λ o. OnOk r (AddsPlaces a b (λ place. NameBegins o token place.path place.offset)))
     (sym (file_at files k f lt e)) h
 
 -- beyond the last file there is none
 pub no_place : (a : List PlaceKey) (files : List FileParts) (k token : ℕ) → length files ≤ k →
-    AddsMisfits a a (λ place. NameBegins (slice_get (map source_of files) k) token place.path place.offset)
+    AddsPlaces a a (λ place. NameBegins (slice_get (map source_of files) k) token place.path place.offset)
 no_place a files k token le = adds_none a _ (λ place h. subst (λ o. NameBegins o token place.path place.offset) (no_file files k le) h)

@@ -20,7 +20,7 @@ use Rattle.refs_binding.specs.declared.declaration.Declaration.{Declaration}
 use Rattle.refs_binding.specs.declared.place_key.PlaceKey.{PlaceKey}
 use Rattle.refs_binding.specs.Binding.{UsesMemberAt, BindsByMember}
 use Rattle.refs_binding.specs.Members.{member_at, IsMemberIf, IsMemberIn, IsMemberUseOf, IsMemberUseAt, IsMemberUseAmong}
-use Rattle.refs_binding.specs.Steps.{AddsMisfits, UsesIn, AtToken, IsDeclarationResult}
+use Rattle.refs_binding.specs.Steps.{AddsPlaces, UsesIn, AtToken, IsDeclarationResult}
 use Rattle.refs_binding.proofs.Adding.{Below, adds_as, adds_none, call_adds}
 use Rattle.refs_binding.proofs.MemberParts.{member_in, member_from, file_uses, has_uses}
 
@@ -70,15 +70,15 @@ one_among ds p file token uses k x d at is = record {
 
 pub use_added : {E : Type 0} (ds : Symbol → plain.Definition) (p : Package) (file : ℕ) (d : Declaration) (x : MemberUse) (a b : List PlaceKey)
     (r : Result (Unit {0}) E) →
-    member_at ds p file x.place x.before ≡ Some d → OnOk r (AddsMisfits a b (AtToken p (record { file = file; index = x.place }))) →
-    OnOk r (AddsMisfits a b (IsMemberUseOf ds p file d x))
+    member_at ds p file x.place x.before ≡ Some d → OnOk r (AddsPlaces a b (AtToken p (record { file = file; index = x.place }))) →
+    OnOk r (AddsPlaces a b (IsMemberUseOf ds p file d x))
 use_added ds p file d x a b r is h =
     call_adds a b (AtToken p (record { file = file; index = x.place })) (IsMemberUseOf ds p file d x) r (λ place t. record { at = t; is_member = is })
     (λ place m. m.at) h
 
 pub use_skipped : (ds : Symbol → plain.Definition) (p : Package) (file : ℕ) (d : Declaration) (x : MemberUse) (a : List PlaceKey) →
     (member_at ds p file x.place x.before ≡ Some d → ⊥) →
-    AddsMisfits a a (IsMemberUseOf ds p file d x)
+    AddsPlaces a a (IsMemberUseOf ds p file d x)
 use_skipped ds p file d x a none = adds_none a (IsMemberUseOf ds p file d x) (λ place m. none m.is_member)
 
 -- the member uses of a file
@@ -87,7 +87,7 @@ pub use_at : (xs : List FoundUse) (k : ℕ) (x : FoundUse) → k < length xs →
 use_at xs k x lt e = slice_get-map use_of xs k ∙ ap (option_map use_of) (slice_get_read xs (length xs) k x refl lt e)
 
 pub one_ranked : (ds : Symbol → plain.Definition) (p : Package) (file : ℕ) (d : Declaration) (uses : List MemberUse) (k : ℕ) (x : MemberUse) (a b : List PlaceKey) →
-    slice_get uses k ≡ Some x → AddsMisfits a b (IsMemberUseOf ds p file d x) → AddsMisfits a b (IsMemberUseAt ds p file d uses k)
+    slice_get uses k ≡ Some x → AddsPlaces a b (IsMemberUseOf ds p file d x) → AddsPlaces a b (IsMemberUseAt ds p file d uses k)
 one_ranked ds p file d uses k x a b at h =
     adds_as a b (IsMemberUseOf ds p file d x) (IsMemberUseAt ds p file d uses k)
     (λ place m. record { found = x; has_rank = at; is_use = m })
@@ -95,7 +95,7 @@ one_ranked ds p file d uses k x a b at h =
 
 pub all_ranked : (ds : Symbol → plain.Definition) (p : Package) (file : ℕ) (d : Declaration) (uses : List MemberUse) (n : ℕ) (a b : List PlaceKey) →
     n ≡ length uses →
-    AddsMisfits a b (Below (IsMemberUseAt ds p file d uses) n) → AddsMisfits a b (IsMemberUseAmong ds p file d uses)
+    AddsPlaces a b (Below (IsMemberUseAt ds p file d uses) n) → AddsPlaces a b (IsMemberUseAmong ds p file d uses)
 all_ranked ds p file d uses n a b e h =
     adds_as a b (Below (IsMemberUseAt ds p file d uses) n) (IsMemberUseAmong ds p file d uses)
     (λ place q. (q.0, q.2))
@@ -110,7 +110,7 @@ pub record IsFileUse (ds : Symbol → plain.Definition) (p : Package) (d : Decla
 
 pub one_file : (ds : Symbol → plain.Definition) (p : Package) (d : Declaration) (members : List (Vec FoundUse)) (file : ℕ) (v : Vec FoundUse)
     (a b : List PlaceKey) →
-    slice_get members file ≡ Some v → AddsMisfits a b (IsMemberUseAmong ds p file d (uses_in v)) → AddsMisfits a b (IsFileUse ds p d members file)
+    slice_get members file ≡ Some v → AddsPlaces a b (IsMemberUseAmong ds p file d (uses_in v)) → AddsPlaces a b (IsFileUse ds p d members file)
 one_file ds p d members file v a b at h =
     adds_as a b (IsMemberUseAmong ds p file d (uses_in v)) (IsFileUse ds p d members file)
     (λ place m. record { uses = v; has_rank = at; is_use = m })
@@ -167,8 +167,8 @@ module _ (p : Package) (formed : WellFormed p.layout) (one : HasOneWorld p) (ds 
 
 pub all_members : (p : Package) (formed : WellFormed p.layout) (one : HasOneWorld p) (ds : Symbol → plain.Definition) (are : AreDefinitions p ds)
     (members : List (Vec FoundUse)) →
-    AreMemberUses p (map uses_in members) → (d : Declaration) (n : ℕ) (a b : List PlaceKey) → n ≡ length members → AddsMisfits a b (Below (IsFileUse ds p d members) n) →
-    AddsMisfits a b (UsesIn p (λ u. BindsByMember p u d))
+    AreMemberUses p (map uses_in members) → (d : Declaration) (n : ℕ) (a b : List PlaceKey) → n ≡ length members → AddsPlaces a b (Below (IsFileUse ds p d members) n) →
+    AddsPlaces a b (UsesIn p (λ u. BindsByMember p u d))
 all_members p formed one ds are members all d n a b e h =
     adds_as a b (Below (IsFileUse ds p d members) n) (UsesIn p (λ u. BindsByMember p u d))
     (λ place q. to_bound p formed one ds are members all d place q.0 q.2)

@@ -18,7 +18,7 @@ use Rattle.refs_binding.specs.declared.declaration.Declaration.{Declaration}
 use Rattle.refs_binding.specs.declared.declaration.Declaration.TheVariants.{Predeclared, Declared, Field, Method}
 use Rattle.refs_binding.specs.Binding.{field_place, IsFieldAt, IsMethodAt, IsNameOf, DeclaresMember}
 use Rattle.refs_binding.specs.declared.place_key.PlaceKey.{PlaceKey}
-use Rattle.refs_binding.specs.Steps.{AddsMisfits, UsesIn, AtFound, ArePlaces, DeclaresField, DeclaresMethod, IsDeclarationResult}
+use Rattle.refs_binding.specs.Steps.{AddsPlaces, UsesIn, AtFound, ArePlaces, DeclaresField, DeclaresMethod, IsDeclarationResult}
 use Rattle.refs_binding.proofs.Adding.{call_adds}
 
 -- the places of the ranks below a number
@@ -215,7 +215,7 @@ pub named_added : {E : Type 0} (IsAt : (rank : ℕ) → Position → Type 0) →
     (p : Package) (rank : ℕ) (K : ℕ → Type 0) →
     ((u : ℕ) → IsNameOf IsAt p u rank → K u) → ((u : ℕ) → K u → IsNameOf IsAt p u rank) → (places seen : List (Option Position)) → seen ≡ places →
     ArePlaces IsAt places → (a b : List PlaceKey) (r : Result (Unit {0}) E) →
-    OnOk r (AddsMisfits a b (AtFound p (slice_index_or seen rank None))) → OnOk r (AddsMisfits a b (UsesIn p K))
+    OnOk r (AddsPlaces a b (AtFound p (slice_index_or seen rank None))) → OnOk r (AddsPlaces a b (UsesIn p K))
 named_added IsAt one p rank K to from places seen same are a b r h =
     let o = slice_index_or seen rank None in
     let is : MatchOption o ((at : Position) → IsAt rank at → ⊥) (λ at. IsAt rank at) =

@@ -10,7 +10,7 @@ use Rattle.go_scope.specs.ByToken.{IsFirstBelow}
 use Rattle.types_declared.specs.Package.{Package}
 use Rattle.refs_binding.specs.declared.place_key.PlaceKey.{PlaceKey}
 use Rattle.refs_binding.specs.Identifiers.{NameBegins, BeginsAt}
-use Rattle.refs_binding.specs.Steps.{AddsMisfits, AtToken}
+use Rattle.refs_binding.specs.Steps.{AddsPlaces, AtToken}
 use Rattle.refs_binding.proofs.Adding.{adds_none, call_adds}
 
 -- a token at a place of a package is a name and begins at the byte
@@ -18,13 +18,13 @@ abbrev pub Begins : Package → Position → Place → Type 0
 Begins p at place = NameBegins (slice_get p.files at.file) at.index place.path place.offset
 
 -- the identifier that stands nowhere
-pub no_identifier : (p : Package) (u : ℕ) (a : List PlaceKey) → is_implied (p.layout.role u) ≡ true → AddsMisfits a a (λ place. BeginsAt p place.path place.offset u)
+pub no_identifier : (p : Package) (u : ℕ) (a : List PlaceKey) → is_implied (p.layout.role u) ≡ true → AddsPlaces a a (λ place. BeginsAt p place.path place.offset u)
 no_identifier p u a implied = adds_none a _ (λ place h. true≢false (sym implied ∙ h.0.1))
 
 -- the identifier whose place was added
 pub an_identifier : {E : Type 0} (p : Package) (u : ℕ) (at : Position) (a b : List PlaceKey) (r : Result (Unit {0}) E) → u < p.size →
     is_implied (p.layout.role u) ≡ false → at ≡ p.layout.place u →
-    OnOk r (AddsMisfits a b (Begins p at)) → OnOk r (AddsMisfits a b (λ place. BeginsAt p place.path place.offset u))
+    OnOk r (AddsPlaces a b (Begins p at)) → OnOk r (AddsPlaces a b (λ place. BeginsAt p place.path place.offset u))
 an_identifier p u at a b r lt stands e h =
     call_adds a b (Begins p at) (λ place. BeginsAt p place.path place.offset u) r
     (λ place t. ((lt, stands), subst (λ x. Begins p x place) e t))
@@ -50,13 +50,13 @@ begins_token p at place q = to_token p q.0 at place q.1.1 q.1.0.1
 
 -- a token at which an identifier stands
 pub a_token : {E : Type 0} (p : Package) (u : ℕ) (at : Position) (a b : List PlaceKey) (r : Result (Unit {0}) E) → IsFoundAt p.layout p.size at u →
-    OnOk r (AddsMisfits a b (Begins p at)) → OnOk r (AddsMisfits a b (AtToken p at))
+    OnOk r (AddsPlaces a b (Begins p at)) → OnOk r (AddsPlaces a b (AtToken p at))
 a_token p u at a b r found h =
     call_adds a b (Begins p at) (AtToken p at) r
     (λ place t. token_begins p u at place found.within found.holds t) (begins_token p at) h
 
 -- a token at which none stands
-pub no_token : (p : Package) (at : Position) (a : List PlaceKey) (o : Option ℕ) → o ≡ None → IsFirstBelow (LiesAt p.layout at) p.size o → AddsMisfits a a (AtToken p at)
+pub no_token : (p : Package) (at : Position) (a : List PlaceKey) (o : Option ℕ) → o ≡ None → IsFirstBelow (LiesAt p.layout at) p.size o → AddsPlaces a a (AtToken p at)
 no_token p at a o e h =
     let none : (u : ℕ) → u < p.size → LiesAt p.layout at u → ⊥ = subst (IsFirstBelow (LiesAt p.layout at) p.size) e h in
     adds_none a (AtToken p at) (λ place q. none q.0 q.1.0.0.0 q.1.1)

@@ -18,7 +18,7 @@ abbrev pub place_of : PlaceKey → Place
 place_of s = record { path = s.path; offset = s.offset }
 
 -- `new` holds the places of `old` and those that satisfy `P`, and no others.
-pub record AddsMisfits (old new : List PlaceKey) (P : Place → Type 0) : Type 0 where
+pub record AddsPlaces (old new : List PlaceKey) (P : Place → Type 0) : Type 0 where
   pub keeps : (s : PlaceKey) → Contains old s → Contains new s
   pub holds : (s : PlaceKey) → P (place_of s) → Contains new s
   pub only : (s : PlaceKey) → Contains new s → Contains old s ⊎ P (place_of s)

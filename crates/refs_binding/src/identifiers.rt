@@ -5,7 +5,7 @@ ghost use Rattle.go_scanner.specs.CutText.{tokens_in};
 ghost use Rattle.go_ast.specs.SourceFile.{source_of};
 ghost use Rattle.types_declared.specs.PackageView.{package_of, IsIndexOf};
 ghost use Rattle.refs_binding.specs.Identifiers.{IsName, BeginsAt, NameBegins};
-ghost use Rattle.refs_binding.specs.Steps.{AddsMisfits, AtToken};
+ghost use Rattle.refs_binding.specs.Steps.{AddsPlaces, AtToken};
 
 use crate::place_key::PlaceKey;
 use go_ast::FileTree;
@@ -43,7 +43,7 @@ pub fn is_name(file: &FileTree, token: usize) -> bool
 
 /// Adds the place of a token of a file, if the token is an identifier.
 fn add_name(found: &mut Vec<PlaceKey>, file: &FileTree, token: usize) -> Result<(), AllocError>
-    ensures { OnOk result (AddsMisfits found.old.items found.new.items (λ place. NameBegins (Some (source_of file.now)) token place.path place.offset)) }
+    ensures { OnOk result (AddsPlaces found.old.items found.new.items (λ place. NameBegins (Some (source_of file.now)) token place.path place.offset)) }
 {
     if is_name(file, token) {
         let path = file.path().clone()?;
@@ -59,7 +59,7 @@ pub fn add_place(
     files: &[FileTree],
     at: Position,
 ) -> Result<(), AllocError>
-    ensures { OnOk result (AddsMisfits found.old.items found.new.items (λ place. NameBegins (slice_get (map source_of files.now) at.file) at.index place.path place.offset)) }
+    ensures { OnOk result (AddsPlaces found.old.items found.new.items (λ place. NameBegins (slice_get (map source_of files.now) at.file) at.index place.path place.offset)) }
 {
     if at.file < files.len() {
         add_name(found, &files[at.file], at.index)
@@ -75,7 +75,7 @@ pub fn add_identifier(
     u: usize,
 ) -> Result<(), AllocError>
     requires { u < length unit.table.now.sites }
-    ensures { OnOk result (AddsMisfits found.old.items found.new.items (λ place. BeginsAt (package_of unit.entry) place.path place.offset u)) }
+    ensures { OnOk result (AddsPlaces found.old.items found.new.items (λ place. BeginsAt (package_of unit.entry) place.path place.offset u)) }
 {
     if unit.table.role(u).is_implied() {
         return Ok(());
@@ -91,7 +91,7 @@ pub fn add_token(
     at: Position,
 ) -> Result<(), AllocError>
     requires { IsIndexOf (package_of unit) index.now }
-    ensures { OnOk result (AddsMisfits found.old.items found.new.items (AtToken (package_of unit.entry) at)) }
+    ensures { OnOk result (AddsPlaces found.old.items found.new.items (AtToken (package_of unit.entry) at)) }
 {
     match index.identifiers.get(at) {
         None => Ok(()),

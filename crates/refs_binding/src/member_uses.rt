@@ -2,7 +2,7 @@
 ghost use Rattle.std.specs.Prelude.{◌≡◌, Some, [], option_map, slice_get, IfOk};
 ghost use Rattle.types_expr.specs.View.{type_of};
 ghost use Rattle.types_expr.specs.World.{member_by};
-ghost use Rattle.types_expr.specs.WorldView.{member_of, spelling_of};
+ghost use Rattle.types_expr.specs.WorldView.{member_of, token_spelling};
 ghost use Rattle.types_declared.specs.PackageView.{package_of};
 ghost use Rattle.refs_binding.specs.Members.{definitions_known, definitions_seen, member_at};
 
@@ -29,7 +29,7 @@ pub fn known_member<'w>(
     names: &'w [Name<'w>],
     before: &GoType,
 ) -> Option<Member<'w>>
-    ensures { option_map member_of result ≡ member_by (definitions_known types.entry) types.entry.path.now (spelling_of (slice_get names.now 0)) (type_of before.now) }
+    ensures { option_map member_of result ≡ member_by (definitions_known types.entry) types.entry.path.now (token_spelling (slice_get names.now 0)) (type_of before.now) }
 {
     let world = World {
         package: types.path,
@@ -48,7 +48,7 @@ pub fn member<'w>(
     names: &'w [Name<'w>],
     before: &GoType,
 ) -> Option<Member<'w>>
-    ensures { option_map member_of result ≡ member_by (definitions_seen unit.entry own.now) unit.entry.path.now (spelling_of (slice_get names.now 0)) (type_of before.now) }
+    ensures { option_map member_of result ≡ member_by (definitions_seen unit.entry own.now) unit.entry.path.now (token_spelling (slice_get names.now 0)) (type_of before.now) }
 {
     let types = KnownTypes {
         path: unit.path,

@@ -15,7 +15,7 @@ use Rattle.refs_binding.specs.declared.declaration.Declaration.{Declaration}
 use Rattle.refs_binding.specs.declared.place_key.PlaceKey.{PlaceKey}
 use Rattle.refs_binding.specs.Identifiers.{HoldsByte}
 use Rattle.refs_binding.specs.Places.{place_cmp}
-use Rattle.refs_binding.specs.Steps.{AddsMisfits, place_of}
+use Rattle.refs_binding.specs.Steps.{AddsPlaces, place_of}
 use Rattle.refs_binding.specs.Uses.{IsFilePackage, IsUseOf, ListsUses, AnswersUsesAt, HasDeclaration}
 use Rattle.refs_binding.specs.Workspaces.{IsPackageAt, FindsDeclaration, FindsDeclarationIn, FindsDeclarationAt, ListsFound}
 use Rattle.refs_binding.proofs.Units.{one_package}
@@ -172,7 +172,7 @@ spot_at place = record { path = place.path; offset = place.offset }
 -- the list of the places that were found
 pub lists_found : (w : Workspace) (known : Verdicts) (d : Declaration) (places : List Place) (old found : List PlaceKey) → old ≡ [] →
     IsStrictlySortedBy place_cmp places →
-    ((s : PlaceKey) → Contains places (place_of s) ↔ Contains found s) → AddsMisfits old found (IsUseOf w known d) → ListsFound w known d places
+    ((s : PlaceKey) → Contains places (place_of s) ↔ Contains found s) → AddsPlaces old found (IsUseOf w known d) → ListsFound w known d places
 lists_found w known d places old found e up held added = record {
   in_order = up;
   each = λ place. (

@@ -19,7 +19,7 @@ use Rattle.go_ast.specs.Flatten.{sign, sign_if, all_tokens, list_tokens, group_t
 use Rattle.go_ast.specs.Kinds.{kind_of, kinds_from, kinds_of}
 use Rattle.go_ast.specs.Tree.{Item, Group, single, several, ImportTree, ImportsTree, DeclTree, VarDecl, TypeDecl, FuncDecl, FileTree}
 use Rattle.workspace_graph.specs.FileImports.{paths_in, import_literals}
-use Rattle.law_tokens.specs.Tokens.{is_ident, is_header_name, begins_declaration, names_among, identifiers_among}
+use Rattle.law_tokens.specs.Tokens.{is_ident_token, is_header_name, begins_declaration, names_among, identifiers_among}
 use Rattle.law_tokens.proofs.Elements.{all_append, all_left, all_right}
 
 -- of the identifiers among tokens
@@ -35,13 +35,13 @@ module _ (P : Token → Type 0) where
   kept true t ts h a = (h refl, a)
   kept false t ts h a = a
 
-  names_by : ((t : Token) → is_ident t.kind ≡ true → P t) → (ts : List Token) → AllByRecursion P (names_among ts)
+  names_by : ((t : Token) → is_ident_token t.kind ≡ true → P t) → (ts : List Token) → AllByRecursion P (names_among ts)
   names_by h [] = tt
-  names_by h (t ∷ ts) = kept (is_ident t.kind) t (names_among ts) (h t) (names_by h ts)
+  names_by h (t ∷ ts) = kept (is_ident_token t.kind) t (names_among ts) (h t) (names_by h ts)
 
   names_of : (ts : List Token) → AllByRecursion P ts → AllByRecursion P (names_among ts)
   names_of [] a = tt
-  names_of (t ∷ ts) a = kept (is_ident t.kind) t (names_among ts) (λ e. a.0) (names_of ts a.1)
+  names_of (t ∷ ts) a = kept (is_ident_token t.kind) t (names_among ts) (λ e. a.0) (names_of ts a.1)
 
   pub identifiers_of : (ts : List Token) → AllByRecursion P ts → AllByRecursion P (identifiers_among ts)
   unfolding identifiers_among
@@ -58,8 +58,8 @@ module _ (R : ℕ → Type 0) where
   abbrev AllTell : List Token → Type 0
   AllTell ts = AllByRecursion Tells ts
 
-  no_string : (k : Kind) → is_ident k ≡ true → k ≡ kind.Text → ⊥
-  no_string k e text = true≢false (sym e ∙ ap is_ident text)
+  no_string : (k : Kind) → is_ident_token k ≡ true → k ≡ kind.Text → ⊥
+  no_string k e text = true≢false (sym e ∙ ap is_ident_token text)
 
   names_tell : (ts : List Token) → AllTell (names_among ts)
   names_tell ts = names_by Tells (λ t e text. absurd (no_string t.kind e text)) ts

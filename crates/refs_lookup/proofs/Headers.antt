@@ -12,7 +12,7 @@ use Rattle.go_ast.specs.Kinds.{kinds_of}
 use Rattle.go_ast.specs.SourceFile.{SourceFile, IsSourceFile}
 use Rattle.go_ast.specs.Tree.{Item, Group, single, several, ImportTree, ImportsTree, DeclTree, VarDecl, TypeDecl, FuncDecl, FileTree}
 use Rattle.law_tokens.specs.Roles.{IsOfKind}
-use Rattle.law_tokens.specs.Tokens.{is_ident, is_header_name, begins_declaration, names_among, identifiers_among}
+use Rattle.law_tokens.specs.Tokens.{is_ident_token, is_header_name, begins_declaration, names_among, identifiers_among}
 use Rattle.law_tokens.proofs.Covers.{is_link}
 use Rattle.law_tokens.proofs.Links.{AreConsecutive, HasKind, kind_from}
 use Rattle.law_tokens.proofs.Places.{Marks}
@@ -94,7 +94,7 @@ header_file f =
 -- a name or `_` is the token of that number
 abbrev IsNameAt : ℕ → List Token → Type 0
 IsNameAt i [] = ⊥
-IsNameAt i (t ∷ ts) = ((t.place ≡ i) × (is_ident t.kind ≡ true)) ⊎ IsNameAt i ts
+IsNameAt i (t ∷ ts) = ((t.place ≡ i) × (is_ident_token t.kind ≡ true)) ⊎ IsNameAt i ts
 
 kept_mark : (b : Bool) (i : ℕ) (t : Token) (ts : List Token) → Marks i (cond b (t ∷ ts) ts) → ((b ≡ true) × (t.place ≡ i)) ⊎ Marks i ts
 kept_mark true i t ts h = elim h [ inl e ↦ inl (refl, e) | inr r ↦ inr r ]
@@ -102,7 +102,7 @@ kept_mark false i t ts h = inr h
 
 names_are : (i : ℕ) (ts : List Token) → Marks i (names_among ts) → IsNameAt i ts
 names_are i [] h = absurd h
-names_are i (t ∷ ts) h = elim (kept_mark (is_ident t.kind) i t (names_among ts) h) [ inl q ↦ inl (q.1, q.0) | inr r ↦ inr (names_are i ts r) ]
+names_are i (t ∷ ts) h = elim (kept_mark (is_ident_token t.kind) i t (names_among ts) h) [ inl q ↦ inl (q.1, q.0) | inr r ↦ inr (names_are i ts r) ]
 
 no_dot_first : (n : ℕ) (ts : List Token) → AreConsecutive n ts → Header ts → HasKind kind.Dot n ts → ⊥
 no_dot_first n [] c h d = d
@@ -144,7 +144,7 @@ name_at n i [] c h m d = absurd m
 name_at n i (t ∷ ts) c h m d =
     by_word (begins_declaration t.kind) n i t ts (identifiers_among ts) refl c h d m (λ rest dot k. name_at (suc n) i ts c.1 rest k dot)
 
-kind_of_name : (i : ℕ) (ts : List Token) → IsNameAt i ts → (k : Kind) × (HasKind k i ts × (is_ident k ≡ true))
+kind_of_name : (i : ℕ) (ts : List Token) → IsNameAt i ts → (k : Kind) × (HasKind k i ts × (is_ident_token k ≡ true))
 kind_of_name i [] h = absurd h
 kind_of_name i (t ∷ ts) h = elim h [
   | inl q ↦ (t.kind, (inl (q.0, refl), q.1))
@@ -153,7 +153,7 @@ kind_of_name i (t ∷ ts) h = elim h [
 
 -- each identifier among tokens is a name, `_` or a string
 
-header_name : (k : Kind) → is_ident k ≡ true → is_header_name k ≡ true
+header_name : (k : Kind) → is_ident_token k ≡ true → is_header_name k ≡ true
 header_name kind.Name e = refl
 header_name kind.Blank e = refl
 header_name k e = absurd (true≢false (sym e))
@@ -172,7 +172,7 @@ marked_kind i [] m = absurd m
 marked_kind i (t ∷ ts) m = by_mark (begins_declaration t.kind) i t ts (identifiers_among ts) m (λ k. marked_kind i ts k)
 
 pub name_before_dot : (s : SourceFile) → IsSourceFile s → (i : ℕ) → Marks i (identifiers_among (kinds_of s.cut)) → IsOfKind s.cut (suc i) kind.Dot →
-    (k : Kind) × (IsOfKind s.cut i k × (is_ident k ≡ true))
+    (k : Kind) × (IsOfKind s.cut i k × (is_ident_token k ≡ true))
 name_before_dot s is i m dot =
     let ts = kinds_of s.cut in
     let header : Header ts = subst Header is.is_tree.written (header_file s.tree) in

@@ -10,7 +10,7 @@ use Rattle.go_ast.specs.declared.syntax.Kind.TheVariants as kind
 use Rattle.go_ast.specs.declared.syntax.Token.{Token}
 use Rattle.go_ast.specs.Kinds.{kinds_of}
 use Rattle.go_ast.specs.SourceFile.{SourceFile, IsSourceFile}
-use Rattle.law_tokens.specs.Tokens.{is_ident}
+use Rattle.law_tokens.specs.Tokens.{is_ident_token}
 use Rattle.law_tokens.proofs.Links.{AreConsecutive, HasKind, kind_from}
 use Rattle.law_tokens.proofs.Roles.{consecutive, of_kind, by_kind}
 use Rattle.types_expr.specs.Judge.{MemberUse}
@@ -80,7 +80,7 @@ one_use n (u ∷ us) h x y a b at = elim a [
 -- The dots and colons beside them. L: the tokens that are names of packages, with no dot before.
 
 abbrev Local : (ℕ → Type 0) → Token → Type 0
-Local L t = (L t.place → is_ident t.kind ≡ true) × (t.kind ≡ kind.Dot → L (suc t.place) → ⊥)
+Local L t = (L t.place → is_ident_token t.kind ≡ true) × (t.kind ≡ kind.Dot → L (suc t.place) → ⊥)
 
 -- If the token before `n` is one of `L`, `b` is that token.
 abbrev Faithful : (ℕ → Type 0) → ℕ → Option ℕ → Type 0
@@ -95,14 +95,14 @@ beside_more L t ts place h = elim h [
   | inr q ↦ inr ((q.0.0, (q.0.1.0, inr q.0.1.1)), q.1)
 ]
 
-no_name : (k : Kind) → k ≡ kind.Colon → is_ident k ≡ false
-no_name k e = ap is_ident e
+no_name : (k : Kind) → k ≡ kind.Colon → is_ident_token k ≡ false
+no_name k e = ap is_ident_token e
 
 module _ (w : World) (L : ℕ → Type 0) (named : (k : ℕ) → L k → IsPackage w k) where
   told_some : (n : ℕ) (t : Token) → t.place ≡ n → Faithful L (suc n) (Some t.place)
   told_some n t at k e l = ap Some (let f : t.place ≡ n = at in let g : suc k ≡ suc n = e in let h : t.place ≡ k = omega arith in h)
 
-  told_none : (n : ℕ) (t : Token) → t.place ≡ n → is_ident t.kind ≡ false → Local L t → Faithful L (suc n) None
+  told_none : (n : ℕ) (t : Token) → t.place ≡ n → is_ident_token t.kind ≡ false → Local L t → Faithful L (suc n) None
   told_none n t at other h k e l =
       let f : t.place ≡ n = at in
       let g : suc k ≡ suc n = e in
@@ -177,7 +177,7 @@ local_all : (w : World) (cut : CutText) (ts : List Token) → ((k : Kind) (i : �
 local_all w cut [] within = tt
 local_all w cut (t ∷ ts) within = (
   (
-    (λ l. ap is_ident (one_kind 0 (kinds_of cut) (consecutive 0 cut.text (tokens_in cut)) t.kind l.kind t.place (within t.kind t.place (inl (refl, refl)))
+    (λ l. ap is_ident_token (one_kind 0 (kinds_of cut) (consecutive 0 cut.text (tokens_in cut)) t.kind l.kind t.place (within t.kind t.place (inl (refl, refl)))
         (by_kind cut l.kind t.place l.of_kind)) ∙ l.named),
     (λ dot l. l.undotted (t.place, (refl, of_kind cut kind.Dot t.place (within kind.Dot t.place (inl (refl, dot)))))),
   ),

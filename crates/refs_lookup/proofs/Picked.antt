@@ -4,7 +4,7 @@ use Rattle.go_ast.specs.declared.syntax.Kind.{Kind}
 use Rattle.go_ast.specs.declared.syntax.Kind.TheVariants as kind
 use Rattle.go_ast.specs.declared.syntax.Token.{Token}
 use Rattle.go_ast.specs.Flatten.{sign}
-use Rattle.law_tokens.specs.Tokens.{is_ident}
+use Rattle.law_tokens.specs.Tokens.{is_ident_token}
 use Rattle.types_expr.specs.Types.{Meaning, Package, Broken}
 use Rattle.types_expr.specs.World.{World, Means}
 use Rattle.types_expr.specs.Judge.{MemberUse}
@@ -22,7 +22,7 @@ MayUse w (Some k) = IsPackage w k → ⊥
 pub data Picked (w : World) : (before : Option ℕ) → List MemberUse → List Token → (after : Option ℕ) → Type 0 where
   stops : {b : Option ℕ} → Picked w b [] [] b
   passes : {b e : Option ℕ} {us : List MemberUse} {t : Token} {ts : List Token} → Picked w (Some t.place) us ts e → Picked w b us (t ∷ ts) e
-  closes : {b e : Option ℕ} {us : List MemberUse} {t : Token} {ts : List Token} → is_ident t.kind ≡ false → Picked w None us ts e → Picked w b us (t ∷ ts) e
+  closes : {b e : Option ℕ} {us : List MemberUse} {t : Token} {ts : List Token} → is_ident_token t.kind ≡ false → Picked w None us ts e → Picked w b us (t ∷ ts) e
   leaves : {b e : Option ℕ} {us : List MemberUse} {d t : Token} {ts : List Token} → d.kind ≡ kind.Dot → Picked w None us ts e → Picked w b us (d ∷ (t ∷ ts)) e
   selects : {b e : Option ℕ} {u : MemberUse} {us : List MemberUse} {d t : Token} {ts : List Token} → MayUse w b → d.kind ≡ kind.Dot → u.place ≡ t.place →
       Picked w None us ts e → Picked w b (u ∷ us) (d ∷ (t ∷ ts)) e
@@ -85,7 +85,7 @@ pub walk_before : (w : World) (us : List MemberUse) (t : Token) (ts : List Token
 walk_before w us t ts m h b = let r = h (Some t.place) in (r.0, (passes r.1.0, r.1.1))
 
 -- a sign that closes what is walked
-pub walk_closed : (w : World) (us : List MemberUse) (ts : List Token) (k : Kind) (c : ℕ) (m : Meaning) → is_ident k ≡ false → Passes w us ts →
+pub walk_closed : (w : World) (us : List MemberUse) (ts : List Token) (k : Kind) (c : ℕ) (m : Meaning) → is_ident_token k ≡ false → Passes w us ts →
     Walks w us (ts ++ (sign k c ∷ [])) m
 walk_closed w us ts k c m other p b =
     let r = p b in (

@@ -6,13 +6,13 @@ use Rattle.go_ast.specs.declared.syntax.Kind.TheVariants.{Colon}
 use Rattle.types_expr.specs.Types.{Package}
 use Rattle.types_expr.specs.World.{World, Means}
 use Rattle.law_tokens.specs.Roles.{IsOfKind, FollowsDot}
-use Rattle.law_tokens.specs.Tokens.{is_ident}
+use Rattle.law_tokens.specs.Tokens.{is_ident_token}
 
 -- The token is an identifier or `_` that is bound to a package, and no dot is before it.
 pub record IsPackageName (w : World) (c : CutText) (token : ℕ) : Type 0 where
   pub kind : Kind
   pub of_kind : IsOfKind c token kind
-  pub named : is_ident kind ≡ true
+  pub named : is_ident_token kind ≡ true
   pub undotted : FollowsDot c token → ⊥
   pub names : w.bound token ≡ Means Package
 

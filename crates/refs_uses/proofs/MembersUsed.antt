@@ -10,7 +10,7 @@ use Rattle.refs_binding.specs.declared.declaration.Declaration.{Declaration}
 use Rattle.refs_binding.specs.declared.declaration.Declaration.TheVariants.{Predeclared, Declared, Field, Method}
 use Rattle.refs_binding.specs.declared.place_key.PlaceKey.{PlaceKey}
 use Rattle.refs_binding.specs.Binding.{BindsByMember}
-use Rattle.refs_binding.specs.Steps.{AddsMisfits, UsesIn, BindsIn, by_scope, by_package, by_member, by_name}
+use Rattle.refs_binding.specs.Steps.{AddsPlaces, UsesIn, BindsIn, by_scope, by_package, by_member, by_name}
 use Rattle.refs_binding.specs.Workspaces.{IsPackageAt, IsUseAt}
 use Rattle.refs_binding.proofs.Adding.{adds_as}
 use Rattle.refs_binding.proofs.Units.{one_at}
@@ -37,7 +37,7 @@ module _ (w : Workspace) (known : Verdicts) (n : ℕ) (p : Package) (is : IsPack
   as_member (Method s) abroad name u (by_name h) = absurd (abroad p is (sym h.0))
 
   pub members_used : (d : Declaration) → IsMemberAbroad w known n d → (name : Option (List ℕ)) (a b : List PlaceKey) →
-      AddsMisfits a b (UsesIn p (λ u. BindsByMember p u d)) → AddsMisfits a b (IsUseAt w known d name n)
+      AddsPlaces a b (UsesIn p (λ u. BindsByMember p u d)) → AddsPlaces a b (IsUseAt w known d name n)
   members_used d abroad name a b h =
       adds_as a b (UsesIn p (λ u. BindsByMember p u d)) (IsUseAt w known d name n)
       (λ place q. record { used_in = p; is_package = is; is_use = (q.0, (q.1.0, by_member q.1.1)) })

@@ -21,7 +21,7 @@ use Rattle.go_scope.specs.Bindings.{Layout}
 use Rattle.go_scope.specs.Named.{with_names}
 use Rattle.go_scope.specs.Packages.{ScopedPackage, scoped}
 use Rattle.law_tokens.specs.Covered.{IsIdentifierPlace, HasIdentifierAt}
-use Rattle.law_tokens.specs.Tokens.{is_ident, is_header_name, begins_declaration, names_among, identifiers_among}
+use Rattle.law_tokens.specs.Tokens.{is_ident_token, is_header_name, begins_declaration, names_among, identifiers_among}
 use Rattle.law_tokens.proofs.OwnPaths.{package_sources}
 use Rattle.law_tokens.proofs.Places.{place_has_one, named_has_one}
 use Rattle.types_declared.specs.Package.{Package}
@@ -34,7 +34,7 @@ use Rattle.refs_binding.proofs.Tokens.{Begins, token_begins}
 -- a token of that number is a name or `_`
 abbrev IsNamed : ℕ → List Token → Type 0
 IsNamed i [] = ⊥
-IsNamed i (t ∷ ts) = ((t.place ≡ i) × (is_ident t.kind ≡ true)) ⊎ IsNamed i ts
+IsNamed i (t ∷ ts) = ((t.place ≡ i) × (is_ident_token t.kind ≡ true)) ⊎ IsNamed i ts
 
 -- a token of that number is one of these
 abbrev IsAmong : ℕ → List Token → Type 0
@@ -46,21 +46,21 @@ first i t ts e = (t, ((zero, omega arith, refl), e))
 later : (i : ℕ) (t : Token) (ts : List Token) → IsAmong i ts → IsAmong i (t ∷ ts)
 later i t ts m = (m.0, (Contains-append_right (t ∷ []) ts m.0 m.1.0, m.1.1))
 
-next_name : (i : ℕ) (t : Token) (ts : List Token) → (IsNamed i ts → IsAmong i (names_among ts)) → IsNamed i (t ∷ ts) → (b : Bool) → is_ident t.kind ≡ b →
+next_name : (i : ℕ) (t : Token) (ts : List Token) → (IsNamed i ts → IsAmong i (names_among ts)) → IsNamed i (t ∷ ts) → (b : Bool) → is_ident_token t.kind ≡ b →
     IsAmong i (cond b (t ∷ names_among ts) (names_among ts))
 next_name i t ts others h true e = elim h [ inl here ↦ first i t (names_among ts) here.0 | inr rest ↦ later i t (names_among ts) (others rest) ]
 next_name i t ts others h false e = elim h [ inl here ↦ absurd (true≢false (sym here.1 ∙ e)) | inr rest ↦ others rest ]
 
 in_names : (i : ℕ) (ts : List Token) → IsNamed i ts → IsAmong i (names_among ts)
 in_names i [] h = absurd h
-in_names i (t ∷ ts) h = next_name i t ts (λ rest. in_names i ts rest) h (is_ident t.kind) refl
+in_names i (t ∷ ts) h = next_name i t ts (λ rest. in_names i ts rest) h (is_ident_token t.kind) refl
 
-begins_none : (k : Kind) → is_ident k ≡ true → begins_declaration k ≡ true → ⊥
+begins_none : (k : Kind) → is_ident_token k ≡ true → begins_declaration k ≡ true → ⊥
 begins_none kind.Name e f = false≢true f
 begins_none kind.Blank e f = false≢true f
 begins_none _ e f = false≢true e
 
-is_header : (k : Kind) → is_ident k ≡ true → is_header_name k ≡ true
+is_header : (k : Kind) → is_ident_token k ≡ true → is_header_name k ≡ true
 is_header kind.Name e = refl
 is_header kind.Blank e = refl
 is_header _ e = absurd (false≢true e)
@@ -88,12 +88,12 @@ in_identifiers i [] h = absurd h
 in_identifiers i (t ∷ ts) h = next_identifier i t ts (λ rest. in_identifiers i ts rest) h (begins_declaration t.kind) refl
 
 -- by the classes of tokens
-name_kind : (b : Bool) → is_ident (cond b kind.Blank kind.Name) ≡ true
+name_kind : (b : Bool) → is_ident_token (cond b kind.Blank kind.Name) ≡ true
 name_kind true = refl
 name_kind false = refl
 
-class_named : (c : Class) (bytes : List ℕ) → c ≡ Name → is_ident (kind_of c bytes) ≡ true
-class_named c bytes e = subst (λ x. is_ident (kind_of x bytes) ≡ true) (sym e) (name_kind _)
+class_named : (c : Class) (bytes : List ℕ) → c ≡ Name → is_ident_token (kind_of c bytes) ≡ true
+class_named c bytes e = subst (λ x. is_ident_token (kind_of x bytes) ≡ true) (sym e) (name_kind _)
 
 named_from : (n : ℕ) (text : List ℕ) (ps : List Piece) (i : ℕ) (x : Piece) → slice_get ps i ≡ Some x → x.class ≡ Name → IsNamed (n + i) (kinds_from n text ps)
 unfolding kinds_from

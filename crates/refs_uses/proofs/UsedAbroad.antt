@@ -14,7 +14,7 @@ use Rattle.workspace_check.specs.Verdicts.{Verdicts}
 use Rattle.refs_binding.specs.declared.declaration.Declaration.TheVariants.{Declared}
 use Rattle.refs_binding.specs.declared.place_key.PlaceKey.{PlaceKey}
 use Rattle.refs_binding.specs.Identifiers.{NameBegins}
-use Rattle.refs_binding.specs.Steps.{AddsMisfits, UsesIn, BindsIn, by_scope, by_package, by_member, by_name}
+use Rattle.refs_binding.specs.Steps.{AddsPlaces, UsesIn, BindsIn, by_scope, by_package, by_member, by_name}
 use Rattle.refs_binding.specs.Workspaces.{IsPackageAt, IsUseAt}
 use Rattle.refs_binding.proofs.Adding.{Below, adds_as, adds_none}
 use Rattle.refs_binding.proofs.MemberParts.{not_declared}
@@ -30,14 +30,14 @@ pub record IsSpelledRank (files : List SourceFile) (name : List ℕ) (places : L
   pub is_spelled : IsSpelledAt files name at place
 
 pub one_place : (files : List SourceFile) (name : List ℕ) (places : List Position) (k : ℕ) (at : Position) (a b : List PlaceKey) → slice_get places k ≡ Some at →
-    AddsMisfits a b (IsSpelledAt files name at) → AddsMisfits a b (IsSpelledRank files name places k)
+    AddsPlaces a b (IsSpelledAt files name at) → AddsPlaces a b (IsSpelledRank files name places k)
 one_place files name places k at a b is h =
     adds_as a b (IsSpelledAt files name at) (IsSpelledRank files name places k)
     (λ place s. record { at = at; has_rank = is; is_spelled = s })
     (λ place r. subst (λ x. IsSpelledAt files name x place) (same_Some r.at at (sym r.has_rank ∙ is)) r.is_spelled) h
 
 pub all_places : (files : List SourceFile) (name : List ℕ) (places : List Position) (n : ℕ) (a b : List PlaceKey) → n ≡ length places →
-    AddsMisfits a b (Below (IsSpelledRank files name places) n) → AddsMisfits a b (IsSpelledAmong files name places)
+    AddsPlaces a b (Below (IsSpelledRank files name places) n) → AddsPlaces a b (IsSpelledAmong files name places)
 all_places files name places n a b e h =
     adds_as a b (Below (IsSpelledRank files name places) n) (IsSpelledAmong files name places)
     (λ place q. record {
@@ -63,14 +63,14 @@ pub record IsUnderRank (files : List SourceFile) (name path : List ℕ) (lists :
   pub under : IsSpelledUnder files name path list place
 
 pub one_list : (files : List SourceFile) (name path : List ℕ) (lists : List Qualified) (k : ℕ) (list : Qualified) (a b : List PlaceKey) →
-    slice_get lists k ≡ Some list → AddsMisfits a b (IsSpelledUnder files name path list) → AddsMisfits a b (IsUnderRank files name path lists k)
+    slice_get lists k ≡ Some list → AddsPlaces a b (IsSpelledUnder files name path list) → AddsPlaces a b (IsUnderRank files name path lists k)
 one_list files name path lists k list a b is h =
     adds_as a b (IsSpelledUnder files name path list) (IsUnderRank files name path lists k)
     (λ place s. record { list = list; has_rank = is; under = s })
     (λ place r. subst (λ x. IsSpelledUnder files name path x place) (same_Some r.list list (sym r.has_rank ∙ is)) r.under) h
 
 pub all_lists : (files : List SourceFile) (name path : List ℕ) (lists : List Qualified) (n : ℕ) (a b : List PlaceKey) → n ≡ length lists →
-    AddsMisfits a b (Below (IsUnderRank files name path lists) n) → AddsMisfits a b (IsSpelledListed files name path lists)
+    AddsPlaces a b (Below (IsUnderRank files name path lists) n) → AddsPlaces a b (IsSpelledListed files name path lists)
 all_lists files name path lists n a b e h =
     adds_as a b (Below (IsUnderRank files name path lists) n) (IsSpelledListed files name path lists)
     (λ place q. record {
@@ -93,7 +93,7 @@ all_lists files name path lists n a b e h =
 
 module _ (w : Workspace) (known : Verdicts) (n : ℕ) (p : Package) (is : IsPackageAt w known n p) (path name : List ℕ) where
   pub listed_behind : (files : List SourceFile) → files ≡ p.files → (lists : List Qualified) → AreQualified p lists → (a b : List PlaceKey) →
-      AddsMisfits a b (IsSpelledListed files name path lists) → AddsMisfits a b (IsQualifiedUseOf w known n path name)
+      AddsPlaces a b (IsSpelledListed files name path lists) → AddsPlaces a b (IsQualifiedUseOf w known n path name)
   listed_behind files same lists all a b h = adds_as a b (IsSpelledListed files name path lists) (IsQualifiedUseOf w known n path name) to from h
     where
       to : (place : Place) → IsSpelledListed files name path lists place → IsQualifiedUseOf w known n path name place
@@ -141,8 +141,8 @@ module _ (w : Workspace) (known : Verdicts) (n : ℕ) (path : List ℕ) (abroad 
   behind_name p is name u (by_member h) = absurd (not_declared h.member path d h.declares)
   behind_name p is name u (by_name h) = absurd h
 
-  pub used_abroad : (name : List ℕ) (a b : List PlaceKey) → AddsMisfits a b (IsQualifiedUseOf w known n path name) →
-      AddsMisfits a b (IsUseAt w known (Declared path d) (Some name) n)
+  pub used_abroad : (name : List ℕ) (a b : List PlaceKey) → AddsPlaces a b (IsQualifiedUseOf w known n path name) →
+      AddsPlaces a b (IsUseAt w known (Declared path d) (Some name) n)
   used_abroad name a b h =
       adds_as a b (IsQualifiedUseOf w known n path name) (IsUseAt w known (Declared path d) (Some name) n)
       (λ place q. record { used_in = q.used_in; is_package = q.is_package; is_use = (q.is_use.0, (q.is_use.1.0, by_package q.is_use.1.1)) })
@@ -158,6 +158,6 @@ module _ (w : Workspace) (known : Verdicts) (n : ℕ) (path : List ℕ) (abroad 
   no_name p is u (by_member h) = not_declared h.member path d h.declares
   no_name p is u (by_name h) = h
 
-  pub unnamed_abroad : (a : List PlaceKey) → AddsMisfits a a (IsUseAt w known (Declared path d) None n)
+  pub unnamed_abroad : (a : List PlaceKey) → AddsPlaces a a (IsUseAt w known (Declared path d) None n)
   unnamed_abroad a =
       adds_none a (IsUseAt w known (Declared path d) None n) (λ place q. no_name q.used_in q.is_package q.is_use.0 q.is_use.1.1)

@@ -5,7 +5,7 @@ ghost use Rattle.types_expr.specs.View.{type_of};
 ghost use Rattle.types_declared.specs.PackageView.{package_of};
 ghost use Rattle.refs_binding.specs.Binding.{BindsByMember};
 ghost use Rattle.refs_binding.specs.Indexed.{IsIndexed};
-ghost use Rattle.refs_binding.specs.Steps.{AddsMisfits, UsesIn};
+ghost use Rattle.refs_binding.specs.Steps.{AddsPlaces, UsesIn};
 ghost use Rattle.refs_binding.specs.Members.{definitions_seen, member_at, IsMemberUseOf, IsMemberUseAmong};
 
 use go_scope::model::Position;
@@ -49,7 +49,7 @@ fn add_member_use(
     declaration: &Declaration,
 ) -> Result<(), AllocError>
     requires { IsIndexed of.now }
-    ensures { OnOk result (AddsMisfits found.old.items found.new.items (IsMemberUseOf (definitions_seen of.now.unit of.now.own.now) (package_of of.now.unit) file declaration.now (use_of member.now))) }
+    ensures { OnOk result (AddsPlaces found.old.items found.new.items (IsMemberUseOf (definitions_seen of.now.unit of.now.own.now) (package_of of.now.unit) file declaration.now (use_of member.now))) }
 {
     if is_member_use(of.unit, of.own, file, member, declaration) {
         let at = Position {
@@ -71,7 +71,7 @@ fn add_file_members(
     declaration: &Declaration,
 ) -> Result<(), AllocError>
     requires { IsIndexed of.now }
-    ensures { OnOk result (AddsMisfits found.old.items found.new.items (IsMemberUseAmong (definitions_seen of.now.unit of.now.own.now) (package_of of.now.unit) file declaration.now (map use_of uses.now))) }
+    ensures { OnOk result (AddsPlaces found.old.items found.new.items (IsMemberUseAmong (definitions_seen of.now.unit of.now.own.now) (package_of of.now.unit) file declaration.now (map use_of uses.now))) }
 {
     for k in 0..uses.len() {
         add_member_use(found, of, file, &uses[k], declaration)?;
@@ -87,7 +87,7 @@ fn add_all_members(
 ) -> Result<(), AllocError>
     requires { IsIndexed of.now }
     ensures { let p = package_of of.now.unit in
-        OnOk result (AddsMisfits found.old.items found.new.items (UsesIn p (λ u. BindsByMember p u declaration.now))) }
+        OnOk result (AddsPlaces found.old.items found.new.items (UsesIn p (λ u. BindsByMember p u declaration.now))) }
 {
     of.unit.table.is_well_formed();
     has_one_world(of.unit);
@@ -106,7 +106,7 @@ pub(crate) fn add_member_uses(
 ) -> Result<(), AllocError>
     requires { IsIndexed of.now }
     ensures { let p = package_of of.now.unit in
-        OnOk result (AddsMisfits found.old.items found.new.items (UsesIn p (λ u. BindsByMember p u declaration.now))) }
+        OnOk result (AddsPlaces found.old.items found.new.items (UsesIn p (λ u. BindsByMember p u declaration.now))) }
 {
     match declaration {
         Declaration::Predeclared(_) | Declaration::Declared(_, _) => Ok(()),

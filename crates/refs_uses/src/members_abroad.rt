@@ -11,7 +11,7 @@ ghost use Rattle.refs_binding.specs.Binding.{declaration_of, BindsByMember};
 ghost use Rattle.refs_binding.specs.Indexed.{IsNumbered};
 ghost use Rattle.refs_binding.specs.Members.{definitions_known, member_at, IsMemberUseOf, IsMemberUseAmong};
 ghost use Rattle.refs_binding.specs.Packages.{IsSeenBy};
-ghost use Rattle.refs_binding.specs.Steps.{AddsMisfits, UsesIn};
+ghost use Rattle.refs_binding.specs.Steps.{AddsPlaces, UsesIn};
 ghost use Rattle.refs_binding.specs.Workspaces.{known_in, IsUseAt};
 ghost use Rattle.refs_uses.specs.MembersAbroad.{IsKnownOf, IsMemberAbroad};
 
@@ -83,7 +83,7 @@ fn add_use(
     declaration: &Declaration,
 ) -> Result<(), AllocError>
     ensures { OnOk result ((w : Workspace) → (known : Verdicts) → (p : Checked) → IsKnownOf w known p of.now →
-        AddsMisfits spots.old.items spots.new.items (IsMemberUseOf (definitions_known of.now.types) p file declaration.now (use_of member.now))) }
+        AddsPlaces spots.old.items spots.new.items (IsMemberUseOf (definitions_known of.now.types) p file declaration.now (use_of member.now))) }
 {
     if is_use(of, file, member, declaration) {
         let at = Position {
@@ -105,7 +105,7 @@ fn add_file_uses(
     declaration: &Declaration,
 ) -> Result<(), AllocError>
     ensures { OnOk result ((w : Workspace) → (known : Verdicts) → (p : Checked) → IsKnownOf w known p of.now →
-        AddsMisfits spots.old.items spots.new.items (IsMemberUseAmong (definitions_known of.now.types) p file declaration.now (map use_of uses.now))) }
+        AddsPlaces spots.old.items spots.new.items (IsMemberUseAmong (definitions_known of.now.types) p file declaration.now (map use_of uses.now))) }
 {
     for k in 0..uses.len() {
         add_use(spots, of, file, &uses[k], declaration)?;
@@ -120,7 +120,7 @@ fn add_known_members(
     declaration: &Declaration,
 ) -> Result<(), AllocError>
     ensures { OnOk result ((w : Workspace) → (known : Verdicts) → (p : Checked) → IsKnownOf w known p of.now →
-        AddsMisfits spots.old.items spots.new.items (UsesIn p (λ u. BindsByMember p u declaration.now))) }
+        AddsPlaces spots.old.items spots.new.items (UsesIn p (λ u. BindsByMember p u declaration.now))) }
 {
     for file in 0..of.members.len() {
         add_file_uses(spots, of, file, &of.members[file], declaration)?;
@@ -138,7 +138,7 @@ fn add_members_by(
     requires numbered { IsNumbered at }
     requires seen { IsSeenBy at.graph.now (known_in at.found.now) at.number seen.now }
     requires abroad { IsMemberAbroad at.graph.now (known_in at.found.now) at.number declaration.now }
-    ensures { OnOk result ((name : Option (List ℕ)) → AddsMisfits spots.old.items spots.new.items
+    ensures { OnOk result ((name : Option (List ℕ)) → AddsPlaces spots.old.items spots.new.items
         (IsUseAt at.entry.graph.now (known_in at.entry.found.now) declaration.now name at.entry.number)) }
 {
     let types = KnownTypes {
@@ -163,7 +163,7 @@ pub(crate) fn add_members_abroad(
 ) -> Result<(), AllocError>
     requires numbered { IsNumbered at }
     requires abroad { IsMemberAbroad at.graph.now (known_in at.found.now) at.number declaration.now }
-    ensures { OnOk result ((name : Option (List ℕ)) → AddsMisfits spots.old.items spots.new.items
+    ensures { OnOk result ((name : Option (List ℕ)) → AddsPlaces spots.old.items spots.new.items
         (IsUseAt at.entry.graph.now (known_in at.entry.found.now) declaration.now name at.entry.number)) }
 {
     let seen = seen(alloc, at.graph, at.number, &at.found.export_table)?;

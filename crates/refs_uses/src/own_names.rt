@@ -3,7 +3,7 @@ ghost use Rattle.std.specs.Prelude.{◌≡◌, ◌↔◌, Some, None, slice_inde
 ghost use Rattle.types_declared.specs.PackageView.{package_of, IsIndexOf};
 ghost use Rattle.refs_binding.specs.declared.declaration.Declaration.TheVariants.{Field, Method};
 ghost use Rattle.refs_binding.specs.Binding.{DeclaresMember};
-ghost use Rattle.refs_binding.specs.Steps.{AddsMisfits, UsesIn, AtFound};
+ghost use Rattle.refs_binding.specs.Steps.{AddsPlaces, UsesIn, AtFound};
 
 use go_scope::model::Position;
 use refs_binding::identifiers::add_token;
@@ -22,7 +22,7 @@ fn add_named(
     rank: usize,
 ) -> Result<(), AllocError>
     requires { IsIndexOf (package_of unit) index.now }
-    ensures { OnOk result (AddsMisfits found.old.items found.new.items (AtFound (package_of unit.entry) (slice_index_or places.now rank None))) }
+    ensures { OnOk result (AddsPlaces found.old.items found.new.items (AtFound (package_of unit.entry) (slice_index_or places.now rank None))) }
 {
     match place_of(places, rank) {
         None => Ok(()),
@@ -47,7 +47,7 @@ fn add_own_field(
 ) -> Result<(), AllocError>
     requires { IsIndexOf (package_of unit) index.now }
     ensures { let p = package_of unit.entry in
-        OnOk result (AddsMisfits found.old.items found.new.items (UsesIn p (λ u. DeclaresMember p u (Field symbol.now)))) }
+        OnOk result (AddsPlaces found.old.items found.new.items (UsesIn p (λ u. DeclaresMember p u (Field symbol.now)))) }
 {
     if is_own(unit, &symbol.package) {
         let places = field_places(alloc, unit, index)?;
@@ -67,7 +67,7 @@ fn add_own_method(
 ) -> Result<(), AllocError>
     requires { IsIndexOf (package_of unit) index.now }
     ensures { let p = package_of unit.entry in
-        OnOk result (AddsMisfits found.old.items found.new.items (UsesIn p (λ u. DeclaresMember p u (Method symbol.now)))) }
+        OnOk result (AddsPlaces found.old.items found.new.items (UsesIn p (λ u. DeclaresMember p u (Method symbol.now)))) }
 {
     if is_own(unit, &symbol.package) {
         let places = method_places(alloc, unit, index)?;
@@ -87,7 +87,7 @@ pub fn add_own_names(
 ) -> Result<(), AllocError>
     requires { IsIndexOf (package_of unit) index.now }
     ensures { let p = package_of unit.entry in
-        OnOk result (AddsMisfits found.old.items found.new.items (UsesIn p (λ u. DeclaresMember p u declaration.now))) }
+        OnOk result (AddsPlaces found.old.items found.new.items (UsesIn p (λ u. DeclaresMember p u declaration.now))) }
 {
     match declaration {
         Declaration::Predeclared(_) | Declaration::Declared(_, _) => Ok(()),

@@ -7,7 +7,7 @@ ghost use Rattle.types_declared.specs.Package.{Package as Checked, spelled_at};
 ghost use Rattle.types_info.specs.Lists.{list_path as path_under};
 ghost use Rattle.refs_binding.specs.declared.declaration.Declaration.TheVariants.{Declared};
 ghost use Rattle.refs_binding.specs.Indexed.{IsNumbered};
-ghost use Rattle.refs_binding.specs.Steps.{AddsMisfits};
+ghost use Rattle.refs_binding.specs.Steps.{AddsPlaces};
 ghost use Rattle.refs_binding.specs.Workspaces.{known_in, IsPackageAt, IsUseAt};
 ghost use Rattle.refs_uses.specs.Abroad.{IsAbroad, IsPathAbroad, IsSpelledAt, IsSpelledAmong, IsSpelledUnder, IsSpelledListed, IsQualifiedUseOf};
 
@@ -44,7 +44,7 @@ fn add_spelled(
     name: &[u8],
     at: Position,
 ) -> Result<(), AllocError>
-    ensures { OnOk result (AddsMisfits spots.old.items spots.new.items (IsSpelledAt (map source_of files.now) name.now at)) }
+    ensures { OnOk result (AddsPlaces spots.old.items spots.new.items (IsSpelledAt (map source_of files.now) name.now at)) }
 {
     if is_spelled(files, at, name) {
         add_place(spots, files, at)
@@ -60,7 +60,7 @@ fn add_all_spelled(
     name: &[u8],
     places: &[Position],
 ) -> Result<(), AllocError>
-    ensures { OnOk result (AddsMisfits spots.old.items spots.new.items (IsSpelledAmong (map source_of files.now) name.now places.now)) }
+    ensures { OnOk result (AddsPlaces spots.old.items spots.new.items (IsSpelledAmong (map source_of files.now) name.now places.now)) }
 {
     for k in 0..places.len() {
         add_spelled(spots, files, name, places[k])?;
@@ -83,7 +83,7 @@ fn add_listed(
     path: &[u8],
     list: &Qualified,
 ) -> Result<(), AllocError>
-    ensures { OnOk result (AddsMisfits spots.old.items spots.new.items (IsSpelledUnder (map source_of files.now) name.now path.now list.now)) }
+    ensures { OnOk result (AddsPlaces spots.old.items spots.new.items (IsSpelledUnder (map source_of files.now) name.now path.now list.now)) }
 {
     if is_of_path(list, path) {
         add_all_spelled(spots, files, name, &list.places)
@@ -100,7 +100,7 @@ fn add_all_listed(
     path: &[u8],
     lists: &[Qualified],
 ) -> Result<(), AllocError>
-    ensures { OnOk result (AddsMisfits spots.old.items spots.new.items (IsSpelledListed (map source_of files.now) name.now path.now lists.now)) }
+    ensures { OnOk result (AddsPlaces spots.old.items spots.new.items (IsSpelledListed (map source_of files.now) name.now path.now lists.now)) }
 {
     for k in 0..lists.len() {
         add_listed(spots, files, name, path, &lists[k])?;
@@ -116,7 +116,7 @@ fn add_behind(
     name: &[u8],
 ) -> Result<(), AllocError>
     requires { IsNumbered at }
-    ensures { OnOk result (AddsMisfits spots.old.items spots.new.items (IsQualifiedUseOf at.entry.graph.now (known_in at.entry.found.now) at.entry.number path.now name.now)) }
+    ensures { OnOk result (AddsPlaces spots.old.items spots.new.items (IsQualifiedUseOf at.entry.graph.now (known_in at.entry.found.now) at.entry.number path.now name.now)) }
 {
     let files = trees(at.graph, at.found, at.number);
     let lists = qualified_of(at.graph, at.found, at.number);
@@ -133,7 +133,7 @@ pub(crate) fn add_abroad(
 ) -> Result<(), AllocError>
     requires numbered { IsNumbered at }
     requires abroad { IsAbroad at.graph.now (known_in at.found.now) at.number path.now }
-    ensures { OnOk result ((d : ℕ) → AddsMisfits spots.old.items spots.new.items
+    ensures { OnOk result ((d : ℕ) → AddsPlaces spots.old.items spots.new.items
         (IsUseAt at.entry.graph.now (known_in at.entry.found.now) (Declared path.now d) (name_value name.entry) at.entry.number)) }
 {
     match name {

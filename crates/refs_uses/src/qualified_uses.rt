@@ -4,7 +4,7 @@ ghost use Rattle.go_scope.specs.Named.{name_value};
 ghost use Rattle.types_declared.specs.PackageView.{package_of, IsIndexOf};
 ghost use Rattle.types_info.specs.QualifiedIdentifiers.{IsQualifiedByPath};
 ghost use Rattle.refs_binding.specs.Identifiers.{BeginsAt};
-ghost use Rattle.refs_binding.specs.Steps.{AddsMisfits, UsesIn, QualifiesAs};
+ghost use Rattle.refs_binding.specs.Steps.{AddsPlaces, UsesIn, QualifiesAs};
 
 use refs_binding::identifiers::add_identifier;
 use refs_binding::{Declaration, PlaceKey};
@@ -45,7 +45,7 @@ fn add_package_use(
     requires index { IsIndexOf (package_of unit) index.now }
     requires in_range { u < length unit.table.now.sites }
     ensures { let p = package_of unit.entry in
-        OnOk result (AddsMisfits found.old.items found.new.items (λ place. BeginsAt p place.path place.offset u × (IsQualifiedByPath p u path.now × (p.names u ≡ name.now)))) }
+        OnOk result (AddsPlaces found.old.items found.new.items (λ place. BeginsAt p place.path place.offset u × (IsQualifiedByPath p u path.now × (p.names u ≡ name.now)))) }
 {
     if is_package_use(unit, index, path, name, u) {
         add_identifier(found, unit, u)
@@ -64,7 +64,7 @@ fn add_package_uses(
 ) -> Result<(), AllocError>
     requires { IsIndexOf (package_of unit) index.now }
     ensures { let p = package_of unit.entry in
-        OnOk result (AddsMisfits found.old.items found.new.items (UsesIn p (λ u. IsQualifiedByPath p u path.now × (p.names u ≡ name.now)))) }
+        OnOk result (AddsPlaces found.old.items found.new.items (UsesIn p (λ u. IsQualifiedByPath p u path.now × (p.names u ≡ name.now)))) }
 {
     for u in 0..unit.table.len() {
         add_package_use(found, unit, index, path, name, u)?;
@@ -83,7 +83,7 @@ pub fn add_exported_uses(
 ) -> Result<(), AllocError>
     requires { IsIndexOf (package_of unit) index.now }
     ensures { let p = package_of unit.entry in
-        OnOk result (AddsMisfits found.old.items found.new.items (UsesIn p (QualifiesAs p declaration.now (name_value name.entry)))) }
+        OnOk result (AddsPlaces found.old.items found.new.items (UsesIn p (QualifiesAs p declaration.now (name_value name.entry)))) }
 {
     match name {
         None => Ok(()),

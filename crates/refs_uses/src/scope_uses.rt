@@ -4,7 +4,7 @@ ghost use Rattle.go_scope.specs.Bindings.{IsBoundTo};
 ghost use Rattle.types_declared.specs.PackageView.{package_of};
 ghost use Rattle.refs_binding.specs.Binding.{BindsByScope};
 ghost use Rattle.refs_binding.specs.Identifiers.{BeginsAt};
-ghost use Rattle.refs_binding.specs.Steps.{AddsMisfits, UsesIn, IsNumberOf};
+ghost use Rattle.refs_binding.specs.Steps.{AddsPlaces, UsesIn, IsNumberOf};
 
 use go_scope::identifiers::PREDECLARED;
 use refs_binding::identifiers::add_identifier;
@@ -68,7 +68,7 @@ fn add_bound(
 ) -> Result<(), AllocError>
     requires { u < length unit.table.now.sites }
     ensures { let p = package_of unit.entry in
-        OnOk result (AddsMisfits found.old.items found.new.items (λ place. BeginsAt p place.path place.offset u × IsBoundTo p.layout p.names u d)) }
+        OnOk result (AddsPlaces found.old.items found.new.items (λ place. BeginsAt p place.path place.offset u × IsBoundTo p.layout p.names u d)) }
 {
     if is_bound_to(unit, u, d) {
         add_identifier(found, unit, u)
@@ -80,7 +80,7 @@ fn add_bound(
 /// Adds the places of the identifiers that the scopes bind to the declaration with the number `d`.
 fn add_all_bound(found: &mut Vec<PlaceKey>, unit: Package<'_>, d: usize) -> Result<(), AllocError>
     ensures { let p = package_of unit.entry in
-        OnOk result (AddsMisfits found.old.items found.new.items (UsesIn p (λ u. IsBoundTo p.layout p.names u d))) }
+        OnOk result (AddsPlaces found.old.items found.new.items (UsesIn p (λ u. IsBoundTo p.layout p.names u d))) }
 {
     for u in 0..unit.table.len() {
         add_bound(found, unit, d, u)?;
@@ -95,7 +95,7 @@ pub fn add_scope_uses(
     declaration: &Declaration,
 ) -> Result<(), AllocError>
     ensures { let p = package_of unit.entry in
-        OnOk result (AddsMisfits found.old.items found.new.items (UsesIn p (λ u. BindsByScope p u declaration.now))) }
+        OnOk result (AddsPlaces found.old.items found.new.items (UsesIn p (λ u. BindsByScope p u declaration.now))) }
 {
     match number_in(unit, declaration) {
         None => Ok(()),

@@ -3,7 +3,7 @@ ghost use Rattle.std.specs.Prelude.{OnOk};
 ghost use Rattle.go_scope.specs.Named.{name_value};
 ghost use Rattle.types_declared.specs.PackageView.{package_of};
 ghost use Rattle.refs_binding.specs.Indexed.{IsIndexed};
-ghost use Rattle.refs_binding.specs.Steps.{AddsMisfits, UsesIn, BindsIn};
+ghost use Rattle.refs_binding.specs.Steps.{AddsPlaces, UsesIn, BindsIn};
 
 use crate::may_use::Sought;
 use crate::member_uses::add_member_uses;
@@ -23,7 +23,7 @@ pub fn add_uses_in_package(
 ) -> Result<(), AllocError>
     requires { IsIndexed of.now }
     ensures { let p = package_of of.now.unit in
-        OnOk result (AddsMisfits found.old.items found.new.items (UsesIn p (BindsIn p sought.now.declaration.now (name_value sought.now.name)))) }
+        OnOk result (AddsPlaces found.old.items found.new.items (UsesIn p (BindsIn p sought.now.declaration.now (name_value sought.now.name)))) }
 {
     let declaration = sought.declaration;
     add_scope_uses(found, of.unit, declaration)?;

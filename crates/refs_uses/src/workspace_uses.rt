@@ -9,7 +9,7 @@ ghost use Rattle.refs_binding.specs.declared.declaration.Declaration.TheVariants
 ghost use Rattle.refs_binding.specs.Indexed.{IsNumbered, IsPackageNumbered, IsIndexed};
 ghost use Rattle.refs_uses.specs.Sought.{IsSought};
 ghost use Rattle.refs_binding.specs.Packages.{IsTableAs};
-ghost use Rattle.refs_binding.specs.Steps.{AddsMisfits};
+ghost use Rattle.refs_binding.specs.Steps.{AddsPlaces};
 ghost use Rattle.refs_binding.specs.Uses.{IsUseOf, AnswersUses, AnswersUsesAt};
 ghost use Rattle.refs_binding.specs.Workspaces.{IsFaultless, known_in, name_bytes, IsExportedUnder, IsUseAt, ListsFound, AnswersUsesIn};
 
@@ -42,7 +42,7 @@ fn add_known_uses(
 ) -> Result<(), AllocError>
     requires unit { IsPackageNumbered at (package_of of.now.unit) }
     requires indexed { IsIndexed of.now }
-    ensures { OnOk result (AddsMisfits spots.old.items spots.new.items
+    ensures { OnOk result (AddsPlaces spots.old.items spots.new.items
         (IsUseAt at.entry.graph.now (known_in at.entry.found.now) sought.now.declaration.now (name_value sought.now.name) at.entry.number)) }
 {
     add_uses_in_package(alloc, spots, of, sought)
@@ -60,7 +60,7 @@ fn add_indexed_uses(
     requires numbered { IsNumbered at }
     requires unit { IsPackageNumbered at (package_of unit) }
     requires index { IsIndexOf (package_of unit) index.now }
-    ensures { OnOk result (AddsMisfits spots.old.items spots.new.items
+    ensures { OnOk result (AddsPlaces spots.old.items spots.new.items
         (IsUseAt at.entry.graph.now (known_in at.entry.found.now) sought.now.declaration.now (name_value sought.now.name) at.entry.number)) }
 {
     let of = known_of(at, unit, index);
@@ -78,7 +78,7 @@ fn add_uses_by(
 ) -> Result<(), AllocError>
     requires numbered { IsNumbered at }
     requires table { IsTableAs at.graph.now (known_in at.found.now) at.number table.now seen.now }
-    ensures { OnOk result (AddsMisfits spots.old.items spots.new.items
+    ensures { OnOk result (AddsPlaces spots.old.items spots.new.items
         (IsUseAt at.entry.graph.now (known_in at.entry.found.now) sought.now.declaration.now (name_value sought.now.name) at.entry.number)) }
 {
     let unit = unit_of(at, seen, table);
@@ -94,7 +94,7 @@ fn add_package_uses(
     sought: &Sought<'_>,
 ) -> Result<(), AllocError>
     requires { IsNumbered at }
-    ensures { OnOk result (AddsMisfits spots.old.items spots.new.items
+    ensures { OnOk result (AddsPlaces spots.old.items spots.new.items
         (IsUseAt at.entry.graph.now (known_in at.entry.found.now) sought.now.declaration.now (name_value sought.now.name) at.entry.number)) }
 {
     let seen = seen(alloc, at.graph, at.number, &at.found.export_table)?;
@@ -111,7 +111,7 @@ fn add_members_or_read(
     sought: &Sought<'_>,
 ) -> Result<(), AllocError>
     requires { IsNumbered at }
-    ensures { OnOk result (AddsMisfits spots.old.items spots.new.items
+    ensures { OnOk result (AddsPlaces spots.old.items spots.new.items
         (IsUseAt at.entry.graph.now (known_in at.entry.found.now) sought.now.declaration.now (name_value sought.now.name) at.entry.number)) }
 {
     if is_member_abroad(at, sought.declaration) {
@@ -130,7 +130,7 @@ fn add_where_used(
     sought: &Sought<'_>,
 ) -> Result<(), AllocError>
     requires { IsNumbered at }
-    ensures { OnOk result (AddsMisfits spots.old.items spots.new.items
+    ensures { OnOk result (AddsPlaces spots.old.items spots.new.items
         (IsUseAt at.entry.graph.now (known_in at.entry.found.now) sought.now.declaration.now (name_value sought.now.name) at.entry.number)) }
 {
     match path_abroad(at, sought.declaration) {
@@ -148,7 +148,7 @@ fn add_if_used(
 ) -> Result<(), AllocError>
     requires numbered { IsNumbered at }
     requires sought { IsSought at.graph.now (known_in at.found.now) sought.now }
-    ensures { OnOk result (AddsMisfits spots.old.items spots.new.items
+    ensures { OnOk result (AddsPlaces spots.old.items spots.new.items
         (IsUseAt at.entry.graph.now (known_in at.entry.found.now) sought.now.declaration.now (name_value sought.now.name) at.entry.number)) }
 {
     if may_use(at.graph, at.found, at.number, sought) {
@@ -168,7 +168,7 @@ fn add_all_uses(
 ) -> Result<(), AllocError>
     requires sound { IsFaultless graph.now found.now }
     requires sought { IsSought graph.now (known_in found.now) sought.now }
-    ensures { OnOk result (AddsMisfits spots.old.items spots.new.items (IsUseOf graph.now (known_in found.now) sought.now.declaration.now)) }
+    ensures { OnOk result (AddsPlaces spots.old.items spots.new.items (IsUseOf graph.now (known_in found.now) sought.now.declaration.now)) }
 {
     for number in 0..graph.len() {
         let at = Numbered {
@@ -195,7 +195,7 @@ fn add_uses_at(
     requires indexed { IsIndexed of.now }
     requires in_range { number < length (package_paths read.graph.now) }
     requires sought { IsSought read.graph.now (known_in read.found.now) sought.now }
-    ensures { OnOk result (AddsMisfits spots.old.items spots.new.items
+    ensures { OnOk result (AddsPlaces spots.old.items spots.new.items
         (IsUseAt read.entry.graph.now (known_in read.entry.found.now) sought.now.declaration.now (name_value sought.now.name) number)) }
 {
     if number == read.number {
@@ -221,7 +221,7 @@ fn add_uses_beyond(
     requires unit { IsPackageNumbered read (package_of of.now.unit) }
     requires indexed { IsIndexed of.now }
     requires sought { IsSought read.graph.now (known_in read.found.now) sought.now }
-    ensures { OnOk result (AddsMisfits spots.old.items spots.new.items (IsUseOf read.entry.graph.now (known_in read.entry.found.now) sought.now.declaration.now)) }
+    ensures { OnOk result (AddsPlaces spots.old.items spots.new.items (IsUseOf read.entry.graph.now (known_in read.entry.found.now) sought.now.declaration.now)) }
 {
     for number in 0..read.graph.len() {
         add_uses_at(alloc, spots, read, of, number, sought)?;

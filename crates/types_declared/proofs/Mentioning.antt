@@ -18,7 +18,7 @@ use Rattle.types_expr.specs.Types.{PlainType}
 use Rattle.types_declared.specs.Package.{Package, package_types}
 use Rattle.types_declared.specs.Written.{DenotesType, Mentions, by_name, by_pointer, by_slice, defined, pointer, slice}
 use Rattle.types_declared.specs.WrittenView.{IsMentionedBy}
-use Rattle.types_declared.specs.Reachability.{LinksTo, row_of}
+use Rattle.types_declared.specs.Reachability.{LinksTo, links_from}
 use Rattle.types_declared.specs.Broken.{AddsLinks, IsTarget, nothing, definition, IsOneTarget, IsTargetOfSome}
 
 pub mention_within : (p : Package) (file : ℕ) (tree : TypeTree) (r : ℕ) → Mentions p file tree r → r < length (package_types p)
@@ -100,23 +100,23 @@ adds_one links to rank row new lt is e =
     let before : slice_get links to ≡ Some row = slice_get-get_or links to row lt ∙ ap Some (sym is) in
     let after : slice_get (set links to new) to ≡ Some new = get_set_same links to new lt in
     let at : (a b : ℕ) → a ≡ to → Contains new.items b → LinksTo (set links to new) a b = λ a b same c.
-    subst (λ z. Contains (row_of (slice_get (set links to new) z)) b) (sym same) (subst (λ o. Contains (row_of o) b) (sym after) c) in
+    subst (λ z. Contains (links_from (slice_get (set links to new) z)) b) (sym same) (subst (λ o. Contains (links_from o) b) (sym after) c) in
     record {
       size = length-set links to new;
       keeps = λ a b l. elim (cases_eq a to) [
         | inl same ↦ at a b same (subst (λ xs. Contains xs b) (sym e)
-            (Contains-append_left row.items (rank ∷ []) b (subst (λ o. Contains (row_of o) b) before (subst (λ z. LinksTo links z b) same l))))
-        | inr ne ↦ subst (λ o. Contains (row_of o) b) (sym (get_set_other links to a new ne)) l
+            (Contains-append_left row.items (rank ∷ []) b (subst (λ o. Contains (links_from o) b) before (subst (λ z. LinksTo links z b) same l))))
+        | inr ne ↦ subst (λ o. Contains (links_from o) b) (sym (get_set_other links to a new ne)) l
       ];
       holds = λ a same. at a rank same (subst (λ xs. Contains xs rank) (sym e) (Contains-push row.items rank));
       only = λ a b l. elim (cases_eq a to) [
         | inl same ↦ (let c : Contains (row.items ++ (rank ∷ [])) b =
-            subst (λ xs. Contains xs b) e (subst (λ o. Contains (row_of o) b) after (subst (λ z. LinksTo (set links to new) z b) same l)) in
+            subst (λ xs. Contains xs b) e (subst (λ o. Contains (links_from o) b) after (subst (λ z. LinksTo (set links to new) z b) same l)) in
             elim (Contains-push_cases row.items rank b c) [
-              | inl old ↦ inl (subst (λ z. LinksTo links z b) (sym same) (subst (λ o. Contains (row_of o) b) (sym before) old))
+              | inl old ↦ inl (subst (λ z. LinksTo links z b) (sym same) (subst (λ o. Contains (links_from o) b) (sym before) old))
               | inr eq ↦ inr (sym eq, same)
             ])
-        | inr ne ↦ inl (subst (λ o. Contains (row_of o) b) (get_set_other links to a new ne) l)
+        | inr ne ↦ inl (subst (λ o. Contains (links_from o) b) (get_set_other links to a new ne) l)
       ];
     }
 

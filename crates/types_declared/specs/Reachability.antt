@@ -4,13 +4,13 @@ use Rattle.std.specs.List.{count_by}
 use Rattle.std.specs.Global.{Vec}
 
 -- the numbers of a row of links; none where there is no row
-abbrev pub row_of : Option (Vec ℕ) → List ℕ
-row_of None = []
-row_of (Some row) = row.items
+abbrev pub links_from : Option (Vec ℕ) → List ℕ
+links_from None = []
+links_from (Some row) = row.items
 
 -- a links to b: b is in the row of a
 abbrev pub LinksTo : List (Vec ℕ) → ℕ → ℕ → Type 0
-LinksTo links a b = Contains (row_of (slice_get links a)) b
+LinksTo links a b = Contains (links_from (slice_get links a)) b
 
 -- links lead only to numbers that have a row
 abbrev pub AreLinksInRange : List (Vec ℕ) → Type 0

@@ -1,6 +1,6 @@
 //! Reachability along links: the numbers that links lead to from the marked ones.
 ghost use Rattle.std.specs.Prelude.{◌≡◌, ◌<◌, ◌↔◌, ℕ, length, slice_get, slice_index_or, IfOk, OnOk};
-ghost use Rattle.types_declared.specs.Reachability.{AreLinksInRange, HasMark, ListsMarks, IsOrdered, IsReachOrder, AddsMarks, LinksTo, IsReachable, row_of};
+ghost use Rattle.types_declared.specs.Reachability.{AreLinksInRange, HasMark, ListsMarks, IsOrdered, IsReachOrder, AddsMarks, LinksTo, IsReachable, links_from};
 
 use std::alloc::{AllocError, Global};
 
@@ -13,7 +13,7 @@ struct Reachable {
 
 /// The numbers that `from` links to; none where it has no row.
 pub fn row(links: &[Vec<usize>], from: usize) -> &[usize]
-    ensures { result.now ≡ row_of (slice_get links.now from) }
+    ensures { result.now ≡ links_from (slice_get links.now from) }
 {
     match links.get(from) {
         None => &[],

@@ -142,13 +142,13 @@ unfoldable pub bound_in : World → ℕ → plain.Bound
 bound_in w place = bound_or_broken (bound_at w.bounds.now (bound_index (name_in w place)))
 
 -- the name's bytes
-abbrev pub spelling_of : Option Name → List ℕ
-spelling_of None = []
-spelling_of (Some n) = n.spelling.now
+abbrev pub token_spelling : Option Name → List ℕ
+token_spelling None = []
+token_spelling (Some n) = n.spelling.now
 
 -- the member that the name at token `place` denotes for type t
 unfoldable pub member_in : World → ℕ → types.PlainType → Option plain.Member
-member_in w place t = plain.member_by (definition_in w) w.package.now (spelling_of (name_in w place)) t
+member_in w place t = plain.member_by (definition_in w) w.package.now (token_spelling (name_in w place)) t
 
 abbrev pub world_of : World → plain.World
 world_of w = record { bound = bound_in w; member = member_in w; definition = underlying_in w }

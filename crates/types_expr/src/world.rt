@@ -3,7 +3,7 @@ ghost use Rattle.std.specs.Prelude.{◌≡◌, option_copied, option_map, MatchO
 ghost use Rattle.types_expr.specs.Types.{Broken};
 ghost use Rattle.types_expr.specs.World.{underlying, Means, is_seen, seen_field, seen_method, member_symbol, field_owner, owner};
 ghost use Rattle.types_expr.specs.View.{type_of};
-ghost use Rattle.types_expr.specs.WorldView.{definition_at, definition_in, definition_of, definitions_at, field_of, shared_at, imported_at, known_at, plain_method_of, member_in, member_of, name_in, spelling_of, bound_in, bound_of, shape_of, underlying_of, underlying_in, world_of};
+ghost use Rattle.types_expr.specs.WorldView.{definition_at, definition_in, definition_of, definitions_at, field_of, shared_at, imported_at, known_at, plain_method_of, member_in, member_of, name_in, token_spelling, bound_in, bound_of, shape_of, underlying_of, underlying_in, world_of};
 
 use crate::exports::ExportData;
 use crate::symbol::{SharedPath, Symbol};
@@ -242,7 +242,7 @@ impl<'w> World<'w> {
 
     /// Returns the bytes of the name at a token.
     pub fn spelling(&self, place: usize) -> &'w [u8]
-        ensures { result.now ≡ spelling_of (name_in self.now place) }
+        ensures { result.now ≡ token_spelling (name_in self.now place) }
     {
         match self.names.get(place) {
             Some(name) => name.spelling,

@@ -13,7 +13,7 @@ use Rattle.types_expr.specs.declared.world.Bound.{Bound}
 use Rattle.types_expr.specs.declared.world.Name.{Name}
 use Rattle.types_expr.specs.World as plain
 use Rattle.types_expr.specs.World.{Means as Stands}
-use Rattle.types_expr.specs.WorldView.{bound_of, bound_at, bound_or_broken, bound_index, spelling_of}
+use Rattle.types_expr.specs.WorldView.{bound_of, bound_at, bound_or_broken, bound_index, token_spelling}
 use Rattle.types_expr.specs.declared.exports.Export.{Export}
 use Rattle.types_declared.specs.Package.{Package, spelled, spelled_at}
 use Rattle.types_declared.specs.Package as seen
@@ -163,8 +163,8 @@ all_names p file n list names unspelled none h = record {
         (is_unbound (none token ge))
   ];
   spelling = λ token. elim (cases_lt token n) [
-    | inl lt ↦ let x = slice_get_some names token (subst (λ m. token < m) (sym h.all) lt) in ap spelling_of x.1 ∙ (h.each token x.0 x.1).spelling
-    | inr ge ↦ ap spelling_of (slice_get_past names token (subst (λ m. m ≤ token) (sym h.all) ge)) ∙ sym (unspelled token ge)
+    | inl lt ↦ let x = slice_get_some names token (subst (λ m. token < m) (sym h.all) lt) in ap token_spelling x.1 ∙ (h.each token x.0 x.1).spelling
+    | inr ge ↦ ap token_spelling (slice_get_past names token (subst (λ m. m ≤ token) (sym h.all) ge)) ∙ sym (unspelled token ge)
   ];
 }
 

@@ -63,7 +63,7 @@ world_from p w file s at here names definitions = record {
   definitions = definition_in w;
   are_definitions = definitions;
   member = λ token t.
-      ap (λ own. member_by (definition_in w) own (view.spelling_of (name_in w token)) t) here ∙
+      ap (λ own. member_by (definition_in w) own (view.token_spelling (name_in w token)) t) here ∙
       ap (λ name. member_by (definition_in w) p.path name t) (names.spelling token ∙ ap (λ o. spelled_at o token) at);
   definition = λ symbol. refl;
 }

@@ -9,7 +9,7 @@ use Rattle.go_scope.specs.Table.{IsFoundAt}
 use Rattle.types_expr.specs.declared.world.Bound.{Bound}
 use Rattle.types_expr.specs.declared.world.Name.{Name}
 use Rattle.types_expr.specs.World as plain
-use Rattle.types_expr.specs.WorldView.{bound_at, bound_index, bound_or_broken, spelling_of}
+use Rattle.types_expr.specs.WorldView.{bound_at, bound_index, bound_or_broken, token_spelling}
 use Rattle.types_declared.specs.Package.{Package, spelled}
 use Rattle.types_declared.specs.Written.{BindsToken}
 use Rattle.types_declared.specs.MeaningOf.{IsMeaningOf}
@@ -53,4 +53,4 @@ pub record IsNameAt (p : Package) (file token : ℕ) (list : List Bound) (name :
 -- the names are those at all tokens of the file
 pub record AreNames (p : Package) (file : ℕ) (list : List Bound) (names : List Name) : Type 0 where
   pub bound : (token : ℕ) → IsName p file token (bound_by list (bound_index (slice_get names token)))
-  pub spelling : (token : ℕ) → spelling_of (slice_get names token) ≡ spelled p file token
+  pub spelling : (token : ℕ) → token_spelling (slice_get names token) ≡ spelled p file token

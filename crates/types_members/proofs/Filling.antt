@@ -11,8 +11,8 @@ use Rattle.types_expr.specs.declared.world.Underlying.{Underlying}
 use Rattle.types_expr.specs.WorldView.{underlying_of}
 use Rattle.types_expr.specs.Types.{PlainType, Defined}
 use Rattle.types_expr.specs.Types as types
-use Rattle.types_members.specs.declared.underlying.Step.{Step}
-use Rattle.types_members.specs.declared.underlying.Step.TheVariants.{Ends, Continues, Nothing}
+use Rattle.types_members.specs.declared.underlying.NameStep.{NameStep}
+use Rattle.types_members.specs.declared.underlying.NameStep.TheVariants.{Ends, Continues, Nothing}
 use Rattle.types_declared.specs.Package.{Package, PlacedType, package_types, symbol_in}
 use Rattle.types_declared.specs.Written.{DenotesType}
 use Rattle.types_declared.specs.Definitions.{HasUnderlying, basic, pointer, slice, struct, named, imported}
@@ -39,7 +39,7 @@ mapped_none f (Some x) e = absurd (none-some (f x) (sym e))
 abbrev Sound : Package → List (Option Underlying) → Type 0
 Sound p found = (rank : ℕ) (u : Underlying) → get_or found rank None ≡ Some u → HasUnderlying p (Defined (symbol_in p rank)) (underlying_of u)
 
-taken_sound : (p : Package) (rank : ℕ) (s : Step) (found : List (Option Underlying)) (u : types.Underlying) → Sound p found → IsStep p rank s →
+taken_sound : (p : Package) (rank : ℕ) (s : NameStep) (found : List (Option Underlying)) (u : types.Underlying) → Sound p found → IsStep p rank s →
     reached_type s found ≡ Some u → HasUnderlying p (Defined (symbol_in p rank)) u
 taken_sound p rank (Ends w) found u sound step e = subst (HasUnderlying p (Defined (symbol_in p rank))) (same_Some (underlying_of w) u e) step
 taken_sound p rank (Continues to) found u sound step e =
@@ -47,7 +47,7 @@ taken_sound p rank (Continues to) found u sound step e =
     named step.0.has_rank step.0.written step.0.names (subst (HasUnderlying p (Defined (symbol_in p to))) at.1.1 (sound to at.0 at.1.0))
 taken_sound p rank Nothing found u sound step e = absurd (none-some u e)
 
-taken_there : (p : Package) (order : List ℕ) (count : ℕ) (s : Step) (found : List (Option Underlying)) → AreFilled p order count found →
+taken_there : (p : Package) (order : List ℕ) (count : ℕ) (s : NameStep) (found : List (Option Underlying)) → AreFilled p order count found →
     ComesAfterTarget s order count → reached_type s found ≡ None → ⊥
 taken_there p order count (Ends w) found h behind e = none-some (underlying_of w) (sym e)
 taken_there p order count (Continues to) found h behind e =
@@ -64,7 +64,7 @@ none_filled p order found size none = record {
 }
 
 -- the underlying type of the next definition of the order is set
-pub next_filled : (p : Package) (steps : List Step) (order : List ℕ) (count rank : ℕ) (s : Step) (found : List (Option Underlying))
+pub next_filled : (p : Package) (steps : List NameStep) (order : List ℕ) (count rank : ℕ) (s : NameStep) (found : List (Option Underlying))
     (v : Option Underlying) → AreSteps p steps → IsStepOrder steps order →
     count < length order → rank ≡ get_or order count 0 → slice_get steps rank ≡ Some s → option_map underlying_of v ≡ reached_type s found →
     AreFilled p order count found → AreFilled p order (count + 1) (set found rank v)
@@ -94,7 +94,7 @@ next_filled p steps order count rank s found v are o lt at is e h =
 
 -- Each definition with an underlying type is in the order
 
-place_by_step : (p : Package) (steps : List Step) (order : List ℕ) → IsStepOrder steps order → (rank : ℕ) (s : Step) → slice_get steps rank ≡ Some s →
+place_by_step : (p : Package) (steps : List NameStep) (order : List ℕ) → IsStepOrder steps order → (rank : ℕ) (s : NameStep) → slice_get steps rank ≡ Some s →
     IsStep p rank s → (u : types.Underlying) →
     HasUnderlying p (Defined (symbol_in p rank)) u → ((to : ℕ) → to < length (package_types p) → NamesDefinition p rank to → IsInOrder order to) →
     IsInOrder order rank
@@ -102,7 +102,7 @@ place_by_step p steps order o rank (Ends w) e step u h before = o.ends rank w e
 place_by_step p steps order o rank (Continues to) e step u h before = o.continues rank to e (before to step.1 step.0)
 place_by_step p steps order o rank Nothing e step u h before = absurd (step u h)
 
-by_any_step : (p : Package) (steps : List Step) (order : List ℕ) → AreSteps p steps → IsStepOrder steps order → (rank : ℕ) →
+by_any_step : (p : Package) (steps : List NameStep) (order : List ℕ) → AreSteps p steps → IsStepOrder steps order → (rank : ℕ) →
     rank < length (package_types p) → (u : types.Underlying) →
     HasUnderlying p (Defined (symbol_in p rank)) u → ((to : ℕ) → to < length (package_types p) → NamesDefinition p rank to → IsInOrder order to) →
     IsInOrder order rank
@@ -137,7 +137,7 @@ no_name p rank to d k o c fs is written n =
     let e : Other n.tree ≡ Struct k o fs c = sym n.written ∙ (ap (λ x. x.spec.body) same ∙ written) in
     cc
 
-placed : (p : Package) → WellFormed p.layout → (steps : List Step) (order : List ℕ) → AreSteps p steps → IsStepOrder steps order →
+placed : (p : Package) → WellFormed p.layout → (steps : List NameStep) (order : List ℕ) → AreSteps p steps → IsStepOrder steps order →
     (t : PlainType) (u : types.Underlying) → HasUnderlying p t u →
     (rank : ℕ) → rank < length (package_types p) → t ≡ Defined (symbol_in p rank) → IsInOrder order rank
 placed p w steps order are o _ _ (basic {b = b}) rank lt e = absurd cc
@@ -160,7 +160,7 @@ found_one : (p : Package) (order : List ℕ) (found : List (Option Underlying)) 
 found_one p order found h rank place None e = λ u has. let at = place u has in h.filled at.0 at.1.0 (ap (λ k. get_or found k None) at.1.1 ∙ e)
 found_one p order found h rank place (Some u) e = h.sound rank u e
 
-pub all_filled : (p : Package) → WellFormed p.layout → (steps : List Step) (order : List ℕ) (count : ℕ) (found : List (Option Underlying)) →
+pub all_filled : (p : Package) → WellFormed p.layout → (steps : List NameStep) (order : List ℕ) (count : ℕ) (found : List (Option Underlying)) →
     AreSteps p steps → IsStepOrder steps order → count ≡ length order →
     AreFilled p order count found → AreUnderlying p found
 all_filled p w steps order count found are o end h = record {

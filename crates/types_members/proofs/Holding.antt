@@ -11,7 +11,7 @@ use Rattle.types_declared.specs.Package.{Package, PlacedType, package_types}
 use Rattle.types_declared.specs.Written.{BindsToken, Mentions, by_name, written_types}
 use Rattle.types_declared.specs.WrittenView.{IsMentionedBy}
 use Rattle.types_members.specs.MemberFaults.{ContainsDirectly, ContainsType, directly, through}
-use Rattle.types_declared.specs.Reachability.{row_of, LinksTo, AreLinksInRange, HasMark, IsReachable, first, behind}
+use Rattle.types_declared.specs.Reachability.{links_from, LinksTo, AreLinksInRange, HasMark, IsReachable, first, behind}
 use Rattle.types_members.specs.Recursion.{AddsItems, IsBareName, HasBareName, AreContained, AreRecursive}
 use Rattle.types_members.specs.Cycles.{IsOnCycle}
 use Rattle.types_members.proofs.Owning.{bound_definition}
@@ -134,7 +134,7 @@ pub record HeldBelow (p : Package) (links : List (Vec ℕ)) (count : ℕ) : Type
   pub only : (a b : ℕ) → LinksTo links a b → ContainsDirectly p a b
 
 no_lead : (a b : ℕ) → LinksTo [] a b → ⊥
-no_lead a b l = no_item b (subst (λ o. Contains (row_of o) b) (slice_get_past [] a (omega arith)) l)
+no_lead a b l = no_item b (subst (λ o. Contains (links_from o) b) (slice_get_past [] a (omega arith)) l)
 
 pub held_none : (p : Package) (links : List (Vec ℕ)) → links ≡ [] → HeldBelow p links 0
 held_none p links e = record {
@@ -155,22 +155,22 @@ held_next p old new count row d e is each h =
     record {
       size = ap length e ∙ len ∙ ap (λ n. n + 1) h.size;
       holds = λ a b lt k. elim (cases_lt a count) [
-        | inl below ↦ subst (λ o. Contains (row_of o) b) (sym (before a below)) (h.holds a b below k)
+        | inl below ↦ subst (λ o. Contains (links_from o) b) (sym (before a below)) (h.holds a b below k)
         | inr ge ↦ (
             let same : a ≡ count = omega arith in
-            let there : LinksTo new count b = subst (λ o. Contains (row_of o) b) (sym last)
+            let there : LinksTo new count b = subst (λ o. Contains (links_from o) b) (sym last)
             ((each b).1 (direct_to p count b d is (subst (λ x. ContainsDirectly p x b) same k))) in
             subst (λ x. LinksTo new x b) (sym same) there)
       ];
       only = λ a b l. elim (cases_order a count) [
         | inl same ↦ (
-            let there : Contains row.items b = subst (λ o. Contains (row_of o) b) last (subst (λ x. LinksTo new x b) same l) in
+            let there : Contains row.items b = subst (λ o. Contains (links_from o) b) last (subst (λ x. LinksTo new x b) same l) in
             subst (λ x. ContainsDirectly p x b) (sym same) (direct_from p count b d is ((each b).0 there)))
         | inr o ↦ elim o [
-          | inl below ↦ h.only a b (subst (λ o. Contains (row_of o) b) (before a below) l)
+          | inl below ↦ h.only a b (subst (λ o. Contains (links_from o) b) (before a below) l)
           | inr above ↦ (
               let size : length new ≡ count + 1 = ap length e ∙ len ∙ ap (λ n. n + 1) h.size in
-              absurd (no_item b (subst (λ o. Contains (row_of o) b) (slice_get_past new a (omega arith)) l)))
+              absurd (no_item b (subst (λ o. Contains (links_from o) b) (slice_get_past new a (omega arith)) l)))
         ]
       ];
     }

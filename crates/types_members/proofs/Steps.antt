@@ -13,8 +13,8 @@ use Rattle.types_expr.specs.declared.symbol.Symbol.{Symbol}
 use Rattle.types_expr.specs.declared.world.Underlying.{Underlying}
 use Rattle.types_expr.specs.Types.{PlainType, Defined}
 use Rattle.types_expr.specs.Types as types
-use Rattle.types_members.specs.declared.underlying.Step.{Step}
-use Rattle.types_members.specs.declared.underlying.Step.TheVariants.{Ends, Continues, Nothing}
+use Rattle.types_members.specs.declared.underlying.NameStep.{NameStep}
+use Rattle.types_members.specs.declared.underlying.NameStep.TheVariants.{Ends, Continues, Nothing}
 use Rattle.types_declared.specs.Package.{Package, PlacedType, package_types, symbol_in}
 use Rattle.types_declared.specs.Written.{DenotesType}
 use Rattle.types_declared.specs.Definitions.{HasUnderlying, struct, named, imported}
@@ -37,7 +37,7 @@ own_beyond p rank past u h = none_beyond p rank (slice_get_past (package_types p
 pub own_symbol : (p : Package) (s : Symbol) → s.package ≡ p.path → Defined s ≡ Defined (symbol_in p s.rank)
 own_symbol p s e = ap (λ v. Defined (record { «package» = v; rank = s.rank })) e
 
-pub from_own : (p : Package) (s : Symbol) → s.package ≡ p.path → (step : Step) → IsStepFrom p (Defined (symbol_in p s.rank)) step →
+pub from_own : (p : Package) (s : Symbol) → s.package ≡ p.path → (step : NameStep) → IsStepFrom p (Defined (symbol_in p s.rank)) step →
     IsStepFrom p (Defined s) step
 from_own p s e step h = subst (λ t. IsStepFrom p t step) (sym (own_symbol p s e)) h
 
@@ -46,14 +46,14 @@ from_own p s e step h = subst (λ t. IsStepFrom p t step) (sym (own_symbol p s e
 pub by_nothing : (p : Package) (file : ℕ) (tree : TypeTree) → ((t : PlainType) → DenotesType p file tree t → ⊥) → IsStepBy p file tree Nothing
 by_nothing p file tree none = λ t u names h. none t names
 
-pub by_type : (p : Package) → WellFormed p.layout → (file : ℕ) (tree : TypeTree) (t : PlainType) → DenotesType p file tree t → (s : Step) → IsStepFrom p t s →
+pub by_type : (p : Package) → WellFormed p.layout → (file : ℕ) (tree : TypeTree) (t : PlainType) → DenotesType p file tree t → (s : NameStep) → IsStepFrom p t s →
     IsStepBy p file tree s
 by_type p w file tree t names (Ends u) h = (t, (names, h))
 by_type p w file tree t names (Continues to) h = (subst (DenotesType p file tree) h.0 names, h.1)
 by_type p w file tree t names Nothing h = λ v u other k. h u (subst (λ x. HasUnderlying p x u) (one_named p w file tree v t other names) k)
 
 pub of_type : (p : Package) (rank : ℕ) (d : PlacedType) (tree : TypeTree) → slice_get (package_types p) rank ≡ Some d → d.spec.body ≡ Other tree →
-    (s : Step) → IsStepBy p d.file tree s → IsStep p rank s
+    (s : NameStep) → IsStepBy p d.file tree s → IsStep p rank s
 of_type p rank d tree is written (Ends u) h = named is written h.1.0 h.1.1
 of_type p rank d tree is written (Continues to) h = (record { definition = d; has_rank = is; tree = tree; written = written; names = h.0 }, h.1)
 of_type p rank d tree is written Nothing h = λ u k.
@@ -82,15 +82,15 @@ each_push P old new n x is size each last r y h =
 
 -- Links, before a loop's index
 
-pub record LinksBelow (steps : List Step) (links : List (Vec ℕ)) (count : ℕ) : Type 0 where
+pub record LinksBelow (steps : List NameStep) (links : List (Vec ℕ)) (count : ℕ) : Type 0 where
   pub size : length links ≡ suc (length steps)
   pub holds : (to rank : ℕ) → rank < count → slice_get steps rank ≡ Some (Continues to) → LinksTo links to rank
   pub only : (to rank : ℕ) → LinksTo links to rank → slice_get steps rank ≡ Some (Continues to)
 
-pub no_link : (steps : List Step) (links : List (Vec ℕ)) → length links ≡ suc (length steps) → ((a b : ℕ) → LinksTo links a b → ⊥) → LinksBelow steps links 0
+pub no_link : (steps : List NameStep) (links : List (Vec ℕ)) → length links ≡ suc (length steps) → ((a b : ℕ) → LinksTo links a b → ⊥) → LinksBelow steps links 0
 no_link steps links size none = record { size = size; holds = λ to rank lt e. absurd (omega arith); only = λ to rank l. absurd (none to rank l) }
 
-pub next_link : (steps : List Step) (old new : List (Vec ℕ)) (rank : ℕ) (s : Step) → slice_get steps rank ≡ Some s →
+pub next_link : (steps : List NameStep) (old new : List (Vec ℕ)) (rank : ℕ) (s : NameStep) → slice_get steps rank ≡ Some s →
     AddsLinks old new rank (λ to. s ≡ Continues to) → LinksBelow steps old rank →
     LinksBelow steps new (rank + 1)
 next_link steps old new rank s is more h = record {
@@ -103,42 +103,42 @@ next_link steps old new rank s is more h = record {
   only = λ to r l. elim (more.only to r l) [ inl k ↦ h.only to r k | inr k ↦ ap (slice_get steps) k.0 ∙ (is ∙ ap Some k.1) ];
 }
 
-pub all_links : (steps : List Step) (links : List (Vec ℕ)) (count : ℕ) → count ≡ length steps → LinksBelow steps links count → AreStepLinks steps links
+pub all_links : (steps : List NameStep) (links : List (Vec ℕ)) (count : ℕ) → count ≡ length steps → LinksBelow steps links count → AreStepLinks steps links
 all_links steps links count e h = record {
   size = h.size;
   holds = λ to rank is. h.holds to rank (let lt : rank < length steps = slice_get_within steps rank (Continues to) is in omega arith) is;
   only = h.only;
 }
 
-pub links_within : (steps : List Step) (links : List (Vec ℕ)) → AreStepLinks steps links → (a b : ℕ) → LinksTo links a b → b < length links
+pub links_within : (steps : List NameStep) (links : List (Vec ℕ)) → AreStepLinks steps links → (a b : ℕ) → LinksTo links a b → b < length links
 links_within steps links h a b l = let lt : b < length steps = slice_get_within steps b (Continues a) (h.only a b l) in omega (arith, h.size)
 
 -- The marks of steps that end
 
-abbrev ends_at : Option Step → Bool
+abbrev ends_at : Option NameStep → Bool
 ends_at None = false
 ends_at (Some s) = is_last_step s
 
-end_mark : (steps : List Step) (rank : ℕ) → get_or (map is_last_step steps ++ (false ∷ [])) rank false ≡ ends_at (slice_get steps rank)
+end_mark : (steps : List NameStep) (rank : ℕ) → get_or (map is_last_step steps ++ (false ∷ [])) rank false ≡ ends_at (slice_get steps rank)
 end_mark [] zero = refl
 end_mark [] (suc rank) = refl
 end_mark (s ∷ steps) zero = refl
 end_mark (s ∷ steps) (suc rank) = end_mark steps rank
 
-end_there : (s : Step) → is_last_step s ≡ true → (u : Underlying) × (s ≡ Ends u)
+end_there : (s : NameStep) → is_last_step s ≡ true → (u : Underlying) × (s ≡ Ends u)
 end_there (Ends u) e = (u, refl)
 end_there (Continues to) e = absurd (false≢true e)
 end_there Nothing e = absurd (false≢true e)
 
-end_found : (o : Option Step) → ends_at o ≡ true → (u : Underlying) × (o ≡ Some (Ends u))
+end_found : (o : Option NameStep) → ends_at o ≡ true → (u : Underlying) × (o ≡ Some (Ends u))
 end_found None e = absurd (false≢true e)
 end_found (Some s) e = let found = end_there s e in (found.0, ap Some found.1)
 
 -- The order of steps
 
-step_at : (steps : List Step) (links : List (Vec ℕ)) (marks : List Bool) (order : List ℕ) → AreStepLinks steps links →
+step_at : (steps : List NameStep) (links : List (Vec ℕ)) (marks : List Bool) (order : List ℕ) → AreStepLinks steps links →
     marks ≡ map is_last_step steps ++ (false ∷ []) → IsReachOrder links (HasMark marks) order →
-    (i : ℕ) → i < length order → (s : Step) × ((slice_get steps (get_or order i 0) ≡ Some s) × ComesAfterTarget s order i)
+    (i : ℕ) → i < length order → (s : NameStep) × ((slice_get steps (get_or order i 0) ≡ Some s) × ComesAfterTarget s order i)
 step_at steps links marks order l m o i lt = elim (o.ordered i lt) [
   | inl begins ↦ (let found = end_found (slice_get steps (get_or order i 0))
       (sym (end_mark steps (get_or order i 0)) ∙ (ap (λ ms. get_or ms (get_or order i 0) false) (sym m) ∙ begins)) in
@@ -146,7 +146,7 @@ step_at steps links marks order l m o i lt = elim (o.ordered i lt) [
   | inr led ↦ (Continues (get_or order led.0 0), (l.only (get_or order led.0 0) (get_or order i 0) led.1.1, (led.0, (led.1.0, refl))))
 ]
 
-pub step_order : (steps : List Step) (links : List (Vec ℕ)) (marks : List Bool) (order : List ℕ) → AreStepLinks steps links →
+pub step_order : (steps : List NameStep) (links : List (Vec ℕ)) (marks : List Bool) (order : List ℕ) → AreStepLinks steps links →
     marks ≡ map is_last_step steps ++ (false ∷ []) → IsReachOrder links (HasMark marks) order →
     IsStepOrder steps order
 step_order steps links marks order l m o = record {
@@ -155,7 +155,7 @@ step_order steps links marks order l m o = record {
   continues = λ rank to e at. o.places rank (behind (subst (IsReachable links (HasMark marks)) at.1.1 (o.reached at.0 at.1.0)) (l.holds to rank e));
 }
 
-pub ends_size : (steps : List Step) (links : List (Vec ℕ)) (marks : List Bool) → AreStepLinks steps links → marks ≡ map is_last_step steps ++ (false ∷ []) →
+pub ends_size : (steps : List NameStep) (links : List (Vec ℕ)) (marks : List Bool) → AreStepLinks steps links → marks ≡ map is_last_step steps ++ (false ∷ []) →
     length marks ≡ length links
 ends_size steps links marks l m =
     let len : length (map is_last_step steps ++ (false ∷ [])) ≡ length (map is_last_step steps) + 1 = length_push (map is_last_step steps) false in
@@ -164,5 +164,5 @@ ends_size steps links marks l m =
     omega (arith, l.size)
 
 -- a step continues only to a definition of the package
-pub step_within : (p : Package) (steps : List Step) → AreSteps p steps → (rank to : ℕ) → slice_get steps rank ≡ Some (Continues to) → to < length steps
+pub step_within : (p : Package) (steps : List NameStep) → AreSteps p steps → (rank to : ℕ) → slice_get steps rank ≡ Some (Continues to) → to < length steps
 step_within p steps are rank to e = let lt : to < length (package_types p) = (are.each rank (Continues to) e).1 in omega (arith, are.all)

@@ -8,13 +8,13 @@ abbrev pub IsOnCycle : List (Vec ℕ) → ℕ → Type 0
 IsOnCycle links number = IsReachable links (LinksTo links number) number
 
 -- the number to is from, or links lead to it from there
-abbrev pub LeadsTo : List (Vec ℕ) → ℕ → ℕ → Type 0
-LeadsTo links from to = IsReachable links (λ q. q ≡ from) to
+abbrev pub LinksLeadTo : List (Vec ℕ) → ℕ → ℕ → Type 0
+LinksLeadTo links from to = IsReachable links (λ q. q ≡ from) to
 
 -- origins has for each number one that reaches it
 pub record AreOrigins (links : List (Vec ℕ)) (origins : List ℕ) : Type 0 where
   pub size : length origins ≡ length links
-  pub each : (q : ℕ) → q < length origins → LeadsTo links (slice_index_or origins q 0) q
+  pub each : (q : ℕ) → q < length origins → LinksLeadTo links (slice_index_or origins q 0) q
 
 -- every link of back is a reversed one of links
 pub record IsReversed (links back : List (Vec ℕ)) : Type 0 where
@@ -36,5 +36,5 @@ HasValueAmong values numbers value = (q : ℕ) × (Contains numbers q × (slice_
 -- The values don't rise along links, if falls is true. The lists have for each number an origin that reaches it and an end that it reaches.
 pub record AreComponents (links : List (Vec ℕ)) (values : List ℕ) (falls : Bool) (origins ends : List ℕ) : Type 0 where
   pub falling : falls ≡ true → NeverRises links values
-  pub origin : (q : ℕ) → q < length links → LeadsTo links (slice_index_or origins q 0) q
-  pub end : (q : ℕ) → q < length links → LeadsTo links q (slice_index_or ends q 0)
+  pub origin : (q : ℕ) → q < length links → LinksLeadTo links (slice_index_or origins q 0) q
+  pub end : (q : ℕ) → q < length links → LinksLeadTo links q (slice_index_or ends q 0)

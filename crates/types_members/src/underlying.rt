@@ -8,7 +8,7 @@ ghost use Rattle.types_expr.specs.Types.{Defined, Struct};
 ghost use Rattle.types_declared.specs.Package.{package_types, symbol_in};
 ghost use Rattle.types_declared.specs.Broken.{AddsLinks};
 ghost use Rattle.types_members.specs.Steps.{IsStepFrom, IsStepBy, IsStep, AreSteps, AreStepLinks, IsStepOrder, is_last_step, reached_type, reached_type_at};
-ghost use Rattle.types_members.specs.declared.underlying.Step.TheVariants.{Continues};
+ghost use Rattle.types_members.specs.declared.underlying.NameStep.TheVariants.{Continues};
 ghost use Rattle.types_members.specs.MembersView.{AreUnderlying};
 ghost use Rattle.types_declared.specs.PackageView.{package_of, IsIndexOf};
 
@@ -22,7 +22,7 @@ use types_expr::world::Underlying;
 /// One step towards the underlying type of a definition: the underlying type, another definition of the package by rank, or nothing where
 /// there is no underlying type.
 #[derive(Drop)]
-enum Step {
+enum NameStep {
     Ends(Underlying),
     Continues(usize),
     Nothing,
@@ -57,14 +57,14 @@ fn imported_underlying(
 }
 
 /// The step to a definition of the package; nothing where it has no such definition.
-fn own_step(pkg: Package<'_>, index: &Index<'_>, rank: usize) -> Step
+fn own_step(pkg: Package<'_>, index: &Index<'_>, rank: usize) -> NameStep
     requires { IsIndexOf (package_of pkg) index.now }
     ensures { IsStepFrom (package_of pkg.entry) (Defined (symbol_in (package_of pkg.entry) rank)) result }
 {
     if rank < index.declared.types.len() {
-        Step::Continues(rank)
+        NameStep::Continues(rank)
     } else {
-        Step::Nothing
+        NameStep::Nothing
     }
 }
 
@@ -74,14 +74,14 @@ fn step_from_defined(
     pkg: Package<'_>,
     index: &Index<'_>,
     symbol: &Symbol,
-) -> Result<Step, AllocError>
+) -> Result<NameStep, AllocError>
     requires { IsIndexOf (package_of pkg) index.now }
     ensures { IfOk result (IsStepFrom (package_of pkg.entry) (Defined symbol.now)) }
 {
     if pkg.path.path() == symbol.package.path() {
         Ok(own_step(pkg, index, symbol.rank))
     } else {
-        Ok(Step::Ends(imported_underlying(alloc, pkg, symbol)?))
+        Ok(NameStep::Ends(imported_underlying(alloc, pkg, symbol)?))
     }
 }
 
@@ -92,14 +92,14 @@ fn step_from(
     pkg: Package<'_>,
     index: &Index<'_>,
     named: &GoType,
-) -> Result<Step, AllocError>
+) -> Result<NameStep, AllocError>
     requires { IsIndexOf (package_of pkg) index.now }
     ensures { IfOk result (IsStepFrom (package_of pkg.entry) (plain_type named.now)) }
 {
     match named {
-        GoType::Basic(basic) => Ok(Step::Ends(Underlying::Plain(*basic))),
-        GoType::Pointer(target) => Ok(Step::Ends(Underlying::PointerTo(target.copy(alloc)?))),
-        GoType::Slice(element) => Ok(Step::Ends(Underlying::SliceOf(element.copy(alloc)?))),
+        GoType::Basic(basic) => Ok(NameStep::Ends(Underlying::Plain(*basic))),
+        GoType::Pointer(target) => Ok(NameStep::Ends(Underlying::PointerTo(target.copy(alloc)?))),
+        GoType::Slice(element) => Ok(NameStep::Ends(Underlying::SliceOf(element.copy(alloc)?))),
         GoType::Defined(symbol) => step_from_defined(alloc, pkg, index, symbol),
     }
 }
@@ -120,13 +120,13 @@ fn step_by(
     index: &Index<'_>,
     file: usize,
     written: &TypeExpr,
-) -> Result<Step, AllocError>
+) -> Result<NameStep, AllocError>
     requires { IsIndexOf (package_of pkg) index.now }
     ensures { IfOk result (IsStepBy (package_of pkg.entry) file (type_view written.now)) }
 {
     pkg.table.is_well_formed();
     match named_type(alloc, pkg, index, file, written)? {
-        None => Ok(Step::Nothing),
+        None => Ok(NameStep::Nothing),
         Some(named) => step_from(alloc, pkg, index, &named),
     }
 }
@@ -139,19 +139,19 @@ fn step_of(
     index: &Index<'_>,
     rank: usize,
     definition: &TypeDef<'_>,
-) -> Result<Step, AllocError>
+) -> Result<NameStep, AllocError>
     requires index { IsIndexOf (package_of pkg) index.now }
     requires definition { slice_get (package_types (package_of pkg)) rank ≡ Some (type_of definition.now) }
     ensures { IfOk result (IsStep (package_of pkg.entry) rank) }
 {
     match &definition.spec.body {
-        TypeBody::Struct { .. } => Ok(Step::Ends(own_struct(pkg, rank)?)),
+        TypeBody::Struct { .. } => Ok(NameStep::Ends(own_struct(pkg, rank)?)),
         TypeBody::Type(written) => step_by(alloc, pkg, index, definition.file, written),
     }
 }
 
 /// Returns the steps from all definitions of a package, by rank.
-fn steps(alloc: Global, pkg: Package<'_>, index: &Index<'_>) -> Result<Vec<Step>, AllocError>
+fn steps(alloc: Global, pkg: Package<'_>, index: &Index<'_>) -> Result<Vec<NameStep>, AllocError>
     requires { IsIndexOf (package_of pkg) index.now }
     ensures { IfOk result (λ steps. AreSteps (package_of pkg.entry) steps.items) }
 {
@@ -164,18 +164,18 @@ fn steps(alloc: Global, pkg: Package<'_>, index: &Index<'_>) -> Result<Vec<Step>
 }
 
 /// Adds a link to a definition from the one that its step continues to.
-fn note_step(links: &mut Vec<Vec<usize>>, step: &Step, rank: usize) -> Result<(), AllocError>
+fn note_step(links: &mut Vec<Vec<usize>>, step: &NameStep, rank: usize) -> Result<(), AllocError>
     requires { (to : ℕ) → step.now ≡ Continues to → to < length links.old.items }
     ensures { OnOk result (AddsLinks links.old.items links.new.items rank (λ to. step.now ≡ Continues to)) }
 {
     match step {
-        Step::Continues(to) => note(links, *to, rank),
-        Step::Ends(_) | Step::Nothing => Ok(()),
+        NameStep::Continues(to) => note(links, *to, rank),
+        NameStep::Ends(_) | NameStep::Nothing => Ok(()),
     }
 }
 
 /// Returns the links from each definition to those whose step continues to it.
-fn step_links(alloc: Global, steps: &[Step]) -> Result<Vec<Vec<usize>>, AllocError>
+fn step_links(alloc: Global, steps: &[NameStep]) -> Result<Vec<Vec<usize>>, AllocError>
     requires { (rank to : ℕ) → slice_get steps.now rank ≡ Some (Continues to) → to < length steps.now }
     ensures { IfOk result (λ links. AreStepLinks steps.now links.items) }
 {
@@ -187,14 +187,14 @@ fn step_links(alloc: Global, steps: &[Step]) -> Result<Vec<Vec<usize>>, AllocErr
 }
 
 /// Whether a step ends at an underlying type.
-fn is_last_step(step: &Step) -> bool
+fn is_last_step(step: &NameStep) -> bool
     ensures { result ≡ is_last_step step.now }
 {
-    matches!(step, Step::Ends(_))
+    matches!(step, NameStep::Ends(_))
 }
 
 /// Marks the definitions whose step ends at an underlying type, by rank. The list has one more entry, which isn't marked.
-fn ends(alloc: Global, steps: &[Step]) -> Result<Vec<bool>, AllocError>
+fn ends(alloc: Global, steps: &[NameStep]) -> Result<Vec<bool>, AllocError>
     ensures { IfOk result (λ marks. marks.items ≡ map is_last_step steps.now ++ (false ∷ [])) }
 {
     let mut marks = Vec::new(alloc);
@@ -223,22 +223,22 @@ fn found_at(
 /// The underlying type that a step leads to, by those already found.
 fn take(
     alloc: Global,
-    step: &Step,
+    step: &NameStep,
     found: &[Option<Underlying>],
 ) -> Result<Option<Underlying>, AllocError>
     ensures { IfOk result (λ o. option_map underlying_of o ≡ reached_type step.now found.now) }
 {
     match step {
-        Step::Ends(own) => Ok(Some(copy(alloc, own)?)),
-        Step::Continues(to) => found_at(alloc, found, *to),
-        Step::Nothing => Ok(None),
+        NameStep::Ends(own) => Ok(Some(copy(alloc, own)?)),
+        NameStep::Continues(to) => found_at(alloc, found, *to),
+        NameStep::Nothing => Ok(None),
     }
 }
 
 /// The underlying type that the step from a definition leads to, by those already found.
 fn take_at(
     alloc: Global,
-    steps: &[Step],
+    steps: &[NameStep],
     rank: usize,
     found: &[Option<Underlying>],
 ) -> Result<Option<Underlying>, AllocError>
@@ -263,7 +263,7 @@ fn none_found(alloc: Global, size: usize) -> Result<Vec<Option<Underlying>>, All
 }
 
 /// Lists the definitions with an underlying type, each after the one that its step continues to.
-fn step_order(alloc: Global, steps: &[Step]) -> Result<Vec<usize>, AllocError>
+fn step_order(alloc: Global, steps: &[NameStep]) -> Result<Vec<usize>, AllocError>
     requires { (rank to : ℕ) → slice_get steps.now rank ≡ Some (Continues to) → to < length steps.now }
     ensures { IfOk result (λ order. IsStepOrder steps.now order.items) }
 {
@@ -276,7 +276,7 @@ fn step_order(alloc: Global, steps: &[Step]) -> Result<Vec<usize>, AllocError>
 fn fill(
     alloc: Global,
     pkg: Package<'_>,
-    steps: &[Step],
+    steps: &[NameStep],
     order: &[usize],
 ) -> Result<Vec<Option<Underlying>>, AllocError>
     requires steps { AreSteps (package_of pkg) steps.now }

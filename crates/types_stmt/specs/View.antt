@@ -2,7 +2,7 @@
 use Rattle.std.specs.Prelude.{ℕ, ◌≡◌, ◌==◌, Bool, List, ◌++◌, option_map, map, codes}
 use Rattle.std.specs.Cmp.Lexicographic.{pointwise}
 use Rattle.types_expr.specs.declared.world.World.{World}
-use Rattle.types_expr.specs.WorldView.{name_in, spelling_of}
+use Rattle.types_expr.specs.WorldView.{name_in, token_spelling}
 use Rattle.types_expr.specs.declared.found.FoundInFile.{FoundInFile}
 use Rattle.types_expr.specs.World.{Locals}
 use Rattle.types_expr.specs.View.{type_of}
@@ -45,4 +45,4 @@ pub record AddsFaultsAt (places : List ℕ) (old new : FoundInFile) : Type 0 whe
 
 -- whether the name at a token is `init`
 abbrev pub is_init_in : World → ℕ → Bool
-is_init_in w place = pointwise ◌==◌ (spelling_of (name_in w place)) (codes "init")
+is_init_in w place = pointwise ◌==◌ (token_spelling (name_in w place)) (codes "init")

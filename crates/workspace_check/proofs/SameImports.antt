@@ -5,7 +5,7 @@ use Rattle.std.proofs.Math.Path.{ap₂}
 use Rattle.base_files.specs.Workspace.{Workspace}
 use Rattle.base_files.specs.Packages.{package_paths, package_files}
 use Rattle.go_ast.specs.SourceFile.{FileParts, source_of}
-use Rattle.workspace_graph.specs.Imports.{Links}
+use Rattle.workspace_graph.specs.Imports.{LinkTable}
 use Rattle.workspace_graph.specs.Packages.{IsParsed, AreLinksOf, IsInClosure, itself, through}
 use Rattle.workspace_graph.specs.Parsed.{AreParsed, none, tree}
 use Rattle.workspace_graph.proofs.ByPath.{has_file, number}
@@ -15,7 +15,7 @@ use Rattle.workspace_check.proofs.Closed.{from_package}
 use Rattle.workspace_check.proofs.StandsAlike.{StandsAlike}
 
 -- the same links and paths
-pub by_links : (v w : Workspace) (g h : Links) → package_paths v ≡ package_paths w → AreLinksOf v g → AreLinksOf w h → g ≡ h → HaveSameImports v w
+pub by_links : (v w : Workspace) (g h : LinkTable) → package_paths v ≡ package_paths w → AreLinksOf v g → AreLinksOf w h → g ≡ h → HaveSameImports v w
 by_links v w g h paths a b e = record {
   paths = paths;
   imports = λ p q has. (
@@ -23,13 +23,13 @@ by_links v w g h paths a b e = record {
         let n = number v p (has_file v p i.entry i.of_package) in
         let m = number v q has in
         (b.each n.0 m.0 p q (subst (λ ps. slice_get ps n.0 ≡ Some p) paths n.1) (subst (λ ps. slice_get ps m.0 ≡ Some q) paths m.1)).0
-        (subst (λ (l : Links). Rattle.workspace_graph.specs.Imports.Imports l n.0 m.0) e ((a.each n.0 m.0 p q n.1 m.1).1 i)),
+        (subst (λ (l : LinkTable). Rattle.workspace_graph.specs.Imports.Imports l n.0 m.0) e ((a.each n.0 m.0 p q n.1 m.1).1 i)),
     λ i.
         let here : Contains (package_paths w) q = subst (λ ps. Contains ps q) paths has in
         let n = number w p (has_file w p i.entry i.of_package) in
         let m = number w q here in
         (a.each n.0 m.0 p q (subst (λ ps. slice_get ps n.0 ≡ Some p) (sym paths) n.1) (subst (λ ps. slice_get ps m.0 ≡ Some q) (sym paths) m.1)).0
-        (subst (λ (l : Links). Rattle.workspace_graph.specs.Imports.Imports l n.0 m.0) (sym e) ((b.each n.0 m.0 p q n.1 m.1).1 i)),
+        (subst (λ (l : LinkTable). Rattle.workspace_graph.specs.Imports.Imports l n.0 m.0) (sym e) ((b.each n.0 m.0 p q n.1 m.1).1 i)),
   );
 }
 

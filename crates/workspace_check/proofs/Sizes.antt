@@ -16,7 +16,7 @@ use Rattle.std.proofs.lemmas.Map.Made.{length-le_from_is_member, is_member-Decid
 use Rattle.std.proofs.lemmas.Option.{same_Some, get_or_from_slice_get, slice_get-get_or, slice_get_within}
 use Rattle.base_files.specs.Workspace.{Workspace}
 use Rattle.base_files.specs.Packages.{package_paths}
-use Rattle.workspace_graph.specs.Imports.{Links, ListsBelow}
+use Rattle.workspace_graph.specs.Imports.{LinkTable, ListsBelow}
 use Rattle.workspace_graph.specs.Orders.{IsOrder}
 use Rattle.workspace_graph.specs.Packages.{AreLinksOf, IsInClosure, itself}
 use Rattle.workspace_graph.proofs.ByPath.{number, reaches_are}
@@ -122,7 +122,7 @@ next_size w old new n size e h here =
     }
 
 -- an order of packages by what they reach
-pub build_order : (w : Workspace) (g : Links) → AreLinksOf w g → (order : List ℕ) → IsOrder g order → IsBuildOrder w order
+pub build_order : (w : Workspace) (g : LinkTable) → AreLinksOf w g → (order : List ℕ) → IsOrder g order → IsBuildOrder w order
 build_order w g links order is = record {
   each = λ n. (
     λ has. subst (λ (k : ℕ). n < k) links.size ((is.each n).0 has),

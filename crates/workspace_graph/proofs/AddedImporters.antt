@@ -6,11 +6,11 @@ use Rattle.std.proofs.lemmas.Bool.{cases_lt, cases_eq}
 use Rattle.std.proofs.lemmas.List.{get_or-set_same, get_or-set_other, length-set, take_more}
 use Rattle.std.proofs.lemmas.List.Elements.{Contains-push, Contains-push_cases, Contains-append_left}
 use Rattle.std.specs.List.Sorted.{IsStrictlyIncreasing}
-use Rattle.workspace_graph.specs.Imports.{Links, Imports, row_of, AddsImporter, AreImporterRows}
+use Rattle.workspace_graph.specs.Imports.{LinkTable, Imports, row_of, AddsImporter, AreImporterRows}
 use Rattle.workspace_graph.proofs.OrderedPackages.{rising_push, rising_front, below_last}
 
 -- one more package of the row
-pub NotesRow-more : (old mid : Links) (row : List ℕ) (i importer : ℕ) → i < length row → get_or row i 0 < length mid →
+pub NotesRow-more : (old mid : LinkTable) (row : List ℕ) (i importer : ℕ) → i < length row → get_or row i 0 < length mid →
     AddsImporter old (take i row) importer mid →
     AddsImporter old (take (i + 1) row) importer (set mid (get_or row i 0) (row_of mid (get_or row i 0) ++ importer ∷ []))
 NotesRow-more old mid row i importer h within s =
@@ -65,7 +65,7 @@ NotesRow-more old mid row i importer h within s =
     })
 
 -- one more row
-pub HoldImporters-more : (g old new : Links) (n : ℕ) → AreImporterRows g n old → AddsImporter old (row_of g n) n new → AreImporterRows g (n + 1) new
+pub HoldImporters-more : (g old new : LinkTable) (n : ℕ) → AreImporterRows g n old → AddsImporter old (row_of g n) n new → AreImporterRows g (n + 1) new
 HoldImporters-more g old new n s r =
     record {
       size = r.size ∙ s.size;

@@ -3,7 +3,7 @@ use Rattle.std.proofs.Common.{ℕ, ◌≡◌, ◌<◌, inl, inr, ◌↔◌, Bool
 use Rattle.std.proofs.lemmas.Bool.{cases_Bool, false≢true, true≢false}
 use Rattle.std.proofs.lemmas.List.{get_or_default}
 use Rattle.workspace_graph.specs.Closures.{IsBuiltOnList}
-use Rattle.workspace_graph.specs.Imports.{Links, AreLinked, Imports, AreImporterRows, Reaches, itself, through}
+use Rattle.workspace_graph.specs.Imports.{LinkTable, AreLinked, Imports, AreImporterRows, Reaches, itself, through}
 use Rattle.workspace_graph.specs.Search.{IsMarked, InvertsMarks, Visits, ListsMarked, UnmarksBelow}
 use Rattle.workspace_graph.proofs.KeptImporters.{importer_below}
 use Rattle.workspace_graph.proofs.Reached.{Reaches-more, reached_within, back_reaches}
@@ -20,7 +20,7 @@ flipped_off : (old new : List Bool) → InvertsMarks old new → (q : ℕ) → I
 flipped_off old new flips q marked also =
     true≢false (sym also ∙ flips.each q (marked_within old q marked) ∙ ap not marked)
 
-module _ (g noted : Links) (linked : AreLinked g) (back : AreImporterRows g (length g) noted) (p : ℕ) (reached barred marks : List Bool)
+module _ (g noted : LinkTable) (linked : AreLinked g) (back : AreImporterRows g (length g) noted) (p : ℕ) (reached barred marks : List Bool)
     (found : List ℕ) (size : length reached ≡ length g) (reaches : (q : ℕ) → IsMarked reached q ↔ Reaches g p q) (first : InvertsMarks reached barred)
     (s : Visits noted p barred found marks) where
   -- what is barred is not reached
@@ -60,7 +60,7 @@ module _ (g noted : Links) (linked : AreLinked g) (back : AreImporterRows g (len
   }
 
 -- what is left where these marks are flipped
-pub built_on_is : (g : Links) (p : ℕ) (marks last : List Bool) (numbers : List ℕ) → UnmarksBelow g p marks → InvertsMarks marks last →
+pub built_on_is : (g : LinkTable) (p : ℕ) (marks last : List Bool) (numbers : List ℕ) → UnmarksBelow g p marks → InvertsMarks marks last →
     ListsMarked last (length last) numbers → IsBuiltOnList g p numbers
 built_on_is g p marks last numbers told flips held = record {
   each = λ q. (

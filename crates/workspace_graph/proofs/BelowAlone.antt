@@ -8,7 +8,7 @@ use Rattle.std.proofs.lemmas.Bool.{cases_eq, false≢true}
 use Rattle.std.proofs.lemmas.List.{get_or-set_other, get_or-set_same, get_or-take, get_or_default, length-replicate, length-take-le, take_more}
 use Rattle.std.proofs.lemmas.List.Elements.{Contains-append_left, Contains-push, Contains-push_cases}
 use Rattle.workspace_graph.specs.Closures.{IsBuiltOnList}
-use Rattle.workspace_graph.specs.Imports.{AreImporterRows, Links, Imports, Reaches, row_of, itself, through}
+use Rattle.workspace_graph.specs.Imports.{AreImporterRows, LinkTable, Imports, Reaches, row_of, itself, through}
 use Rattle.workspace_graph.specs.Search.{ListsMarked, IsMarked, MarksWayBack}
 use Rattle.workspace_graph.proofs.KeptImporters.{importer_below}
 use Rattle.workspace_graph.proofs.Collected.{none_held}
@@ -106,7 +106,7 @@ marked_without marks last one rest within is held q = (
 
 -- ---- the way back
 -- one that reaches another is it, or reaches what imports it
-pub last_step : {g : Links} {q p : ℕ} → Reaches g q p → (q ≡ p) ⊎ ((r : ℕ) × Reaches g q r × Imports g r p)
+pub last_step : {g : LinkTable} {q p : ℕ} → Reaches g q p → (q ≡ p) ⊎ ((r : ℕ) × Reaches g q r × Imports g r p)
 last_step (itself h) = inl refl
 last_step {g} (through {p = q} {q = k} i rest) = elim (last_step rest) [
   | inl same ↦ inr (q, itself (importer_below g q k i), subst (Imports g q) same i)
@@ -114,13 +114,13 @@ last_step {g} (through {p = q} {q = k} i rest) = elim (last_step rest) [
 ]
 
 -- none of the importers that are noted
-pub no_importer : (g noted : Links) (p : ℕ) (row : List ℕ) → AreImporterRows g (length g) noted → row ≡ row_of noted p → (P : ℕ → Type 0) →
+pub no_importer : (g noted : LinkTable) (p : ℕ) (row : List ℕ) → AreImporterRows g (length g) noted → row ≡ row_of noted p → (P : ℕ → Type 0) →
     ((q : ℕ) → Contains row q → P q → ⊥) → (r : ℕ) → Imports g r p → P r → ⊥
 no_importer g noted p row held is P none r imports has =
     none r (subst (λ (l : List ℕ). Contains l r) (sym is) ((held.each p r).1 (importer_below g r p imports, imports))) has
 
 -- P tells what the package reaches
-module _ (g : Links) (p : ℕ) (P : ℕ → Type 0) (is : (q : ℕ) → P q ↔ Reaches g p q) (within : p < length g)
+module _ (g : LinkTable) (p : ℕ) (P : ℕ → Type 0) (is : (q : ℕ) → P q ↔ Reaches g p q) (within : p < length g)
     (none : (r : ℕ) → Imports g r p → P r → ⊥) where
   pub none_back : (q : ℕ) → Reaches g p q → Reaches g q p → q ≡ p
   none_back q there back = elim (last_step back) [

@@ -9,7 +9,7 @@ use Rattle.std.proofs.lemmas.List.Elements.{All-contains}
 use Rattle.std.proofs.lemmas.Option.{same_Some, slice_get_within, get_or_from_slice_get, slice_get-get_or, slice_get_read}
 use Rattle.base_files.specs.Path.{folder}
 use Rattle.base_files.specs.Workspace.{Workspace}
-use Rattle.workspace_graph.specs.Imports.{Links, Imports, row_of, Reaches, itself, through, IsClosure, AreImporters}
+use Rattle.workspace_graph.specs.Imports.{LinkTable, Imports, row_of, Reaches, itself, through, IsClosure, AreImporters}
 use Rattle.workspace_graph.specs.Packages as packages
 use Rattle.base_files.specs.Packages.{is_go, package_paths, package_files}
 use Rattle.workspace_graph.specs.Packages.{PackageImports, AreLinksOf, IsInClosure}
@@ -59,7 +59,7 @@ number w p has = (has.0, slice_get_read (package_paths w) (length (package_paths
 pub at_contains : (w : Workspace) (i : ℕ) (p : List ℕ) → slice_get (package_paths w) i ≡ Some p → Contains (package_paths w) p
 at_contains w i p at = (i, slice_get_within (package_paths w) i p at, get_or_from_slice_get (package_paths w) i p p at)
 
-module _ (w : Workspace) (g : Links) (links : AreLinksOf w g) where
+module _ (w : Workspace) (g : LinkTable) (links : AreLinksOf w g) where
   abbrev At : ℕ → List ℕ → Type 0
   At i p = slice_get (package_paths w) i ≡ Some p
 
@@ -72,7 +72,7 @@ module _ (w : Workspace) (g : Links) (links : AreLinksOf w g) where
   from_within : (i j : ℕ) → Imports g i j → i < length g
   from_within i j h = row_within g i j h
     where
-      row_within : (rows : Links) (i j : ℕ) → Contains (row_of rows i) j → i < length rows
+      row_within : (rows : LinkTable) (i j : ℕ) → Contains (row_of rows i) j → i < length rows
       row_within [] i j h = absurd (omega (arith, h.1))
       row_within (row ∷ rows) zero j h = omega arith
       row_within (row ∷ rows) (suc i) j h = omega (arith, row_within rows i j h)

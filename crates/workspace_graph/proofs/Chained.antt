@@ -15,7 +15,7 @@ use Rattle.std.proofs.lemmas.List.{
   reverse-append,
 }
 use Rattle.std.proofs.lemmas.Option.{get_or_from_slice_get, same_Some, slice_get-get_or, slice_get_within}
-use Rattle.workspace_graph.specs.Imports.{Links, row_of}
+use Rattle.workspace_graph.specs.Imports.{LinkTable, row_of}
 use Rattle.workspace_graph.specs.Chains.{AreChained, IsChain, none, more}
 use Rattle.workspace_graph.specs.declared.importers.NotedImporter.{NotedImporter}
 use Rattle.workspace_graph.specs.declared.importers.Chains.{Chains}
@@ -80,7 +80,7 @@ chained_none chains count is = record {
 }
 
 -- one more importer of a package
-pub chained_more : (old new : Chains) (lists : Links) (number importer : ℕ) → number < length old.latest.items → AreChained old lists →
+pub chained_more : (old new : Chains) (lists : LinkTable) (number importer : ℕ) → number < length old.latest.items → AreChained old lists →
     new.noted.items ≡ old.noted.items ++ record { importer = importer; before = get_or old.latest.items number 0 } ∷ [] →
     new.latest.items ≡ set old.latest.items number (length old.noted.items + 1) →
     AreChained new (set lists number (row_of lists number ++ importer ∷ []))

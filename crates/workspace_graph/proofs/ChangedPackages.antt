@@ -18,7 +18,7 @@ use Rattle.go_ast.specs.SourceFile.{FileParts}
 use Rattle.workspace_graph.specs.Changed.{AreReplaced, KeepsPath, HasRow, has_file, has_some}
 use Rattle.workspace_graph.specs.FaultyFiles.{FaultyParts}
 use Rattle.workspace_graph.specs.Graphs.{paths_of, IsGraph}
-use Rattle.workspace_graph.specs.Imports.{Links, Imports, row_of}
+use Rattle.workspace_graph.specs.Imports.{LinkTable, Imports, row_of}
 use Rattle.workspace_graph.specs.Packages.{PackageImports}
 use Rattle.workspace_graph.specs.Parsed.{AreParsed, none, tree, fault}
 use Rattle.workspace_graph.specs.SameGoFiles.{DiffersOnlyIn, HasFiles}
@@ -148,7 +148,7 @@ with_path (p ∷ ps) q (suc k, within, is) =
     (r.0, (suc r.1.0, omega arith, r.1.2), r.2)
 
 -- ---- the packages after the change
-module _ (v w : Workspace) (before fresh packages : List ParsedPackage) (g : Links) (graph : IsGraph v before g) (differs : DiffersOnlyIn (paths_of fresh) v w)
+module _ (v w : Workspace) (before fresh packages : List ParsedPackage) (g : LinkTable) (graph : IsGraph v before g) (differs : DiffersOnlyIn (paths_of fresh) v w)
     (files : All (HasFiles w) fresh) (kept : All (KeepsPath (package_paths v)) fresh) (are : AreReplaced before fresh packages) where
   abbrev among : List ℕ → List (List ℕ) → Bool
   among q ks = list_any (eq_by_cmp path_cmp q) ks

@@ -17,7 +17,7 @@ use Rattle.base_files.proofs.WorkspaceLaws.{path_cmp_total}
 use Rattle.workspace_graph.specs.Graphs.{paths_of}
 use Rattle.workspace_graph.specs.Growth.{HasNewPackage}
 use Rattle.workspace_graph.specs.ImportPaths.{bytes_of_paths, ListsPaths, AnyImports}
-use Rattle.workspace_graph.specs.Imports.{Links, row_of}
+use Rattle.workspace_graph.specs.Imports.{LinkTable, row_of}
 use Rattle.workspace_graph.specs.Rows.{IsRow}
 use Rattle.workspace_graph.specs.Shifts.{row_shifted, shifted}
 use Rattle.workspace_graph.specs.declared.package.ParsedPackage.{ParsedPackage}
@@ -75,7 +75,7 @@ module _ (ks : List (List ℕ)) (sorted : IsStrictlySortedBy path_cmp ks) where
           subst (Contains others) (sym (get_or-map path_by js k 0 q inside) ∙ has.2) (among (get_or js k 0) (Contains-get_or js k 0 inside)).1
 
 -- ---- packages among which one came
-module _ (packages : List ParsedPackage) (links : Links) (place : ℕ) (grows : HasNewPackage packages links place)
+module _ (packages : List ParsedPackage) (links : LinkTable) (place : ℕ) (grows : HasNewPackage packages links place)
     (sorted : IsStrictlySortedBy path_cmp (paths_of packages)) where
   -- the one that came is among those imported by one with so many more paths
   pub none_left : {Z : Type 0} (before : ℕ) (p : ParsedPackage) (keys : List (Vec ℕ Z)) (path : List ℕ) → slice_get packages (shifted place before) ≡ Some p →

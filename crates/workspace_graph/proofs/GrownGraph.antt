@@ -8,7 +8,7 @@ use Rattle.base_files.specs.Workspace.{Workspace, path_cmp}
 use Rattle.workspace_graph.specs.Changed.{has_file}
 use Rattle.workspace_graph.specs.Graphs.{paths_of, IsGraph}
 use Rattle.workspace_graph.specs.Growth.{AreRows, HasNewPackage}
-use Rattle.workspace_graph.specs.Imports.{Links}
+use Rattle.workspace_graph.specs.Imports.{LinkTable}
 use Rattle.workspace_graph.specs.ChangedFiles.{CoverChanges, ArePackages}
 use Rattle.workspace_graph.specs.SameGoFiles.{HasFiles}
 use Rattle.workspace_graph.specs.Updated.{AreUpdated, IsPlace}
@@ -18,7 +18,7 @@ use Rattle.workspace_graph.proofs.PackagePaths.{paths_sorted}
 use Rattle.workspace_graph.proofs.StayingPackages.{all_at}
 use Rattle.workspace_graph.proofs.UpdatedPackages.{updated_files, updated_one, updated_paths}
 
-module _ (v w : Workspace) (old : List ParsedPackage) (links : Links) (one : ParsedPackage) (place : ℕ) (graph : IsGraph v old links)
+module _ (v w : Workspace) (old : List ParsedPackage) (links : LinkTable) (one : ParsedPackage) (place : ℕ) (graph : IsGraph v old links)
     (fresh : CoverChanges v w (one ∷ [])) (file : has_file one ≡ true) (stands : IsPlace (package_paths v) one.path.items place) where
   pub place_fits : place ≤ length old
   place_fits =
@@ -40,7 +40,7 @@ module _ (v w : Workspace) (old : List ParsedPackage) (links : Links) (one : Par
     pub grown_sorted : IsStrictlySortedBy path_cmp (paths_of packages)
     grown_sorted = subst (IsStrictlySortedBy path_cmp) (sym grown_paths) (paths_sorted w)
 
-    pub grown_grows : (g : Links) → g ≡ links → HasNewPackage packages g place
+    pub grown_grows : (g : LinkTable) → g ≡ links → HasNewPackage packages g place
     grown_grows g same = record {
       before = old;
       one = one;
@@ -49,6 +49,6 @@ module _ (v w : Workspace) (old : List ParsedPackage) (links : Links) (one : Par
       rows = subst (AreRows old) (sym same) (graph_rows v old links graph);
     }
 
-    pub grown_graph : (g : Links) → AreRows packages g → IsGraph w packages g
+    pub grown_graph : (g : LinkTable) → AreRows packages g → IsGraph w packages g
     grown_graph g rows = graph_is w packages g grown_paths
         (λ i p at. updated_files v w old (one ∷ []) (insert old place one) there fresh updated i p (ap (λ l. slice_get l i) (sym put) ∙ at)) rows

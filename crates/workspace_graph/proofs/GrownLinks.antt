@@ -12,7 +12,7 @@ use Rattle.go_ast.specs.SourceFile.{FileParts, source_of}
 use Rattle.workspace_graph.specs.Graphs.{paths_of}
 use Rattle.workspace_graph.specs.Growth.{AreFirstImporters, AreGrown, AreRows, HasNewPackage, ImportsAt, IsGrowing}
 use Rattle.workspace_graph.specs.ImportPaths.{AnyImports}
-use Rattle.workspace_graph.specs.Imports.{Links, AreImporters, AreLinked, AreImporterRows, ListsBelow, Imports, row_of}
+use Rattle.workspace_graph.specs.Imports.{LinkTable, AreImporters, AreLinked, AreImporterRows, ListsBelow, Imports, row_of}
 use Rattle.workspace_graph.specs.Packages.{ImportsPath}
 use Rattle.workspace_graph.specs.Rows.{IsRow, AnyImportsNumber}
 use Rattle.workspace_graph.specs.Shifts.{ShiftsRow, row_shifted, shifted}
@@ -66,7 +66,7 @@ module _ (ks : List (List ℕ)) (place : ℕ) (path : List ℕ) (files : List Fi
   }
 
 -- ---- packages after one was inserted
-module _ (packages : List ParsedPackage) (links : Links) (place : ℕ) (grows : HasNewPackage packages links place) where
+module _ (packages : List ParsedPackage) (links : LinkTable) (place : ℕ) (grows : HasNewPackage packages links place) where
   abbrev ks : List (List ℕ)
   ks = paths_of grows.before
 
@@ -113,7 +113,7 @@ module _ (packages : List ParsedPackage) (links : Links) (place : ℕ) (grows : 
       shifted_within place before (length links) (omega (arith, count, grows.within)) (omega (arith, is, lt, one_more))
 
   -- The rows after the insertion are those of the packages.
-  pub rows_grown : (own importing : List ℕ) (new : Links) → AreGrown place own importing links new → length new ≡ length links + 1 →
+  pub rows_grown : (own importing : List ℕ) (new : LinkTable) → AreGrown place own importing links new → length new ≡ length links + 1 →
       ((p : ParsedPackage) → slice_get packages place ≡ Some p → IsRow (paths_of packages) p.trees.items own) →
       ListsBelow (ImportsAt packages path) (length packages) importing → AreRows packages new
   rows_grown own importing new grown count own_is holds =
@@ -128,7 +128,7 @@ module _ (packages : List ParsedPackage) (links : Links) (place : ℕ) (grows : 
       (λ (r : (q : ℕ) × (shifted place q ≡ j)). old_row own importing new grown holds j p at inside r.0 r.1)
       (shifted_cases place j))
     where
-      old_row : (own importing : List ℕ) (new : Links) → AreGrown place own importing links new →
+      old_row : (own importing : List ℕ) (new : LinkTable) → AreGrown place own importing links new →
           ListsBelow (ImportsAt packages path) (length packages) importing →
           (j : ℕ) (p : ParsedPackage) → slice_get packages j ≡ Some p → j < length new → (q : ℕ) → shifted place q ≡ j →
           IsRow (paths_of packages) p.trees.items (row_of new j)
@@ -155,7 +155,7 @@ module _ (packages : List ParsedPackage) (links : Links) (place : ℕ) (grows : 
     inside = λ k d lt. (let h = ((holds.each (get_or importing k d)).0 (Contains-get_or importing k d lt)).0 in omega (arith, h, one_more));
   }
 
-  pub growing_importers : (noted : Links) (own : List ℕ) (p : ParsedPackage) → AreImporterRows links (length links) noted →
+  pub growing_importers : (noted : LinkTable) (own : List ℕ) (p : ParsedPackage) → AreImporterRows links (length links) noted →
       IsRow (paths_of packages) p.trees.items own → IsGrowing noted place own
   growing_importers noted own p held is = record {
     within = omega (arith, place_inside, one_more, held.size);
@@ -168,7 +168,7 @@ module _ (packages : List ParsedPackage) (links : Links) (place : ℕ) (grows : 
         omega (arith, h, size, one_more, held.size);
   }
 
-  module _ (g : Links) (rows : AreRows packages g) where
+  module _ (g : LinkTable) (rows : AreRows packages g) where
     -- A package keeps its imports, by shifted numbers.
     same_imports : (p q : ℕ) (x : ParsedPackage) → slice_get grows.before p ≡ Some x → Imports g (shifted place p) (shifted place q) ↔ Imports links p q
     same_imports p q x at =
@@ -231,7 +231,7 @@ module _ (packages : List ParsedPackage) (links : Links) (place : ℕ) (grows : 
     )
 
     -- The importers after the insertion are those of the rows after it.
-    pub importers_grown : (noted new : Links) (own importing : List ℕ) → AreImporterRows links (length links) noted → AreGrown place importing own noted new →
+    pub importers_grown : (noted new : LinkTable) (own importing : List ℕ) → AreImporterRows links (length links) noted → AreGrown place importing own noted new →
         length new ≡ length noted + 1 → own ≡ row_of g place → ListsBelow (ImportsAt packages path) (length packages) importing →
         AreFirstImporters g (length g) new
     importers_grown noted new own importing held grown count own_is holds =
@@ -260,7 +260,7 @@ module _ (packages : List ParsedPackage) (links : Links) (place : ℕ) (grows : 
         }
 
 -- ---- importers of all
-pub first_all : (g importers : Links) → AreLinked g → AreFirstImporters g (length g) importers → AreImporterRows g (length g) importers
+pub first_all : (g importers : LinkTable) → AreLinked g → AreFirstImporters g (length g) importers → AreImporterRows g (length g) importers
 first_all g importers linked so = record {
   size = so.size;
   each = λ q p. ⊎_elim

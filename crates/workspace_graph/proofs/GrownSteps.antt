@@ -5,12 +5,12 @@ use Rattle.std.proofs.lemmas.Bool.{cases_lt}
 use Rattle.std.proofs.lemmas.List.{get_or-append-add, get_or-map, get_or_append_left, length-append, length-map}
 use Rattle.std.proofs.lemmas.List.Edits.{get_or-between, length-between}
 use Rattle.workspace_graph.specs.Growth.{AreGrown, IsStop}
-use Rattle.workspace_graph.specs.Imports.{Links, row_of}
+use Rattle.workspace_graph.specs.Imports.{LinkTable, row_of}
 use Rattle.workspace_graph.specs.Shifts.{Splits, ShiftsRow, row_shifted, shifted}
 use Rattle.workspace_graph.proofs.Shifted.{passed_over, shifted_above, shifted_apart, shifted_below, shifted_one, shifts_without}
 
-module _ (place : ℕ) (own linked : List ℕ) (before : Links) where
-  pub grown_none : (rows : Links) → rows ≡ [] → AreGrown place own linked before rows
+module _ (place : ℕ) (own linked : List ℕ) (before : LinkTable) where
+  pub grown_none : (rows : LinkTable) → rows ≡ [] → AreGrown place own linked before rows
   grown_none rows is = subst (AreGrown place own linked before) (sym is) (record {
     within = omega arith;
     own_row = λ lt. absurd (omega (arith, lt));
@@ -18,7 +18,7 @@ module _ (place : ℕ) (own linked : List ℕ) (before : Links) where
   })
 
   -- some rows more
-  grown_more : (rows more : Links) → AreGrown place own linked before rows → length rows + length more ≤ length before + 1 →
+  grown_more : (rows more : LinkTable) → AreGrown place own linked before rows → length rows + length more ≤ length before + 1 →
       ((i : ℕ) → i < length more → length rows + i ≡ place → row_of more i ≡ own) →
       ((q i : ℕ) → i < length more → length rows + i ≡ shifted place q →
       ShiftsRow place (Contains linked (shifted place q)) (row_of before q) (row_of more i)) →
@@ -48,14 +48,14 @@ module _ (place : ℕ) (own linked : List ℕ) (before : Links) where
       behind n i e = ap (row_of (rows ++ more)) (sym e) ∙ get_or-append-add rows more i []
 
   -- that of the one that came
-  pub grown_own : (rows : Links) → AreGrown place own linked before rows → length rows ≡ place → length rows < length before + 1 →
+  pub grown_own : (rows : LinkTable) → AreGrown place own linked before rows → length rows ≡ place → length rows < length before + 1 →
       AreGrown place own linked before (rows ++ own ∷ [])
   grown_own rows so at below = grown_more rows (own ∷ []) so (omega (arith, below))
       (λ i lt e. let z : i ≡ 0 = omega (arith, lt) in ap (row_of (own ∷ [])) z)
       (λ q i lt e. let z : shifted place q ≡ place = omega (arith, lt, e, at) in absurd (shifted_apart place q z))
 
   -- that of another
-  pub grown_one : (rows : Links) (row : List ℕ) (q : ℕ) → AreGrown place own linked before rows → shifted place q ≡ length rows →
+  pub grown_one : (rows : LinkTable) (row : List ℕ) (q : ℕ) → AreGrown place own linked before rows → shifted place q ≡ length rows →
       length rows < length before + 1 → ShiftsRow place (Contains linked (length rows)) (row_of before q) row →
       AreGrown place own linked before (rows ++ row ∷ [])
   grown_one rows row q so is below shifts = grown_more rows (row ∷ []) so (omega (arith, below))
@@ -69,7 +69,7 @@ module _ (place : ℕ) (own linked : List ℕ) (before : Links) where
       (subst (λ k. ShiftsRow place (Contains linked k) (row_of before q) row) (sym is) shifts)))
 
   -- those up to a stop
-  module _ (rows : Links) (index from to stop : ℕ) (so : AreGrown place own linked before rows) (within : place ≤ length before)
+  module _ (rows : LinkTable) (index from to stop : ℕ) (so : AreGrown place own linked before rows) (within : place ≤ length before)
       (passed : Splits linked index (length rows)) (stops : IsStop place (length before + 1) linked index (length rows) stop)
       (from_upto : length rows ≤ place → from ≡ length rows) (from_above : place < length rows → from + 1 ≡ length rows)
       (to_upto : stop ≤ place → to ≡ stop) (to_above : place < stop → to + 1 ≡ stop) where
@@ -114,7 +114,7 @@ module _ (place : ℕ) (own linked : List ℕ) (before : Links) where
     pub run_inside : to ≤ length before
     run_inside = fits.inside
 
-    abbrev more : Links
+    abbrev more : LinkTable
     more = map (row_shifted place) (slice_range before from to)
 
     more_size : length more ≡ to - from

@@ -3,11 +3,11 @@ use Rattle.std.proofs.Common.{◌≡◌, ℕ, ◌+◌, ◌<◌, ◌≤◌, List,
 use Rattle.std.specs.List.{Contains}
 use Rattle.std.proofs.lemmas.Bool.{cases_lt}
 use Rattle.workspace_graph.specs.Growth.{IsGrowing, IsStop}
-use Rattle.workspace_graph.specs.Imports.{Links}
+use Rattle.workspace_graph.specs.Imports.{LinkTable}
 use Rattle.workspace_graph.specs.Shifts.{Splits}
 use Rattle.workspace_graph.proofs.Shifted.{passed_one_in, passed_to}
 
-module _ (before : Links) (place : ℕ) (linked : List ℕ) (index number end : ℕ) (growing : IsGrowing before place linked) (passed : Splits linked index number)
+module _ (before : LinkTable) (place : ℕ) (linked : List ℕ) (index number end : ℕ) (growing : IsGrowing before place linked) (passed : Splits linked index number)
     (within : number ≤ length before + 1) (there : index < length linked → end ≡ get_or linked index 0)
     (behind : length linked ≤ index → end ≡ length before + 1) where
   end_from : number ≤ end

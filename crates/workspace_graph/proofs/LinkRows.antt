@@ -6,7 +6,7 @@ use Rattle.std.proofs.Math.Seq.{drop-append_seam}
 use Rattle.std.proofs.lemmas.Bool.{cases_lt}
 use Rattle.std.proofs.lemmas.List.{drop-append-le, length-append, length-drop, length-take-le, take-append-drop}
 use Rattle.std.proofs.lemmas.List.{take-append-le, take_all}
-use Rattle.workspace_graph.specs.Imports.{Links, row_of}
+use Rattle.workspace_graph.specs.Imports.{LinkTable, row_of}
 use Rattle.workspace_graph.specs.LinkRows.{rows_of, last_bound, AreBounds}
 
 -- one row fewer than bounds
@@ -25,7 +25,7 @@ row_between (a ∷ b ∷ bs) ns (suc i) lt =
     row_between (b ∷ bs) ns i (omega arith) ∙ ap (λ k. slice_range ns (get_or (b ∷ bs) i 0) (get_or (a ∷ b ∷ bs) k 0)) (sym next)
 
 -- the number of a row is that of a bound that another follows
-pub number_within : (bs ns : List ℕ) (g : Links) (i : ℕ) → rows_of bs ns ≡ g → i < length g → i + 1 < length bs
+pub number_within : (bs ns : List ℕ) (g : LinkTable) (i : ℕ) → rows_of bs ns ≡ g → i < length g → i + 1 < length bs
 number_within bs ns g i is lt = let size = rows_size bs ns in let same = ap length is in omega arith
 
 -- the bounds of a row don't fall, within the list
@@ -78,7 +78,7 @@ row_added bs ns row are =
     rows_push bs ns row (last_bound bs) are.some refl are.within (λ i lt. are.rising i (length bs - 1) (omega arith) (omega arith))
 
 -- A row appended to the numbers is one more row, by the length of the numbers.
-pub row_ends : (bs ns new row : List ℕ) (g : Links) (end : ℕ) → AreBounds bs ns → rows_of bs ns ≡ g → new ≡ take (last_bound bs) ns ++ row → end ≡ length new →
+pub row_ends : (bs ns new row : List ℕ) (g : LinkTable) (end : ℕ) → AreBounds bs ns → rows_of bs ns ≡ g → new ≡ take (last_bound bs) ns ++ row → end ≡ length new →
     rows_of (bs ++ end ∷ []) new ≡ g ++ row ∷ []
 row_ends bs ns new row g end are view is at =
     let size = length-take-le (last_bound bs) ns are.within in

@@ -10,7 +10,7 @@ use Rattle.go_ast.specs.SourceFile.{SourceFile, FileParts, source_of}
 use Rattle.workspace_graph.specs.FaultyFiles.{FaultyParts}
 use Rattle.workspace_graph.specs.Growth.{AreRows}
 use Rattle.workspace_graph.specs.ImportPaths.{AnyImports}
-use Rattle.workspace_graph.specs.Imports.{Links, AreLinked, Imports, row_of}
+use Rattle.workspace_graph.specs.Imports.{LinkTable, AreLinked, Imports, row_of}
 use Rattle.base_files.specs.Packages.{package_paths, package_files}
 use Rattle.workspace_graph.specs.Packages.{IsParsed, ImportsPath, PackageImports, AreLinksOf}
 use Rattle.workspace_graph.specs.Parsed.{AreParsed, none, tree, fault}
@@ -88,7 +88,7 @@ row_imports w paths p row parsed is j q at = (
 )
 
 -- ---- rows of packages
-module _ (ps : List ParsedPackage) (g : Links) (rows : AreRows ps g) where
+module _ (ps : List ParsedPackage) (g : LinkTable) (rows : AreRows ps g) where
   abbrev R : ParsedPackage → List ℕ → Type 0
   R = λ p row. IsRow (paths_of ps) p.trees.items row
 
@@ -120,7 +120,7 @@ module _ (ps : List ParsedPackage) (g : Links) (rows : AreRows ps g) where
       let here = package_at ps i d (slice_get-get_or (paths_of ps) i [] (omega (arith, rows_size))) in
       (row_at i here.0 here.1).rising
 
-module _ (w : Workspace) (ps : List ParsedPackage) (g : Links) (paths : paths_of ps ≡ package_paths w)
+module _ (w : Workspace) (ps : List ParsedPackage) (g : LinkTable) (paths : paths_of ps ≡ package_paths w)
     (parsed : (i : ℕ) (p : ParsedPackage) → slice_get ps i ≡ Some p → AreParsed (package_files w p.path.items) p.trees.items p.faulty.items)
     (rows : AreRows ps g) where
   size : length g ≡ length (paths_of ps)
@@ -165,7 +165,7 @@ zip_from R [] (y ∷ ys) d same each = absurd (omega (arith, same))
 zip_from R (x ∷ xs) [] d same each = absurd (omega (arith, same))
 zip_from R (x ∷ xs) (y ∷ ys) d same each = (each 0 x refl, zip_from R xs ys d (omega (arith, same)) (λ i z at. each (suc i) z at))
 
-module _ (w : Workspace) (ps : List ParsedPackage) (g : Links) (graph : IsGraph w ps g) where
+module _ (w : Workspace) (ps : List ParsedPackage) (g : LinkTable) (graph : IsGraph w ps g) where
   named : (i : ℕ) (p : ParsedPackage) → slice_get ps i ≡ Some p → slice_get (package_paths w) i ≡ Some p.path.items
   named i p at = ap (λ names. slice_get names i) (sym graph.paths) ∙ path_at ps i p at
 

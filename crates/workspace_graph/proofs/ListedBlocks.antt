@@ -8,7 +8,7 @@ use Rattle.std.proofs.lemmas.Bool.{cases_lt, cases_eq, cases_order, false≢true
 use Rattle.std.proofs.lemmas.List.{get_or_append_left, get_or-append-add, get_or_default, get_or-set_same, get_or-set_other}
 use Rattle.std.proofs.lemmas.List.Elements.{Contains-get_or, Contains-append_left, Contains-append_right, Contains-append_cases, All-from_get_or}
 use Rattle.std.proofs.lemmas.Option.{get_or_from_slice_get, slice_get-get_or, slice_get_within}
-use Rattle.workspace_graph.specs.Imports.{Links, AreLinked, AreImporterRows, Reaches}
+use Rattle.workspace_graph.specs.Imports.{LinkTable, AreLinked, AreImporterRows, Reaches}
 use Rattle.workspace_graph.specs.Orders.{IsOrder, IsBefore, AreListed, AreClear}
 use Rattle.workspace_graph.specs.Search.{IsMarked, Visits}
 use Rattle.workspace_graph.specs.declared.order.Blocks.{Blocks}
@@ -23,7 +23,7 @@ clear_still marks n q within is = elim (cases_eq q n) [
 ]
 
 -- what a search through the block did not find is not marked
-pub found_back : (noted : Links) (root : ℕ) (block : List ℕ) (barred : List Bool) (found : List ℕ) (marks : List Bool) → AreClear block barred →
+pub found_back : (noted : LinkTable) (root : ℕ) (block : List ℕ) (barred : List Bool) (found : List ℕ) (marks : List Bool) → AreClear block barred →
     Visits noted root barred found marks → ((q : ℕ) → Contains block q → IsMarked marks q) → (q : ℕ) → Contains block q → Reaches noted root q
 found_back noted root block barred found marks clear s all q has = elim (s.finds.places q (all q has)) [
   | inl before ↦ absurd (false≢true (sym (clear q has) ∙ before))
@@ -34,12 +34,12 @@ found_back noted root block barred found marks clear s all q has = elim (s.finds
 ]
 
 -- what was found is in range
-pub found_below : (g : Links) (root : ℕ) (old : List Bool) (found : List ℕ) (marks : List Bool) → Visits g root old found marks →
+pub found_below : (g : LinkTable) (root : ℕ) (old : List Bool) (found : List ℕ) (marks : List Bool) → Visits g root old found marks →
     All (λ q. q < length g) found
 found_below g root old found marks s = All-from_get_or (λ q. q < length g) found 0 (λ k lt. reached_within (s.reached k lt))
 
 -- Before the first block, no package is listed.
-pub told_none : (g : Links) (b : Blocks) → length b.order.items ≡ 0 → ((q : ℕ) → IsMarked b.told.items q → ⊥) → length b.told.items ≡ length g →
+pub told_none : (g : LinkTable) (b : Blocks) → length b.order.items ≡ 0 → ((q : ℕ) → IsMarked b.told.items q → ⊥) → length b.told.items ≡ length g →
     length b.barred.items ≡ length g → AreListed g b
 told_none g b none unmarked size bars = record {
   size = size;
@@ -51,7 +51,7 @@ told_none g b none unmarked size bars = record {
 }
 
 -- one block more
-module _ (g noted : Links) (linked : AreLinked g) (back : AreImporterRows g (length g) noted) (root : ℕ) (b new : Blocks) (block : List ℕ)
+module _ (g noted : LinkTable) (linked : AreLinked g) (back : AreImporterRows g (length g) noted) (root : ℕ) (b new : Blocks) (block : List ℕ)
     (told : AreListed g b) (s : Visits g root b.told.items block new.told.items) (is : new.order.items ≡ b.order.items ++ block)
     (leads : (q : ℕ) → Contains block q → Reaches noted root q) where
   abbrev o : List ℕ
@@ -137,7 +137,7 @@ module _ (g noted : Links) (linked : AreLinked g) (back : AreImporterRows g (len
   }
 
 -- When all packages are listed, the list is an order of all.
-pub order_is : (g : Links) (b : Blocks) → AreListed g b → ((q : ℕ) → q < length b.told.items → IsMarked b.told.items q) → IsOrder g b.order.items
+pub order_is : (g : LinkTable) (b : Blocks) → AreListed g b → ((q : ℕ) → q < length b.told.items → IsMarked b.told.items q) → IsOrder g b.order.items
 order_is g b told all =
     let o = b.order.items in
     record {

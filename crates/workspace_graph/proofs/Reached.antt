@@ -5,32 +5,32 @@ use Rattle.std.proofs.lemmas.List.Elements.{All-from_get_or, Contains-get_or}
 use Rattle.std.proofs.Math.ListN.{replicate}
 use Rattle.std.proofs.lemmas.Bool.{cases_lt, false≢true}
 use Rattle.std.proofs.lemmas.List.{get_or_default}
-use Rattle.workspace_graph.specs.Imports.{Links, AreLinked, Imports, row_of, Reaches, itself, through, AreImporterRows}
+use Rattle.workspace_graph.specs.Imports.{LinkTable, AreLinked, Imports, row_of, Reaches, itself, through, AreImporterRows}
 use Rattle.workspace_graph.specs.Search.{IsMarked, MarksFound, Visits, AreClosedMarks, MarksReached, AreReached, AreReaching, MarksReachingTo}
 use Rattle.workspace_graph.proofs.KeptImporters.{importer_below}
 use Rattle.workspace_graph.proofs.SearchSteps.{marked_within, linked_below}
 
 -- going on by one import
-pub Reaches-more : {g : Links} {p q r : ℕ} → r < length g → Reaches g p q → Imports g q r → Reaches g p r
+pub Reaches-more : {g : LinkTable} {p q r : ℕ} → r < length g → Reaches g p q → Imports g q r → Reaches g p r
 Reaches-more w (itself h) i = through i (itself w)
 Reaches-more w (through j h) i = through j (Reaches-more w h i)
 
 -- going on to what the other reaches
-pub Reaches-trans : {g : Links} {p q r : ℕ} → Reaches g p q → Reaches g q r → Reaches g p r
+pub Reaches-trans : {g : LinkTable} {p q r : ℕ} → Reaches g p q → Reaches g q r → Reaches g p r
 Reaches-trans (itself h) k = k
 Reaches-trans (through i h) k = through i (Reaches-trans h k)
 
 -- only packages are reached
-pub reached_within : {g : Links} {p q : ℕ} → Reaches g p q → q < length g
+pub reached_within : {g : LinkTable} {p q : ℕ} → Reaches g p q → q < length g
 reached_within (itself h) = h
 reached_within (through i h) = reached_within h
 
 -- ---- what was found on the way
-abbrev pub AreFoundFrom : Links → ℕ → List ℕ → Type 0
+abbrev pub AreFoundFrom : LinkTable → ℕ → List ℕ → Type 0
 AreFoundFrom g start found = (i : ℕ) → i < length found → Reaches g start (get_or found i 0)
 
 -- all that the next package imports was found too
-pub found_more : (g : Links) (start : ℕ) (f : List ℕ) (m : List Bool) (h : List ℕ) (n : List Bool) (place : ℕ) → AreLinked g → place < length f →
+pub found_more : (g : LinkTable) (start : ℕ) (f : List ℕ) (m : List Bool) (h : List ℕ) (n : List Bool) (place : ℕ) → AreLinked g → place < length f →
     AreFoundFrom g start f → MarksFound f m h n (Imports g (get_or f place 0)) → AreFoundFrom g start h
 found_more g start f m h n place linked within found more i lt = elim (cases_lt i (length f)) [
   | inl below ↦ subst (Reaches g start) (sym (more.same i below)) (found i below)
@@ -39,13 +39,13 @@ found_more g start f m h n place linked within found more i lt = elim (cases_lt 
 ]
 
 -- the first package
-pub found_first : (g : Links) (start : ℕ) (f : List ℕ) (m : List Bool) (h : List ℕ) (n : List Bool) → start < length g → length f ≡ 0 →
+pub found_first : (g : LinkTable) (start : ℕ) (f : List ℕ) (m : List Bool) (h : List ℕ) (n : List Bool) → start < length g → length f ≡ 0 →
     MarksFound f m h n (λ q. q ≡ start) → AreFoundFrom g start h
 found_first g start f m h n within none more i lt =
     subst (Reaches g start) (sym (more.behind i (omega arith) lt)) (itself within)
 
 -- ---- where marks are closed
-module _ (g : Links) (start : ℕ) (old : List Bool) (found : List ℕ) (marks : List Bool) (s : Visits g start old found marks)
+module _ (g : LinkTable) (start : ℕ) (old : List Bool) (found : List ℕ) (marks : List Bool) (s : Visits g start old found marks)
     (closed : AreClosedMarks g old) where
   pub closed_still : AreClosedMarks g marks
   closed_still p q m i = elim (s.finds.places p m) [
@@ -84,11 +84,11 @@ none_marked (suc n) (suc q) m = none_marked n q m
 pub none_in : (marks : List Bool) (n : ℕ) → marks ≡ replicate n false → (q : ℕ) → IsMarked marks q → ⊥
 none_in marks n is q m = none_marked n q (subst (λ (ms : List Bool). IsMarked ms q) is m)
 
-pub none_closed : (g : Links) (marks : List Bool) → ((q : ℕ) → IsMarked marks q → ⊥) → AreClosedMarks g marks
+pub none_closed : (g : LinkTable) (marks : List Bool) → ((q : ℕ) → IsMarked marks q → ⊥) → AreClosedMarks g marks
 none_closed g marks none p q m i = absurd (none p m)
 
 -- what is marked from nothing on
-pub reached_alone : (g : Links) (start : ℕ) (old marks : List Bool) → ((q : ℕ) → IsMarked old q → ⊥) → MarksReached g start old marks → (q : ℕ) →
+pub reached_alone : (g : LinkTable) (start : ℕ) (old marks : List Bool) → ((q : ℕ) → IsMarked old q → ⊥) → MarksReached g start old marks → (q : ℕ) →
     IsMarked marks q ↔ Reaches g start q
 reached_alone g start old marks none are q = (
   λ m. elim ((are.each q).0 m) [ inl before ↦ absurd (none q before) | inr r ↦ r ],
@@ -96,7 +96,7 @@ reached_alone g start old marks none are q = (
 )
 
 -- ---- what the marked ones of the first packages reach
-module _ (g : Links) (starts : List Bool) where
+module _ (g : LinkTable) (starts : List Bool) where
   pub reached_none : (marks : List Bool) → length marks ≡ length g → ((q : ℕ) → IsMarked marks q → ⊥) → AreReached g starts 0 marks
   reached_none marks size none = record { size = size; each = λ q. ((λ m. absurd (none q m)), (λ r. absurd (omega (arith, r.1)))) }
 
@@ -136,7 +136,7 @@ module _ (g : Links) (starts : List Bool) where
   }
 
 -- ---- links backwards
-module _ (g noted : Links) (linked : AreLinked g) (back : AreImporterRows g (length g) noted) where
+module _ (g noted : LinkTable) (linked : AreLinked g) (back : AreImporterRows g (length g) noted) where
   noted_below : (p q : ℕ) → Imports noted p q → q < length noted
   noted_below p q i = (let lt : q < length g = ((back.each p q).0 i).0 in omega (arith, back.size))
 

@@ -9,7 +9,7 @@ use Rattle.std.proofs.lemmas.List.Sums.{sum_by-set}
 use Rattle.std.specs.List.{count_by}
 use Rattle.std.specs.List.{Contains}
 use Rattle.std.proofs.lemmas.List.Elements.{All-contains, Contains-get_or, Contains-push, Contains-push_cases, Contains-append_left}
-use Rattle.workspace_graph.specs.Imports.{Links, AreLinked, Imports, row_of}
+use Rattle.workspace_graph.specs.Imports.{LinkTable, AreLinked, Imports, row_of}
 use Rattle.workspace_graph.specs.Search.{IsMarked, ListsNewMarks, MarksFound, AreImportsMarked}
 
 -- only what is in range is marked
@@ -163,14 +163,14 @@ row_all row i le = take_all i row le
 
 -- ---- links
 -- each import is a package
-pub linked_below : (g : Links) (p q : ℕ) → AreLinked g → Imports g p q → q < length g
+pub linked_below : (g : LinkTable) (p q : ℕ) → AreLinked g → Imports g p q → q < length g
 linked_below g p q linked i = elim (cases_lt p (length g)) [
   | inl h ↦ All-contains (λ r. r < length g) (row_of g p) q (linked p [] h) i
   | inr h ↦ (let none : Contains [] q = subst (λ (xs : List ℕ). Contains xs q) (get_or_past g p [] h) i in absurd (omega (arith, none.1)))
 ]
 
 -- what a row holds is imported
-pub row_imports : (g : Links) (p : ℕ) (row : List ℕ) (k : ℕ) → row ≡ row_of g p → k < length row → Imports g p (get_or row k 0)
+pub row_imports : (g : LinkTable) (p : ℕ) (row : List ℕ) (k : ℕ) → row ≡ row_of g p → k < length row → Imports g p (get_or row k 0)
 row_imports g p row k is h = subst (λ (xs : List ℕ). Contains xs (get_or row k 0)) is (Contains-get_or row k 0 h)
 
 -- what a test of a mark read
@@ -178,7 +178,7 @@ pub mark_read : (marks : List Bool) (n : ℕ) (b v : Bool) → n < length marks 
 mark_read marks n b v h e is = sym (get_or_read marks n b h e false) ∙ is
 
 -- ---- one package more is followed
-pub followed_more : (g : Links) (f : List ℕ) (m : List Bool) (h : List ℕ) (n : List Bool) (place : ℕ) → place < length f → AreImportsMarked g f m place →
+pub followed_more : (g : LinkTable) (f : List ℕ) (m : List Bool) (h : List ℕ) (n : List Bool) (place : ℕ) → place < length f → AreImportsMarked g f m place →
     MarksFound f m h n (Imports g (get_or f place 0)) → AreImportsMarked g h n (place + 1)
 followed_more g f m h n place within done more i lt q leads =
     let there : Imports g (get_or f i 0) q = subst (λ (a : ℕ). Imports g a q) (more.same i (omega arith)) leads in

@@ -2,7 +2,7 @@
 use Rattle.std.specs.Prelude.{◌≡◌, ℕ, ◌⊎◌, ◌||◌, Bool, true, false, List, [], ◌∷◌, Some, slice_get}
 use Rattle.std.specs.List.{Contains}
 use Rattle.workspace_graph.specs.Graphs.{paths_of}
-use Rattle.workspace_graph.specs.Imports.{Links, row_of}
+use Rattle.workspace_graph.specs.Imports.{LinkTable, row_of}
 use Rattle.workspace_graph.specs.Rows.{IsRow}
 use Rattle.workspace_graph.specs.declared.package.ParsedPackage.{ParsedPackage}
 
@@ -26,5 +26,5 @@ pub record AreReplaced (before fresh packages : List ParsedPackage) : Type 0 whe
       ((slice_get before i ≡ Some p) × (Contains (paths_of fresh) p.path.items → ⊥))
 
 -- If the package has a number in `paths`, its row in `g` has what its files import.
-abbrev pub HasRow : List (List ℕ) → Links → ParsedPackage → Type 0
+abbrev pub HasRow : List (List ℕ) → LinkTable → ParsedPackage → Type 0
 HasRow paths g p = (n : ℕ) → slice_get paths n ≡ Some p.path.items → IsRow paths p.trees.items (row_of g n)

@@ -3,9 +3,9 @@ use Rattle.std.specs.Prelude.{◌≡◌, true, false, [], ◌∷◌, refl}
 use Rattle.std.proofs.Common.{lit<}
 use Rattle.base_files.specs.Packages.{is_go}
 use Rattle.base_files.specs.Packages.{files_in}
-use Rattle.workspace_graph.specs.Imports.{Links, Imports, Reaches, itself, through}
+use Rattle.workspace_graph.specs.Imports.{LinkTable, Imports, Reaches, itself, through}
 
-abbrev two_and_one : Links
+abbrev two_and_one : LinkTable
 two_and_one = (1 ∷ []) ∷ (0 ∷ []) ∷ (0 ∷ []) ∷ []
 
 first_imports_second : Imports two_and_one 0 1

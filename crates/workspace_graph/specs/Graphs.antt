@@ -3,7 +3,7 @@ use Rattle.std.specs.Prelude.{◌≡◌, ℕ, ◌<◌, ◌↔◌, List, [], map,
 use Rattle.std.specs.List.{Contains}
 use Rattle.std.specs.List.Sorted.{IsStrictlyIncreasing}
 use Rattle.base_files.specs.Workspace.{Workspace}
-use Rattle.workspace_graph.specs.Imports.{Links, row_of}
+use Rattle.workspace_graph.specs.Imports.{LinkTable, row_of}
 use Rattle.base_files.specs.Packages.{package_paths, package_files}
 use Rattle.workspace_graph.specs.Packages.{AreLinksOf}
 use Rattle.workspace_graph.specs.Parsed.{AreParsed}
@@ -23,7 +23,7 @@ pub record IsPackage (w : Workspace) (number : ℕ) (p : ParsedPackage) : Type 0
   pub files : AreParsed (package_files w p.path.items) p.trees.items p.faulty.items
 
 -- `packages` are all packages of the workspace in the order of their paths, with their parsed files. `links` are their imports, in order.
-pub record IsGraph (w : Workspace) (packages : List ParsedPackage) (links : Links) : Type 0 where
+pub record IsGraph (w : Workspace) (packages : List ParsedPackage) (links : LinkTable) : Type 0 where
   pub paths : paths_of packages ≡ package_paths w
   pub each : (i : ℕ) (p : ParsedPackage) → slice_get packages i ≡ Some p → AreParsed (package_files w p.path.items) p.trees.items p.faulty.items
   pub linked : AreLinksOf w links

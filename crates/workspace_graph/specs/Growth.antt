@@ -5,18 +5,18 @@ use Rattle.std.specs.List.Sorted.{IsStrictlyIncreasing}
 use Rattle.workspace_graph.specs.Changed.{has_file}
 use Rattle.workspace_graph.specs.Graphs.{paths_of}
 use Rattle.workspace_graph.specs.ImportPaths.{AnyImports}
-use Rattle.workspace_graph.specs.Imports.{Links, AreImporters, AreLinked, row_of}
+use Rattle.workspace_graph.specs.Imports.{LinkTable, AreImporters, AreLinked, row_of}
 use Rattle.workspace_graph.specs.Rows.{IsRow}
 use Rattle.workspace_graph.specs.Shifts.{Splits, ShiftsRow, shifted}
 use Rattle.workspace_graph.specs.Updated.{IsPlace}
 use Rattle.workspace_graph.specs.declared.package.ParsedPackage.{ParsedPackage}
 
 -- For each package, the row has the numbers of those that its files import.
-abbrev pub AreRows : List ParsedPackage → Links → Type 0
+abbrev pub AreRows : List ParsedPackage → LinkTable → Type 0
 AreRows packages rows = AllZip (λ p row. IsRow (paths_of packages) p.trees.items row) packages rows
 
 -- One of the packages was inserted at `place`, and `links` are the links of the others before that.
-pub record HasNewPackage (packages : List ParsedPackage) (links : Links) (place : ℕ) : Type 0 where
+pub record HasNewPackage (packages : List ParsedPackage) (links : LinkTable) (place : ℕ) : Type 0 where
   pub before : List ParsedPackage
   pub one : ParsedPackage
   pub within : place ≤ length before
@@ -35,7 +35,7 @@ ImportsAt packages path number = (p : ParsedPackage) × ((slice_get packages num
 
 -- The rows `before` belong to packages before one is inserted at `place`. `linked` are the numbers, after that, of the rows that gain
 -- `place`, in increasing order.
-pub record IsGrowing (before : Links) (place : ℕ) (linked : List ℕ) : Type 0 where
+pub record IsGrowing (before : LinkTable) (place : ℕ) (linked : List ℕ) : Type 0 where
   pub within : place ≤ length before
   pub numbers : AreLinked before
   pub rising : IsStrictlyIncreasing linked
@@ -43,7 +43,7 @@ pub record IsGrowing (before : Links) (place : ℕ) (linked : List ℕ) : Type 0
 
 -- `rows` are the first rows after the package was inserted. Its own row is `own`. The others are the shifted rows of `before`, and those of
 -- `linked` gain `place`.
-pub record AreGrown (place : ℕ) (own linked : List ℕ) (before rows : Links) : Type 0 where
+pub record AreGrown (place : ℕ) (own linked : List ℕ) (before rows : LinkTable) : Type 0 where
   pub within : length rows ≤ length before + 1
   pub own_row : place < length rows → row_of rows place ≡ own
   pub each : (q : ℕ) → shifted place q < length rows →
@@ -58,7 +58,7 @@ pub record IsStop (place count : ℕ) (linked : List ℕ) (index number stop : �
   pub told : stop < count → (stop ≡ place → ⊥) → Contains linked stop
 
 -- `importers` has the importers of the first `count` packages, in increasing order.
-pub record AreFirstImporters (g : Links) (count : ℕ) (importers : Links) : Type 0 where
+pub record AreFirstImporters (g : LinkTable) (count : ℕ) (importers : LinkTable) : Type 0 where
   pub size : length importers ≡ count
   pub each : (q : ℕ) → q < count → AreImporters g q (row_of importers q)
   pub rising : (q : ℕ) → q < count → IsStrictlyIncreasing (row_of importers q)

@@ -1,9 +1,9 @@
 -- Rows of numbers that lie one behind another in one list, by their bounds.
 use Rattle.std.specs.Prelude.{ℕ, ◌-◌, ◌<◌, ◌≤◌, List, [], ◌∷◌, length, slice_index_or, slice_range}
-use Rattle.workspace_graph.specs.Imports.{Links}
+use Rattle.workspace_graph.specs.Imports.{LinkTable}
 
 -- The rows: each has the numbers from one bound to before the next.
-abbrev pub rows_of : List ℕ → List ℕ → Links
+abbrev pub rows_of : List ℕ → List ℕ → LinkTable
 rows_of [] numbers = []
 rows_of (start ∷ []) numbers = []
 rows_of (start ∷ end ∷ bounds) numbers = slice_range numbers start end ∷ rows_of (end ∷ bounds) numbers

@@ -1,13 +1,13 @@
 -- Orders of packages in which each comes after those that it reaches and that do not reach it.
 use Rattle.std.specs.Prelude.{ℕ, ◌≡◌, ◌+◌, ◌-◌, ◌*◌, ◌<◌, ◌↔◌, Bool, false, List, Some, length, count_by, slice_get, slice_index_or}
 use Rattle.std.specs.List.{Contains}
-use Rattle.workspace_graph.specs.Imports.{Links, Reaches}
+use Rattle.workspace_graph.specs.Imports.{LinkTable, Reaches}
 use Rattle.workspace_graph.specs.Search.{IsMarked, AreClosedMarks}
 use Rattle.workspace_graph.specs.declared.depth_first.Entered.{Entered}
 use Rattle.workspace_graph.specs.declared.order.Blocks.{Blocks}
 
 -- `order` has all packages, each once. Each comes after those that it reaches and that do not reach it.
-pub record IsOrder (g : Links) (order : List ℕ) : Type 0 where
+pub record IsOrder (g : LinkTable) (order : List ℕ) : Type 0 where
   pub each : (n : ℕ) → Contains order n ↔ (n < length g)
   pub once : (i j n : ℕ) → slice_get order i ≡ Some n → slice_get order j ≡ Some n → i ≡ j
   pub behind : (i n m : ℕ) → slice_get order i ≡ Some n → Reaches g n m → (Reaches g m n → ⊥) → (j : ℕ) × (j < i) × (slice_get order j ≡ Some m)
@@ -17,7 +17,7 @@ abbrev pub IsBefore : List ℕ → ℕ → ℕ → Type 0
 IsBefore order i m = (j : ℕ) × (j < i) × (slice_index_or order j 0 ≡ m)
 
 -- The packages listed so far are marked, each once, in an order as in `IsOrder`. Every package that a listed one reaches is listed.
-pub record AreListed (g : Links) (b : Blocks) : Type 0 where
+pub record AreListed (g : LinkTable) (b : Blocks) : Type 0 where
   pub size : length b.told.items ≡ length g
   pub bars : length b.barred.items ≡ length g
   pub closed : AreClosedMarks g b.told.items

@@ -10,7 +10,7 @@ use Rattle.go_scanner.specs.Cuts.{bytes_of}
 use Rattle.go_scanner.specs.CutText.{tokens_in}
 use Rattle.go_ast.specs.SourceFile.{SourceFile, IsSourceFile}
 use Rattle.workspace_graph.specs.FileImports.{import_literals}
-use Rattle.workspace_graph.specs.Imports.{Links, AreLinked, Imports}
+use Rattle.workspace_graph.specs.Imports.{LinkTable, AreLinked, Imports}
 
 -- `file` is the parsed file with this path and text.
 pub record IsParsed (path : List ℕ) (text : List ℕ) (file : SourceFile) : Type 0 where
@@ -36,7 +36,7 @@ pub record PackageImports (w : Workspace) (p q : List ℕ) : Type 0 where
   pub imports : ImportsPath file q
 
 -- `g` has exactly the imports between the packages of the workspace, by their numbers.
-pub record AreLinksOf (w : Workspace) (g : Links) : Type 0 where
+pub record AreLinksOf (w : Workspace) (g : LinkTable) : Type 0 where
   pub size : length g ≡ length (package_paths w)
   pub linked : AreLinked g
   pub each : (i j : ℕ) (p q : List ℕ) → slice_get (package_paths w) i ≡ Some p → slice_get (package_paths w) j ≡ Some q → Imports g i j ↔ PackageImports w p q

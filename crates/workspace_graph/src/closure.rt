@@ -2,7 +2,7 @@
 ghost use Rattle.std.specs.Prelude.{◌≡◌, ◌<◌, ◌↔◌, ℕ, length, IfOk, IsTrue};
 ghost use Rattle.std.specs.List.{All, Contains};
 ghost use Rattle.std.specs.List.Sorted.{IsStrictlyIncreasing};
-ghost use Rattle.workspace_graph.specs.Imports.{AreLinked, AreImporterRows, Links, Reaches};
+ghost use Rattle.workspace_graph.specs.Imports.{AreLinked, AreImporterRows, LinkTable, Reaches};
 ghost use Rattle.workspace_graph.specs.Closures.{IsBuiltOnList, IsClosureList};
 ghost use Rattle.workspace_graph.specs.Search.{AreReached, InvertsMarks, ListsMarked, IsMarked, MarksWayBack, UnmarksBelow};
 
@@ -79,7 +79,7 @@ fn back_from(
     requires linked { AreLinked importers.now }
     requires number { number < length importers.now }
     requires size { length marks.items ≡ length importers.now }
-    ensures { IfOk result (λ back. (g : Links) → AreLinked g → AreImporterRows g (length g) importers.now → ((q : ℕ) → IsMarked marks.items q ↔ Reaches g number q) → UnmarksBelow g number back.items) }
+    ensures { IfOk result (λ back. (g : LinkTable) → AreLinked g → AreImporterRows g (length g) importers.now → ((q : ℕ) → IsMarked marks.items q ↔ Reaches g number q) → UnmarksBelow g number back.items) }
 {
     let mut marks = marks;
     flip(&mut marks);
@@ -106,7 +106,7 @@ pub(crate) fn back_marks(
 /// The packages without a mark in `back`, in increasing order: by the marks of `back_marks`, those that a package reaches and that do not
 /// reach it.
 fn built_on_by(alloc: Global, back: &[bool]) -> Result<PackageList, AllocError>
-    ensures { IfOk result (λ below. (g : Links) (p : ℕ) → UnmarksBelow g p back.now → IsBuiltOnList g p below) }
+    ensures { IfOk result (λ below. (g : LinkTable) (p : ℕ) → UnmarksBelow g p back.now → IsBuiltOnList g p below) }
 {
     let mut marks = Vec::from_slice(alloc, back)?;
     flip(&mut marks);

@@ -33,10 +33,10 @@ pub struct ImportLinks {
 }
 
 impl Model for ImportLinks {
-    ghost use Rattle.workspace_graph.specs.Imports.{Links};
+    ghost use Rattle.workspace_graph.specs.Imports.{LinkTable};
     ghost use Rattle.workspace_graph.specs.Closures.{HaveImporters};
 
-    ghost Value = { Links };
+    ghost Value = { LinkTable };
 
     ghost view = { λ a. a.imports };
 

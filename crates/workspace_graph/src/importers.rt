@@ -2,7 +2,7 @@
 ghost use Rattle.std.specs.Prelude.{◌≡◌, ◌<◌, ◌++◌, [], ◌∷◌, length, replicate, slice_set, IfOk, OnOk};
 ghost use Rattle.std.specs.List.{All};
 ghost use Rattle.workspace_graph.specs.Chains.{AreChained, AddsChained};
-ghost use Rattle.workspace_graph.specs.Imports.{AreLinked, AreImporterRows, Links, row_of};
+ghost use Rattle.workspace_graph.specs.Imports.{AreLinked, AreImporterRows, LinkTable, row_of};
 
 use crate::link_rows::LinkRows;
 use std::alloc::{AllocError, Global};
@@ -37,7 +37,7 @@ impl Chains {
     fn note(&mut self, number: usize, importer: usize) -> Result<(), AllocError>
         requires { number < length self.old.latest.items }
         ensures size { OnOk result (length self.new.latest.items ≡ length self.old.latest.items) }
-        ensures noted { OnOk result ((lists : Links) → AreChained self.old lists → AreChained self.new (slice_set lists number (row_of lists number ++ importer ∷ []))) }
+        ensures noted { OnOk result ((lists : LinkTable) → AreChained self.old lists → AreChained self.new (slice_set lists number (row_of lists number ++ importer ∷ []))) }
     {
         let before = self.latest[number];
         self.noted.push(NotedImporter { importer, before })?;
@@ -49,7 +49,7 @@ impl Chains {
     fn note_row(&mut self, row: &[usize], importer: usize) -> Result<(), AllocError>
         requires { All (λ q. q < length self.old.latest.items) row.now }
         ensures size { OnOk result (length self.new.latest.items ≡ length self.old.latest.items) }
-        ensures noted { OnOk result ((lists : Links) → AreChained self.old lists → AddsChained lists row.now importer self.new) }
+        ensures noted { OnOk result ((lists : LinkTable) → AreChained self.old lists → AddsChained lists row.now importer self.new) }
     {
         for number in row {
             self.note(*number, importer)?;
@@ -60,8 +60,8 @@ impl Chains {
     /// Fills a row with the importers of a package, in the order in which they were noted.
     fn fill_row(&self, number: usize, row: &mut Vec<usize>) -> Result<(), AllocError>
         requires number { number < length self.now.latest.items }
-        requires chained { (lists : Links) × AreChained self.now lists }
-        ensures { OnOk result ((lists : Links) → AreChained self.now lists → row.new.items ≡ row_of lists number) }
+        requires chained { (lists : LinkTable) × AreChained self.now lists }
+        ensures { OnOk result ((lists : LinkTable) → AreChained self.now lists → row.new.items ≡ row_of lists number) }
     {
         row.clear();
         let mut left = self.latest[number];
@@ -76,8 +76,8 @@ impl Chains {
 
     /// The importers of all packages.
     fn rows(&self, alloc: Global) -> Result<LinkRows, AllocError>
-        requires { (lists : Links) × AreChained self.now lists }
-        ensures { IfOk result (λ rows. (lists : Links) → AreChained self.now lists → rows ≡ lists) }
+        requires { (lists : LinkTable) × AreChained self.now lists }
+        ensures { IfOk result (λ rows. (lists : LinkTable) → AreChained self.now lists → rows ≡ lists) }
     {
         let mut rows = LinkRows::with_capacity(alloc, self.latest.len(), self.noted.len())?;
         let mut row = Vec::new(alloc);

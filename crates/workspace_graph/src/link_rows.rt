@@ -17,10 +17,10 @@ pub(crate) struct LinkRows {
 }
 
 impl Model for LinkRows {
-    ghost use Rattle.workspace_graph.specs.Imports.{Links};
+    ghost use Rattle.workspace_graph.specs.Imports.{LinkTable};
     ghost use Rattle.workspace_graph.specs.LinkRows.{rows_of, AreBounds};
 
-    ghost Value = { Links };
+    ghost Value = { LinkTable };
 
     ghost view = { λ a. rows_of a.bounds.items a.numbers.items };
 

@@ -16,9 +16,9 @@ pub(crate) struct SharedLinks {
 
 impl Model for SharedLinks {
     ghost use Rattle.std.specs.Arc.{arc_value};
-    ghost use Rattle.workspace_graph.specs.Imports.{Links};
+    ghost use Rattle.workspace_graph.specs.Imports.{LinkTable};
 
-    ghost Value = { Links };
+    ghost Value = { LinkTable };
 
     ghost view = { λ a. arc_value a.links };
 }

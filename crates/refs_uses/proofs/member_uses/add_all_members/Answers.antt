@@ -7,7 +7,7 @@ use Rattle.std.proofs.lemmas.Option.{slice_get_read}
 use Rattle.types_expr.specs.Found.{use_of}
 use Rattle.types_declared.specs.PackageView.{package_of}
 use Rattle.refs_binding.specs.Members.{definitions_seen, IsMemberUseAmong}
-use Rattle.refs_binding.specs.Steps.{AddsMisfits}
+use Rattle.refs_binding.specs.Steps.{AddsPlaces}
 use Rattle.refs_binding.proofs.Adding.{below_none, below_next}
 use Rattle.refs_binding.proofs.MemberParts.{seen_definitions}
 use Rattle.refs_binding.proofs.MemberPlaces.{IsFileUse, one_file, all_members}
@@ -30,8 +30,8 @@ loop-file-preserved c =
     let b = c.add_file_members.new.found.items in
     below_next (IsFileUse ds p d members) c.args.found.now.items a b file c.loop-file.invariant
     (one_file ds p d members file v a b (slice_get_read members (length members) file v refl (omega arith) c.index-of-file.is)
-    (subst (λ (x : Vec FoundUse). AddsMisfits a b (IsMemberUseAmong ds p file d (map use_of x.items))) (sym c.index-of-file.is)
-    (subst (λ l. AddsMisfits a b (IsMemberUseAmong ds p file d (map use_of l))) c.deref.ensures.value c.in_ok-add_file_members.ensures)))
+    (subst (λ (x : Vec FoundUse). AddsPlaces a b (IsMemberUseAmong ds p file d (map use_of x.items))) (sym c.index-of-file.is)
+    (subst (λ l. AddsPlaces a b (IsMemberUseAmong ds p file d (map use_of l))) c.deref.ensures.value c.in_ok-add_file_members.ensures)))
 
 pub returns : goal.returns
 returns c =

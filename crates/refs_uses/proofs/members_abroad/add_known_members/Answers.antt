@@ -8,7 +8,7 @@ use Rattle.types_expr.specs.Found.{use_of}
 use Rattle.types_info.proofs.OneWorld.{has_one_world}
 use Rattle.workspace_check.proofs.OnePackage.{layout_formed, files_in_order}
 use Rattle.refs_binding.specs.Members.{definitions_known, IsMemberUseAmong}
-use Rattle.refs_binding.specs.Steps.{AddsMisfits}
+use Rattle.refs_binding.specs.Steps.{AddsPlaces}
 use Rattle.refs_binding.proofs.Adding.{below_none, below_next}
 use Rattle.refs_binding.proofs.MemberPlaces.{IsFileUse, one_file, all_members}
 use Rattle.refs_uses.proofs.members_abroad.add_known_members.Goals as goal
@@ -28,8 +28,8 @@ loop-file-preserved c = λ w known p is.
     let b = c.add_file_uses.new.spots.items in
     below_next (IsFileUse ds p d members) c.args.spots.now.items a b file (c.loop-file.invariant w known p is)
     (one_file ds p d members file v a b (slice_get_read members (length members) file v refl (omega arith) c.index-of-file.is)
-    (subst (λ (x : Vec FoundUse). AddsMisfits a b (IsMemberUseAmong ds p file d (map use_of x.items))) (sym c.index-of-file.is)
-    (subst (λ l. AddsMisfits a b (IsMemberUseAmong ds p file d (map use_of l))) c.deref.ensures.value (c.in_ok-add_file_uses.ensures w known p is))))
+    (subst (λ (x : Vec FoundUse). AddsPlaces a b (IsMemberUseAmong ds p file d (map use_of x.items))) (sym c.index-of-file.is)
+    (subst (λ l. AddsPlaces a b (IsMemberUseAmong ds p file d (map use_of l))) c.deref.ensures.value (c.in_ok-add_file_uses.ensures w known p is))))
 
 pub returns : goal.returns
 returns c = λ w known p is.

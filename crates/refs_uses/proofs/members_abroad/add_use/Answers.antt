@@ -8,7 +8,7 @@ use Rattle.go_scope.specs.declared.model.Position.{Position}
 use Rattle.types_expr.specs.Found.{use_of}
 use Rattle.refs_binding.specs.Identifiers.{NameBegins}
 use Rattle.refs_binding.specs.Members.{definitions_known, IsMemberUseOf}
-use Rattle.refs_binding.specs.Steps.{AddsMisfits, AtToken}
+use Rattle.refs_binding.specs.Steps.{AddsPlaces, AtToken}
 use Rattle.refs_binding.proofs.Adding.{adds_as}
 use Rattle.refs_binding.proofs.MemberPlaces.{use_skipped}
 use Rattle.refs_binding.proofs.Tokens.{Begins, begins_token}
@@ -22,8 +22,8 @@ returns-then-is_use c =
     let b = c.add_place.new.found.items in
     let at : Position = record { file = c.args.file; index = m.place } in
     on_ok_weaker c.add_place.result (λ adds w known p is.
-    let here : AddsMisfits a b (Begins p at) =
-    subst (λ fs. AddsMisfits a b (λ place. NameBegins (slice_get fs at.file) at.index place.path place.offset)) is.files adds in
+    let here : AddsPlaces a b (Begins p at) =
+    subst (λ fs. AddsPlaces a b (λ place. NameBegins (slice_get fs at.file) at.index place.path place.offset)) is.files adds in
     adds_as a b (Begins p at) (IsMemberUseOf (definitions_known c.args.of.now.types) p c.args.file c.args.declaration.now m)
     (λ place begins. record {
       at = name_at_token w known p.path p is.is_package at place begins;

@@ -3,7 +3,7 @@ use Rattle.std.proofs.Common.{map, sym, subst, ◌∙◌}
 use Rattle.std.specs.Prelude.{OnOk}
 use Rattle.std.proofs.lemmas.Bool.{false≢true}
 use Rattle.go_ast.specs.SourceFile.{source_of}
-use Rattle.refs_binding.specs.Steps.{AddsMisfits}
+use Rattle.refs_binding.specs.Steps.{AddsPlaces}
 use Rattle.refs_binding.proofs.Adding.{adds_none, call_adds}
 use Rattle.refs_uses.specs.Abroad.{IsSpelledAmong, IsSpelledUnder}
 use Rattle.refs_uses.proofs.qualified_abroad.add_listed.Goals as goal
@@ -18,7 +18,7 @@ returns-then-is_of_path c =
     let r = c.add_all_spelled.result in
     call_adds a b (IsSpelledAmong files name list.places.items) (IsSpelledUnder files name c.args.path.now list) r
     (λ place s. (c.is_of_path.ensures.0 c.if-is_of_path.true, s)) (λ place s. s.1)
-    (subst (λ ps. OnOk r (AddsMisfits a b (IsSpelledAmong files name ps))) c.deref.ensures.value c.add_all_spelled.ensures)
+    (subst (λ ps. OnOk r (AddsPlaces a b (IsSpelledAmong files name ps))) c.deref.ensures.value c.add_all_spelled.ensures)
 
 pub returns-else-is_of_path : goal.returns-else-is_of_path
 returns-else-is_of_path c =

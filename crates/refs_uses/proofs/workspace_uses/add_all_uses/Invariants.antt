@@ -1,6 +1,6 @@
 -- The invariants of the loops of `workspace_uses::add_all_uses`.
 use Rattle.go_scope.specs.Named.{name_value}
-use Rattle.refs_binding.specs.Steps.{AddsMisfits}
+use Rattle.refs_binding.specs.Steps.{AddsPlaces}
 use Rattle.refs_binding.specs.Workspaces.{known_in, IsUseAt}
 use Rattle.refs_binding.proofs.Adding.{Below}
 use Rattle.refs_uses.proofs.workspace_uses.add_all_uses.Given as goal
@@ -8,5 +8,5 @@ use Rattle.refs_uses.proofs.workspace_uses.add_all_uses.Given as goal
 -- the uses in the packages that were passed were added
 abbrev pub invariant-loop-number : goal.invariant-loop-number
 invariant-loop-number l =
-    AddsMisfits l.initial.spots.items l.spots.items
+    AddsPlaces l.initial.spots.items l.spots.items
     (Below (IsUseAt l.graph (known_in l.found) l.sought.declaration.now (name_value l.sought.name)) l.number)

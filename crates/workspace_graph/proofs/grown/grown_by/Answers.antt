@@ -1,7 +1,7 @@
 -- The rows and the importers after one came.
 use Rattle.std.proofs.Common.{◌≡◌, ◌+◌, length, sym, ap, subst, ◌∙◌, arith}
 use Rattle.workspace_graph.specs.Growth.{AreGrown, AreRows, IsGrowing}
-use Rattle.workspace_graph.specs.Imports.{Links, row_of}
+use Rattle.workspace_graph.specs.Imports.{LinkTable, row_of}
 use Rattle.workspace_graph.proofs.GrownLinks.{first_all, growing_importers, growing_imports, importers_grown, one_more}
 use Rattle.workspace_graph.proofs.GrownLinks.{place_inside, place_one, place_path, rows_grown}
 use Rattle.workspace_graph.proofs.Linked.{rows_linked}
@@ -16,7 +16,7 @@ grow-requires c =
     let own = c.args.own.now in
     let importing = c.args.importing.now in
     let holds = c.requires.importing grows.one.path.items (place_path packages links place grows) in
-    subst (λ (g : Links). IsGrowing g place importing) (sym c.import_rows.ensures) (growing_imports packages links place grows importing holds)
+    subst (λ (g : LinkTable). IsGrowing g place importing) (sym c.import_rows.ensures) (growing_imports packages links place grows importing holds)
 
 pub grow-requires-2 : goal.grow-requires-2
 grow-requires-2 c =

@@ -4,7 +4,7 @@ use Rattle.std.specs.Prelude.{slice_get}
 use Rattle.std.specs.List.{Contains}
 use Rattle.std.proofs.lemmas.List.{get_or_read}
 use Rattle.std.proofs.lemmas.List.Elements.{Contains-get_or}
-use Rattle.types_declared.specs.Reachability.{LinksTo, row_of}
+use Rattle.types_declared.specs.Reachability.{LinksTo, links_from}
 use Rattle.types_declared.proofs.ReachableParts.{IsPassed, marks_as, marks_then, passed_next, passed_more, passed_all, passed_held}
 use Rattle.types_declared.proofs.reachability.Reachable.follow.Goals as goal
 
@@ -35,8 +35,8 @@ returns-clause-marked c =
     let i = c.loop-number.number-index in
     let found = c.args.self.now.found.items in
     let from : c.index.result.now ≡ get_or found c.args.place 0 = get_or_read found c.args.place c.index.result.now c.requires.place c.index.ensures 0 in
-    let is : row ≡ row_of (slice_get c.args.links.now (get_or found c.args.place 0)) = c.row-number-items.ensures ∙
-    ap (λ a. row_of (slice_get c.args.links.now a)) from in
+    let is : row ≡ links_from (slice_get c.args.links.now (get_or found c.args.place 0)) = c.row-number-items.ensures ∙
+    ap (λ a. links_from (slice_get c.args.links.now a)) from in
     let end : i ≡ length row = omega arith in
     marks_as found c.args.self.now.marks.items c.loop-number.self.found.items c.loop-number.self.marks.items (IsPassed row i)
     (LinksTo c.args.links.now (get_or found c.args.place 0))

@@ -5,7 +5,7 @@ use Rattle.base_files.specs.Packages.{package_paths}
 use Rattle.base_files.specs.Workspace.{Workspace}
 use Rattle.workspace_graph.specs.Changed.{HasRow}
 use Rattle.workspace_graph.specs.Graphs.{paths_of, IsGraph}
-use Rattle.workspace_graph.specs.Imports.{Links}
+use Rattle.workspace_graph.specs.Imports.{LinkTable}
 use Rattle.workspace_graph.specs.declared.package.ParsedPackage.{ParsedPackage}
 use Rattle.workspace_graph.proofs.ChangedPackages.{graph_stays, packages_paths, packages_files}
 use Rattle.workspace_graph.proofs.PackagePaths.{paths_sorted}
@@ -54,7 +54,7 @@ invariant_of-result c =
     let whole = subst (λ parts. IsGraph parts.files parts.packages.items parts.links) (sym c.deref-old.ensures) c.before-2.invariant in
     let graph = subst (λ (x : Workspace). IsGraph x old.packages.items old.links) (ap (λ parts. parts.files) c.deref-old.ensures ∙ c.before-2.view_is) whole in
     let told = c.in_ok-keep_rows.ensures c.if-not-branch.false in
-    let rows = subst (λ (g : Links). All (HasRow (paths_of packages) g) fresh) c.links.ensures
+    let rows = subst (λ (g : LinkTable). All (HasRow (paths_of packages) g) fresh) c.links.ensures
     (subst (λ (ps : List ParsedPackage). All (HasRow (paths_of ps) c.links.result.now) fresh) c.deref.ensures.value told) in
     rw (c.in_ok-new.ensures.ok, c.in_ok-links.ensures.cases)
     (graph_stays v w old.packages.items fresh packages old.links graph c.requires.differs c.requires.fresh c.requires.kept c.in_ok-packages.ensures rows)

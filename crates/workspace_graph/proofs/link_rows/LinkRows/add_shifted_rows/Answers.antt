@@ -3,7 +3,7 @@ use Rattle.std.proofs.Common.{◌≡◌, ◌+◌, ◌-◌, ◌<◌, ◌≤◌, �
 use Rattle.std.specs.List.{All, slice_range}
 use Rattle.std.proofs.lemmas.List.{get_or_default, get_or_read}
 use Rattle.std.proofs.lemmas.Result.{on_ok_weaker}
-use Rattle.workspace_graph.specs.Imports.{Links}
+use Rattle.workspace_graph.specs.Imports.{LinkTable}
 use Rattle.workspace_graph.specs.LinkRows.{AreBounds, last_bound, rows_of}
 use Rattle.workspace_graph.specs.Shifts.{shifted}
 use Rattle.workspace_graph.proofs.LinkRows.{rows_size}
@@ -73,7 +73,7 @@ push_shifted-requires c =
     c.part_of-part.ensures ∙ ap (λ (l : List ℕ). slice_range l c.index-start.result.now c.index-end.result.now) c.deref-2.ensures.value
     ∙ ap (λ a. slice_range ons a c.index-end.result.now) start_is ∙ ap (λ b. slice_range ons (get_or obs from 0) b) end_is in
     let P : ℕ → Type 0 = λ number. number + 1 < 2 ^ 64 in
-    let all : All (All P) (rows_of obs ons) = subst (λ (g : Links). All (All P) g) (sym c.others.view_is) c.requires.small in
+    let all : All (All P) (rows_of obs ons) = subst (λ (g : LinkTable). All (All P) g) (sym c.others.view_is) c.requires.small in
     let e : from + (to - from) ≡ to = omega (arith, c.requires.from) in
     subst (All P) (sym part_is) (subst (λ k. All P (slice_range ons (get_or obs from 0) (get_or obs k 0))) e
     (numbers_between P obs ons c.others.invariant all (to - from) from (omega (arith, c.requires.from, within))))
@@ -219,6 +219,6 @@ returns c =
     ∙ ap (λ s. bs ++ map (λ e. e - s + c.last_of-last.result) (slice_range obs (from + 1) (to + 1))) start_is
     ∙ ap (λ m. bs ++ map (λ e. e - get_or obs from 0 + m) (slice_range obs (from + 1) (to + 1))) last_is in
     ap (λ (l : List ℕ). rows_of l new) is ∙ more
-    ∙ ap (λ (g : Links). g ++ map (map f) (slice_range (rows_of obs ons) from to)) c.self.view_is
-    ∙ ap (λ (g : Links). c.args.self.now ++ map (map f) (slice_range g from to)) c.others.view_is)
+    ∙ ap (λ (g : LinkTable). g ++ map (map f) (slice_range (rows_of obs ons) from to)) c.self.view_is
+    ∙ ap (λ (g : LinkTable). c.args.self.now ++ map (map f) (slice_range g from to)) c.others.view_is)
     c.push_moved.ensures.all
