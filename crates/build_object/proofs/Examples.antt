@@ -31,7 +31,7 @@ use Rattle.build_object.specs.Statements.{from_last, set_left, target_lines, sim
 use Rattle.build_object.specs.Statements.{statements_lines, if_lines, else_lines, body_lines}
 use Rattle.build_object.specs.Slots.{simple_places, header_places, statement_places, block_places, statements_places}
 use Rattle.build_object.specs.Names.{body_positions, is_named_init}
-use Rattle.build_object.specs.Objects.{Object, variables_of, declared_by, declared_in, names_behind_all, declared_from, object_of}
+use Rattle.build_object.specs.Objects.{Object, variable_declarations, declared_by, declared_in, names_behind_all, declared_from, object_of}
 use Rattle.build_object.specs.Text.{function_text, type_text, operator_text, words_of, ended, code_text}
 use Rattle.build_object.specs.ObjectText.{declaration_text, object_text}
 
@@ -100,7 +100,7 @@ pub first_text : object_text no_names first_object ≡ lines
     (codes "object a a" ∷ codes "var a#x int" ∷ codes "func a#F (int) (int) 1 5" ∷ codes "global a#x" ∷ codes "local 0" ∷ codes "op +" ∷ codes "ret 1" ∷
     codes "end" ∷ [])
 unfolding operand_of operations bound_name named_meaning statement_lines block_lines statements_lines statement_places block_places statements_places
-    ident_place judge_type named_type variables_of declared_by declared_in names_behind_all declared_from function_text type_text operator_text words_of
+    ident_place judge_type named_type variable_declarations declared_by declared_in names_behind_all declared_from function_text type_text operator_text words_of
     declaration_text digits
 first_text = refl
 

@@ -12,8 +12,8 @@ use Rattle.types_declared.specs.Package.{Package}
 use Rattle.build_object.specs.Lines.{FunctionName, GlobalName}
 use Rattle.build_object.specs.Source.{Source}
 use Rattle.build_object.specs.Names.{function_names}
-use Rattle.build_object.specs.Objects.{Object, Function, Declaration, TypeOf, Variable, FunctionOf, Definition, Initial, defined, definition_of, declared_type}
-use Rattle.build_object.specs.Objects.{known_variable, first_initial, other_initials, variables_of, literals_of, initials_of, global_variables, declared_function}
+use Rattle.build_object.specs.Objects.{Object, Function, Declaration, TypeOf, Variable, FunctionOf, Definition, Initial, type_declarations, definition_of, declared_type}
+use Rattle.build_object.specs.Objects.{known_variable, first_initial, other_initials, variable_declarations, literals_of, initials_of, global_variables, declared_function}
 use Rattle.build_object.specs.Objects.{declared_by, names_behind, declared_in, names_behind_all, declared_from}
 use Rattle.build_object.specs.Sources.{IsObjectOf}
 use Rattle.build_object.specs.Fitting.{HasFittingCode}
@@ -35,7 +35,7 @@ each : {X : Type 0} (h : X → List Declaration) → ((x : X) → AreFitting (h 
 each h f [] = tt
 each h f (x ∷ xs) = both (h x) (flat_map h xs) (f x) (each h f xs)
 
-type_fits : (name : Option GlobalName) (definition : Option Definition) → AreFitting (defined name definition)
+type_fits : (name : Option GlobalName) (definition : Option Definition) → AreFitting (type_declarations name definition)
 type_fits None definition = tt
 type_fits (Some name) None = tt
 type_fits (Some name) (Some definition) = (tt, tt)
@@ -45,11 +45,11 @@ variable_fits None name value = tt
 variable_fits (Some own) None value = tt
 variable_fits (Some own) (Some name) value = (tt, tt)
 
-variables_fit : (s : Source) (own : Option PlainType) (names : List (Item ℕ)) (values : List (Option Initial)) → AreFitting (variables_of s own names values)
-unfolding variables_of
+variables_fit : (s : Source) (own : Option PlainType) (names : List (Item ℕ)) (values : List (Option Initial)) → AreFitting (variable_declarations s own names values)
+unfolding variable_declarations
 variables_fit s own [] values = tt
 variables_fit s own (n ∷ ns) values =
-    both (known_variable own (s.global n.value) (first_initial values)) (variables_of s own ns (other_initials values))
+    both (known_variable own (s.global n.value) (first_initial values)) (variable_declarations s own ns (other_initials values))
     (variable_fits own (s.global n.value) (first_initial values)) (variables_fit s own ns (other_initials values))
 
 named_fits : (s : Source) (names : List FunctionName) (f : FuncTree) → AreFitting (declared_function s names f)

@@ -20,7 +20,7 @@ use Rattle.build_object.specs.Source.{Source}
 use Rattle.build_object.specs.Numbering.{slot_of}
 use Rattle.build_object.specs.Slots.{slots_of}
 use Rattle.build_object.specs.Expressions.{value_lines, address_lines, values_left}
-use Rattle.build_object.specs.Statements.{values_of, from_last, set_name, set_bound, set_left, target_lines, targets_of, update_lines, step_op, simple_lines}
+use Rattle.build_object.specs.Statements.{lines_of_values, from_last, set_name, set_bound, set_left, target_lines, targets_of, update_lines, step_op, simple_lines}
 use Rattle.build_object.specs.Statements.{optional_lines, init_lines, zeros, first_values, local_lines, Exits, further, no_exits, block_exits, branched}
 use Rattle.build_object.specs.Statements.{for_init, for_condition, for_post, loop_condition, body_exits, with_jump_back, loop_lines, statement_lines, block_lines}
 use Rattle.build_object.specs.Statements.{statements_lines, if_lines, else_lines, body_lines}
@@ -32,7 +32,7 @@ use Rattle.build_object.proofs.FittingExpressions.{expr_sound}
 
 -- Values, and what takes them
 
-values_stay : (s : Source) (slots : List ℕ) (es : List (Item ExprTree)) → Stays (length slots) (values_of s slots es)
+values_stay : (s : Source) (slots : List ℕ) (es : List (Item ExprTree)) → Stays (length slots) (lines_of_values s slots es)
 values_stay s slots es = each_stays (length slots) (λ i. value_lines s slots i.value) (λ i. (expr_sound s slots i.value).0) es
 
 last_stays : {X : Type 0} (k : ℕ) (f : X → List Line) → ((x : X) → Stays k (f x)) → (xs : List (Item X)) → Stays k (from_last f xs)
@@ -103,11 +103,11 @@ simple_stays s slots (Step e o p) = update_stays (length slots) (address_lines s
 simple_stays s slots (Update x o p y) = update_stays (length slots) (address_lines s slots x) (value_lines s slots y) (binary_of o) (expr_sound s slots x).1
     (expr_sound s slots y).0
 simple_stays s slots (Assign xs p ys) =
-    stays_joined (length slots) (targets_of s slots xs) (values_of s slots ys ++ (line.Assign (length xs) ∷ []))
+    stays_joined (length slots) (targets_of s slots xs) (lines_of_values s slots ys ++ (line.Assign (length xs) ∷ []))
     (each_stays (length slots) (λ i. target_lines s slots i.value) (λ i. target_stays s slots i.value) xs)
-    (stays_joined (length slots) (values_of s slots ys) (line.Assign (length xs) ∷ []) (values_stay s slots ys) (λ a b. (tt, tt)))
+    (stays_joined (length slots) (lines_of_values s slots ys) (line.Assign (length xs) ∷ []) (values_stay s slots ys) (λ a b. (tt, tt)))
 simple_stays s slots (Define xs p ys) =
-    stays_joined (length slots) (values_of s slots ys) (from_last (set_left s slots) xs) (values_stay s slots ys)
+    stays_joined (length slots) (lines_of_values s slots ys) (from_last (set_left s slots) xs) (values_stay s slots ys)
     (last_stays (length slots) (set_left s slots) (left_stays s slots) xs)
 
 optional_stays : (s : Source) (slots : List ℕ) (a : Option SimpleTree) → Stays (length slots) (optional_lines s slots a)
@@ -218,7 +218,7 @@ mutual
   statement_fits s slots r x (Break p) a next out = jump_fits (length slots) x.out a out
   statement_fits s slots r x (Continue p) a next out = jump_fits (length slots) x.next a next
   statement_fits s slots r x (Return p es) a next out =
-      stays_joined (length slots) (values_of s slots es) (line.Return r ∷ []) (values_stay s slots es) (λ c b. (tt, tt)) a
+      stays_joined (length slots) (lines_of_values s slots es) (line.Return r ∷ []) (values_stay s slots es) (λ c b. (tt, tt)) a
 
   block_fits : (s : Source) (slots : List ℕ) (r : ℕ) (x : Exits) (t : BlockTree) (a : ℕ) → x.next ≤ a → x.out ≤ a →
       Before (length slots) a (block_lines s slots r x t)

@@ -25,7 +25,7 @@ use Rattle.build_object.specs.PackagesView.{type_in}
 use Rattle.build_object.specs.Slots.{slots_of}
 use Rattle.build_object.specs.Statements.{body_lines}
 use Rattle.build_object.specs.Objects.{Initial, FunctionOf, declared_type, global_variables, declared_in, declared_by, first_initial, other_initials}
-use Rattle.build_object.specs.Objects.{function_of, initials_of, names_behind, names_behind_all, parameters_of, results_of, known_variable, variables_of}
+use Rattle.build_object.specs.Objects.{function_of, initials_of, names_behind, names_behind_all, parameters_of, results_of, known_variable, variable_declarations}
 use Rattle.build_object.specs.Text.{code_text, ended}
 use Rattle.build_object.specs.ObjectText.{declaration_text, header_text}
 use Rattle.build_object.specs.DeclarationsView.{literal_value_at}
@@ -57,13 +57,13 @@ var_specs_more s x xs =
     (flat_map (λ i. global_variables (source_of s) (global_view i.value)) xs)
 
 -- variables of no known type are none
-pub no_variables : (s : pure.Source) (ns : List (tree.Item ℕ)) (values : List (Option Initial)) → variables_of s None ns values ≡ []
-unfolding variables_of
+pub no_variables : (s : pure.Source) (ns : List (tree.Item ℕ)) (values : List (Option Initial)) → variable_declarations s None ns values ≡ []
+unfolding variable_declarations
 no_variables s [] values = refl
 no_variables s (n ∷ ns) values = no_variables s ns (other_initials values)
 
 abbrev pub variables_text : Source → PlainType → List (Item ℕ) → List (Option Initial) → List ℕ
-variables_text s own ns values = flat_map (declaration_text (type_in s.packages.now)) (variables_of (source_of s) (Some own) (list_view same_index ns) values)
+variables_text s own ns values = flat_map (declaration_text (type_in s.packages.now)) (variable_declarations (source_of s) (Some own) (list_view same_index ns) values)
 
 first_at : (values : List (Option Initial)) (i : ℕ) → first_initial (drop i values) ≡ slice_index_or values i None
 first_at [] zero = refl
@@ -93,7 +93,7 @@ pub variables_step : (s : Source) (own : PlainType) (values : List (Option Initi
     new ≡ now ++ flat_map (declaration_text (type_in s.packages.now)) (known_variable (Some own) ((source_of s).global (get_or ns i d).value) value) →
     value ≡ slice_index_or values i None →
     new ++ variables_text s own (drop (i + 1) ns) (drop (i + 1) values) ≡ total
-unfolding variables_of
+unfolding variable_declarations
 variables_step s own values now new total ns i d value lt h e is =
     ap (λ z. z ++ variables_text s own (drop (i + 1) ns) (drop (i + 1) values)) e
     ∙ (append_assoc now (flat_map (declaration_text (type_in s.packages.now)) (known_variable (Some own) ((source_of s).global (get_or ns i d).value) value))
@@ -105,12 +105,12 @@ variables_step s own values now new total ns i d value lt h e is =
     (is ∙ sym (first_at values i))
     ∙ (ap (λ z. now ++ z) (sym (flat_map-append (declaration_text (type_in s.packages.now))
     (known_variable (Some own) ((source_of s).global (get_or ns i d).value) (first_initial (drop i values)))
-    (variables_of (source_of s) (Some own) (list_view same_index (drop (i + 1) ns)) (other_initials (drop i values)))))
+    (variable_declarations (source_of s) (Some own) (list_view same_index (drop (i + 1) ns)) (other_initials (drop i values)))))
     ∙ (ap (λ ys. now ++ variables_text s own ys (drop i values)) (sym (drop_more ns i d lt)) ∙ h)))))
 
 pub variables_end : (s : Source) (own : PlainType) (values : List (Option Initial)) (now total : List ℕ) (ns : List (Item ℕ)) (i : ℕ) → length ns ≤ i →
     now ++ variables_text s own (drop i ns) (drop i values) ≡ total → now ≡ total
-unfolding variables_of
+unfolding variable_declarations
 variables_end s own values now total ns i all h = sym (append-nil now) ∙
     (ap (λ ys. now ++ variables_text s own ys (drop i values)) (sym (drop_of_length-le ns all)) ∙ h)
 

@@ -67,14 +67,14 @@ definition_of w (Other t) = option_map SameAs (judge_type w t).type_of
 definition_of w (Struct k o fs c) = Some (Fields (field_types w fs))
 
 -- The declaration of a type, if its name and its definition are known.
-abbrev pub defined : Option GlobalName → Option Definition → List Declaration
-defined None definition = []
-defined (Some name) None = []
-defined (Some name) (Some definition) = TypeOf name definition ∷ []
+abbrev pub type_declarations : Option GlobalName → Option Definition → List Declaration
+type_declarations None definition = []
+type_declarations (Some name) None = []
+type_declarations (Some name) (Some definition) = TypeOf name definition ∷ []
 
 -- The declaration of a type definition.
 abbrev pub declared_type : Source → TypeSpecTree → List Declaration
-declared_type s t = defined (s.global t.name) (definition_of s.world t.body)
+declared_type s t = type_declarations (s.global t.name) (definition_of s.world t.body)
 
 -- Variables
 
@@ -100,9 +100,9 @@ other_initials [] = []
 other_initials (v ∷ vs) = vs
 
 -- The declarations of variables of one type, each with the value at its place.
-unfoldable pub variables_of : Source → Option PlainType → List (Item ℕ) → List (Option Initial) → List Declaration
-variables_of s own [] values = []
-variables_of s own (n ∷ ns) values = known_variable own (s.global n.value) (first_initial values) ++ variables_of s own ns (other_initials values)
+unfoldable pub variable_declarations : Source → Option PlainType → List (Item ℕ) → List (Option Initial) → List Declaration
+variable_declarations s own [] values = []
+variable_declarations s own (n ∷ ns) values = known_variable own (s.global n.value) (first_initial values) ++ variable_declarations s own ns (other_initials values)
 
 -- The literals behind the `=` of variables, and none where there is no `=`.
 abbrev pub literals_of : Option (ℕ × List (Item BasicTree)) → List (Item BasicTree)
@@ -115,7 +115,7 @@ initials_of s literals = map (λ i. initial_of s i.value) literals
 
 -- The declarations of the variables of one `var` line.
 abbrev pub global_variables : Source → GlobalTree → List Declaration
-global_variables s g = variables_of s (judge_type s.world g.type_use).type_of g.names (initials_of s (literals_of g.values))
+global_variables s g = variable_declarations s (judge_type s.world g.type_use).type_of g.names (initials_of s (literals_of g.values))
 
 -- Functions
 

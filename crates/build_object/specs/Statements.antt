@@ -22,8 +22,8 @@ use Rattle.build_object.specs.Expressions.{value_lines, address_lines, values_le
 -- Values, and the lines that take them from the last to the first.
 
 -- The lines that leave the values of expressions, in order.
-abbrev pub values_of : Source → (slots : List ℕ) → List (Item ExprTree) → List Line
-values_of s slots es = flat_map (λ i. value_lines s slots i.value) es
+abbrev pub lines_of_values : Source → (slots : List ℕ) → List (Item ExprTree) → List Line
+lines_of_values s slots es = flat_map (λ i. value_lines s slots i.value) es
 
 -- The lines for each item of a list, those of the last item first.
 unfoldable pub from_last : {X : Type 0} → (X → List Line) → List (Item X) → List Line
@@ -74,8 +74,8 @@ unfoldable pub simple_lines : Source → (slots : List ℕ) → SimpleTree → L
 simple_lines s slots (Alone e) = value_lines s slots e ++ pops (values_left s slots e)
 simple_lines s slots (Step e o p) = update_lines (address_lines s slots e) (line.Integer 1 ∷ []) (step_op o)
 simple_lines s slots (Update x o p y) = update_lines (address_lines s slots x) (value_lines s slots y) (binary_of o)
-simple_lines s slots (Assign xs p ys) = targets_of s slots xs ++ (values_of s slots ys ++ (line.Assign (length xs) ∷ []))
-simple_lines s slots (Define xs p ys) = values_of s slots ys ++ from_last (set_left s slots) xs
+simple_lines s slots (Assign xs p ys) = targets_of s slots xs ++ (lines_of_values s slots ys ++ (line.Assign (length xs) ∷ []))
+simple_lines s slots (Define xs p ys) = lines_of_values s slots ys ++ from_last (set_left s slots) xs
 
 -- The code of an optional simple statement.
 abbrev pub optional_lines : Source → (slots : List ℕ) → Option SimpleTree → List Line
@@ -97,7 +97,7 @@ zeros s (Some t) names = flat_map (λ i. line_if_known line.Zero (judge_type s.w
 -- The values with which locals begin.
 unfoldable pub first_values : Source → (slots : List ℕ) → LocalTree → Option (ℕ × List (Item ExprTree)) → List Line
 first_values s slots l None = zeros s l.type_use l.names
-first_values s slots l (Some v) = values_of s slots v.1
+first_values s slots l (Some v) = lines_of_values s slots v.1
 
 -- The code of a `var` line of locals.
 unfoldable pub local_lines : Source → (slots : List ℕ) → LocalTree → List Line
@@ -179,7 +179,7 @@ unfoldable mutual
       for_init s slots h ++ loop_lines s slots (for_condition h) (block_lines s slots results (body_exits (for_post s slots h)) b) (for_post s slots h)
   statement_lines s slots results x (Break p) = line.Jump x.out ∷ []
   statement_lines s slots results x (Continue p) = line.Jump x.next ∷ []
-  statement_lines s slots results x (Return p es) = values_of s slots es ++ (line.Return results ∷ [])
+  statement_lines s slots results x (Return p es) = lines_of_values s slots es ++ (line.Return results ∷ [])
 
   -- The code of a block.
   pub block_lines : Source → (slots : List ℕ) → (results : ℕ) → Exits → BlockTree → List Line

@@ -10,7 +10,7 @@ ghost use Rattle.build_object.specs.LineView.{global_of, function_of, lines_in};
 ghost use Rattle.build_object.specs.Slots.{slots_of};
 ghost use Rattle.build_object.specs.SourceView.{source_of};
 ghost use Rattle.build_object.specs.PackagesView.{type_in};
-ghost use Rattle.build_object.specs.Objects.{TypeOf, Variable, FunctionOf, declared_by, declared_function, declared_in, declared_type, global_variables, defined, definition_of, field_types, initials_of, literals_of, names_behind, names_behind_all, others_of, known_variable, variables_of, written};
+ghost use Rattle.build_object.specs.Objects.{TypeOf, Variable, FunctionOf, declared_by, declared_function, declared_in, declared_type, global_variables, type_declarations, definition_of, field_types, initials_of, literals_of, names_behind, names_behind_all, others_of, known_variable, variable_declarations, written};
 ghost use Rattle.build_object.specs.Objects as object;
 ghost use Rattle.build_object.specs.Text.{code_text, ended};
 ghost use Rattle.build_object.specs.ObjectText.{counts_text, declaration_text, definition_text, header_text, initial_text, signature_text};
@@ -272,7 +272,7 @@ fn push_typed(
     own: &GoType,
     text: &mut Vec<u8>,
 ) -> Result<(), AllocError>
-    ensures { OnOk result (text.new.items ≡ text.old.items ++ flat_map (declaration_text (type_in source.now.packages.now)) (variables_of (source_of source.now) (Some (type_of own.now)) (list_view same_index names.now) (initials_of (source_of source.now) (list_view basic_view literals.now)))) }
+    ensures { OnOk result (text.new.items ≡ text.old.items ++ flat_map (declaration_text (type_in source.now.packages.now)) (variable_declarations (source_of source.now) (Some (type_of own.now)) (list_view same_index names.now) (initials_of (source_of source.now) (list_view basic_view literals.now)))) }
 {
     for i in 0..names.len() {
         let value = initial_at(source, literals, i);

@@ -11,7 +11,7 @@ ghost use Rattle.build_object.specs.Lines as line;
 ghost use Rattle.build_object.specs.LineView.{Puts};
 ghost use Rattle.build_object.specs.Expressions.{address_lines, value_lines};
 ghost use Rattle.build_object.specs.SourceView.{source_of};
-ghost use Rattle.build_object.specs.Statements.{values_of, from_last, set_name, set_left, target_lines, targets_of, update_lines, step_op, simple_lines, optional_lines, init_lines, first_values, local_lines};
+ghost use Rattle.build_object.specs.Statements.{lines_of_values, from_last, set_name, set_left, target_lines, targets_of, update_lines, step_op, simple_lines, optional_lines, init_lines, first_values, local_lines};
 
 use crate::code::Code;
 use crate::expressions::{arguments, operand};
@@ -32,7 +32,7 @@ pub fn values<'a>(
     list: &[ExprItem],
     code: &mut Code<'a>,
 ) -> Result<(), AllocError>
-    ensures { OnOk result (Puts (values_of (source_of scope.entry.source.now) scope.entry.slots.now.places.items (exprs_view list.now)) code.old code.new) }
+    ensures { OnOk result (Puts (lines_of_values (source_of scope.entry.source.now) scope.entry.slots.now.places.items (exprs_view list.now)) code.old code.new) }
 {
     arguments(alloc, scope, list, code)
 }
@@ -216,7 +216,7 @@ fn assign<'a>(
     code: &mut Code<'a>,
 ) -> Result<(), AllocError>
     ensures { OnOk result (Puts (targets_of (source_of scope.entry.source.now) scope.entry.slots.now.places.items (exprs_view left.now)
-        ++ (values_of (source_of scope.entry.source.now) scope.entry.slots.now.places.items (exprs_view right.now) ++ (line.Assign (length left.now) ∷ []))) code.old code.new) }
+        ++ (lines_of_values (source_of scope.entry.source.now) scope.entry.slots.now.places.items (exprs_view right.now) ++ (line.Assign (length left.now) ∷ []))) code.old code.new) }
 {
     code.put(Instruction::Assign(left.len()))?;
     values(alloc, scope, right, code)?;
@@ -231,7 +231,7 @@ fn define<'a>(
     right: &[ExprItem],
     code: &mut Code<'a>,
 ) -> Result<(), AllocError>
-    ensures { OnOk result (Puts (values_of (source_of scope.entry.source.now) scope.entry.slots.now.places.items (exprs_view right.now)
+    ensures { OnOk result (Puts (lines_of_values (source_of scope.entry.source.now) scope.entry.slots.now.places.items (exprs_view right.now)
         ++ from_last (set_left (source_of scope.entry.source.now) scope.entry.slots.now.places.items) (exprs_view left.now)) code.old code.new) }
 {
     put_set_lefts(scope, left, code)?;

@@ -6,7 +6,7 @@ ghost use Rattle.build_object.specs.Lines.{Jump, JumpUnless, Return};
 ghost use Rattle.build_object.specs.LineView.{lines_in, Puts};
 ghost use Rattle.build_object.specs.Expressions.{value_lines};
 ghost use Rattle.build_object.specs.SourceView.{source_of};
-ghost use Rattle.build_object.specs.Statements.{values_of, body_exits, loop_lines, loop_condition, for_init, for_post, for_condition, statement_lines, block_lines, if_lines, else_lines};
+ghost use Rattle.build_object.specs.Statements.{lines_of_values, body_exits, loop_lines, loop_condition, for_init, for_post, for_condition, statement_lines, block_lines, if_lines, else_lines};
 ghost use Rattle.build_object.specs.ExitsView.{else_jump, exits_of, lines_of_each, AreWithin, PutsElse};
 
 use crate::code::Code;
@@ -132,7 +132,7 @@ fn returned<'a>(
     results: usize,
     code: &mut Code<'a>,
 ) -> Result<(), AllocError>
-    ensures { OnOk result (Puts (values_of (source_of scope.entry.source.now) scope.entry.slots.now.places.items (exprs_view list.now) ++ (Return results ∷ [])) code.old code.new) }
+    ensures { OnOk result (Puts (lines_of_values (source_of scope.entry.source.now) scope.entry.slots.now.places.items (exprs_view list.now) ++ (Return results ∷ [])) code.old code.new) }
 {
     code.put(Instruction::Return(results))?;
     values(alloc, scope, list, code)

@@ -11,8 +11,8 @@ use Rattle.types_info.proofs.DeclKinds.{Holds}
 use Rattle.law_tokens.proofs.Elements.{all_append, all_made}
 use Rattle.build_object.specs.Lines.{GlobalName, FunctionName, Line}
 use Rattle.build_object.specs.Names.{function_names}
-use Rattle.build_object.specs.Objects.{Definition, Initial, Declaration, TypeOf, Variable, FunctionOf, Object, defined, declared_type, known_variable, first_initial}
-use Rattle.build_object.specs.Objects.{other_initials, variables_of, global_variables, function_of, declared_function, names_behind, declared_by, declared_in}
+use Rattle.build_object.specs.Objects.{Definition, Initial, Declaration, TypeOf, Variable, FunctionOf, Object, type_declarations, declared_type, known_variable, first_initial}
+use Rattle.build_object.specs.Objects.{other_initials, variable_declarations, global_variables, function_of, declared_function, names_behind, declared_by, declared_in}
 use Rattle.build_object.specs.Objects.{names_behind_all, declared_from, definition_of}
 use Rattle.build_object.specs.Source.{Source}
 use Rattle.build_object.specs.Sources.{IsSourceOf, IsObjectOf}
@@ -32,14 +32,14 @@ module _ (P : List Line → Type 0) where
   variable_good (Some own) None value = tt
   variable_good (Some own) (Some name) value = (tt, tt)
 
-  variables_good : (s : Source) (own : Option PlainType) (ns : List (Item ℕ)) (values : List (Option Initial)) → All (variables_of s own ns values)
-  unfolding variables_of
+  variables_good : (s : Source) (own : Option PlainType) (ns : List (Item ℕ)) (values : List (Option Initial)) → All (variable_declarations s own ns values)
+  unfolding variable_declarations
   variables_good s own [] values = tt
   variables_good s own (n ∷ ns) values =
-      all_append Good (known_variable own (s.global n.value) (first_initial values)) (variables_of s own ns (other_initials values))
+      all_append Good (known_variable own (s.global n.value) (first_initial values)) (variable_declarations s own ns (other_initials values))
       (variable_good own (s.global n.value) (first_initial values)) (variables_good s own ns (other_initials values))
 
-  defined_good : (name : Option GlobalName) (definition : Option Definition) → All (defined name definition)
+  defined_good : (name : Option GlobalName) (definition : Option Definition) → All (type_declarations name definition)
   defined_good None definition = tt
   defined_good (Some name) None = tt
   defined_good (Some name) (Some definition) = (tt, tt)

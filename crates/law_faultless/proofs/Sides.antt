@@ -19,7 +19,7 @@ use Rattle.build_object.specs.Lines as line
 use Rattle.build_object.specs.Source.{Source}
 use Rattle.build_object.specs.Numbering.{slot_of}
 use Rattle.build_object.specs.Expressions.{value_lines, address_lines}
-use Rattle.build_object.specs.Statements.{values_of, from_last, set_name, set_bound, set_left, target_lines, targets_of, zeros}
+use Rattle.build_object.specs.Statements.{lines_of_values, from_last, set_name, set_bound, set_left, target_lines, targets_of, zeros}
 use Rattle.law_faultless.specs.Stack.{Arity}
 use Rattle.law_faultless.specs.Questions.{OfDeclared, OfLeft}
 use Rattle.law_faultless.specs.QuestionAnswers.{IsKnown, IsAnswered}
@@ -49,19 +49,19 @@ one_before arity n xs ys f g = turns_as arity (xs ++ ys) refl (let e : 1 + n ≡
 
 each_turns : (arity : FunctionName → Arity) (w : World) (s : Source) (slots : List ℕ) (locals : Locals) {is : List (Item ExprTree)} {ks : List Kind} →
     AreEachValues w locals is ks → AreExprs is →
-    Answers arity (over w s) slots (AnyAsks w locals is) → Turns arity 0 (length ks) (values_of (over w s) slots is)
+    Answers arity (over w s) slots (AnyAsks w locals is) → Turns arity 0 (length ks) (lines_of_values (over w s) slots is)
 each_turns arity w s slots locals no_expression f k = none_turns arity 0
 each_turns arity w s slots locals (also_value {i} {is} {ks = ks} h more) f k =
-    one_before arity (length ks) (value_lines (over w s) slots i.value) (values_of (over w s) slots is)
+    one_before arity (length ks) (value_lines (over w s) slots i.value) (lines_of_values (over w s) slots is)
     (expression_settles arity w s slots locals h (first_expr i is f) (λ q a. k q (this_one a))).value
     (each_turns arity w s slots locals more (other_exprs i is f) (λ q a. k q (a_later_one a)))
 
 pub give_turns : (arity : FunctionName → Arity) (w : World) (s : Source) (slots : List ℕ) (locals : Locals) {is : List (Item ExprTree)} {ks : List Kind} →
     GiveKinds w locals is ks → AreExprs is →
-    Answers arity (over w s) slots (AnyAsks w locals is) → Turns arity 0 (length ks) (values_of (over w s) slots is)
+    Answers arity (over w s) slots (AnyAsks w locals is) → Turns arity 0 (length ks) (lines_of_values (over w s) slots is)
 give_turns arity w s slots locals (values h) f k = each_turns arity w s slots locals h f k
 give_turns arity w s slots locals (results {i} {ts} h) f k =
-    turns_as arity (values_of (over w s) slots (i ∷ [])) refl (sym (length-map ts Typed))
+    turns_as arity (lines_of_values (over w s) slots (i ∷ [])) refl (sym (length-map ts Typed))
     (subst (λ z. Turns arity 0 (length ts) z) (sym (append-nil (value_lines (over w s) slots i.value)))
     (expression_settles arity w s slots locals h (first_expr i [] f) (λ q a. k q (this_one a))).value)
 

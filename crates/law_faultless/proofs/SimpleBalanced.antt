@@ -23,7 +23,7 @@ use Rattle.build_object.specs.Lines as line
 use Rattle.build_object.specs.Source.{Source}
 use Rattle.build_object.specs.Operands.{Operand, Values, value_count}
 use Rattle.build_object.specs.Expressions.{operand_of, value_lines, address_lines}
-use Rattle.build_object.specs.Statements.{values_of, from_last, set_name, set_left, targets_of, update_lines, step_op, simple_lines, optional_lines, zeros}
+use Rattle.build_object.specs.Statements.{lines_of_values, from_last, set_name, set_left, targets_of, update_lines, step_op, simple_lines, optional_lines, zeros}
 use Rattle.build_object.specs.Statements.{first_values, local_lines}
 use Rattle.law_faultless.specs.Stack.{Arity}
 use Rattle.law_faultless.specs.Questions.{Question, OfDeclared, OfLeft, Asks}
@@ -132,12 +132,12 @@ simple_turns arity w s slots h (an_update {locals} {x} {y} {o} u v i r t) f k =
     (expression_settles arity w s slots locals v f.0.grouped (λ q a. k q (in_updated a))).address
     (expression_settles arity w s slots locals i f.1.grouped (λ q a. k q (in_update a))).value
 simple_turns arity w s slots h (an_assignment {locals} {xs} {ys} {ts = ts} {ks} ls g t) f k =
-    assign_turns arity (length ts) (length xs) (length ks) (targets_of (over w s) slots xs) (values_of (over w s) slots ys) (assigned_length ls)
+    assign_turns arity (length ts) (length xs) (length ks) (targets_of (over w s) slots xs) (lines_of_values (over w s) slots ys) (assigned_length ls)
     (taken_length t)
     (targets_turn arity w s slots locals ls (exprs_in h xs f.0.each) (λ q a. k q (in_assigned a)))
     (give_turns arity w s slots locals g (exprs_in h ys f.1.each) (λ q a. k q (in_assignment a)))
 simple_turns arity w s slots h (a_definition {before} {xs = xs} {ys} {ts = ts} {ks = ks} ls g t d) f k =
-    define_turns arity (length ts) (length xs) (length ks) (from_last (set_left (over w s) slots) xs) (values_of (over w s) slots ys) (defined_length ls)
+    define_turns arity (length ts) (length xs) (length ks) (from_last (set_left (over w s) slots) xs) (lines_of_values (over w s) slots ys) (defined_length ls)
     (taken_length t)
     (give_turns arity w s slots before g (exprs_in h ys f.1.each) (λ q a. k q (in_definition a)))
     (lefts_turn arity w (over w s) slots before ls (λ n l. k (OfLeft n) (for_left l)))
@@ -157,7 +157,7 @@ named_values arity w s slots before l v ks e f g t k =
     let values : All (λ (i : Item ExprTree). IsExprIn false i.value) v.1 =
     (subst (λ z. IsNoneOr (λ (x : ℕ × List (Item ExprTree)). IsList (IsExprIn false) x.1) z) e f.values).each in
     subst (λ z. Turns arity 0 0 (first_values (over w s) slots l z ++ from_last (set_name slots) l.names)) (sym e)
-    (define_turns arity (length l.names) (length l.names) (length ks) (from_last (set_name slots) l.names) (values_of (over w s) slots v.1) refl t
+    (define_turns arity (length l.names) (length l.names) (length ks) (from_last (set_name slots) l.names) (lines_of_values (over w s) slots v.1) refl t
     (give_turns arity w s slots before g (exprs_in false v.1 values) (λ q a. k q (in_values e a)))
     (names_turn arity (over w s) slots l.names (λ n d. k (OfDeclared n) (for_declared d))))
 

@@ -19,7 +19,7 @@ use Rattle.law_typing.specs.Statements.{an_else}
 use Rattle.build_object.specs.Lines.{FunctionName, Line}
 use Rattle.build_object.specs.Source.{Source}
 use Rattle.build_object.specs.Expressions.{value_lines}
-use Rattle.build_object.specs.Statements.{values_of, init_lines, local_lines, simple_lines, Exits, further, block_exits, branched, for_init, for_condition}
+use Rattle.build_object.specs.Statements.{lines_of_values, init_lines, local_lines, simple_lines, Exits, further, block_exits, branched, for_init, for_condition}
 use Rattle.build_object.specs.Statements.{for_post, loop_condition, body_exits, loop_lines, statement_lines, block_lines, statements_lines, if_lines}
 use Rattle.build_object.specs.Statements.{else_lines}
 use Rattle.law_faultless.specs.Stack.{Arity}
@@ -119,8 +119,8 @@ mutual
   statement_keeps arity w results s slots x a_break f k = jump_out arity x
   statement_keeps arity w results s slots x a_continue f k = jump_next arity x
   statement_keeps arity w results s slots x (a_return {locals} {es = es} {ks} g t) f k =
-      return_keeps arity x (length results) (values_of (over w s) slots es)
-      (turns_as arity (values_of (over w s) slots es) refl (taken_length t ∙ length-map results OfType)
+      return_keeps arity x (length results) (lines_of_values (over w s) slots es)
+      (turns_as arity (lines_of_values (over w s) slots es) refl (taken_length t ∙ length-map results OfType)
       (give_turns arity w s slots locals g (returned_exprs es f) (λ q a. k q (in_return a))))
 
   pub block_keeps : (arity : FunctionName → Arity) (w : World) (results : List PlainType) (s : Source) (slots : List ℕ) (x : Exits) {before after : Locals}

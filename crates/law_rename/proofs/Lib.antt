@@ -50,3 +50,5 @@ pub mod Packages
 pub mod Renamed
 pub mod Sites
 pub mod Spelling
+pub mod Laid
+pub mod RespelledFiles

@@ -12,3 +12,4 @@ pub mod Renaming
 pub mod Seen
 pub mod MayGain
 pub mod Gained
+pub mod Respelled

@@ -10,3 +10,4 @@ pub mod recut;
 pub mod renumbered;
 pub mod renumbered_sites;
 pub mod rescoped;
+pub mod respelled_layouts;

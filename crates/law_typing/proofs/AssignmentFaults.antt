@@ -8,7 +8,7 @@ use Rattle.types_expr.specs.World.{World, Locals}
 use Rattle.types_expr.specs.Operations.{fits}
 use Rattle.types_expr.specs.Judge.{ListValue, judge, as_value, value_kind, is_whole, all_whole, misfit}
 use Rattle.types_stmt.specs.Checked.{fault_if}
-use Rattle.types_stmt.specs.Sides.{Target, Wants, rhs, judge_each, values_of, nil_refused, refused, all_refused, all_unbroken, given_faults}
+use Rattle.types_stmt.specs.Sides.{Target, Wants, rhs, judge_each, values_of, nil_refused, refused_at, all_refused, all_unbroken, given_faults}
 use Rattle.types_stmt.specs.Statements.{returned}
 use Rattle.law_typing.specs.Names.{IsWhole}
 use Rattle.law_typing.specs.Meanings.{HasMeaning}
@@ -188,8 +188,8 @@ type_refused w place None t = nothing_at place (λ c. elim c [ ])
 type_refused w place (Some k) t = test_told (fits w k t) place (λ e c. elim c [ refuses n ↦ n (fitting (true_fits w k t e)) ])
     (λ e. refuses (λ r. elim r [ fitting f ↦ true≢false (sym (fits_true w f) ∙ e) ]))
 
-refused_told : (w : World) (place : ℕ) (o : Option Kind) (t : Option Taker) → AreExactly (refused w place o (aim_of t)) (At place (Refuses w o t))
-unfolding refused
+refused_told : (w : World) (place : ℕ) (o : Option Kind) (t : Option Taker) → AreExactly (refused_at w place o (aim_of t)) (At place (Refuses w o t))
+unfolding refused_at
 refused_told w place None None = nothing_at place (λ c. elim c [ ])
 refused_told w place (Some k) None = nothing_at place (λ c. elim c [ ])
 refused_told w place o (Some Fresh) = own_refused w place o
@@ -204,7 +204,7 @@ in_turn_told : (w : World) (vs : List ListValue) (ts : List (Option Taker)) → 
 unfolding all_refused
 in_turn_told w [] ts = none_told (λ p b. elim b [ ])
 in_turn_told w (v ∷ vs) [] = none_told (λ p b. elim b [ ])
-in_turn_told w (v ∷ vs) (t ∷ ts) = both_told (refused w v.place v.kind (aim_of t)) (all_refused w vs (map aim_of ts)) (refused_told w v.place v.kind t)
+in_turn_told w (v ∷ vs) (t ∷ ts) = both_told (refused_at w v.place v.kind (aim_of t)) (all_refused w vs (map aim_of ts)) (refused_told w v.place v.kind t)
     (in_turn_told w vs ts) (at_place (RefusedInTurn w (v ∷ vs) (t ∷ ts)) (λ c. this_refused c)) (λ p b. later_refused b) (λ p b. refused_cases b)
 
 all_give : (vs : List ListValue) → all_whole vs ≡ true → AllHaveKinds vs

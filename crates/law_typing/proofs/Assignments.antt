@@ -6,7 +6,7 @@ use Rattle.types_expr.specs.Types.{PlainType, BasicType, Kind, Typed, Untyped, N
 use Rattle.types_expr.specs.World.{World, Locals, declared}
 use Rattle.types_expr.specs.Judge.{ListValue, all_whole}
 use Rattle.types_stmt.specs.Checked.{fault_if}
-use Rattle.types_stmt.specs.Sides.{Target, Wants, all_unbroken, nil_refused, refused, all_refused, given_faults, default_type, inferred_type, inferred_types}
+use Rattle.types_stmt.specs.Sides.{Target, Wants, all_unbroken, nil_refused, refused_at, all_refused, given_faults, default_type, inferred_type, inferred_types}
 use Rattle.types_stmt.specs.Sides.{inferred, with_locals, with_inferred}
 use Rattle.types_stmt.specs.Sides.{all_named, named as named_of}
 use Rattle.types_stmt.specs.Sides as sides
@@ -39,13 +39,13 @@ given_type place (Typed t) h = (t, own)
 given_type place (Untyped b) h = (BasicType b, by_default)
 given_type place Nil h = no_fault h
 
-taken_silent : (w : World) (place : ℕ) {o : Option Kind} {k : Kind} {t : Taker} → o ≡ Some k → Takes w k t → refused w place o (aim t) ≡ []
-unfolding refused
+taken_silent : (w : World) (place : ℕ) {o : Option Kind} {k : Kind} {t : Taker} → o ≡ Some k → Takes w k t → refused_at w place o (aim t) ≡ []
+unfolding refused_at
 taken_silent w place e (fresh g) = ap (nil_refused place) e ∙ not_nil place g
 taken_silent w place e (fitting f) = fit_silent w place e f
 
-silent_taken : (w : World) (place : ℕ) (o : Option Kind) (k : Kind) (t : Taker) → o ≡ Some k → refused w place o (aim t) ≡ [] → Takes w k t
-unfolding refused
+silent_taken : (w : World) (place : ℕ) (o : Option Kind) (k : Kind) (t : Taker) → o ≡ Some k → refused_at w place o (aim t) ≡ [] → Takes w k t
+unfolding refused_at
 silent_taken w place o k Fresh e h = fresh (given_type place k (ap (nil_refused place) (sym e) ∙ h)).1
 silent_taken w place o k (OfType t) e h = fitting (silent_fit w place o k t e h)
 
@@ -60,7 +60,7 @@ unfolding all_refused
 none_refused w [] a none_given = refl
 none_refused w [] a (also_given f more) = absurd a
 none_refused w (v ∷ vs) a none_given = absurd a
-none_refused w (v ∷ vs) a (also_given {t = t} {ts = ts} f more) = empty_both (refused w v.place v.kind (aim t)) (all_refused w vs (map aim ts))
+none_refused w (v ∷ vs) a (also_given {t = t} {ts = ts} f more) = empty_both (refused_at w v.place v.kind (aim t)) (all_refused w vs (map aim ts))
     (taken_silent w v.place a.0 f) (none_refused w vs a.1 more)
 
 pub all_taken : (w : World) (vs : List ListValue) (ks : List Kind) (ts : List Taker) → AreOf vs ks → length vs ≡ length (map aim ts) →
@@ -72,8 +72,8 @@ all_taken w [] (k ∷ ks) ts a n h = absurd a
 all_taken w (v ∷ vs) [] ts a n h = absurd a
 all_taken w (v ∷ vs) (k ∷ ks) [] a n h = absurd (omega arith)
 all_taken w (v ∷ vs) (k ∷ ks) (t ∷ ts) a n h = let m : length vs ≡ length (map aim ts) = omega arith in
-    also_given (silent_taken w v.place v.kind k t a.0 (empty_first (refused w v.place v.kind (aim t)) (all_refused w vs (map aim ts)) h))
-    (all_taken w vs ks ts a.1 m (empty_second (refused w v.place v.kind (aim t)) (all_refused w vs (map aim ts)) h))
+    also_given (silent_taken w v.place v.kind k t a.0 (empty_first (refused_at w v.place v.kind (aim t)) (all_refused w vs (map aim ts)) h))
+    (all_taken w vs ks ts a.1 m (empty_second (refused_at w v.place v.kind (aim t)) (all_refused w vs (map aim ts)) h))
 
 sound_aims : (ts : List Taker) → all_unbroken (map aim ts) ≡ true
 sound_aims [] = refl

@@ -9,7 +9,7 @@ use Rattle.types_expr.specs.World.{World, Locals, no_locals}
 use Rattle.types_expr.specs.Operations.{fits}
 use Rattle.types_expr.specs.Judge.{judge_type, misfit}
 use Rattle.types_stmt.specs.Checked.{Checked, check_items, check_group}
-use Rattle.types_stmt.specs.Sides.{Wants, refused, all_refused}
+use Rattle.types_stmt.specs.Sides.{Wants, refused_at, all_refused}
 use Rattle.types_stmt.specs.Declarations.{literal_value, first_name, literal_faults, value_faults, global_faults, field_faults, body_faults, check_global}
 use Rattle.types_stmt.specs.Declarations.{check_type, check_decl, check_decls, check_file}
 use Rattle.law_typing.specs.Fits.{Fits}
@@ -36,9 +36,9 @@ abbrev Misfits : World → PlainType → BasicTree → Type 0
 Misfits w t (Integer n) = Fits w (Untyped basic.Int) t → ⊥
 Misfits w t (String n) = Fits w (Untyped basic.String) t → ⊥
 
-literal_told : (w : World) (t : PlainType) (b : BasicTree) → AreExactly (refused w (literal_value b).place (literal_value b).kind (Wants (Some t)))
+literal_told : (w : World) (t : PlainType) (b : BasicTree) → AreExactly (refused_at w (literal_value b).place (literal_value b).kind (Wants (Some t)))
     (At (literal_value b).place (Misfits w t b))
-unfolding refused misfit
+unfolding refused_at misfit
 literal_told w t (Integer n) = test_told (fits w (Untyped basic.Int) t) n (λ e m. m (true_fits w (Untyped basic.Int) t e))
     (λ e f. true≢false (sym (fits_true w f) ∙ e))
 literal_told w t (String n) = test_told (fits w (Untyped basic.String) t) n (λ e m. m (true_fits w (Untyped basic.String) t e))
@@ -70,14 +70,14 @@ literals_told w t [] (i ∷ is) e = absurd (no_more e)
   where
     no_more : {n : ℕ} → suc n ≡ 0 → ⊥
     no_more h = cc
-literals_told w t (n ∷ names) (i ∷ is) e = both_told (refused w (literal_value i.value).place (literal_value i.value).kind (Wants (Some t))) (all_refused w
+literals_told w t (n ∷ names) (i ∷ is) e = both_told (refused_at w (literal_value i.value).place (literal_value i.value).kind (Wants (Some t))) (all_refused w
     (literals is)
     (map (λ j. Wants (Some t)) names)) (literal_told w t i.value) (literals_told w t names is (suc_same e))
     (at_place (LiteralMisfits w t (i ∷ is)) (λ m. misfit_of w t i is i.value refl m)) (λ p b. later_literal b) (λ p b. misfit_cases b)
 
 -- where the type is broken, no literal is refused
 none_refused : (w : World) (names : List (Item ℕ)) (is : List (Item BasicTree)) → all_refused w (literals is) (map (λ i. Wants None) names) ≡ []
-unfolding all_refused refused
+unfolding all_refused refused_at
 none_refused w names [] = refl
 none_refused w [] (i ∷ is) = refl
 none_refused w (n ∷ names) (i ∷ is) = none_refused w names is

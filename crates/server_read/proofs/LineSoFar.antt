@@ -9,7 +9,7 @@ use Rattle.std.proofs.lemmas.List.Folds.{position_or_len_push, prefix_len-append
 use Rattle.std.specs.List.{position_or_len}
 use Rattle.std.specs.Io.KnownBytes.{Consumes}
 use Rattle.std.proofs.KnownBytes.{Consumes-trans}
-use Rattle.server_read.specs.FirstLine.{is_newline, line_of, after_line}
+use Rattle.server_read.specs.FirstLine.{is_newline, first_line, after_line}
 use Rattle.server_read.specs.Incoming.{ReadsLine}
 use Rattle.server_read.specs.declared.input.ReadLine.TheVariants.{Whole, TooLong}
 
@@ -63,7 +63,7 @@ long_push limit before mid now line is_too_long byte h c n full =
 position_there : (bytes rest : List ℕ) → position_or_len is_newline bytes ≡ length bytes → position_or_len is_newline (bytes ++ 10 ∷ rest) ≡ length bytes
 position_there bytes rest p = grind (arith, common_steps, prefix_len-append)
 
-pub line_of-append : (bytes rest : List ℕ) → position_or_len is_newline bytes ≡ length bytes → line_of (bytes ++ 10 ∷ rest) ≡ bytes
+pub line_of-append : (bytes rest : List ℕ) → position_or_len is_newline bytes ≡ length bytes → first_line (bytes ++ 10 ∷ rest) ≡ bytes
 line_of-append bytes rest p = rw (position_there bytes rest p)
     (take-append-le (length bytes) bytes (10 ∷ rest) (omega arith) ∙ take_all (length bytes) bytes (omega arith))
 

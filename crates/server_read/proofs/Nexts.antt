@@ -20,7 +20,7 @@ use Rattle.server_read.specs.declared.next.Next.TheVariants as next
 use Rattle.server_read.specs.declared.parse.CommandLine.{CommandLine}
 use Rattle.server_read.specs.declared.parse.CommandLine.TheVariants.{Look, Put, Del, Rename, Move, Undo, Redo, Cat, Uses, End}
 use Rattle.server_read.specs.declared.parse.CommandLine.TheVariants as line
-use Rattle.server_read.specs.FirstLine.{is_newline, line_of, after_line}
+use Rattle.server_read.specs.FirstLine.{is_newline, first_line, after_line}
 use Rattle.server_read.specs.Lines.{IsCommandLine, size_after}
 use Rattle.server_read.specs.Stops.{StopsInLine, StopsBefore}
 use Rattle.server_read.specs.Wire.{IsReadable, Says, Ends, IsWholeMessage, IsWholeEnd, StaysWithin}
@@ -38,8 +38,8 @@ next_unknown limits None after text h k = tt
 next_unknown limits (Some input) after text h k =
     (after_line input, (h.0, (λ readable said is_line. k (rw h.2 readable.utf8) said (rw h.2 is_line), refl)), h.3)
 
-readable_line : (limits : Limits) (text input : List ℕ) → length text ≤ limits.command_bytes → text ≡ line_of input → IsUtf8 text →
-    IsReadable limits (line_of input)
+readable_line : (limits : Limits) (text input : List ℕ) → length text ≤ limits.command_bytes → text ≡ first_line input → IsUtf8 text →
+    IsReadable limits (first_line input)
 readable_line limits text input short e utf8 = record { short = rw (← e) short; utf8 = rw (← e) utf8 }
 
 kept_is : (xs : List ℕ) (after : Option (List ℕ)) → Keeps (Some xs) after → after ≡ Some xs
@@ -98,22 +98,22 @@ stays_in_line limits part rest p =
     }
 
 -- the bytes after a body are not in a part of the body
-after_body : (limits : Limits) (input part rest : List ℕ) (said : CommandLine) (m : Message) (after : List ℕ) → IsReadable limits (line_of input) →
-    IsCommandLine (line_of input) said
+after_body : (limits : Limits) (input part rest : List ℕ) (said : CommandLine) (m : Message) (after : List ℕ) → IsReadable limits (first_line input) →
+    IsCommandLine (first_line input) said
     → after_line input ≡ part ++ rest → length part ≤ size_after said → Says limits input m after → length after ≤ length rest
 after_body limits input part rest said (Ask asked) after readable is_line e short h =
-    let same = ap size_after (line_unique (line_of input) h.1.0 said h.1.2 is_line) in
+    let same = ap size_after (line_unique (first_line input) h.1.0 said h.1.2 is_line) in
     omega (arith, ap length h.1.5, length-drop (size_after h.1.0) (after_line input), ap length e, length-append part rest, same, short)
 after_body limits input part rest said Unknown after readable is_line e short h = absurd (h.1.0 readable said is_line)
 after_body limits input part rest said CutShort after readable is_line e short h = omega (arith, ap length h.1.4)
 
 -- no message is whole before the end of its body
 no_message_in_body : (limits : Limits) (input bytes rest front back : List ℕ) (said : CommandLine) (m : Message)
-    → IsReadable limits (line_of input) → IsCommandLine (line_of input) said
+    → IsReadable limits (first_line input) → IsCommandLine (first_line input) said
     → after_line input ≡ bytes ++ rest → length bytes < size_after said → input ≡ front ++ (back ++ rest) → IsWholeMessage limits front m → ⊥
 no_message_in_body limits input bytes rest front back said (Ask asked) readable is_line e short all whole =
     let h : Says limits input (Ask asked) (back ++ rest) = rw all (whole (back ++ rest)) in
-    let same = ap size_after (line_unique (line_of input) h.1.0 said h.1.2 is_line) in
+    let same = ap size_after (line_unique (first_line input) h.1.0 said h.1.2 is_line) in
     let left = ap length h.1.5 ∙ length-drop (size_after h.1.0) (after_line input) in
     absurd (omega (arith, left, h.1.3, ap length e, length-append bytes rest, length-append back rest, same, short))
 no_message_in_body limits input bytes rest front back said Unknown readable is_line e short all whole =
@@ -123,18 +123,18 @@ no_message_in_body limits input bytes rest front back said CutShort readable is_
     let h : Says limits (front ++ 10 ∷ []) CutShort (10 ∷ []) = whole (10 ∷ []) in
     absurd (omega (arith, ap length h.1.4))
 
-no_end_at_put : (limits : Limits) (input path : List ℕ) (basis size : ℕ) (after : List ℕ) → input ≢ [] → IsCommandLine (line_of input) (Put basis path size)
+no_end_at_put : (limits : Limits) (input path : List ℕ) (basis size : ℕ) (after : List ℕ) → input ≢ [] → IsCommandLine (first_line input) (Put basis path size)
     → Ends limits input after → ⊥
 no_end_at_put limits input path basis size after some put e = elim e [
   | inl over ↦ absurd (some over.0)
-  | inr line ↦ absurd (end_or_put (line_of input) basis path size line.1 put)
+  | inr line ↦ absurd (end_or_put (first_line input) basis path size line.1 put)
 ]
 
 cut_again : (input part rest front back : List ℕ) → input ≡ part ++ rest → part ≡ front ++ back → input ≡ front ++ (back ++ rest)
 cut_again input part rest front back e f = e ∙ ap (λ l. l ++ rest) f ∙ append_assoc front back rest
 
-stays_in_body : (limits : Limits) (input part bytes rest path : List ℕ) (basis size : ℕ) → input ≢ [] → IsReadable limits (line_of input) →
-    IsCommandLine (line_of input) (Put basis path size)
+stays_in_body : (limits : Limits) (input part bytes rest path : List ℕ) (basis size : ℕ) → input ≢ [] → IsReadable limits (first_line input) →
+    IsCommandLine (first_line input) (Put basis path size)
     → input ≡ part ++ rest → after_line input ≡ bytes ++ rest → length bytes < size → StaysWithin limits part rest
 stays_in_body limits input part bytes rest path basis size some readable put all e short = record {
   message = λ m after says. after_body limits input bytes rest (Put basis path size) m after readable put e (omega (arith, short)) (rw all says);
@@ -146,7 +146,7 @@ stays_in_body limits input part bytes rest path basis size some readable put all
 }
 
 stops_after : (limits : Limits) (input path : List ℕ) (basis size : ℕ) (after : Option (List ℕ)) (fault : InputFault)
-    → input ≢ [] → IsReadable limits (line_of input) → IsCommandLine (line_of input) (Put basis path size)
+    → input ≢ [] → IsReadable limits (first_line input) → IsCommandLine (first_line input) (Put basis path size)
     → StopsBefore (Some (after_line input)) after size → ReadsNext limits (Some input) after (Err fault)
 stops_after limits input path basis size None fault some readable put h = absurd h.2
 stops_after limits input path basis size (Some rest) fault some readable put h =
@@ -167,7 +167,7 @@ next_unknown_reader limits after (Ok next.NoRoom) = tt
 next_unknown_reader limits after (Err fault) = tt
 
 next_put : (limits : Limits) (input path : List ℕ) (basis size : ℕ) (after : Option (List ℕ)) (r : Result Next InputFault)
-    → input ≢ [] → IsReadable limits (line_of input) → IsCommandLine (line_of input) (Put basis path size)
+    → input ≢ [] → IsReadable limits (first_line input) → IsCommandLine (first_line input) (Put basis path size)
     → ReadsPut limits basis path size (Some (after_line input)) after r → ReadsNext limits (Some input) after r
 next_put limits input path basis size after (Ok (next.Message (Ask asked))) some readable put k =
     (drop size (after_line input), (some, (Put basis path size, readable, put, k.0, k.1, refl)), k.2)
@@ -195,7 +195,7 @@ pub next_line : (limits : Limits) (before mid after : Option (List ℕ)) (text :
     → ReadsNext limits before after r
 next_line limits None mid after text said r h t k = next_unknown_reader limits after r
 next_line limits (Some input) mid after text (Put basis path size) r h t k =
-    let is_put : IsCommandLine (line_of input) (Put basis path size) = rw (← h.2) t.1 in
+    let is_put : IsCommandLine (first_line input) (Put basis path size) = rw (← h.2) t.1 in
     next_put limits input path basis size after r h.0 (readable_line limits text input h.1 h.2 t.0) is_put (rw h.3 at k)
 next_line limits (Some input) mid after text End r h t k =
     let is_after = kept_is (after_line input) after (rw h.3 at k.1) in

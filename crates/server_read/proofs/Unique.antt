@@ -13,7 +13,7 @@ use Rattle.server_read.specs.declared.parse.CommandLine.TheVariants as line
 use Rattle.server_read.specs.Lines.{verb_of, args_of, place_word, FitsLine, IsCommandLine, size_after}
 use Rattle.server_read.specs.Wire.{IsReadable, KeepsBody, SaysCommand, SaysLine, Says, Ends}
 use Rattle.server_read.specs.Laws.{BeginsOneWay, ReadsOneWay}
-use Rattle.server_read.specs.FirstLine.{line_of, after_line}
+use Rattle.server_read.specs.FirstLine.{first_line, after_line}
 use Rattle.server_read.proofs.Places.{place_word_unique}
 use Rattle.server_read.proofs.LineWords.{same_words, only_put, only_del, only_rename, only_move, only_undo, only_redo, only_cat, only_uses, only_look}
 use Rattle.server_read.proofs.LineWords.{only_list, only_faults, only_object, only_work, only_wait, only_log, only_end}
@@ -131,7 +131,7 @@ SaysLine-unique limits text after CutShort Unknown rest other h k = absurd (k.0 
 SaysLine-unique limits text after CutShort CutShort rest other h k = (refl, h.4 ∙ sym k.4)
 
 pub Says-unique : BeginsOneWay
-Says-unique limits input m n rest other h k = SaysLine-unique limits (line_of input) (after_line input) m n rest other h.1 k.1
+Says-unique limits input m n rest other h k = SaysLine-unique limits (first_line input) (after_line input) m n rest other h.1 k.1
 
 abbrev kind_of : CommandLine → ℕ
 kind_of End = 0
@@ -160,7 +160,7 @@ end_says_none limits text after CutShort rest readable is_line h =
 ends_or_says : (limits : Limits) (input : List ℕ) (m : Message) (rest end : List ℕ) → Ends limits input end → Says limits input m rest → ⊥
 ends_or_says limits input m rest end e h = elim e [
   | inl over ↦ h.0 over.0
-  | inr line ↦ end_says_none limits (line_of input) (after_line input) m rest line.0 (is_end (line_of input) line.1) h.1
+  | inr line ↦ end_says_none limits (first_line input) (after_line input) m rest line.0 (is_end (first_line input) line.1) h.1
 ]
 
 pub Reads-unique : ReadsOneWay

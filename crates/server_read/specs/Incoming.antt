@@ -2,7 +2,7 @@
 use Rattle.std.specs.Prelude.{◌≡◌, ◌≢◌, ◌<◌, ◌≤◌, ℕ, List, [], ◌∷◌, length, Option, None, Some, IfSome, Result, Ok, Err}
 use Rattle.std.specs.Io.KnownBytes.{Consumes, Keeps, IsAtEnd}
 use Rattle.server_read.specs.Stops.{StopsInLine}
-use Rattle.server_read.specs.FirstLine.{line_of, after_line}
+use Rattle.server_read.specs.FirstLine.{first_line, after_line}
 use Rattle.server_read.specs.declared.input.ReadLine.{ReadLine}
 use Rattle.server_read.specs.declared.input.ReadLine.TheVariants.{Nothing, Whole, TooLong}
 use Rattle.server_read.specs.declared.input.InputFault.{InputFault}
@@ -17,7 +17,7 @@ TakesByte before after (Err fault) = Keeps before after
 abbrev pub ReadsLine : ℕ → (before after : Option (List ℕ)) → List ℕ → Result ReadLine InputFault → Type 0
 ReadsLine limit before after line (Ok Nothing) = IfSome before (λ input. (input ≡ []) × (after ≡ Some []))
 ReadsLine limit before after line (Ok Whole) = IfSome before (λ input.
-    (input ≢ []) × (length line ≤ limit) × (line ≡ line_of input) × (after ≡ Some (after_line input)))
+    (input ≢ []) × (length line ≤ limit) × (line ≡ first_line input) × (after ≡ Some (after_line input)))
 ReadsLine limit before after line (Ok TooLong) = IfSome before (λ input.
-    (input ≢ []) × (limit < length (line_of input)) × (after ≡ Some (after_line input)))
+    (input ≢ []) × (limit < length (first_line input)) × (after ≡ Some (after_line input)))
 ReadsLine limit before after line (Err fault) = StopsInLine before after

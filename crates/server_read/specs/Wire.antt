@@ -10,7 +10,7 @@ use Rattle.server_read.specs.declared.message.Message.{Message}
 use Rattle.server_read.specs.declared.message.Message.TheVariants.{Ask, Unknown, CutShort}
 use Rattle.server_read.specs.declared.parse.CommandLine.{CommandLine}
 use Rattle.server_read.specs.declared.parse.CommandLine.TheVariants as line
-use Rattle.server_read.specs.FirstLine.{line_of, after_line}
+use Rattle.server_read.specs.FirstLine.{first_line, after_line}
 use Rattle.server_read.specs.Lines.{IsCommandLine, size_after}
 
 -- the line may be a command: it is within the limit, and UTF-8
@@ -59,7 +59,7 @@ SaysLine limits text after Unknown rest =
 
 -- the input begins with this message, and `rest` are the bytes after it
 abbrev pub Says : Limits → List ℕ → Message → List ℕ → Type 0
-Says limits input message rest = (input ≢ []) × SaysLine limits (line_of input) (after_line input) message rest
+Says limits input message rest = (input ≢ []) × SaysLine limits (first_line input) (after_line input) message rest
 
 -- the input begins with these messages, in order, and `rest` are the bytes after them
 abbrev pub Reads : Limits → List ℕ → List Message → List ℕ → Type 0
@@ -69,7 +69,7 @@ Reads limits input (message ∷ messages) rest = (mid : List ℕ) × Says limits
 -- the session ends here: the input is over, or its first line is `end`, and `rest` are the bytes after it
 abbrev pub Ends : Limits → List ℕ → List ℕ → Type 0
 Ends limits input rest = ((input ≡ []) × (rest ≡ []))
-    ⊎ (IsReadable limits (line_of input) × (line_of input ≡ codes "end") × (rest ≡ after_line input))
+    ⊎ (IsReadable limits (first_line input) × (first_line input ≡ codes "end") × (rest ≡ after_line input))
 
 -- these bytes are exactly one message, whatever follows them
 abbrev pub IsWholeMessage : Limits → List ℕ → Message → Type 0

@@ -33,9 +33,9 @@ code_of refusal.NoJob = 23
 code_of refusal.BodyShort = 24
 
 -- the place of a declaration, or `universe` for a predeclared one
-abbrev pub declaration_text : Option Place → List ℕ
-declaration_text None = codes "universe"
-declaration_text (Some place) = place_text place
+abbrev pub capturer_text : Option Place → List ℕ
+capturer_text None = codes "universe"
+capturer_text (Some place) = place_text place
 
 -- a number on a line of its own
 abbrev pub number_line : ℕ → List ℕ
@@ -45,7 +45,7 @@ number_line number = decimal number ++ 10 ∷ []
 abbrev pub refusal_body : Refusal → List ℕ
 refusal_body (refusal.Moved current) = number_line current
 refusal_body (refusal.Faulty place kind) = fault_line place kind
-refusal_body (refusal.Captured used by) = place_text used ++ codes " by " ++ declaration_text by ++ 10 ∷ []
+refusal_body (refusal.Captured used by) = place_text used ++ codes " by " ++ capturer_text by ++ 10 ∷ []
 refusal_body (refusal.Lost used) = place_text used ++ 10 ∷ []
 refusal_body (refusal.Pending folder) = folder ++ 10 ∷ []
 refusal_body (refusal.Stale current) = number_line current

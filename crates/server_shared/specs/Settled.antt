@@ -16,8 +16,8 @@ unfoldable pub HasIndex : List Receipt → ℕ → Type 0
 HasIndex receipts index = Any (λ r. r.index ≡ index) receipts
 
 -- no index is in both lists of receipts
-unfoldable pub AreApart : List Receipt → List Receipt → Type 0
-AreApart a b = All (λ r. ¬ (HasIndex b r.index)) a
+unfoldable pub AreSeparate : List Receipt → List Receipt → Type 0
+AreSeparate a b = All (λ r. ¬ (HasIndex b r.index)) a
 
 -- how many receipts the seats have
 abbrev pub receipt_count : List (List Receipt) → ℕ
@@ -27,5 +27,5 @@ receipt_count = sum_by length
 pub record IsSettled (from : ℕ) (journal : List Entry) (seats : List (List Receipt)) : Type 0 where
   pub stand : All (All (IsInJournal journal)) seats
   pub rise : All Rises seats
-  pub apart : AllPairs AreApart seats
+  pub apart : AllPairs AreSeparate seats
   pub counted : length journal ≡ from + receipt_count seats

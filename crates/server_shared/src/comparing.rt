@@ -1,6 +1,6 @@
 //! Compares the seats' receipts with the journal, and merges the seats' parts of the ledger.
 ghost use Rattle.std.specs.Prelude.{◌≡◌, ◌↔◌, ◌+◌, ◌<◌, ◌≤◌, ◌^◌, IsTrue, All, AllPairs, SomeIff, length, vec_len};
-ghost use Rattle.server_shared.specs.Settled.{Rises, HasIndex, AreApart, IsInJournal, receipt_count};
+ghost use Rattle.server_shared.specs.Settled.{Rises, HasIndex, AreSeparate, IsInJournal, receipt_count};
 
 use crate::opening::Opening;
 use crate::receipt::{Receipt, all_in_journal};
@@ -26,7 +26,7 @@ fn has_index(receipts: &[Receipt], index: u64) -> bool
 /// Whether no index is in both lists of receipts.
 fn are_apart(a: &[Receipt], b: &[Receipt]) -> bool
     requires { Rises b.now }
-    ensures { IsTrue result ↔ AreApart a.now b.now }
+    ensures { IsTrue result ↔ AreSeparate a.now b.now }
 {
     for receipt in a {
         if has_index(b, receipt.index) {
@@ -39,7 +39,7 @@ fn are_apart(a: &[Receipt], b: &[Receipt]) -> bool
 /// Whether no index is in the receipts of the seat and in those of another.
 fn is_apart_from<L: Opening>(seat: &Seat<L>, others: &[Seat<L>]) -> bool
     requires { All Rises others.now }
-    ensures { IsTrue result ↔ All (AreApart seat.now) others.now }
+    ensures { IsTrue result ↔ All (AreSeparate seat.now) others.now }
 {
     for other in others {
         if !are_apart(seat.receipts(), other.receipts()) {
@@ -52,7 +52,7 @@ fn is_apart_from<L: Opening>(seat: &Seat<L>, others: &[Seat<L>]) -> bool
 /// Whether no index is in the receipts of two seats.
 pub fn seats_apart<L: Opening>(seats: &[Seat<L>]) -> bool
     requires { All Rises seats.now }
-    ensures { IsTrue result ↔ AllPairs AreApart seats.now }
+    ensures { IsTrue result ↔ AllPairs AreSeparate seats.now }
 {
     for i in 0..seats.len() {
         let (_, others) = seats.split_at(i + 1);

@@ -356,9 +356,9 @@ key_in (Struct s) seen m = key_of_member seen m
 key_in u seen m = WrongKey
 
 -- the member that a key's name denotes; none where the literal is no struct
-abbrev pub member_in : Underlying → Option Member → Option Symbol
-member_in (Struct s) m = option_map member_symbol m
-member_in u m = None
+abbrev pub symbol_of_key : Underlying → Option Member → Option Symbol
+symbol_of_key (Struct s) m = option_map member_symbol m
+symbol_of_key u m = None
 
 -- the fault of a key at token `place`, if it is one
 abbrev pub key_faults : Key → ℕ → List ℕ
@@ -421,7 +421,7 @@ judge_key w t place k = record {
   unkeyed = false;
   wanted = wanted_after_key k (underlying w t);
   faults = key_faults k place;
-  uses = record { place = place; before = t; member = member_in (underlying w t) (w.member place t) } ∷ [];
+  uses = record { place = place; before = t; member = symbol_of_key (underlying w t) (w.member place t) } ∷ [];
 }
 
 -- what the key at token `place` is, in a literal of type t

@@ -1,7 +1,7 @@
 //! Keys of composite literals.
 ghost use Rattle.std.specs.Prelude.{◌≡◌, IfOk, OnOk, option_map, map, ◌++◌, ◌∷◌, []};
 ghost use Rattle.go_ast.specs.View.{key_view};
-ghost use Rattle.types_expr.specs.Judge.{none_seen, seen_with, key_at, element_key, seen_after, key_faults, is_whole_key, wanted_after_key, member_in};
+ghost use Rattle.types_expr.specs.Judge.{none_seen, seen_with, key_at, element_key, seen_after, key_faults, is_whole_key, wanted_after_key, symbol_of_key};
 ghost use Rattle.types_expr.specs.World.{underlying};
 ghost use Rattle.types_expr.specs.Types.{element_of};
 ghost use Rattle.types_expr.specs.View.{type_of};
@@ -122,7 +122,7 @@ impl<'w> World<'w> {
     /// Returns the symbol of the member that the key at a token denotes, none where the literal is no struct.
     #[tactic(auto, unfolding(crate::specs::WorldView::shape_of))]
     fn key_symbol(&self, literal_type: &GoType, place: usize) -> Result<Option<Symbol>, AllocError>
-        ensures { IfOk result (λ s. s ≡ member_in (underlying (world_of self.now) (type_of literal_type.now)) ((world_of self.now).member place (type_of literal_type.now))) }
+        ensures { IfOk result (λ s. s ≡ symbol_of_key (underlying (world_of self.now) (type_of literal_type.now)) ((world_of self.now).member place (type_of literal_type.now))) }
     {
         match self.underlying(literal_type) {
             Shape::Struct(_) => symbol_of(self.member(place, literal_type)),
@@ -159,7 +159,7 @@ impl FoundInFile {
     ) -> Result<(), AllocError>
         ensures faults { OnOk result (self.new.faults.items ≡ self.old.faults.items ++ key_faults (key_of key.entry) place) }
         ensures uses { OnOk result (map use_of self.new.uses.items ≡ map use_of self.old.uses.items ++
-            (record { place = place; before = type_of literal_type.now; member = member_in (underlying (world_of world.now) (type_of literal_type.now)) ((world_of world.now).member place (type_of literal_type.now)) } ∷ [])) }
+            (record { place = place; before = type_of literal_type.now; member = symbol_of_key (underlying (world_of world.now) (type_of literal_type.now)) ((world_of world.now).member place (type_of literal_type.now)) } ∷ [])) }
     {
         let member = world.key_symbol(literal_type, place)?;
         let before = literal_type.copy(alloc)?;

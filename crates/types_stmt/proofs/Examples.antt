@@ -16,7 +16,7 @@ use Rattle.types_expr.specs.Places.{first_token, place_of, place_of_links}
 use Rattle.types_expr.specs.Judge.{judge, as_value, value_kind, select, select_member, all_whole, misfit, misfits, unless_faults, call_function, convert}
 use Rattle.types_expr.specs.Judge.{call_builtin, call_of, all_printed, judge_type, named_type, imported_type}
 use Rattle.types_stmt.specs.Checked.{Checked}
-use Rattle.types_stmt.specs.Sides.{Wants, rhs, values_of, judge_each, given_faults, refused, nil_refused, all_refused, assignable, own_type, assigned}
+use Rattle.types_stmt.specs.Sides.{Wants, rhs, values_of, judge_each, given_faults, refused_at, nil_refused, all_refused, assignable, own_type, assigned}
 use Rattle.types_stmt.specs.Sides.{assigned_one, defined, defined_one, no_name, default_type, inferred_type, inferred, with_locals, defined_name, named, ident_place}
 use Rattle.types_stmt.specs.Sides.{first_of_exprs, first_of_idents}
 use Rattle.types_stmt.specs.Simple.{condition_faults, check_condition, step_faults, update_faults, ends_in_call, without_last, may_be_statement, is_statement}
@@ -97,12 +97,12 @@ t_s = Chain (Name 30) (selector 32 35 no_link)
 -- `x := nil`: at nil
 nil_defined : (check_simple w start (Define (item (Name 70) ∷ []) 1 (item (Name 40) ∷ []))).faults ≡ 40 ∷ []
 unfolding check_simple check_define defined defined_one defined_name first_of_exprs with_locals inferred inferred_type default_type rhs values_of given_faults
-    all_refused refused nil_refused judge place_of first_token as_value value_kind
+    all_refused refused_at nil_refused judge place_of first_token as_value value_kind
 nil_defined = refl
 
 -- `_ = nil`: at nil
 nil_assigned : (check_simple w start (Assign (item (Blank 5) ∷ []) 1 (item (Name 40) ∷ []))).faults ≡ 40 ∷ []
-unfolding check_simple check_assign assigned assigned_one first_of_exprs rhs values_of given_faults all_refused refused nil_refused judge place_of
+unfolding check_simple check_assign assigned assigned_one first_of_exprs rhs values_of given_faults all_refused refused_at nil_refused judge place_of
     first_token as_value value_kind
 nil_assigned = refl
 
@@ -110,21 +110,21 @@ nil_assigned = refl
 types_taken : found_both (check_simple w start (Define (item (Name 70) ∷ item (Name 72) ∷ []) 1 (item (Number 2) ∷ item (Name 40) ∷ []))) ≡
     (Some int, None, 40 ∷ [])
 unfolding check_simple check_define defined defined_one defined_name first_of_exprs with_locals inferred inferred_type default_type rhs values_of judge_each
-    given_faults all_refused refused nil_refused judge place_of first_token as_value value_kind
+    given_faults all_refused refused_at nil_refused judge place_of first_token as_value value_kind
 types_taken = refl
 
 -- `x := 1`, `x = "a"`: at the string
 misfit_assigned : (check_simple w (check_simple w start (Define (item (Name 70) ∷ []) 1 (item (Number 2) ∷ [])))
     (Assign (item (Name 71) ∷ []) 3 (item (Text 4) ∷ []))).faults ≡ 4 ∷ []
 unfolding check_simple check_define defined defined_one defined_name first_of_exprs with_locals inferred inferred_type default_type rhs values_of given_faults
-    all_refused refused nil_refused judge place_of first_token as_value value_kind assigned assigned_one assignable own_type misfit fits same_underlying
+    all_refused refused_at nil_refused judge place_of first_token as_value value_kind assigned assigned_one assignable own_type misfit fits same_underlying
     check_assign
 misfit_assigned = refl
 
 -- `x := g()`, g without results: at the statement; a use of x is broken and no fault
 nothing_defined : (check_simple w (check_simple w start (Define (item (Name 70) ∷ []) 1 (item g ∷ [])))
     (Assign (item (Name 71) ∷ []) 3 (item (Text 4) ∷ []))).faults ≡ 70 ∷ []
-unfolding check_simple check_define defined defined_one defined_name first_of_exprs with_locals inferred rhs values_of given_faults all_refused refused
+unfolding check_simple check_define defined defined_one defined_name first_of_exprs with_locals inferred rhs values_of given_faults all_refused refused_at
     nil_refused judge place_of place_of_links first_token as_value value_kind call_of call_function misfits unless_faults all_whole assigned assigned_one
     assignable own_type check_assign
 nothing_defined = refl
@@ -138,26 +138,26 @@ values_looked_through = refl
 
 -- `a, b = two()` with misfits: at the first token of the call
 misfit_results : (check_simple w start (Assign (item (Name 10) ∷ item (Name 11) ∷ []) 1 (item two ∷ []))).faults ≡ 22 ∷ 22 ∷ []
-unfolding check_simple check_assign assigned assigned_one assignable own_type first_of_exprs rhs values_of given_faults all_refused refused nil_refused
+unfolding check_simple check_assign assigned assigned_one assignable own_type first_of_exprs rhs values_of given_faults all_refused refused_at nil_refused
     misfit fits same_type same_underlying is_named judge place_of place_of_links first_token as_value call_of call_function misfits unless_faults all_whole
 misfit_results = refl
 
 -- `x, y := two()`
 results_taken : found_both (check_simple w start (Define (item (Name 70) ∷ item (Name 72) ∷ []) 1 (item two ∷ []))) ≡ (Some int, Some text, [])
 unfolding check_simple check_define defined defined_one defined_name first_of_exprs with_locals inferred inferred_type default_type rhs values_of given_faults
-    all_refused refused nil_refused judge place_of place_of_links first_token as_value call_of call_function misfits unless_faults all_whole
+    all_refused refused_at nil_refused judge place_of place_of_links first_token as_value call_of call_function misfits unless_faults all_whole
 results_taken = refl
 
 -- `5 = n`, `f(1) = s`: at the left side
 not_assigned : (check_simple w start (Assign (item (Number 5) ∷ item f ∷ []) 6 (item (Name 11) ∷ item (Name 10) ∷ []))).faults ≡ 5 ∷ 20 ∷ []
-unfolding check_simple check_assign assigned assigned_one assignable own_type first_of_exprs rhs judge_each given_faults all_refused refused nil_refused
+unfolding check_simple check_assign assigned assigned_one assignable own_type first_of_exprs rhs judge_each given_faults all_refused refused_at nil_refused
     judge place_of place_of_links first_token as_value value_kind call_of call_function misfits misfit fits same_underlying unless_faults all_whole
 not_assigned = refl
 
 -- `x, t.s := 1, "a"`: no identifier, behind the dot
 no_identifier : (check_simple w start (Define (item (Name 70) ∷ item t_s ∷ []) 1 (item (Number 2) ∷ item (Text 3) ∷ []))).faults ≡ 35 ∷ []
 unfolding check_simple check_define defined defined_one no_name defined_name first_of_exprs with_locals inferred inferred_type default_type rhs judge_each
-    given_faults all_refused refused nil_refused judge place_of place_of_links first_token as_value value_kind select select_member
+    given_faults all_refused refused_at nil_refused judge place_of place_of_links first_token as_value value_kind select select_member
 no_identifier = refl
 
 -- `var x int = 1, 2`: at x
@@ -190,7 +190,7 @@ local_nil : (check_local w start (record {
       Some (1, item (Name 40) ∷ []);
 })).faults ≡ 40 ∷ []
 unfolding check_local check_typed_local check_untyped_local first_of_idents ident_place named with_locals inferred inferred_type default_type rhs values_of given_faults
-    all_refused refused nil_refused judge place_of first_token as_value value_kind
+    all_refused refused_at nil_refused judge place_of first_token as_value value_kind
 local_nil = refl
 
 -- Conditions, `++`, `+=`
@@ -258,7 +258,7 @@ conversion_stands = refl
 
 -- `return (s)` of an int: at the parenthesis
 misfit_in_parentheses : (check_return w start 80 (Wants (Some int) ∷ []) (item (Paren 81 (Name 10) 82) ∷ [])).faults ≡ 81 ∷ []
-unfolding check_return returned rhs values_of all_refused refused nil_refused misfit fits same_type same_underlying is_named judge place_of first_token
+unfolding check_return returned rhs values_of all_refused refused_at nil_refused misfit fits same_type same_underlying is_named judge place_of first_token
     as_value value_kind
 misfit_in_parentheses = refl
 
@@ -269,13 +269,13 @@ return_count = refl
 
 -- `return g()` where neither has results
 nothing_returned : (check_return w start 80 [] (item g ∷ [])).faults ≡ []
-unfolding check_return returned rhs values_of all_refused refused nil_refused judge place_of place_of_links first_token as_value call_of call_function
+unfolding check_return returned rhs values_of all_refused refused_at nil_refused judge place_of place_of_links first_token as_value call_of call_function
     misfits unless_faults all_whole
 nothing_returned = refl
 
 -- `return two()` with a misfit: at the first token of the call
 misfit_returned : (check_return w start 80 (Wants (Some int) ∷ Wants (Some int) ∷ []) (item two ∷ [])).faults ≡ 22 ∷ []
-unfolding check_return returned rhs values_of all_refused refused nil_refused misfit fits same_type same_underlying is_named judge place_of
+unfolding check_return returned rhs values_of all_refused refused_at nil_refused misfit fits same_type same_underlying is_named judge place_of
     place_of_links first_token as_value call_of call_function misfits unless_faults all_whole
 misfit_returned = refl
 
@@ -364,7 +364,7 @@ global_misfit : global_faults w (record {
   values =
       Some (1, record { value = String 91; separator = None } ∷ []);
 }) ≡ 91 ∷ []
-unfolding global_faults value_faults literal_faults all_refused refused nil_refused misfit fits same_underlying judge_type named_type
+unfolding global_faults value_faults literal_faults all_refused refused_at nil_refused misfit fits same_underlying judge_type named_type
 global_misfit = refl
 
 -- `var x T = 1, 2`: at x, also where T is broken

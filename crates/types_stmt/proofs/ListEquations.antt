@@ -15,7 +15,7 @@ use Rattle.types_expr.specs.Judge.{judge_type, judge_value, judge_arguments, val
 use Rattle.types_stmt.specs.Checked.{Checked, check_items}
 use Rattle.types_stmt.specs.Headers.{judge_types, with_result}
 use Rattle.types_stmt.specs.Declarations.{field_faults, check_decl, check_decls}
-use Rattle.types_stmt.specs.Sides.{judge_each, assigned, assigned_one, defined, defined_one, join_lefts, Target, refused, all_refused, with_locals}
+use Rattle.types_stmt.specs.Sides.{judge_each, assigned, assigned_one, defined, defined_one, join_lefts, Target, refused_at, all_refused, with_locals}
 use Rattle.types_stmt.specs.Sides.{declared_if, head_or_none, tail_of}
 
 -- the values of expressions in turn are those of the arguments of a call
@@ -43,7 +43,7 @@ unfolding defined
 defined_end w ls = refl
 
 pub all_refused_step : (w : World) (v : ListValue) (vs : List ListValue) (t : Target) (ts : List Target) →
-    all_refused w (v ∷ vs) (t ∷ ts) ≡ refused w v.place v.kind t ++ all_refused w vs ts
+    all_refused w (v ∷ vs) (t ∷ ts) ≡ refused_at w v.place v.kind t ++ all_refused w vs ts
 unfolding all_refused
 all_refused_step w v vs t ts = refl
 

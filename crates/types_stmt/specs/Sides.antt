@@ -65,16 +65,16 @@ nil_refused place (Some Nil) = place ∷ []
 nil_refused place k = []
 
 -- a fault at `place`, where the value stands, if its target refuses it
-unfoldable pub refused : World → ℕ → Option Kind → Target → List ℕ
-refused w place k (Wants None) = []
-refused w place k (Wants (Some t)) = misfit w place k t
-refused w place k Takes = nil_refused place k
+unfoldable pub refused_at : World → ℕ → Option Kind → Target → List ℕ
+refused_at w place k (Wants None) = []
+refused_at w place k (Wants (Some t)) = misfit w place k t
+refused_at w place k Takes = nil_refused place k
 
 -- the faults of the values that the targets at their positions refuse
 unfoldable pub all_refused : World → List ListValue → List Target → List ℕ
 all_refused w [] ts = []
 all_refused w (v ∷ vs) [] = []
-all_refused w (v ∷ vs) (t ∷ ts) = refused w v.place v.kind t ++ all_refused w vs ts
+all_refused w (v ∷ vs) (t ∷ ts) = refused_at w v.place v.kind t ++ all_refused w vs ts
 
 -- The faults of values given to targets. A wrong count is a fault at `place`, where no part is broken. Under a wrong count no value is
 -- compared with a target.

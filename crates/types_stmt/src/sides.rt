@@ -7,7 +7,7 @@ ghost use Rattle.types_expr.specs.Places.{place_of};
 ghost use Rattle.types_expr.specs.View.{type_of, kind_of};
 ghost use Rattle.types_expr.specs.WorldView.{world_of};
 ghost use Rattle.types_expr.specs.Found.{locals_of, meaning_of, list_value, AddsJudged, AddsJudgedList};
-ghost use Rattle.types_stmt.specs.Sides.{results_at, one_value, values_of, list_followed, judge_each, rhs, all_unbroken, is_unbroken, nil_refused, refused, all_refused, given_faults, assignable, judge_operand, own_type, assigned_one, assigned, no_name, defined_one, defined};
+ghost use Rattle.types_stmt.specs.Sides.{results_at, one_value, values_of, list_followed, judge_each, rhs, all_unbroken, is_unbroken, nil_refused, refused_at, all_refused, given_faults, assignable, judge_operand, own_type, assigned_one, assigned, no_name, defined_one, defined};
 ghost use Rattle.types_stmt.specs.Checked.{fault_if};
 ghost use Rattle.types_stmt.specs.Statements.{returned};
 ghost use Rattle.types_stmt.specs.View.{target_of, AddsLefts, AddsFaultsAt};
@@ -125,14 +125,14 @@ fn all_unbroken(targets: &[Target]) -> bool
 }
 
 /// Notes a fault where the target refuses the value.
-#[tactic(auto, unfolding(crate::specs::View::target_of, crate::specs::Sides::refused, types_expr::specs::View::kind_of))]
+#[tactic(auto, unfolding(crate::specs::View::target_of, crate::specs::Sides::refused_at, types_expr::specs::View::kind_of))]
 fn refuse(
     world: &World<'_>,
     value: &ListValue,
     target: &Target,
     found: &mut FoundInFile,
 ) -> Result<(), AllocError>
-    ensures { OnOk result (AddsFaultsAt (refused (world_of world.now) value.now.place (option_map kind_of value.now.kind) (target_of target.now)) found.old found.new) }
+    ensures { OnOk result (AddsFaultsAt (refused_at (world_of world.now) value.now.place (option_map kind_of value.now.kind) (target_of target.now)) found.old found.new) }
 {
     match target {
         Target::Wants(None) => Ok(()),

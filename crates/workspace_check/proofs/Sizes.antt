@@ -1,5 +1,5 @@
--- A package has a larger closure than each package that it builds on. So each package comes after those that it builds on, in an order by
--- the sizes of closures and in an order of the import links.
+-- A package has a larger closure than each package that it builds on. It comes after these in an order by the sizes of closures, and in an
+-- order of the import links.
 use Rattle.std.proofs.Common.{ℕ, ◌≡◌, ◌+◌, ◌<◌, ◌≤◌, inl, inr, false, List, [], ◌∷◌, ◌++◌, length, get_or, sym, ap, subst, ◌∙◌, arith}
 use Rattle.std.specs.Prelude.{Contains, nat_eq, Some, slice_get}
 use Rattle.std.specs.Cmp.{nat_eq_equiv}

@@ -8,7 +8,7 @@ use Rattle.go_ast.specs.declared.tree.IfStmt as ifs
 use Rattle.build_object.specs.Lines.{Return}
 use Rattle.build_object.specs.LineView.{lines_in}
 use Rattle.build_object.specs.SourceView.{source_of}
-use Rattle.build_object.specs.Statements.{for_condition, for_post, statement_lines, values_of, if_lines, else_lines}
+use Rattle.build_object.specs.Statements.{for_condition, for_post, statement_lines, lines_of_values, if_lines, else_lines}
 use Rattle.build_object.specs.ExitsView.{exits_of, lines_of_each}
 use Rattle.build_object.proofs.Putting.{puts_none, puts_as, puts_then, puts_length}
 use Rattle.build_object.proofs.Loops.{back_end, back_start}
@@ -63,7 +63,7 @@ unfolding statement_lines stmt_view
 statement-returns-in-Return t c = on_ok_weaker c.returned.result
     (λ q. puts_as (ap (λ v. statement_lines (source_of c.args.scope.source.now) c.args.scope.slots.now.places.items c.args.results
     (exits_of c.args.marks (length (lines_in c.args.code.now))) (stmt_view v)) c.in-Return.is ∙
-    ap (λ xs. values_of (source_of c.args.scope.source.now) c.args.scope.slots.now.places.items (exprs_view xs) ++ (Return c.args.results ∷ []))
+    ap (λ xs. lines_of_values (source_of c.args.scope.source.now) c.args.scope.slots.now.places.items (exprs_view xs) ++ (Return c.args.results ∷ []))
     (sym c.deref.ensures.value)) q) c.returned.ensures
 
 pub statement-returns-in_ok-turns-in-For : goal.statement-returns-in_ok-turns-in-For

@@ -4,7 +4,7 @@ use Rattle.std.proofs.Math.ListN.{drop_of_length-le}
 use Rattle.types_expr.specs.View.{kind_of}
 use Rattle.types_expr.specs.WorldView.{world_of}
 use Rattle.types_expr.specs.Found.{list_value}
-use Rattle.types_stmt.specs.Sides.{all_refused, refused}
+use Rattle.types_stmt.specs.Sides.{all_refused, refused_at}
 use Rattle.types_stmt.specs.View.{target_of}
 use Rattle.types_stmt.proofs.LoopProgress.{grown_faults_step, grown_faults_end}
 use Rattle.types_expr.proofs.Items.{next_item}
@@ -13,7 +13,7 @@ use Rattle.types_stmt.proofs.sides.refuse_all.Goals as goal
 
 pub each-preserved : goal.each-preserved
 each-preserved c =
-    grown_faults_step (refused (world_of c.args.world.now) c.index-values-i.result.place (option_map kind_of c.index-values-i.result.kind)
+    grown_faults_step (refused_at (world_of c.args.world.now) c.index-values-i.result.place (option_map kind_of c.index-values-i.result.kind)
     (target_of c.index-targets-i.result))
     c.each.invariant c.in_ok-refuse.ensures
     (ap (λ vs. all_refused (world_of c.args.world.now) (map list_value vs) (map target_of (drop c.each.i c.args.targets.now)))
