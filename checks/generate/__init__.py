@@ -1,0 +1,1 @@
+"""Random texts, workspaces and sessions."""

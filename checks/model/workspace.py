@@ -1,0 +1,142 @@
+"""A workspace: its packages, imports and the stages of their faults; and the identifiers bound to one declaration.
+
+The order of stages, kinds and places follows the rules of the subset. A path is a str of ASCII, an offset a number of
+bytes.
+"""
+
+import functools
+
+from checks.model import lexer, syntax
+from checks.model.checker import Checker
+
+
+@functools.lru_cache(maxsize=256)
+def tokens_of_file(path, source):
+    """The tokens of a text that stands in a file; several workspaces share them, two files never do."""
+    return lexer.tokens_of(source)
+
+
+class SourceFile:
+    def __init__(self, path, source):
+        self.path = path
+        self.source = source
+        self.fault = None
+        self.tree = None
+        try:
+            tokens = tokens_of_file(path, source)
+        except lexer.Fault as fault:
+            self.fault = (fault.offset, fault.kind)
+            return
+        self.tree, fault = syntax.first_fault(tokens)
+        if fault is not None:
+            number, kind = fault
+            self.fault = (tokens[number].offset if number < len(tokens) else len(source), kind)
+
+    def imports(self):
+        """Each import's path, or None where the value is no text, with its node."""
+        for node in self.tree.parts:
+            value = lexer.string_value(node.at.text)
+            yield node, value.decode("utf-8", "replace")
+
+
+class Package:
+    def __init__(self, path, files):
+        self.path = path
+        self.files = files
+        self.trees = [file for file in files if file.tree is not None]
+        self.faults = None
+        self.checker = None
+
+    def name(self):
+        return self.files[0].tree.name.text
+
+
+class Workspace:
+    def __init__(self, texts):
+        self.files = {}
+        folders = {}
+        for path in sorted(texts, key=str.encode):
+            if path.endswith(".go"):
+                file = SourceFile(path, texts[path])
+                self.files[path] = file
+                folders.setdefault(path.rsplit("/", 1)[0], []).append(file)
+        self.packages = {folder: Package(folder, files) for folder, files in folders.items()}
+        self.order = sorted(self.packages, key=str.encode)
+
+    def imported(self, path):
+        """The packages that a package imports directly."""
+        found = set()
+        for file in self.packages[path].trees:
+            found |= {value for _, value in file.imports() if value in self.packages}
+        return found
+
+    def closure(self, path):
+        found = {path}
+        agenda = [path]
+        while agenda:
+            for other in self.imported(agenda.pop()):
+                if other not in found:
+                    found.add(other)
+                    agenda.append(other)
+        return found
+
+    def package_faults(self, path):
+        """The faults of a package as (path, offset, kind), sorted, of the first stage that has some."""
+        package = self.packages[path]
+        if package.faults is None:
+            found = self.stages(package)
+            package.faults = sorted(set(found), key=lambda f: (f[0].encode(), f[1], f[2]))
+        return package.faults
+
+    def stages(self, package):
+        texts = [(f.path, *f.fault) for f in package.files if f.fault is not None]
+        if texts:
+            return texts
+        name = package.name()
+        clauses = [
+            (f.path, f.tree.name.offset, "package") for f in package.files if f.tree.name.text != name
+        ]
+        if clauses:
+            return clauses
+        imports = [
+            (file.path, node.at.offset, kind)
+            for file in package.files
+            for node, value in file.imports()
+            for kind in [self.import_fault(package.path, value)]
+            if kind is not None
+        ]
+        if imports:
+            return imports
+        package.checker = Checker(package, self.packages)
+        return package.checker.faults()
+
+    def import_fault(self, importer, path):
+        if path not in self.packages:
+            return "missing"
+        if importer in self.closure(path):
+            return "cycle"
+        return "import" if self.package_faults(path) else None
+
+    def faults(self):
+        return [fault for path in self.order for fault in self.package_faults(path)]
+
+    def bindings(self):
+        """Each identifier and path literal: path, offset, length, declaration or None, whether it is an identifier."""
+        for path in self.order:
+            self.package_faults(path)
+            yield from self.packages[path].checker.bindings
+
+    def uses(self, path, offset):
+        """The number of a refusal, or the places of the identifiers bound to the same declaration."""
+        if path not in self.files:
+            return 4
+        if self.faults():
+            return 9
+        bound = [b for b in self.bindings() if b[0] == path and b[1] <= offset < b[1] + b[2]]
+        if not bound:
+            return 10
+        declaration = bound[0][3]
+        if declaration is None:
+            return 11
+        places = [(b[0], b[1]) for b in self.bindings() if b[3] is declaration and b[4]]
+        return sorted(places, key=lambda place: (place[0].encode(), place[1]))

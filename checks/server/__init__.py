@@ -1,0 +1,1 @@
+"""Checks of a built `gorefd` with clients on its socket or streams."""

@@ -1,0 +1,30 @@
+"""What the gate asks of each build of the program beside the stored sessions: python3 -m checks.server.program PROGRAM
+
+These checks of serve.py take the place of tests, which would be proved: the command line and how the program ends, streams that fail, the
+limits at their full size, and a server with clients and workers on threads. checks/gate/gate.py runs them. The gate leaves out the other
+checks, which need more of a machine or take longer.
+"""
+
+from checks.server import connections, editors, late, limits, serve, statuses, streams
+
+CHECKS = (
+    statuses.bad_words,
+    statuses.helps,
+    statuses.one_session,
+    statuses.taken_paths,
+    *limits.CHECKS,
+    editors.in_one_write,
+    editors.reply_by_reply_on_pipes,
+    editors.two_editors,
+    editors.racing_puts,
+    editors.workers_at_once,
+    editors.one_worker_alone,
+    editors.settled_length,
+    *late.CHECKS,
+    connections.cut_while_sending,
+    connections.cut_while_reading,
+    *streams.CHECKS,
+)
+
+if __name__ == "__main__":
+    serve.main(CHECKS)

@@ -1,0 +1,27 @@
+"""Drives a built `gorefd` with clients on its socket, and compares what it answers.
+
+    python3 -m checks.server.serve [WORD..] PROGRAM
+
+The words, if any, are those of a command that runs the program, as `taskset -c 0`. Each check prints a line, and the run ends with status 1
+where one fails. The answers are those of the protocol, by hand or by the model. Nothing is measured, but a check that waits longer than a
+minute fails.
+"""
+
+import os
+import sys
+
+from checks.server import connections, editors, late, limits, statuses, story, streams
+from checks.server.server import PROGRAM, passes
+
+CHECKS = statuses.CHECKS + limits.CHECKS + editors.CHECKS + late.CHECKS + connections.CHECKS + streams.CHECKS + story.CHECKS
+
+
+def main(checks=CHECKS):
+    PROGRAM.extend(os.path.abspath(word) if os.path.isfile(word) else word for word in sys.argv[1:])
+    if not PROGRAM:
+        sys.exit(__doc__)
+    sys.exit(0 if passes(checks) else 1)
+
+
+if __name__ == "__main__":
+    main()

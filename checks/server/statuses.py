@@ -1,0 +1,305 @@
+"""Checks what a built `gorefd` prints for each command line, and how it ends: each exit status with its text.
+
+The texts for command lines are those of their parser, `clap`, written down here. It calls the program by the name of its file.
+"""
+
+import os
+import pathlib
+import resource
+import socket
+import stat
+import tempfile
+import threading
+
+from checks.server.server import PROGRAM, Server, connect, run, same, serve_words, settles, together
+
+MORE = "\n\nFor more information, try '--help'.\n"
+RUN = "\n\nUsage: gorefd run" + MORE
+ALL = "\n\nUsage: gorefd <COMMAND>" + MORE
+SERVE = "\n\nUsage: gorefd serve [OPTIONS] --socket <PATH> --workers <N> --sessions <M>" + MORE
+HELP = """Renames and moves in Go source, with undo, and builds packages
+
+Usage: gorefd <COMMAND>
+
+Commands:
+  run    Serves one session from standard input to standard output
+  serve  Serves sessions to those who connect to a Unix socket, and builds packages beside them
+
+Options:
+  -h, --help     Print help
+  -V, --version  Print version
+"""
+VERSION = b"gorefd 0.1.0\n"
+RUN_HELP = """Serves one session from standard input to standard output
+
+Usage: gorefd run
+
+Options:
+  -h, --help  Print help
+"""
+SERVE_HELP = """Serves sessions to those who connect to a Unix socket, and builds packages beside them
+
+Usage: gorefd serve [OPTIONS] --socket <PATH> --workers <N> --sessions <M>
+
+Options:
+      --socket <PATH>   Where the socket is made; nothing may stand there
+      --workers <N>     How many threads build packages, 1 to 16
+      --sessions <M>    How many threads serve connections, 1 to 32
+      --stop-after <K>  Ends after K connections, 1 to 1000000; else it does not end
+  -h, --help            Print help
+"""
+GOOD = serve_words("s")
+
+
+def without(name):
+    at = GOOD.index(name)
+    return GOOD[:at] + GOOD[at + 2 :]
+
+
+def missing(*named):
+    lines = "".join(f"\n  {option}" for option in named)
+    required = " ".join(["--socket <PATH>", "--workers <N>", "--sessions <M>"])
+    return f"error: the following required arguments were not provided:{lines}\n\nUsage: gorefd serve {required}" + MORE
+
+
+def out_of_range(name, value, most):
+    return f"error: invalid value '{value}' for '{name}': {value} is not in 1..={most}" + MORE
+
+
+def no_number(name, value):
+    return f"error: invalid value '{value}' for '{name}': invalid digit found in string" + MORE
+
+
+def numbers(name, placeholder, most):
+    """Words with this option at numbers that are none, each with its text."""
+    named = f"{name} {placeholder}"
+    words = lambda value: without(name) + [name, value] if name in GOOD else GOOD + [name, value]
+    rows = [(words(value), out_of_range(named, value, most)) for value in ("0", str(most + 1), str(2**32 - 1))]
+    return rows + [(words(value), no_number(named, value)) for value in ("x", "1x", "1.0")]
+
+
+BAD = [
+    ([], "error: 'gorefd' requires a subcommand but one was not provided\n  [subcommands: run, serve]" + ALL),
+    (["frob"], "error: unrecognized subcommand 'frob'" + ALL),
+    ([""], "error: unrecognized subcommand ''" + ALL),
+    (["help"], "error: unrecognized subcommand 'help'" + ALL),
+    (["--frob"], "error: unexpected argument '--frob' found" + ALL),
+    (["run", "run"], "error: unexpected argument 'run' found" + RUN),
+    (["run", "--socket"], "error: unexpected argument '--socket' found" + RUN),
+    (["serve"], missing("--socket <PATH>", "--workers <N>", "--sessions <M>")),
+    (without("--socket"), missing("--socket <PATH>")),
+    (without("--workers"), missing("--workers <N>")),
+    (without("--sessions"), missing("--sessions <M>")),
+    (GOOD + ["more"], "error: unexpected argument 'more' found" + SERVE),
+    *numbers("--workers", "<N>", 16),
+    *numbers("--sessions", "<M>", 32),
+    *numbers("--stop-after", "<K>", 1_000_000),
+]
+UNREAD = [[b"\xff"], ["serve", "--socket", b"\xff"]]
+
+
+def called(text):
+    """The text with the name by which the program is called."""
+    return text.replace("gorefd", os.path.basename(PROGRAM[-1])).encode()
+
+
+def bad_words():
+    """Words that ask nothing end with status 2 and their text on standard error, and nothing is made."""
+    with tempfile.TemporaryDirectory() as folder:
+        for words, text in BAD:
+            same((words, *run(words, cwd=folder)), (words, 2, b"", called(text)))
+        for words in UNREAD:
+            same((words, *run(words, cwd=folder)), (words, 2, b"", ("error: a word is not UTF-8" + ALL).encode()))
+        for words in (GOOD + ["--socket", "t"], ["run", "--", "x"], without("--workers") + ["--workers", ""]):
+            status, out, err = run(words, cwd=folder)
+            same((words, status, out, err[:7], err.endswith(MORE[2:].encode())), (words, 2, b"", b"error: ", True))
+        same(os.listdir(folder), [])
+    return f"{len(BAD) + len(UNREAD) + 3} of them"
+
+
+def helps():
+    """Help and the version go to standard output, with status 0."""
+    for words, text in ((["--help"], HELP), (["run", "--help"], RUN_HELP), (["serve", "--help"], SERVE_HELP)):
+        for flag in ("--help", "-h"):
+            same(run([*words[:-1], flag]), (0, called(text), b""))
+    for flag in ("--version", "-V"):
+        same(run([flag]), (0, VERSION, b""))
+    with open("/dev/full", "wb") as full:
+        for flag in ("--help", "--version"):
+            same(run([flag], stdout=full), (1, None, b"gorefd: write fault\n"))
+
+
+def one_session():
+    """How `run` ends: with its input, at a line `end`, or with a fault of its streams."""
+    look = b"ok 0 14\nundo 0 redo 0\n"
+    same(run(["run"]), (0, b"", b""))
+    same(run(["run"], input=b"look\n"), (0, look, b""))
+    same(run(["run"], input=b"look"), (0, look, b""))
+    same(run(["run"], input=b"look\nend\nlook\n"), (0, look, b""))
+    same(run(["run"], input=b"wait\nput 0 a/a.go 5\nabc"), (0, b"no 2 0\nno 24 0\n", b""))
+    with open("/dev/full", "wb") as full:
+        same(run(["run"], input=b"look\n", stdout=full), (1, None, b"gorefd: write fault\n"))
+        same(run(["run"], stdout=full), (0, None, b""))
+    folder = os.open("/", os.O_RDONLY)
+    same(run(["run"], stdin=folder), (1, b"", b"gorefd: read fault\n"))
+    os.close(folder)
+
+
+def is_loaded(told):
+    """Whether the program was loaded at all: else its loader ends it by a signal, or with status 127."""
+    return 0 <= told[0] < 127
+
+
+def wanting_memory():
+    """With too little memory `run` and `serve` tell so and end with status 1; with a little more `run` answers, also by `no 1 0`."""
+    faults = 0
+    for kilobytes in range(64, 1024, 16):
+        told = run(["run"], [(resource.RLIMIT_DATA, kilobytes * 1024)], input=b"look\n")
+        if told == (1, b"", b"gorefd: memory fault\n"):
+            faults += 1
+        elif is_loaded(told) and told not in ((0, b"ok 0 14\nundo 0 redo 0\n", b""), (0, b"no 1 0\n", b"")):
+            raise AssertionError(f"{kilobytes} kilobytes: {told!r}")
+    if not faults:
+        raise AssertionError("memory was never wanting")
+    with tempfile.TemporaryDirectory() as folder:
+        words = serve_words(os.path.join(folder, "s"), 16, 32, 1)
+        same(run(words, [(resource.RLIMIT_AS, 60_000_000)]), (1, b"", b"gorefd: memory fault\n"))
+    return f"at {faults} limits"
+
+
+def none_accepted():
+    """Where a connection cannot be accepted, since no more files may be open, the server ends, and the socket stays."""
+    with Server(1, 1, 1, limits=[(resource.RLIMIT_NOFILE, 4)]) as served:
+        served.stands()
+        try:
+            served.connect().close()
+        except OSError:
+            pass
+        same(served.ended(), (1, b"", b"gorefd: socket fault\n"))
+        same(os.listdir(served.folder.name), ["s"])
+
+
+def untold_end():
+    """A server that cannot tell its end has a write fault."""
+    with tempfile.TemporaryDirectory() as folder, open("/dev/full", "wb") as full:
+        path = os.path.join(folder, "s")
+
+        told = []
+        together(lambda: told.append(run(serve_words(path, 1, 1, 1), stdout=full)), lambda: connect(path).end())
+        same(told, [(1, None, b"gorefd: write fault\n")])
+
+
+def taken_paths():
+    """Where anything stands at the path, or at the one beside it at which the socket is made, there is no server, and it stays."""
+    with tempfile.TemporaryDirectory() as folder:
+        place = lambda name: os.path.join(folder, name)
+        listeners = []
+
+        def stand(what, name):
+            if what == "file":
+                pathlib.Path(place(name)).write_bytes(b"kept")
+            elif what == "folder":
+                os.mkdir(place(name))
+            elif what == "link":
+                os.symlink(place("nowhere"), place(name))
+            else:
+                listener = socket.socket(socket.AF_UNIX, socket.SOCK_STREAM)
+                listener.bind(place(name))
+                listeners.append(listener)
+
+        def seen():
+            return {
+                name: (os.lstat(place(name)).st_ino, os.lstat(place(name)).st_mode, os.lstat(place(name)).st_mtime_ns)
+                for name in os.listdir(folder)
+            }
+
+        kinds = ("file", "folder", "link", "socket")
+        for kind in kinds:
+            stand(kind, kind)
+            stand(kind, f"beside_{kind}.new")
+        before = seen()
+        for path in (
+            *(place(kind) for kind in kinds),
+            *(place(f"beside_{kind}") for kind in kinds),
+            place("no/folder"),
+            place("x" * 200),
+            place("file/s"),
+            "",
+        ):
+            same((path, *run(serve_words(path, stop_after=1), cwd=folder)), (path, 1, b"", b"gorefd: socket fault\n"))
+        same(seen(), before)
+        same(pathlib.Path(place("file")).read_bytes(), b"kept")
+        for listener in listeners:
+            listener.close()
+
+
+def second_server():
+    """A second server at the same path is refused, and the first goes on; what it leaves refuses a third."""
+    with Server(1, 1, 2) as first:
+        client = first.connect()
+        same(run(serve_words(first.path)), (1, b"", b"gorefd: socket fault\n"))
+        same(client.number(), 0)
+        client.end()
+        first.connect().end()
+        settles(first)
+        same(stat.S_ISSOCK(os.stat(first.path).st_mode), True)
+        same(run(serve_words(first.path)), (1, b"", b"gorefd: socket fault\n"))
+
+
+def servers_at_once():
+    """Of servers that are started at the same path at the same time one serves, and each other is refused."""
+    with tempfile.TemporaryDirectory() as folder:
+        path, told, ended = os.path.join(folder, "s"), [], threading.Event()
+
+        def serve():
+            told.append(run(serve_words(path, 1, 1, 1)))
+            if len(told) == 7:
+                ended.set()
+
+        def come():
+            same(ended.wait(60), True)
+            connect(path).end()
+
+        together(*[serve] * 8, come)
+        same(sorted(told)[1:], [(1, b"", b"gorefd: socket fault\n")] * 7)
+        same((sorted(told)[0][0], sorted(told)[0][2], os.listdir(folder)), (0, b"", ["s"]))
+
+
+def as_another(path):
+    """What another user is told who connects."""
+    reader, writer = os.pipe()
+    child = os.fork()
+    if child == 0:
+        os.setgroups([])
+        os.setresgid(65534, 65534, 65534)
+        os.setresuid(65534, 65534, 65534)
+        try:
+            socket.socket(socket.AF_UNIX, socket.SOCK_STREAM).connect(path)
+            os.write(writer, b"connected")
+        except OSError as fault:
+            os.write(writer, type(fault).__name__.encode())
+        os._exit(0)
+    os.close(writer)
+    with open(reader, "rb") as told:
+        text = told.read()
+    os.waitpid(child, 0)
+    return text
+
+
+def owner_alone():
+    """Only its owner may connect to the socket, whatever the mask, and nothing stands beside it."""
+    for umask in (0, 0o022, 0o077, 0o177):
+        with Server(1, 1, 1, umask) as served:
+            os.chmod(served.folder.name, 0o755)
+            client = served.connect()
+            same(stat.S_IMODE(os.stat(served.path).st_mode), 0o600)
+            same(os.stat(served.path).st_uid, os.getuid())
+            if os.getuid() == 0:
+                same(as_another(served.path), b"PermissionError")
+            client.close()
+            settles(served)
+            same(os.listdir(served.folder.name), ["s"])
+    return "no other user tried" if os.getuid() else "another user was refused"
+
+
+CHECKS = (bad_words, helps, one_session, wanting_memory, none_accepted, untold_end, taken_paths, second_server, servers_at_once, owner_alone)
