@@ -1,14 +1,11 @@
 """Builds all packages of a generated workspace by repeated `work`, beside `go build -p 1` and `go vet` on the same files.
 
-The workspace is that of check.py, and one package more, which all import. Measured: the first build; the build after a file of
-a top package was put, which is of that package alone; and the build after the package was put that all import, which is of
-all of them.
+The workspace is that of check.py, with one more package, which all others import. Three builds are measured: the first; one after a
+put in a top package, which builds that package alone; and one after a put in the package that all import, which builds all packages.
+
+    usage: python3 bench/build.py PROGRAM
 """
-import os
-import shutil
-import subprocess
 import sys
-import tempfile
 import time
 
 import check
@@ -18,7 +15,7 @@ STEP = "package base\n\nvar Step int = 1\n"
 
 
 def workspace(lines):
-    """Files by path, of about so many lines, and the number of packages."""
+    """Files by path, of about `lines` lines; how many lines and how many packages they have."""
     files, count, packages = check.workspace(lines)
     found = {BASE: STEP.encode()}
     for number in range(packages):
@@ -28,7 +25,7 @@ def workspace(lines):
 
 
 def build(session, wanted):
-    """The seconds in which all packages that wait are built, which have to be as many as are wanted."""
+    """The seconds in which all unfinished packages are built. There have to be `wanted` of them."""
     begin, count = time.perf_counter(), 0
     while True:
         word, number, body, _ = session.ask(b"work")
@@ -40,25 +37,6 @@ def build(session, wanted):
     if count != wanted:
         sys.exit(f"{count} packages were built, and not {wanted}")
     return time.perf_counter() - begin
-
-
-def go(files):
-    """The seconds of `go build -p 1` and of `go vet` on the same files, each afresh, or None without go."""
-    if shutil.which("go") is None:
-        return None
-    seconds = []
-    for words in (["go", "build", "-p", "1", "gen/..."], ["go", "vet", "gen/..."]):
-        with tempfile.TemporaryDirectory() as top:
-            for path, text in files.items():
-                name = os.path.join(top, "src", path)
-                os.makedirs(os.path.dirname(name), exist_ok=True)
-                with open(name, "wb") as file:
-                    file.write(text)
-            environment = dict(os.environ, GO111MODULE="off", GOPATH=top, GOCACHE=os.path.join(top, "cache"), GOFLAGS="")
-            begin = time.perf_counter()
-            subprocess.run(words, cwd=os.path.join(top, "src"), env=environment, check=True)
-            seconds.append(time.perf_counter() - begin)
-    return seconds
 
 
 def measure(program, lines):
@@ -74,11 +52,11 @@ def measure(program, lines):
     basis, _ = session.put(basis, BASE, STEP.replace("1", "2").encode())
     print(f"  all packages once more  {build(session, packages):8.3f} s")
     session.end()
-    seconds = go(files)
-    if seconds is not None:
-        print(f"  go build -p 1           {seconds[0]:8.3f} s")
-        print(f"  go vet                  {seconds[1]:8.3f} s")
+    for words in ("build -p 1", "vet"):
+        seconds = check.go(files, *words.split(), "gen/...")
+        if seconds is not None:
+            print(f"  {'go ' + words:22}  {seconds:8.3f} s")
 
 
 if __name__ == "__main__":
-    check.main("build", measure)
+    check.main(__doc__, measure)

@@ -1,12 +1,13 @@
-"""Measures on chains of packages, each of which imports the one below, how much is checked a second time.
+"""Measures how much is checked a second time, on chains of packages, each of which imports the one below.
 
-Measured for each length of a chain: `faults` after all files were put, and once more; `faults` after a put inside a function of
-the top package, and of the lowest; `uses` of a function, and once more; and in another session the build of all packages by
-repeated `work`, with nothing asked before. Ratios to the first `faults` are printed beside. What is measured is the processor
-time of the program, as the kernel tells it, so that a busy machine tells the same.
-With `--count` the instructions of the first `faults` and of the build are counted, by valgrind: a machine whose host is shared tells
-the same by these alone.
-usage: bench/chain.py [--count] PROGRAM [LENGTH..]
+Measured for each length of a chain are `faults` after all files were put, and again; `faults` after a put inside a function of the
+top package, and of the lowest; `uses` of a function, and again; and in another session the build of all packages by repeated `work`,
+without a command before it. Each has its ratio to the first `faults` beside it. Times are the program's processor time as the
+kernel counts it, so other programs on the machine hardly change them.
+With `--count`, valgrind counts the instructions of the first `faults` and of the build. These counts hardly vary, even where the
+machine's host is shared.
+
+    usage: python3 bench/chain.py [--count] PROGRAM [LENGTH..]
 """
 import sys
 
@@ -20,7 +21,7 @@ check.imports_of = lambda number: [number - 1] if number else []
 
 
 class Session(check.Session):
-    """A session whose seconds are those of the program's processor time."""
+    """A session whose seconds are the program's processor time."""
 
     def spent(self):
         with open(f"/proc/{self.child.pid}/schedstat") as file:
@@ -107,7 +108,9 @@ def count(program, length):
 
 if __name__ == "__main__":
     words = sys.argv[1:]
-    one = count if words[0] == "--count" else measure
+    one = count if words[:1] == ["--count"] else measure
     words = words[1:] if one is count else words
+    if not words:
+        sys.exit(__doc__)
     for length in [int(word) for word in words[1:]] or [25, 50, 100]:
         one(words[0], length)

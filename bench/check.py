@@ -1,7 +1,9 @@
 """Checks a generated workspace without faults, and compares the time with that of `go vet` on the same files.
 
-The workspace has packages in layers, each importing some of the layer below. Measured: `faults` after all files were put,
-`faults` once more, and a put of one file of a top package and of a package that many import, each with `faults` behind it.
+The packages of the workspace lie in layers, and each imports two packages of the layer below. Measured are `faults` after all files
+were put, `faults` again, and `faults` after one put in a top package and after one in a package of the lowest layer.
+
+    usage: python3 bench/check.py PROGRAM
 """
 import os
 import shutil
@@ -28,7 +30,7 @@ def imports_of(number):
 
 
 def file_text(number, file):
-    """One file of a package: a type with methods in the first, and functions that use it and the packages below."""
+    """One file of a package: functions that use the package's type and the packages below. File 0 declares the type and its methods."""
     lines = [f"package p{number}", ""]
     below = imports_of(number)
     for other in below:
@@ -82,7 +84,7 @@ def file_text(number, file):
 
 
 def workspace(lines):
-    """Files by path, of about so many lines."""
+    """Files by path, of at least `lines` lines; how many lines and how many packages they have."""
     found, count, number = {}, 0, 0
     while count < lines:
         for file in range(FILES):
@@ -98,7 +100,7 @@ class Session:
         self.child = subprocess.Popen([program, "run"], stdin=subprocess.PIPE, stdout=subprocess.PIPE)
 
     def ask(self, line, body=b""):
-        """The first word, the number and the body of the reply, and its seconds."""
+        """The reply's first word, its number and its body, and the seconds until it was read."""
         begin = time.perf_counter()
         self.child.stdin.write(line + b"\n" + body)
         self.child.stdin.flush()
@@ -113,7 +115,7 @@ class Session:
         return number, seconds
 
     def put_all(self, files):
-        """The number of the state with all these files, and the seconds that putting them took."""
+        """The number of the state with all these files, and the seconds that the puts took."""
         basis, loading = 0, 0.0
         for path, text in files.items():
             basis, seconds = self.put(basis, path, text)
@@ -121,7 +123,7 @@ class Session:
         return basis, loading
 
     def timed(self, label, line, wanted):
-        """Asks for what has to be answered so, by its first word and, of a refusal, its number; prints the seconds."""
+        """Sends a line and prints its seconds. `wanted` is the reply's first word and the number of a refusal, or 0."""
         word, number, body, seconds = self.ask(line.encode())
         if (word.decode(), number if word == b"no" else 0) != wanted:
             sys.exit(f"{line}: {word} {number} {body[:200]}")
@@ -140,7 +142,7 @@ class Session:
 
 
 def go(files, *words):
-    """The seconds of a command of go on the same files, afresh, or None without go."""
+    """The seconds of a command of go on these files in a new folder with an empty cache, or None without go."""
     if shutil.which("go") is None:
         return None
     with tempfile.TemporaryDirectory() as top:
@@ -156,7 +158,7 @@ def go(files, *words):
 
 
 def vet(files):
-    """The seconds of `go vet` on the same files, afresh."""
+    """The seconds of `go vet` on these files."""
     return go(files, "vet", "gen/...")
 
 
@@ -179,13 +181,13 @@ def measure(program, lines):
         print(f"  go vet: {beside:.2f} s; faults takes {fresh / beside:.2f} of it")
 
 
-def main(name, of):
-    """Measures the program of the command line, with a smaller and a larger workspace."""
+def main(usage, measure_at):
+    """Measures the program of the command line on workspaces of 20,000 and of 200,000 lines, or ends with the usage text."""
     if len(sys.argv) != 2:
-        sys.exit(f"usage: bench/{name}.sh PROGRAM")
+        sys.exit(usage)
     for lines in (20_000, 200_000):
-        of(sys.argv[1], lines)
+        measure_at(sys.argv[1], lines)
 
 
 if __name__ == "__main__":
-    main("check", measure)
+    main(__doc__, measure)

@@ -1,13 +1,16 @@
-"""Measures whether what a command costs grows faster than what it is asked about.
+"""Measures whether the cost of a command grows faster than the workspace.
 
-Each family is a workspace of a size n and commands that judge it; they stand in workspaces.py. At n, 2n and 4n all files are put, and
-the commands asked behind one another. The processor time that the program takes for each of these steps is measured, each time in a
-session of its own, and the least of three is kept. Printed are the seconds at n, and how many times as long it takes at 2n as at n,
-and at 4n as at 2n. A step that takes over 2.6 times as long is worse than linear, or n log n: its family is measured once more, and the
-less kept. The steps that are over then are told at the end, and the exit status is 1 where there is one.
-With `--count` instructions are counted in place of seconds, by valgrind, once and at a twentieth of the sizes, or at 64: no other
-program disturbs that, and a ratio tells more than on a busy machine.
-usage: bench/families.py [--count] PROGRAM [WORD..]    with words, only the families whose names contain one of them
+A family is a workspace for each size n, and commands on it; all families stand in workspaces.py. At n, 2n and 4n the script puts all
+files and sends the commands in their order. It measures the program's processor time of each step, in three sessions, and keeps the
+least. It prints the seconds at n, and the ratios of 2n to n and of 4n to 2n. A step whose ratio is over 2.6 grows faster than n log n:
+its family is measured again, and the smaller times are kept. The steps that are still over stand at the end, and the exit status is
+1 if there is one.
+With `--count`, valgrind counts instructions in place of seconds, once, at a twentieth of each size but at least at 64. Other programs
+do not change these counts, so on a busy machine their ratios are better.
+
+    usage: python3 bench/families.py [--count] PROGRAM [WORD..]
+
+With words, only the families whose names contain one of them are measured.
 """
 import re
 import subprocess
@@ -32,11 +35,11 @@ class Session(check.Session):
         return of
 
     def spent(self):
-        """The processor time that the program has taken, in seconds: its clock is told by its number."""
+        """The processor time that the program has taken, in seconds. The number of a process gives that of its clock."""
         return time.clock_gettime(~self.child.pid << 3 | 2)
 
     def told(self, line, body=b""):
-        """Sends a line, which has its wanted answer behind `=>` where that is not `ok`, and the state where it needs one."""
+        """Sends a line, with the current state's number where it needs one, and checks the answer: `ok`, or what `=>` ends the line with."""
         line, _, wanted = line.partition(" => ")
         word, _, rest = line.partition(" ")
         if word in CHANGES:
@@ -49,7 +52,7 @@ class Session(check.Session):
             self.state = number
 
     def taken(self, lines):
-        """What the lines take, with what is dropped behind the last."""
+        """What the lines take, and a look behind them, by which all that the last line dropped is freed."""
         begin = self.spent()
         for line, body in lines:
             self.told(line, body)
@@ -89,7 +92,7 @@ def packages_of(files):
 
 
 def steps_of(pairs, asked):
-    """What is asked behind each step's name, each line with its bytes: all puts, then the commands in their order."""
+    """The lines of each step by its name, each with the bytes that follow it: all puts, then the commands in their order."""
     files = dict(pairs)
     steps = {"put": [(f"put {path} {len(text)}", text) for path, text in pairs]}
     for step in asked:
@@ -125,7 +128,7 @@ def over(kind, row):
 
 
 def rows_twice(kind, program, make, size):
-    """The same, measured twice where a step is over."""
+    """As `rows_of`; where a step is over, the smaller of two measures."""
     rows = rows_of(kind, program, make, size)
     if kind.tries == 1 or not any(over(kind, row) for row in rows.values()):
         return rows
@@ -134,7 +137,7 @@ def rows_twice(kind, program, make, size):
 
 
 def measure(kind, program, family, size, make):
-    """Prints the family's rows; answers those that are over."""
+    """Prints the family's rows, and returns those that are over."""
     rows = rows_twice(kind, program, make, size)
     print(f"{family}, {size}:")
     for name, row in rows.items():
@@ -155,7 +158,9 @@ def main(kind, program, words):
 
 
 if __name__ == "__main__":
-    if sys.argv[1] == "--count":
-        main(Counted, sys.argv[2], sys.argv[3:])
-    else:
-        main(Session, sys.argv[1], sys.argv[2:])
+    words = sys.argv[1:]
+    kind = Counted if words[:1] == ["--count"] else Session
+    words = words[1:] if kind is Counted else words
+    if not words:
+        sys.exit(__doc__)
+    main(kind, words[0], words[1:])

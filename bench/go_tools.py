@@ -1,4 +1,4 @@
-"""What `gorename`, `gomvpkg` and a running `gopls` take for renames and moves in the files of a workspace, where these are installed."""
+"""Measures `gorename`, `gomvpkg` and a running `gopls`, where they are installed, for rename.py and move.py."""
 import json
 import os
 import shutil
@@ -8,7 +8,7 @@ import time
 
 
 def laid(top, files):
-    """Writes files below the folder `src` of another."""
+    """Writes the files below the folder `src` of `top`."""
     for path, text in files.items():
         name = os.path.join(top, "src", path)
         os.makedirs(os.path.dirname(name), exist_ok=True)
@@ -21,7 +21,7 @@ def environment_in(top, modules):
 
 
 def once(files, program, *words):
-    """Prints the seconds of a program that ends, in a folder of its own."""
+    """Prints the seconds of one run of a program on these files, in a new folder."""
     if shutil.which(program) is None:
         print(f"  {program}: skipped, since it is not there")
         return
@@ -33,7 +33,7 @@ def once(files, program, *words):
 
 
 class Gopls:
-    """A running gopls, over files of a module."""
+    """A running gopls that serves the files of one module."""
 
     def __init__(self, top, files, module):
         laid(top, {f"{module}/go.mod": f"module {module}\n\ngo 1.19\n".encode(), **files})
@@ -60,7 +60,7 @@ class Gopls:
         self.send({"method": method, "params": params})
 
     def ask(self, method, **params):
-        """The result, and its seconds. What the server asks meanwhile is answered by nothing."""
+        """The result and its seconds. Requests of the server meanwhile get empty answers."""
         self.number += 1
         begin = time.perf_counter()
         self.send({"id": self.number, "method": method, "params": params})
@@ -87,14 +87,14 @@ def position(text, offset):
 
 
 def running(files, module, asked):
-    """Prints the seconds of a running gopls: until it is ready, and of each that is asked: a label, a path, an offset, and
-    a new name, or none where the uses are asked for. The first is asked twice: by then it has loaded all."""
+    """Prints the seconds of each question to a running gopls, and the most memory that it has had. A question is a label, a path, an
+    offset, and a new name, or None for the uses. The first is asked twice: the second time gopls has loaded all files."""
     if shutil.which("gopls") is None:
         print("  gopls: skipped, since it is not there")
         return
     with tempfile.TemporaryDirectory() as top:
         server = Gopls(top, files, module)
-        _, seconds = server.ask("initialize", processId=None, rootUri="file://" + server.root, capabilities={})
+        server.ask("initialize", processId=None, rootUri="file://" + server.root, capabilities={})
         server.tell("initialized")
         for _, path, _, _ in asked:
             text = files[path].decode()

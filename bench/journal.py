@@ -1,9 +1,11 @@
-"""Measures how many bytes the history's journal keeps for an entry, in a workspace of many files.
+"""Measures how many bytes the journal keeps for an entry, in a workspace of many files.
 
-A session puts FILES files of 59 bytes each. Then one file is changed again and again, each time to as many other bytes, so that
-past the depth of undo only the journal grows. What the program holds is read behind the first changes, which fill that depth, and
-behind the last; so with undos and redos in turn, and with looks. The difference, by entry, is printed in bytes.
-usage: bench/journal.py PROGRAM [FILES [ENTRIES]]
+A session puts FILES (4096) files of 59 bytes each. Then it puts one of them ENTRIES (4000) times, each time with 59 other bytes, so
+that only the journal grows once the history has its greatest depth. The script reads how much memory the program has behind the
+first puts, which reach that depth, and behind the last, and prints the difference in bytes for each entry. It does so too with
+undos and redos in turn, and with looks.
+
+    usage: python3 bench/journal.py PROGRAM [FILES ENTRIES]
 """
 import sys
 
@@ -19,12 +21,12 @@ def text_of(number):
 
 class Held(check.Session):
     def held(self):
-        """The bytes that the program holds now."""
+        """The bytes of memory that the program has now."""
         with open(f"/proc/{self.child.pid}/status") as status:
             return 1024 * next(int(line.split()[1]) for line in status if line.startswith("VmRSS"))
 
     def growth(self, entries, step):
-        """The bytes by entry that `entries` entries add behind the first ones."""
+        """The bytes that each of `entries` entries adds, behind the first ones."""
         for number in range(FILLED):
             step(number)
         before = self.held()
@@ -54,4 +56,6 @@ def main(program, files, entries):
 
 
 if __name__ == "__main__":
+    if len(sys.argv) not in (2, 4):
+        sys.exit(__doc__)
     main(sys.argv[1], *[int(word) for word in sys.argv[2:4]] or [4096, 4000])

@@ -1,11 +1,13 @@
-"""Measures on a workspace in a folder how much is checked a second time, as chain.py does on chains.
+"""Measures how much is checked a second time, on the Go files of a folder, as chain.py does on chains.
 
-Measured are `faults` after all files were put, and once more; `faults` after a put inside a function of the package that most others
-import, and of one that none imports; `uses` of the targets that are named, and once more; and in another session the build of all
-packages by repeated `work`, with nothing asked before. Ratios to the first `faults` are printed beside. What is measured is the
-processor time of the program. The folder holds Go files; TARGETS is a JSON file of names to pairs of a file, as its path below the
-folder, and an offset. With `--count` the instructions of the first `faults` and of the build are counted, by valgrind.
-usage: bench/kept.py PROGRAM FOLDER TARGETS, or bench/kept.py --count PROGRAM FOLDER
+Measured are `faults` after all files were put, and again; `faults` after a put inside a function of the package that most others
+import, and of one that none imports; `uses` of the targets, and again; and in another session the build of all packages by repeated
+`work`, without a command before it. Each has its ratio to the first `faults` beside it. Times are the program's processor time.
+TARGETS is a JSON file that maps names to pairs of a file, by its path below the folder, and an offset.
+With `--count`, valgrind counts the instructions of the first `faults` and of the build.
+
+    usage: python3 bench/kept.py PROGRAM FOLDER TARGETS
+           python3 bench/kept.py --count PROGRAM FOLDER
 """
 import collections
 import json

@@ -1,8 +1,10 @@
-"""Moves in a generated workspace, of a package that all others import.
+"""Moves the package that all others import, in the workspace of rename.py.
 
-The workspace is that of rename.py. Measured: a move that leaves the package its name, one in which the name follows, one that
-would be captured, and one to a folder in which files lie; each after one `faults`. Beside it the first two by `gomvpkg`,
-where it is installed.
+Measured are, after one `faults`, a move by which the package keeps its name, one by which it gets the name of its new folder, one
+refused because a use would be captured, and one refused because files lie in the new folder. Where `gomvpkg` is installed, it makes
+the first two moves on the same files.
+
+    usage: python3 bench/move.py PROGRAM
 """
 import check
 import go_tools
@@ -20,11 +22,11 @@ def measure(program, lines):
     session.timed("refused as captured", f"move {basis} gen/steps gen/local", ("no", 14))
     session.timed("refused as taken", f"move {basis} gen/steps gen", ("no", 17))
     session.end()
-    # gomvpkg moves into no folder that it would have to make.
+    # gomvpkg does not make the folder above the new one.
     files["other/note.txt"] = b""
     go_tools.once(files, "gomvpkg", "-from", "gen/base", "-to", "other/base")
     go_tools.once(files, "gomvpkg", "-from", "gen/base", "-to", "gen/steps")
 
 
 if __name__ == "__main__":
-    check.main("move", measure)
+    check.main(__doc__, measure)

@@ -1,22 +1,27 @@
 #!/usr/bin/env bash
-# Measures the parser over generated files of 20,000 and 200,000 lines: lines a second, the scan included, and the most
-# memory for each byte of source; beside Go's own parser where go is there.
-# Needs rt on the PATH, or its name in RT. The program is proved and built in a folder that is removed afterwards.
+# Measures the parser on generated files of 20,000 and 200,000 lines: lines a second, the scan included, and the most memory for each
+# byte of source. Where go is installed, Go's own parser parses the same files.
+# Needs rt on the PATH, or its name in RT. Proves and builds a program in a folder that is removed at the end.
+# usage: bench/parse.sh
 set -euo pipefail
 
 here=$(cd "$(dirname "$0")" && pwd)
 top=$(dirname "$here")
 rt=${RT:-rt}
 
+crates=(base_chunks base_files go_scanner go_ast go_parser)
+
 work=$(mktemp -d)
 trap 'rm -rf "$work"' EXIT
 mkdir -p "$work/crates"
-for crate in base_chunks base_files go_scanner go_ast go_parser; do
+for crate in "${crates[@]}"; do
   cp -a "$top/crates/$crate" "$work/crates/$crate"
 done
 mkdir -p "$work/crates/parse_bench/src"
 cp "$here/parse_bench.txt" "$work/crates/parse_bench/src/main.rt"
-grep -E '^(base_chunks|base_files|go_scanner|go_ast|go_parser):' "$top/crates.txt" > "$work/crates.txt"
+for crate in "${crates[@]}"; do
+  grep "^$crate:" "$top/crates.txt"
+done > "$work/crates.txt"
 echo 'parse_bench: go_parser go_scanner base_files' >> "$work/crates.txt"
 
 program="$work/crates/parse_bench/out/parse_bench"
@@ -43,9 +48,9 @@ for functions in 2000 20000; do
     awk -v size="$size" '{ printf "  peak memory: %.1f times the source\n", $1 * 1024 / size }' "$work/peak"
   fi
   if command -v go > "$work/go-path"; then
-    cp "$here/go_parser/main.go" "$work/main.go"
+    cp "$here/beside_parser/main.go" "$work/main.go"
     (cd "$work" && GO111MODULE=off GOCACHE="$work/go-cache" go run "$work/main.go") | best "$lines"
   else
-    echo "  go/parser: skipped, since go is not there"
+    echo "  go/parser: skipped, since go is not installed"
   fi
 done

@@ -1,8 +1,11 @@
-"""Renames in a generated workspace: what all packages use, a local variable, and names that are refused.
+"""Renames in a generated workspace: a variable that all files use, a local variable, and renames that are refused.
 
-The workspace is that of check.py, and one package more, whose variable each file uses three times over. Measured: a rename
-of that variable, of a local variable, one that would be captured, and `uses` of the same; each after one `faults`. Beside
-it the first two by `gorename`, and these and the uses by a running `gopls`, where they are installed.
+The workspace is that of check.py, with one more package, whose variable each other file uses three times. Measured are, after one
+`faults`, `uses` of that variable, its rename, the rename of a local variable, a rename refused as captured and one refused as lost.
+Where they are installed, `gorename` makes the first two renames on the same files, and a running `gopls` answers the uses and makes
+both.
+
+    usage: python3 bench/rename.py PROGRAM
 """
 import sys
 
@@ -14,7 +17,7 @@ STEP = b"package base\n\nvar Step int = 1\n"
 
 
 def workspace(lines):
-    """Files by path, of about so many lines, and how often the variable is used in them."""
+    """Files by path, of more than `lines` lines; how many lines check.py made of them, and how often the variable is used."""
     files, count, packages = check.workspace(lines)
     found = {BASE: STEP}
     for path, text in files.items():
@@ -61,4 +64,4 @@ def measure(program, lines):
 
 
 if __name__ == "__main__":
-    check.main("rename", measure)
+    check.main(__doc__, measure)

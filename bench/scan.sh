@@ -1,7 +1,8 @@
 #!/usr/bin/env bash
-# Measures the scanner: bytes a second over 8 MB of generated source, beside reading the same file and, where Go is
-# there, beside Go's own scanner. With --install, run as root, it first installs Go from Debian's packages.
-# Needs rt on the PATH, or its name in RT. The program is proved and built in a folder that is removed afterwards.
+# Measures the scanner on a generated file of 8 MiB: megabytes a second of reading the file, and of scanning it. Where go is installed,
+# Go's own scanner scans the same file. With --install, as root, the script first installs go from Debian's packages.
+# Needs rt on the PATH, or its name in RT. Proves and builds a program in a folder that is removed at the end.
+# usage: bench/scan.sh [--install]
 set -euo pipefail
 
 here=$(cd "$(dirname "$0")" && pwd)
@@ -12,15 +13,19 @@ if [ "${1:-}" = --install ]; then
   apt-get install -y golang-go
 fi
 
+crates=(base_chunks base_files go_scanner)
+
 work=$(mktemp -d)
 trap 'rm -rf "$work"' EXIT
 mkdir -p "$work/crates"
-for crate in base_chunks base_files go_scanner; do
+for crate in "${crates[@]}"; do
   cp -a "$top/crates/$crate" "$work/crates/$crate"
 done
 mkdir -p "$work/crates/scan_bench/src"
 cp "$here/scan_bench.txt" "$work/crates/scan_bench/src/main.rt"
-grep -E '^(base_chunks|base_files|go_scanner):' "$top/crates.txt" > "$work/crates.txt"
+for crate in "${crates[@]}"; do
+  grep "^$crate:" "$top/crates.txt"
+done > "$work/crates.txt"
 echo 'scan_bench: go_scanner base_files' >> "$work/crates.txt"
 
 awk 'BEGIN {
@@ -50,8 +55,8 @@ program="$work/crates/scan_bench/out/scan_bench"
 
 if command -v go > "$work/go-path"; then
   echo "go/scanner:"
-  cp "$here/go_scanner/main.go" "$work/main.go"
+  cp "$here/beside_scanner/main.go" "$work/main.go"
   (cd "$work" && GO111MODULE=off GOCACHE="$work/go-cache" go run "$work/main.go") | rates
 else
-  echo "go/scanner: skipped, since go is not there"
+  echo "go/scanner: skipped, since go is not installed"
 fi

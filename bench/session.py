@@ -1,7 +1,9 @@
-"""Drives a session over pipes, and compares its time with that of `cat` on as many bytes.
+"""Drives a session over pipes, and compares its time with that of `cat`, which copies as many bytes through the same pipes.
 
-Each measure has a set-up that is not counted and a load that is. All of the load is sent at once by one
-thread while another takes the replies, so what is compared is throughput and not the time of one exchange.
+Each measure has a set-up, which is not timed, and a load, which is. One thread sends the whole load at once while another reads the
+replies. So the times compare throughput, and not the time of one exchange.
+
+    usage: python3 bench/session.py PROGRAM
 """
 import os
 import subprocess
@@ -11,13 +13,13 @@ import time
 
 
 class Piped:
-    """A child process that answers on its standard output what it is sent."""
+    """A child process that answers on its standard output what it reads on its standard input."""
 
     def __init__(self, words):
         self.child = subprocess.Popen(words, stdin=subprocess.PIPE, stdout=subprocess.PIPE, bufsize=0)
 
     def send(self, data, count):
-        """Sends all bytes, takes `count` bytes, and tells the seconds that it took."""
+        """Sends `data`, reads `count` bytes, and returns the seconds that both took."""
         begin = time.perf_counter()
         sender = threading.Thread(target=self.write, args=(data,))
         sender.start()
@@ -63,7 +65,7 @@ def path_of(index):
 
 
 def puts(first, count, files, size):
-    """Puts of so many bytes in turn over so many files, and their replies."""
+    """`count` puts of `size` bytes, in turn over so many files, and their replies."""
     asked, told = [], []
     for index in range(count):
         number = first + index
@@ -112,4 +114,6 @@ def main(program):
 
 
 if __name__ == "__main__":
+    if len(sys.argv) != 2:
+        sys.exit(__doc__)
     main(sys.argv[1])

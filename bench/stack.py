@@ -1,9 +1,10 @@
-"""The least stack with which a built program takes each form that nests, at the limit of nesting.
+"""Finds the least stack with which a built program answers for each form that nests, at the limit of nesting.
 
-    python3 bench/stack.py crates/gorefd/out/gorefd
+For each form a session puts a file, asks for its faults, builds it and shows its object, and asks for the uses of the function `y`,
+which some forms call, and renames it. `ulimit -s` sets the size of the stack, which the threads of `gorefd serve` have too. The
+answers have to be those with a stack of 64 MiB.
 
-Each form is put, checked, built and asked for, and the function `y`, which some forms call, is renamed, under `ulimit -s`; the
-threads of `gorefd serve` have a stack of that size too. The answers have to be those under 64 MiB.
+    usage: python3 bench/stack.py PROGRAM
 """
 import subprocess
 import sys
@@ -83,6 +84,8 @@ def deepest(program, form):
 
 
 def main():
+    if len(sys.argv) != 2:
+        sys.exit(__doc__)
     program = sys.argv[1]
     for name, form in FORMS.items():
         depth = deepest(program, form)

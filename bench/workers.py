@@ -1,13 +1,16 @@
-"""Measures a server on a socket: how long 4 workers take to build everything, beside 1, and how sessions fare while they build.
+"""Measures a server on a socket: how long 1 worker and 4 workers take to build all packages, and how sessions are answered meanwhile.
 
-The workspace is that of build.py, of about 222,572 lines or of so many as are given; or the Go files below FOLDER, of which FILE, by
-its path below FOLDER, lies in a package that all others import. That package is put last, so that little is built before. Measured
-with 1 worker and with 4: from the put that makes all packages be built to the reply of `wait`, and ROUNDS times (3) the same behind
-other texts of FILE; beside each the server's processor time, how long the looks of another session took meanwhile, and how many
-entries the journal gained. Then, with 4 workers, 8 sessions put and undo for SECONDS (20), and then put, rename and undo, with FILE
-put every second, so that there is always much to build, while another one looks: the replies a second, how they were answered, and
-how long the looks took. `go build -p 4` of the same files stands beside, where go is there.
-usage: bench/workers.py PROGRAM [LINES [SECONDS [ROUNDS [FOLDER FILE]]]]
+The workspace is that of build.py, of about LINES (222,572) lines; or the Go files below FOLDER, of which FILE, by its path below
+FOLDER, lies in a package that all others import. FILE is put last, so that little is built before it.
+With 1 worker and with 4 the script measures the seconds from the put of FILE to the reply of `wait`, and then ROUNDS (3) times those
+behind other texts of FILE. Beside each stand the server's processor time, how long the looks of another session took, and how many
+entries the journal gained.
+With 4 workers, 8 sessions then put and undo for SECONDS (20), and after that put, rename and undo as long. Meanwhile FILE is put every
+second, so that there is always much to build, and another session looks. The script prints the replies a second, how many of them
+were `ok` and how many of each refusal, and how long the looks took.
+Where go is installed, `go build -p 4` builds the same files.
+
+    usage: python3 bench/workers.py PROGRAM [LINES [SECONDS [ROUNDS [FOLDER FILE]]]]
 """
 import collections
 import multiprocessing
@@ -54,7 +57,7 @@ class Server:
         return (int(words[11]) + int(words[12])) / TICK
 
     def peak(self):
-        """The most memory that it has held, in MiB."""
+        """The most memory that it has had, in MiB."""
         status = pathlib.Path(f"/proc/{self.child.pid}/status").read_text()
         return next(int(line.split()[1]) for line in status.splitlines() if line.startswith("VmHWM")) / 1024
 
@@ -69,7 +72,7 @@ class Session(check.Session):
         return self.ask(b"look")[1]
 
     def put_now(self, path, text):
-        """Puts, and again where another session was first."""
+        """Puts, and tries again where another session came first."""
         number = self.number()
         while True:
             word, told, body, _ = self.ask(b"put %d %s %d" % (number, path.encode(), len(text)), text)
@@ -80,7 +83,7 @@ class Session(check.Session):
             number = int(body)
 
     def entries(self):
-        """How many entries the journal has now, less those of the search for it."""
+        """How many entries the journal had before this search for its end."""
         least, most, own = 0, 1_000_000, 0
         while least < most:
             middle = (least + most) // 2
@@ -91,7 +94,7 @@ class Session(check.Session):
 
 
 def workspace(lines, folder, lowest):
-    """Files by path, those of the lowest package last, and how many lines and packages there are."""
+    """Files by path, those of the lowest package last, and how many lines and packages they have."""
     if folder is None:
         files, _, _ = build.workspace(lines)
     else:
@@ -107,7 +110,7 @@ def another(text, number):
 
 
 def looking(path, until, told):
-    """Looks until the end, with a short pause between; tells how long each took."""
+    """Looks until `until` is set, with short pauses, and puts the seconds of each look into `told`."""
     session, waits = Session(path), []
     while not until.is_set():
         waits.append(session.ask(b"look")[3])
@@ -116,8 +119,8 @@ def looking(path, until, told):
 
 
 def editing(path, number, files, verbs, until, told):
-    """Puts, renames and undoes in files of its own, or only some of these, until the end. A put that
-    came too late is asked again; only where it was admitted a rename or an undo follows."""
+    """Sends those of put, rename and undo that are in `verbs`, for files of its own, until `until` is set. A put with an old basis is
+    sent again. A rename or an undo is sent only behind an admitted put."""
     session, counts = Session(path), collections.Counter()
     mine = sorted(files)[number :: EDITORS]
     basis, turn = session.number(), 0
@@ -147,7 +150,7 @@ def editing(path, number, files, verbs, until, told):
 
 
 class Beside:
-    """Processes beside, that end when they are told and tell what they saw."""
+    """Processes that run until `end` stops them and collects what they measured."""
 
     def __init__(self, *works):
         self.until, self.told = multiprocessing.Event(), multiprocessing.Queue()
@@ -170,7 +173,7 @@ def waits_told(waits):
 
 
 def built(server, session, name, act):
-    """Prints how long all packages take behind a put, and tells the seconds."""
+    """Prints and returns how many seconds the build of all packages takes behind a put."""
     beside = Beside((looking, server.path))
     entries, processor = session.entries(), server.processor()
     act()

@@ -1,8 +1,9 @@
-"""The workspaces of families.py and the commands that it asks: by a name, a size n, and what makes both for a size.
+"""The families of families.py: of each a name, a size n, and a function that makes the workspace and the steps for a size.
 
-What is made is the files, as pairs of a path and a text in the order in which they are put, and the steps that follow. A step is a
-command, or a name with several commands; `work` alone is asked once for each package. A command has no number of a state, tells a place by
-`PATH@WORD`, the first place of a word in a file, and has its wanted answer behind `=>` where that is not `ok`.
+The function returns the files, pairs of a path and a text in the order in which they are put, and the steps. A step is one command,
+or a name with several commands; the step `work` alone is sent once for each package. A command is written without the number of the
+state, with `PATH@WORD` for the first place of a word in a file, and with ` => ANSWER` behind it where the answer has to be another
+than `ok`.
 """
 
 

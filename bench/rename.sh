@@ -1,6 +1,0 @@
-#!/usr/bin/env bash
-# Measures how long a built program takes to rename in a generated workspace.
-# usage: bench/rename.sh PROGRAM      (the program that serves a session when it is given the word `run`)
-set -eu
-[ $# -eq 1 ] || { sed -n '2,3p' "$0"; exit 2; }
-exec python3 "$(dirname "$0")/rename.py" "$1"
