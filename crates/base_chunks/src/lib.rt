@@ -1,4 +1,7 @@
 //! Lists and sorted maps in chunks that copies share: a change to a copy costs one chunk, not all items.
+//!
+//! Crates above rely on: each function of `SharedMap` does what it would do to a list of entries sorted by key. Each function of
+//! `SharedList` does what it would do to a list. `copy` returns a collection of equal value.
 #![tactic(auto)]
 
 mod chunk;

@@ -1,4 +1,7 @@
 //! Edit sets: the files that they make, their inverses, and where they move places.
+//!
+//! Crates above rely on: `prepare` makes the files after a set that fits (`edited`), with an inverse that restores the files before it.
+//! `Moves` returns exactly the place to which an edit set moves a place (`moved`), and the new name of an identifier there (`new_name_at`).
 #![tactic(auto)]
 
 mod change;

@@ -1,4 +1,7 @@
-//! Texts, paths, places, faults and refusals, the files of a workspace, and tables by shared paths of packages.
+//! Texts, paths, places, faults and refusals, the limits and the files of a workspace, and tables by shared paths of packages.
+//!
+//! Crates above rely on: `Files` is a finite map from paths to bytes. `Path::read` refuses with `BadPath` exactly the texts that are no
+//! path. A value of `Limits` never exceeds `Limits::FULL`. `PathTable` does what would be done to a list of entries sorted by path.
 #![tactic(auto)]
 
 mod entries;

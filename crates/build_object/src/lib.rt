@@ -1,4 +1,7 @@
 //! Makes the object of a package, and prints it: the code of its functions, for a machine with a stack.
+//!
+//! Crates above rely on: `object` prints the object of a package without faults as the definition has it (`IsObjectTextOf`).
+//! `checked_object` prints the same text by what checking already found.
 #![tactic(auto)]
 
 mod code;

@@ -1,5 +1,8 @@
 //! Builds packages. The unit of a package is its faults, or its export data and its object where it has none. A Job asks for the unit of
 //! one package.
+//!
+//! Crates above rely on: `build` returns the unit of the Job's inputs (`IsBuiltOf`), with new verdicts on packages of the inputs. A package
+//! has one unit, which its closure determines (`units_are_unique`, `units_are_local`).
 #![tactic(auto)]
 
 mod built;

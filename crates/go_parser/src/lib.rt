@@ -1,4 +1,7 @@
 //! Parses files of the Go subset into syntax trees, or finds their first fault.
+//!
+//! Crates above rely on: `parse_file` returns the tree of the text's tokens, or refuses with the first fault of the text.
+//! `parse_file_sharing` returns the same tree, and shares it with a given file if the tokens of both are of the same kinds.
 #![tactic(auto)]
 
 mod declarations;

@@ -1,4 +1,7 @@
 //! Cuts Go source into pieces and tokens.
+//!
+//! Crates above rely on: `scan` returns the cut of a text into pieces (`IsCut`), or its first fault. Each text has exactly one of these
+//! two. The tokens are the pieces without blanks and comments, with the semicolons that Go inserts.
 #![tactic(auto)]
 
 mod characters;

@@ -61,6 +61,7 @@ abbrev pub scope_of : Role → Scope
 scope_of r = scope_for (block_of r) (start_of r)
 
 -- The roles and positions of a package's identifiers by number, predeclared names included. The role beyond the last one is that of a `_`.
+-- A rename changes the names of identifiers and not the layout.
 pub record Layout : Type 0 where
   pub role : ℕ → Role
   pub place : ℕ → Position

@@ -1,4 +1,7 @@
 //! The identifiers of a package, their scopes, and their bindings by scope.
+//!
+//! Crates above rely on: a `ScopeTable` has exactly the identifiers of its files, by number, with their names and places. `binding` returns
+//! the declaration that an identifier is bound to by the scopes of the package. `identifier_at` returns the identifier at a token.
 #![tactic(auto)]
 
 pub mod by_token;

@@ -1,4 +1,8 @@
 //! The book of a workspace's history: its content, its journal, and the questions that change and read it.
+//!
+//! Crates above rely on: `Book::step` makes one step of the machine of `history_machine`, whatever the question. Its contract, `Step`, says
+//! which reply comes and which state follows. A `Question` is one event, and the type of its answers determines the replies that it may
+//! get. The content of each book is the replay of its journal.
 #![tactic(auto)]
 
 mod answering;

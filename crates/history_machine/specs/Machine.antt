@@ -75,7 +75,7 @@ abbrev pub newest : ℕ → List State → List State
 newest depth states = drop (length states - depth) states
 
 -- The content after a change to these files and this table: the new state is the current one, with the next number. No state is left for
--- redo, and a visit begins.
+-- redo, and a visit begins. Of the states that undo reaches the newest `undo_depth` are kept.
 abbrev pub changed : Content → Workspace → Table → Content
 changed m files finished = record m {
   earlier = newest m.limits.undo_depth (m.earlier ++ m.current ∷ []);

@@ -1,4 +1,7 @@
 //! The history of a workspace as a machine: its states, its events, the entries of its journal, and its laws over every list of events.
+//!
+//! Crates above rely on: `Step` defines the reply to an event and the machine after it. The laws hold over every list of events: undo and
+//! redo restore states, refusals change nothing, numbers are used once, and finished units are those of the current files.
 #![tactic(auto)]
 
 mod comparing;

@@ -61,8 +61,8 @@ pub fn a_name_is_put_beside_replaced_ones()
         AreInOrder 0 whole → LieWithin (length f.cut.text) whole → edited_text whole f.cut.text ≡ (after_put g.put).text }
 {}
 
-/// If the old text is a file, and its tree has the literal as the path of an import without a name, the new text is a file too. Its tree
-/// has the import with the name.
+/// Suppose that the old text is a file, and that its tree has the literal as the path of an import without a name. Then the new text is a
+/// file too, and its tree has the import with the name.
 pub fn named_import_is_in_the_file()
     ensures { (path : List ℕ) (p : NamePut) (number : ℕ) (a : AroundImport) → MayPut p →
         slice_get (tokens_in (before_put p)) number ≡ Some (literal_piece p) → kind_of_name p.name ≡ kind.Name →

@@ -1,4 +1,8 @@
-//! Finds the members, scopes and bindings of a workspace after a change.
+//! Finds the members, scopes and bindings that a workspace has after a change, even where it has faults.
+//!
+//! Crates above rely on: `new_members` lists exactly the fields and methods under their new names, and `member` finds the one that a name
+//! selects of a type. `scoped_packages` gives the scopes and exports of each package whose files all have trees. `old_places` lists exactly
+//! the declarations from before the change, sorted by where they are moved, and `scope_bindings` exactly the bindings by scope after it.
 #![tactic(auto)]
 
 mod bindings_after;

@@ -1,4 +1,7 @@
 //! The edits that move a package, with all files in its folder, to another folder, and the paths after the move.
+//!
+//! Crates above rely on: `new_path` returns the new path of a file or package. `move_edits` returns exactly the edit set of a move, which
+//! fits the workspace. It refuses with `TooLarge` exactly where a file would get too long a path (`PlansMoveEdits`).
 #![tactic(auto)]
 
 mod changes;

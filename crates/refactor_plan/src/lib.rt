@@ -1,5 +1,8 @@
 //! Plans a rename or a move: the change, or the refusal. Laws of plans and histories: bindings are preserved, undo and redo restore them,
 //! and the export data of a package is its own.
+//!
+//! Crates above rely on: `plan_rename` and `plan_move` return the change of the definitions (`PlansRename`, `PlansMove`), or refuse exactly
+//! where these say so. An admitted change preserves each binding.
 #![tactic(auto)]
 
 pub mod admitted_plans;

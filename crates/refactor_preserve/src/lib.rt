@@ -1,4 +1,8 @@
 //! Decides whether an edited workspace preserves the binding of each identifier.
+//!
+//! Crates above rely on: `preserves` returns `Some` exactly where the change leaves no fault and keeps all bindings (`Preserves`): each
+//! identifier is bound to what its declaration has become, and to nothing more. `Some` has right verdicts on the packages after the change.
+//! A package that `affected_by` does not mark keeps its places.
 #![tactic(auto)]
 
 mod adding;

@@ -1,4 +1,8 @@
 //! The edits of a rename, and whether its new name is legal.
+//!
+//! Crates above rely on: `is_new_name` is true exactly for the names that a rename can give. `refuse_name` refuses a name for a declaration
+//! exactly where `RefusesName` says so. `rename_edits` returns exactly the edit set of a rename (`AreRenameEdits`), and it fits the
+//! workspace.
 #![tactic(auto)]
 
 mod changes;

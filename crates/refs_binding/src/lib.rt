@@ -1,5 +1,8 @@
 //! The binding relation: what each identifier of a workspace is bound to. With it come the exports of packages, sorted bound identifiers,
 //! and the places and names of declarations.
+//!
+//! Crates above rely on: `IsBoundTo` says whether an identifier is bound to a declaration, by scope, as a qualified identifier or as a
+//! member. `refuse_faults` refuses with `Faulty` exactly a workspace that has a fault, and names its first one.
 #![tactic(auto)]
 
 pub mod bindings;

@@ -1,5 +1,8 @@
 //! The index of a workspace without faults: its bound identifiers, the places of its declarations, and which declarations correspond across
 //! a change.
+//!
+//! Crates above rely on: `bind_numbered` adds exactly the bound identifiers of a package. `Bindings::of` sorts those of all packages,
+//! `Bindings::among` those of marked ones. `corresponds` is true exactly where a declaration has become another after a change (`Becomes`).
 #![tactic(auto)]
 
 mod bindings;

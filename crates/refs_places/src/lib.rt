@@ -1,4 +1,7 @@
 //! The places of the declarations and identifiers of a workspace without faults.
+//!
+//! Crates above rely on: `declared_places` finds the place of each declaration, package by package. `identifier_places` lists exactly the
+//! places at which identifiers begin. `bound_here` returns exactly the bound identifiers at a place, from a list sorted by place.
 #![tactic(auto)]
 
 pub mod bound_here;

@@ -1,4 +1,7 @@
 //! Lists the identifiers of a workspace that are bound to a declaration.
+//!
+//! Crates above rely on: `uses` lists exactly the places of all identifiers with the declaration of the identifier at a byte, sorted, or
+//! refuses exactly where `AnswersUses` says so. `list_uses` lists exactly the places for a given declaration.
 #![tactic(auto)]
 
 mod exported_name;

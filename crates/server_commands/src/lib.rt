@@ -1,4 +1,7 @@
 //! Acts on the commands of a session, at a desk: a book of one's own, or a seat at a shared book. Answers are data.
+//!
+//! Crates above rely on: `act` answers a command by steps of the desk, as `Acts` says: a look, and at most the events that the command
+//! needs. A change is planned on the view of its look alone.
 #![tactic(auto)]
 
 mod acting;

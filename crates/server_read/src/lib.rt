@@ -1,4 +1,7 @@
 //! Reads the lines of a session, takes command lines apart, and makes messages of them.
+//!
+//! Crates above rely on: `read_message` returns the message with which the input begins (`Says`), and reads nothing beyond it. An input is
+//! read in one way (`begins_one_way`). A put's body is dropped, but read, where its path or its size is not allowed.
 #![tactic(auto)]
 
 mod body;

@@ -1,5 +1,5 @@
-//! Writes replies. A later form of answer is a case of `body_of` and `number_of` in specs/Replies.antt, and an arm of `print_response`. If
-//! its body takes memory, it is also an arm of `made_body` in written.rt.
+//! Writes replies. A new form of answer is a case of `is_done`, `reply_number` and `reply_body` in specs/Replies.antt, and an arm of
+//! `print_response`. If its body takes memory, it is also an arm of `made_body` in written.rt.
 ghost use Rattle.std.specs.Prelude.{◌≡◌, ◌++◌, ◌≤◌, true, length};
 ghost use Rattle.server_session.specs.Listings.{package_line};
 ghost use Rattle.server_session.specs.Replies.{reply_head, made_body, reply_text, steps_line};

@@ -1,4 +1,8 @@
 //! A book that threads share: its lock, the seats with their receipts, the workers, and the settling.
+//!
+//! Crates above rely on: `Locked::step` makes one step of the book, whose entry has the index of the receipt. `Shared::call` makes one such
+//! step, and the seat keeps the receipt. `settle` returns Ok exactly where the receipts of the seats are the entries that the journal
+//! gained (`IsSettled`). `worker` makes only the events of its turns.
 #![tactic(auto)]
 
 mod built;

@@ -1,4 +1,7 @@
-//! Reads the words of the program's command line as a request, or as a help or usage text.
+//! Reads the words of the program's command line as a request, or finds the help, version or usage text to print.
+//!
+//! Crates above rely on: `read_request` returns the request of the words, a session or a server with options in their ranges, or a text
+//! where `ReadsRequest` says so.
 #![tactic(auto)]
 
 mod command_line;

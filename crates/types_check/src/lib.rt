@@ -1,4 +1,7 @@
 //! Checks a package stage by stage, builds its export data, and compares export data.
+//!
+//! Crates above rely on: `check` finds exactly the faults of a package, or where it has none its export data, its uses of members and its
+//! qualified identifiers. `are_alike` is true exactly where what is known of a package equals what a table has at a path, value by value.
 #![tactic(auto)]
 
 mod alike;

@@ -39,7 +39,7 @@ abbrev pub is_upper_at : Option ℕ → Bool
 is_upper_at None = false
 is_upper_at (Some c) = general_category_eq (general_category c) UppercaseLetter
 
--- whether a name is exported
+-- Whether a name is exported: its first character is an upper case letter (the Go specification, "Exported identifiers").
 unfoldable pub is_exported : List ℕ → Bool
 is_exported name = is_upper_at (decoded name).char
 

@@ -1,4 +1,8 @@
 //! The faults, the imports and the declarations of one package, and the types that its type expressions name.
+//!
+//! Crates above rely on: `Index::of` finds the declarations of a package with their ranks, and the identifier at each token. `lay_names`
+//! makes the scope table in which an import without a name declares its package's name. `broken_definitions` marks exactly the broken type
+//! definitions. `ExportTable` keeps the export data of other packages. A sorted list of faults has exactly the faults that were added.
 #![tactic(auto)]
 
 mod broken;

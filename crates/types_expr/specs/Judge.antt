@@ -316,7 +316,8 @@ imported_type w b p n = no_type_at p
 abbrev pub under : (PlainType → PlainType) → TypeJudged → TypeJudged
 under f j = record { type_of = option_map f j.type_of; faults = j.faults }
 
--- the judgement of a written type
+-- The judgement of a written type. A name that is bound to no type is always a fault. The use of a broken
+-- definition has no type, and is no fault.
 unfoldable pub judge_type : World → TypeTree → TypeJudged
 judge_type w (LocalType n) = named_type (w.bound n) n
 judge_type w (ImportedType p d n) = imported_type w (w.bound p) p n

@@ -1,4 +1,6 @@
 //! Types, kinds of values, the world that a file's names are bound in, and the judgement of expressions.
+//!
+//! Crates above rely on: `judge` finds exactly the meaning, the faults and the uses of members that the definition of the same name gives.
 #![tactic(auto)]
 
 pub mod calls;

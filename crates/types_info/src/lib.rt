@@ -1,4 +1,8 @@
 //! The meanings of a package's declarations and names, and its qualified identifiers.
+//!
+//! Crates above rely on: `meanings_of` finds exactly what each declaration means where it is used, and `file_names` the meaning of each
+//! name of a file. `qualified_identifiers` lists exactly the qualified identifiers of a package, by path. A declaration has at most one
+//! meaning, and a file at most one world.
 #![tactic(auto)]
 
 mod copies;

@@ -1,4 +1,7 @@
 //! The underlying types, fields and methods of a package's type definitions, and the faults of these.
+//!
+//! Crates above rely on: `Members::of` finds exactly the underlying types, the fields and the methods, and which of these count.
+//! `member_faults` lists exactly the faults of members, sorted. `cycles` marks exactly the numbers that lie on a cycle of links.
 #![tactic(auto)]
 
 mod components;

@@ -1,4 +1,7 @@
 //! The faults that a package's clauses, imports and scopes show, before any type is checked.
+//!
+//! Crates above rely on: `outer_faults` lists exactly the faults of clauses and imports (`IsOuterFault`), and `inner_faults` exactly those
+//! of scopes, statements and qualified identifiers (`IsInnerFault`). Both lists are sorted, without repetition.
 #![tactic(auto)]
 
 mod clauses;

@@ -1,4 +1,8 @@
 //! The packages of a workspace with their parsed files, and which imports which.
+//!
+//! Crates above rely on: a `Graph` has the packages of its files, by number in the order of their paths. Each file has its tree or its first
+//! fault. `Graph::changed` makes the graph after a change, and parses only named files. Its answers are exact: imports, importers,
+//! closures (`closure`), the packages whose closures have a marked one (`reaching`), the packages below one (`below`).
 #![tactic(auto)]
 
 mod among;

@@ -1,4 +1,7 @@
 //! Snapshots of a workspace, and the changes that are planned on them.
+//!
+//! Crates above rely on: a `MadeChange` has an edit set that fits its base, and the files that the set makes of the base. `plan_put` and
+//! `plan_del` return the change of the definitions (`PlansPut`, `PlansDel`), or refuse exactly where these say so.
 #![tactic(auto)]
 
 mod change;
