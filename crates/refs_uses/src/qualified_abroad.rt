@@ -15,7 +15,7 @@ use go_ast::FileTree;
 use go_scope::model::Position;
 use refs_binding::identifiers::add_place;
 use refs_binding::indexed::Numbered;
-use refs_binding::{Declaration, PlaceKey, list_path, qualified_of, trees};
+use refs_binding::{Declaration, PlaceKey, path_of, qualified_of, trees};
 use std::alloc::AllocError;
 use types_expr::symbol::SharedPath;
 use types_info::Qualified;
@@ -154,7 +154,7 @@ pub(crate) fn is_home(at: Numbered<'_>, path: &SharedPath) -> bool
     requires { IsNumbered at }
     ensures { (p : Checked) → IsPackageAt at.entry.graph.now (known_in at.entry.found.now) at.entry.number p → IsTrue result ↔ (p.path ≡ path.now) }
 {
-    is_same(list_path(at.graph, at.found, at.number), path)
+    is_same(path_of(at.graph, at.found, at.number), path)
 }
 
 /// Returns the path of a declaration's package, if the declaration is in a scope of another package than that of the number.

@@ -9,8 +9,8 @@ pub loop-d-preserved : goal.loop-d-preserved
 loop-d-preserved c = record {
   all = search rules;
   each = push_each (number_at_place_of (layout_in c.args.table.now) (numbers_in c.in_ok-found.found)) c.loop-d.ranks.items c.push.new.self.items c.loop-d.d
-      c.number_of.result c.in_ok-push.ensures.items
-      c.loop-d.invariant.all c.number_of.ensures c.loop-d.invariant.each;
+      c.number_at_place_of.result c.in_ok-push.ensures.items
+      c.loop-d.invariant.all c.number_at_place_of.ensures c.loop-d.invariant.each;
 }
 
 pub returns : goal.returns
