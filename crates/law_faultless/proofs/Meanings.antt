@@ -29,7 +29,7 @@ use Rattle.types_declared.proofs.Naming.{one_binding}
 use Rattle.types_info.proofs.DeclKinds.{Holds}
 use Rattle.types_info.specs.MeaningsView.{IsPredeclaredMeaning}
 use Rattle.types_info.specs.Worlds.{DenotesExport, IsBoundAt, by_scope, by_package, IsName, is_bound, is_unbound}
-use Rattle.types_info.proofs.Meanings.{type_named, function_named, true_named, false_named, nil_named, universal_only, no_import_meaning, no_meaning}
+use Rattle.types_info.proofs.DeclaredMeanings.{type_named, function_named, true_named, false_named, nil_named, universal_only, no_import_meaning, no_meaning}
 use Rattle.law_faultless.specs.Strings.{AreStringsKnown}
 use Rattle.law_faultless.proofs.Deciding.{Decided, is_true}
 use Rattle.law_faultless.proofs.FilesDecided.{IsGlobal}

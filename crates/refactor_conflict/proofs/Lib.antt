@@ -1,7 +1,7 @@
 -- The lemmas of this crate.
 pub mod Beginnings
 pub mod OnePlace
-pub mod Correspondence
+pub mod CorrespondingPlaces
 pub mod MembersStay
 pub mod BoundAfter
 pub mod OneMember

@@ -3,7 +3,7 @@ pub mod ResolvedTypes
 pub mod TypeLists
 pub mod SignatureParts
 pub mod MeaningLists
-pub mod Meanings
+pub mod DeclaredMeanings
 pub mod NameParts
 pub mod WorldParts
 pub mod DeclKinds

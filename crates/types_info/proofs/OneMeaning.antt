@@ -34,7 +34,7 @@ use Rattle.types_info.specs.Worlds.{DenotesExport, IsBoundAt, by_scope, by_packa
 use Rattle.types_declared.proofs.Ranking.{one_rank}
 use Rattle.types_declared.proofs.Binding.{one_first}
 use Rattle.types_declared.proofs.Naming.{one_binding, one_export, one_named}
-use Rattle.types_info.proofs.Meanings.{universal_only, imported_only, variable_bound, function_bound}
+use Rattle.types_info.proofs.DeclaredMeanings.{universal_only, imported_only, variable_bound, function_bound}
 use Rattle.types_info.proofs.DeclKinds.{DeclaredAt, variable_at, type_at, function_at, one_kind}
 use Rattle.types_info.proofs.NameParts.{exported_before}
 

@@ -6,9 +6,9 @@
 #![tactic(auto)]
 
 mod copies;
-mod file_names;
 mod lists;
 mod meanings;
+mod names_of_files;
 mod predeclared;
 mod qualified;
 mod qualifiers;
@@ -17,9 +17,9 @@ mod signatures;
 mod uniqueness;
 
 pub use copies::copy_signature;
-pub use file_names::{file_names, is_name_after_dot};
 pub use lists::Qualified;
 pub use meanings::{MeaningTable, meanings_of};
+pub use names_of_files::{file_names, is_name_after_dot};
 pub use qualified::qualified_identifiers;
 pub use qualifiers::qualifying_path;
 pub use resolved_types::valid_type;

@@ -5,9 +5,9 @@
 #![tactic(auto)]
 
 mod components;
-mod cycles;
+mod faults;
 mod field_marks;
-mod member_faults;
+mod link_cycles;
 mod member_names;
 mod method_marks;
 mod methods;
@@ -19,9 +19,9 @@ mod type_members;
 mod underlying;
 mod values;
 
-pub use cycles::cycles;
+pub use faults::member_faults;
 pub use field_marks::counting_fields;
-pub use member_faults::member_faults;
+pub use link_cycles::cycles;
 pub use method_marks::counting_methods;
 pub use methods::owners;
 pub use recursion::recursive_definitions;

@@ -4,7 +4,7 @@ use Rattle.std.proofs.lemmas.Result.{IfOk-weaker}
 use Rattle.refs_binding.specs.declared.declaration.Declaration.TheVariants.{Predeclared}
 use Rattle.refs_index.specs.Corresponding.{predeclared}
 use Rattle.refactor_conflict.specs.Judging.{workspace_in, known_verdicts, revision_in, becomes_in}
-use Rattle.refactor_conflict.proofs.Correspondence.{become_where, not_predeclared}
+use Rattle.refactor_conflict.proofs.CorrespondingPlaces.{become_where, not_predeclared}
 use Rattle.refactor_conflict.proofs.correspondence.before.Goals as goal
 
 pub returns-in-Predeclared : goal.returns-in-Predeclared

@@ -5,7 +5,7 @@ use Rattle.refactor_after.specs.ScopedPackages.{IsScopedIn}
 use Rattle.refs_binding.specs.DeclaringPlaces.{IsDeclaredAt}
 use Rattle.refs_places.specs.DeclaredPlaces.{IsChoice}
 use Rattle.refactor_conflict.specs.Judging.{workspace_in, known_verdicts, revision_in}
-use Rattle.refactor_conflict.proofs.Correspondence.{goes_there}
+use Rattle.refactor_conflict.proofs.CorrespondingPlaces.{goes_there}
 use Rattle.refactor_conflict.proofs.correspondence.before_standing.Goals as goal
 
 pub returns-in-None : goal.returns-in-None

@@ -4,7 +4,7 @@ use Rattle.std.proofs.lemmas.Result.{IfOk-weaker}
 use Rattle.refactor_after.specs.ScopedPackages.{IsScopedIn}
 use Rattle.refs_binding.specs.DeclaringPlaces.{IsDeclaredAt}
 use Rattle.refactor_conflict.specs.Judging.{workspace_in, known_verdicts, revision_in, becomes_in}
-use Rattle.refactor_conflict.proofs.Correspondence.{become_same, become_nowhere, become_if}
+use Rattle.refactor_conflict.proofs.CorrespondingPlaces.{become_same, become_nowhere, become_if}
 use Rattle.refactor_conflict.proofs.correspondence.has_become.Goals as goal
 
 pub returns-then-are_predeclared : goal.returns-then-are_predeclared

@@ -7,7 +7,7 @@ use Rattle.refactor_after.specs.ScopedPackages.{IsScopedIn}
 use Rattle.refs_binding.specs.DeclaringPlaces.{IsDeclaredAt}
 use Rattle.refs_places.specs.DeclaredPlaces.{IsChoice}
 use Rattle.refactor_conflict.specs.ScopesAfter.{IsDeclaringToken}
-use Rattle.refactor_conflict.proofs.Correspondence.{predeclared_nowhere, stands_nowhere, within_here, own_standing}
+use Rattle.refactor_conflict.proofs.CorrespondingPlaces.{predeclared_nowhere, stands_nowhere, within_here, own_standing}
 use Rattle.refactor_conflict.proofs.correspondence.standing_in.Goals as goal
 
 pub returns-then-d-lt-PREDECLARED : goal.returns-then-d-lt-PREDECLARED

@@ -6,7 +6,7 @@ use Rattle.base_edits.specs.Moved.{moved}
 use Rattle.refactor_after.specs.ScopedPackages.{IsScopedIn}
 use Rattle.refs_binding.specs.DeclaringPlaces.{IsDeclaredAt}
 use Rattle.refs_places.specs.DeclaredPlaces.{IsChoice}
-use Rattle.refactor_conflict.proofs.Correspondence.{stands_not, stands_if}
+use Rattle.refactor_conflict.proofs.CorrespondingPlaces.{stands_not, stands_if}
 use Rattle.refactor_conflict.proofs.correspondence.stands_where.Goals as goal
 
 pub returns-in-None : goal.returns-in-None

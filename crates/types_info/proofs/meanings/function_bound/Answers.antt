@@ -7,7 +7,7 @@ use Rattle.types_declared.specs.Package.{package_functions}
 use Rattle.types_declared.specs.DeclaredView.{function_of}
 use Rattle.types_declared.specs.Definitions.{IsFoundSignature}
 use Rattle.types_declared.specs.PackageView.{package_of}
-use Rattle.types_info.proofs.Meanings.{rank_within, function_found}
+use Rattle.types_info.proofs.DeclaredMeanings.{rank_within, function_found}
 use Rattle.types_info.proofs.meanings.function_bound.Goals as goal
 
 pub index-function-requires : goal.index-function-requires

@@ -2,7 +2,7 @@
 use Rattle.types_expr.specs.WorldView.{bound_of}
 use Rattle.types_declared.specs.MeaningOf.{import_name}
 use Rattle.types_declared.specs.PackageView.{package_of}
-use Rattle.types_info.proofs.Meanings.{no_import_meaning}
+use Rattle.types_info.proofs.DeclaredMeanings.{no_import_meaning}
 use Rattle.types_info.proofs.meanings.import_bound.Goals as goal
 
 pub returns-in-None : goal.returns-in-None

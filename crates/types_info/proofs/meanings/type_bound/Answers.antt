@@ -1,6 +1,6 @@
 -- The answers to the goals of `meanings::type_bound`.
 use Rattle.types_declared.specs.PackageView.{package_of}
-use Rattle.types_info.proofs.Meanings.{no_meaning}
+use Rattle.types_info.proofs.DeclaredMeanings.{no_meaning}
 use Rattle.types_info.proofs.meanings.type_bound.Goals as goal
 
 pub returns-in-None : goal.returns-in-None

@@ -4,7 +4,7 @@ use Rattle.std.specs.Prelude.{option_map}
 use Rattle.types_expr.specs.WorldView.{bound_of}
 use Rattle.go_scope.specs.Bindings.{is_implied}
 use Rattle.types_declared.specs.PackageView.{package_of}
-use Rattle.types_info.proofs.Meanings.{universe_meaning, no_universe_meaning}
+use Rattle.types_info.proofs.DeclaredMeanings.{universe_meaning, no_universe_meaning}
 use Rattle.types_info.proofs.meanings.universe_bound.Goals as goal
 
 pub returns-then-is_implied : goal.returns-then-is_implied

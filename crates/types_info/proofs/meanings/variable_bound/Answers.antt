@@ -8,7 +8,7 @@ use Rattle.types_declared.specs.Package.{package_variables}
 use Rattle.types_declared.specs.DeclaredView.{variable_of}
 use Rattle.types_declared.specs.WrittenView.{IsTypeFound}
 use Rattle.types_declared.specs.PackageView.{package_of}
-use Rattle.types_info.proofs.Meanings.{rank_within, variable_found}
+use Rattle.types_info.proofs.DeclaredMeanings.{rank_within, variable_found}
 use Rattle.types_info.proofs.meanings.variable_bound.Goals as goal
 
 pub index-variable-requires : goal.index-variable-requires

@@ -2,7 +2,7 @@
 use Rattle.std.proofs.Common.{◌∙◌, sym}
 use Rattle.std.proofs.lemmas.Bool.{false≢true}
 use Rattle.types_expr.specs.WorldView.{bound_of}
-use Rattle.types_info.proofs.Meanings.{nil_named}
+use Rattle.types_info.proofs.DeclaredMeanings.{nil_named}
 use Rattle.types_info.proofs.predeclared.nil_of.Goals as goal
 
 pub returns-then-is_nil : goal.returns-then-is_nil

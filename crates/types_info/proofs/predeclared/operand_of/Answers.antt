@@ -1,7 +1,7 @@
 -- The answers to the goals of `predeclared::operand_of`.
 use Rattle.std.specs.Prelude.{option_map}
 use Rattle.types_expr.specs.WorldView.{bound_of}
-use Rattle.types_info.proofs.Meanings.{function_named, value_else}
+use Rattle.types_info.proofs.DeclaredMeanings.{function_named, value_else}
 use Rattle.types_info.proofs.predeclared.operand_of.Goals as goal
 
 pub returns-in-None : goal.returns-in-None

@@ -1,8 +1,0 @@
--- The invariants of the loops of `members::add_methods`.
-use Rattle.types_declared.specs.Listing.{AddsFaults, IsFaultBelow}
-use Rattle.types_declared.specs.PackageView.{package_of}
-use Rattle.types_members.proofs.Displacing.{IsMethodFault}
-use Rattle.types_members.proofs.member_faults.add_methods.Given as goal
-
-abbrev pub invariant-loop-rank : goal.invariant-loop-rank
-invariant-loop-rank l = AddsFaults l.initial.found.items l.found.items (IsFaultBelow (IsMethodFault (package_of l.pkg)) l.rank)
