@@ -6,7 +6,7 @@ ghost use Rattle.types_declared.specs.Written.{written_types};
 ghost use Rattle.types_members.specs.Recursion.{AddsItems, IsBareName, HasBareName, AreContained, AreRecursive};
 ghost use Rattle.types_declared.specs.PackageView.{package_of, IsIndexOf};
 
-use crate::link_cycles;
+use crate::cycles;
 use go_ast::tree::{FieldDecl, Item, TypeBody, TypeExpr};
 use std::alloc::{AllocError, Global};
 use types_declared::{Index, Package, TypeDef, local_definition};
