@@ -5,7 +5,7 @@ use Rattle.std.specs.List.{AllByRecursion}
 use Rattle.std.proofs.lemmas.List.Concat.{flat_map-append}
 use Rattle.std.proofs.lemmas.List.{set_split, take_all, drop_all, get_or_append_left, get_or-append_right, set-append_left, set-append_right}
 use Rattle.base_chunks.specs.Chunks.{joined, AreNonempty, AreFull, ReplacesChunk}
-use Rattle.base_chunks.proofs.Standing.{all_append}
+use Rattle.base_lemmas.proofs.EachElement.{all_append}
 
 module _ {X : Type 0} where
   pub joined_append : (bs cs : List (List X)) → joined (bs ++ cs) ≡ joined bs ++ joined cs

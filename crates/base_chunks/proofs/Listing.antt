@@ -3,7 +3,7 @@ use Rattle.std.proofs.Common.{◌≡◌, ℕ, ◌+◌, ◌-◌, ◌*◌, ◌/◌
 use Rattle.std.proofs.Common.{arith}
 use Rattle.std.proofs.lemmas.List.{get_or_append_left, get_or-append_right, set-append_left, set-append_right}
 use Rattle.base_chunks.specs.Chunks.{joined, AreFull}
-use Rattle.base_chunks.proofs.Standing.{all_append}
+use Rattle.base_lemmas.proofs.EachElement.{all_append}
 use Rattle.base_chunks.proofs.Joining.{joined_append, full_length, full_get, full_set}
 
 cut_at : (i : ℕ) → i ≡ 64 * (i / 64) + i % 64

@@ -6,14 +6,11 @@ use Rattle.std.specs.Prelude.{not}
 use Rattle.std.specs.Cmp.{IsTotalOrder}
 use Rattle.std.specs.FinMap.{find, put, is_sorted}
 use Rattle.std.specs.FinMap.Entries.{is_sorted-put, is_sorted-where_key}
+use Rattle.base_lemmas.proofs.Tests.{true_from_T}
 use Rattle.base_chunks.specs.Entries.{without, Rises, IsAfterAll, IsBeforeAll, is_before}
 use Rattle.base_chunks.specs.Chunks.{joined, IsMapChunks, ReplacesChunk}
 use Rattle.base_chunks.proofs.Standing.{rises, rises_front, rises_back, put_parts, find_parts, without_parts, after_part, before_part}
 use Rattle.base_chunks.proofs.Joining.{joined_parts, joined_drop, all_at}
-
-is_true : (b : Bool) → T b → IsTrue b
-is_true true h = refl
-is_true false h = absurd h
 
 module _ {K X : Type 0} (R : K → K → Ordering) where
   part_at : (cs : List (List (K × X))) (i : ℕ) → joined cs ≡ joined (take i cs) ++ (get_or cs i [] ++ joined (drop (i + 1) cs))
@@ -65,12 +62,12 @@ module _ {K X : Type 0} (R : K → K → Ordering) where
       → joined new ≡ put R k v (joined old) → IsMapChunks R new
   map_put o k v old new i ws h r e = record {
     filled = r.filled h.filled;
-    ordered = ap (is_sorted R) e ∙ is_true _ (is_sorted-put R o k v (joined old) (subst T (sym h.ordered) tt));
+    ordered = ap (is_sorted R) e ∙ true_from_T _ (is_sorted-put R o k v (joined old) (subst T (sym h.ordered) tt));
   }
 
   pub map_without : (k : K) (old new : List (List (K × X))) (i : ℕ) (ws : List (K × X)) → IsMapChunks R old → ReplacesChunk old new i ws
       → joined new ≡ without R k (joined old) → IsMapChunks R new
   map_without k old new i ws h r e = record {
     filled = r.filled h.filled;
-    ordered = ap (is_sorted R) e ∙ is_true _ (is_sorted-where_key R (λ x. not (eq_by_cmp R k x)) (joined old) (subst T (sym h.ordered) tt));
+    ordered = ap (is_sorted R) e ∙ true_from_T _ (is_sorted-where_key R (λ x. not (eq_by_cmp R k x)) (joined old) (subst T (sym h.ordered) tt));
   }

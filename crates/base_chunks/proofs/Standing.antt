@@ -9,16 +9,10 @@ use Rattle.std.specs.FinMap.{find, put, is_sorted}
 use Rattle.std.specs.FinMap.Entries.{below_all, by_order}
 use Rattle.std.specs.List.{AllByRecursion}
 use Rattle.std.proofs.lemmas.List.Elements.{filter-append}
+use Rattle.std.proofs.lemmas.Bool.{and_parts}
+use Rattle.base_lemmas.proofs.Tests.{less_from_test}
+use Rattle.base_lemmas.proofs.EachElement.{all_append, all_front}
 use Rattle.base_chunks.specs.Entries.{without, Rises, IsAfterAll, IsBeforeAll, is_before, is_after, is_at}
-
-and_parts : (a b : Bool) → (a && b) ≡ true → (a ≡ true) × (b ≡ true)
-and_parts true b h = (refl, h)
-and_parts false b h = absurd (true≢false (sym h))
-
-less : (r : Ordering) → is_lt r ≡ true → r ≡ Less
-less Less h = refl
-less Equal h = absurd (true≢false (sym h))
-less Greater h = absurd (true≢false (sym h))
 
 equal : (r : Ordering) → is_eq r ≡ true → r ≡ Equal
 equal Less h = absurd (true≢false (sym h))
@@ -40,14 +34,6 @@ not_less Less h = absurd (true≢false (sym h))
 not_less Equal h = refl
 not_less Greater h = refl
 
-pub all_append : {X : Type 0} (P : X → Type 0) (xs ys : List X) → AllByRecursion P xs → AllByRecursion P ys → AllByRecursion P (xs ++ ys)
-all_append P [] ys f g = g
-all_append P (x ∷ xs) ys f g = (f.0, all_append P xs ys f.1 g)
-
-all_front : {X : Type 0} (P : X → Type 0) (xs ys : List X) → AllByRecursion P (xs ++ ys) → AllByRecursion P xs
-all_front P [] ys h = tt
-all_front P (x ∷ xs) ys h = (h.0, all_front P xs ys h.1)
-
 module _ {K : Type 0} {R : K → K → Ordering} (o : IsTotalOrder R) where
   below : (x k e : K) (r : Ordering) → R k e ≡ r → is_lt r ≡ false → R x e ≡ Less → R x k ≡ Less
   below x k e Less q n p = absurd (true≢false n)
@@ -63,7 +49,7 @@ module _ {K X : Type 0} (R : K → K → Ordering) where
   before_all k [] h = tt
   before_all k (e ∷ es) h =
       let p = and_parts (is_lt (R k e.0)) (below_all R k es) h in
-      (less (R k e.0) p.0, before_all k es p.1)
+      (less_from_test (R k e.0) p.0, before_all k es p.1)
 
   pub rises : (es : List (K × X)) → IsTrue (is_sorted R es) → Rises R es
   rises [] h = tt
@@ -210,7 +196,7 @@ module _ {K X : Type 0} (R : K → K → Ordering) where
     before_part k xs [] ys h b = absurd (true≢false (sym b))
     before_part k xs (e ∷ es) ys h b =
         let r = rises_back xs (e ∷ (es ++ ys)) h in
-        (less (R k e.0) b, before_less k e.0 (es ++ ys) (less (R k e.0) b) r.0)
+        (less_from_test (R k e.0) b, before_less k e.0 (es ++ ys) (less_from_test (R k e.0) b) r.0)
 
     all_before : (k : K) (e : K × X) (es : List (K × X)) → Rises R (e ∷ es) → R k e.0 ≡ Less → IsBeforeAll R k (e ∷ es)
     all_before k e es h p = (p, before_less k e.0 es p h.0)

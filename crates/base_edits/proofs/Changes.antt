@@ -5,11 +5,11 @@ use Rattle.std.specs.List.{Contains}
 use Rattle.std.specs.Option.{option_map}
 use Rattle.std.proofs.lemmas.Bool.{true≢false}
 use Rattle.std.proofs.lemmas.Option.{none-some, same_Some}
+use Rattle.base_lemmas.proofs.Elements.{nothing_in, first_in, later_in, first_or_later}
 use Rattle.base_edits.specs.Edits.{edited_text}
 use Rattle.base_edits.specs.EditSet.{FileChanges, path_by, change_in, change_of, file_by, file_after}
 use Rattle.base_edits.specs.Fits.{path_by_change, path_after}
 use Rattle.base_edits.specs.declared.change.FileChange.{FileChange}
-use Rattle.base_edits.proofs.Held.{nothing_in, first_in, later_in, first_or_later}
 
 -- ---- the change of a path
 pub change_found : (changes : List FileChange) (path : List ℕ) (c : FileChange) → change_in changes path ≡ Some c → Contains changes c × (c.path ≡ path)

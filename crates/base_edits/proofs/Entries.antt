@@ -7,21 +7,18 @@ use Rattle.std.specs.Cmp.{tied_itself, Equal-is}
 use Rattle.std.specs.FinMap.{entries, entries_sorted, find, get, get-entries, is_sorted, same_map}
 use Rattle.std.specs.FinMap.Entries.{below_all}
 use Rattle.std.specs.List.{Contains}
-use Rattle.std.proofs.lemmas.Bool.{true≢false, and_parts}
+use Rattle.std.proofs.lemmas.Bool.{true≢false, and_parts, false_from_ne_true}
 use Rattle.std.proofs.lemmas.Option.{none-some, same_Some}
+use Rattle.base_lemmas.proofs.Elements.{nothing_in, first_in, later_in, first_or_later}
+use Rattle.base_lemmas.proofs.Tests.{less_from_test}
 use Rattle.base_files.specs.Workspace.{Workspace, path_cmp}
 use Rattle.base_files.proofs.WorkspaceLaws.{path_cmp_total, path_cmp_exact}
-use Rattle.base_edits.proofs.Held.{nothing_in, first_in, later_in, first_or_later}
 
 pub exact_path : (x y : List ℕ) → eq_by_cmp path_cmp x y ≡ true → x ≡ y
 exact_path x y e = path_cmp_exact x y ((Equal-is (path_cmp x y)).0 e)
 
 pub same_path : (x y : List ℕ) → x ≡ y → eq_by_cmp path_cmp x y ≡ true
 same_path x y e = ap (λ z. eq_by_cmp path_cmp x z) (sym e) ∙ ap is_eq (tied_itself path_cmp_total x)
-
-pub not_true : (b : Bool) → (b ≡ true → ⊥) → b ≡ false
-not_true true h = absurd (h refl)
-not_true false h = refl
 
 -- ---- what is found is an entry
 pub found_in : (es : List (List ℕ × List ℕ)) (q t : List ℕ) → find path_cmp q es ≡ Some t → Contains es (q, t)
@@ -44,17 +41,12 @@ some_found (e ∷ es) q t has =
           (first_or_later e es (q, t) has)
     ] refl
 
-less_is : (o : Ordering) → is_lt o ≡ true → o ≡ Less
-less_is Less h = refl
-less_is Equal h = absurd (true≢false (sym h))
-less_is Greater h = absurd (true≢false (sym h))
-
 below_at : (k : List ℕ) (es : List (List ℕ × List ℕ)) (e : List ℕ × List ℕ) → below_all path_cmp k es ≡ true → Contains es e → path_cmp k e.0 ≡ Less
 below_at k [] e below has = absurd (nothing_in e has)
 below_at k (d ∷ es) e below has =
     let parts = and_parts (is_lt (path_cmp k d.0)) (below_all path_cmp k es) below in
     ⊎_elim
-    (λ (is : d ≡ e). ap (λ (x : List ℕ × List ℕ). path_cmp k x.0) (sym is) ∙ less_is _ parts.0)
+    (λ (is : d ≡ e). ap (λ (x : List ℕ × List ℕ). path_cmp k x.0) (sym is) ∙ less_from_test _ parts.0)
     (λ (rest : Contains es e). below_at k es e parts.1 rest)
     (first_or_later d es e has)
 
@@ -69,7 +61,7 @@ found_sorted (d ∷ es) e sorted has =
     (λ (is : d ≡ e). ap (λ b. cond b (Some d.1) (find path_cmp e.0 es)) (same_path e.0 d.0 (ap (λ (x : List ℕ × List ℕ). x.0) (sym is))) ∙
     ap (λ (x : List ℕ × List ℕ). Some x.1) is)
     (λ (rest : Contains es e).
-    let apart : eq_by_cmp path_cmp e.0 d.0 ≡ false = not_true (eq_by_cmp path_cmp e.0 d.0)
+    let apart : eq_by_cmp path_cmp e.0 d.0 ≡ false = false_from_ne_true (eq_by_cmp path_cmp e.0 d.0)
     (λ tied. less_apart d.0 e.0 (below_at d.0 es e parts.0 rest) (sym (exact_path e.0 d.0 tied))) in
     ap (λ b. cond b (Some d.1) (find path_cmp e.0 es)) apart ∙ found_sorted es e parts.1 rest)
     (first_or_later d es e has)

@@ -9,6 +9,7 @@ use Rattle.std.proofs.lemmas.Bool.{true≢false}
 use Rattle.std.proofs.lemmas.Option.{none-some, same_Some}
 use Rattle.std.proofs.lemmas.Map.Keys.{IsDistinct-head, IsDistinct-tail}
 use Rattle.std.proofs.lemmas.List.Elements.{All-contains, All-from_recursion, All-contains_itself, All-weaker, Contains-append_left, Contains-append_right}
+use Rattle.base_lemmas.proofs.Elements.{nothing_in, first_or_later, is_mapped}
 use Rattle.base_files.specs.Workspace.{Workspace}
 use Rattle.base_edits.specs.EditSet.{FileChanges, path_by, change_in, change_of}
 use Rattle.base_edits.specs.Fits.{IsEditSet, HasSpans, Remains, AreFree, Fits, MovesTo, new_path, is_staying, stays, path_by_change}
@@ -16,7 +17,7 @@ use Rattle.base_edits.specs.Inverse.{AreChanges}
 use Rattle.base_edits.specs.declared.change.FileChange.{FileChange}
 use Rattle.base_edits.specs.declared.change.Fate.{Fate}
 use Rattle.base_edits.specs.declared.change.Fate.TheVariants.{Stays, Moves, Dropped}
-use Rattle.base_edits.proofs.Held.{nothing_in, first_or_later, is_given, is_mapped}
+use Rattle.base_edits.proofs.Held.{is_given}
 use Rattle.base_edits.proofs.Entries.{some_is}
 use Rattle.base_edits.proofs.Changes.{change_found, change_held}
 use Rattle.base_edits.proofs.Searched.{one_way_sorted}

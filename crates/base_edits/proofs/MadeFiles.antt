@@ -6,8 +6,9 @@ use Rattle.std.specs.Ordering.{eq_by_cmp}
 use Rattle.std.specs.List.{Contains, filter_map}
 use Rattle.std.specs.Option.{option_and_then}
 use Rattle.std.specs.FinMap.{get, insert, remove, get-insert, get-remove}
-use Rattle.std.proofs.lemmas.Bool.{true≢false}
+use Rattle.std.proofs.lemmas.Bool.{true≢false, false_from_ne_true}
 use Rattle.std.proofs.lemmas.Option.{none-some, same_Some}
+use Rattle.base_lemmas.proofs.Elements.{nothing_in, first_in, later_in, first_or_later}
 use Rattle.base_files.specs.Workspace.{Workspace, path_cmp}
 use Rattle.base_files.proofs.WorkspaceLaws.{path_cmp_total}
 use Rattle.base_edits.specs.EditSet.{FileChanges, change_in, change_of, file_by, edited}
@@ -15,8 +16,8 @@ use Rattle.base_edits.specs.Fits.{Fits}
 use Rattle.base_edits.specs.Inverse.{AreChanges}
 use Rattle.base_edits.specs.Made.{without_files, with_files, file_made, made}
 use Rattle.base_edits.specs.declared.change.FileChange.{FileChange}
-use Rattle.base_edits.proofs.Held.{nothing_in, first_in, later_in, first_or_later, given_from, is_given}
-use Rattle.base_edits.proofs.Entries.{exact_path, same_path, not_true, same_files, some_is}
+use Rattle.base_edits.proofs.Held.{given_from, is_given}
+use Rattle.base_edits.proofs.Entries.{exact_path, same_path, same_files, some_is}
 use Rattle.base_edits.proofs.Changes.{change_found, change_held}
 use Rattle.base_edits.proofs.FilesAfter.{ComesFrom, comes_from, has_file}
 
@@ -56,8 +57,8 @@ with_put (e ∷ es) w q t has =
 -- ---- files that are taken out
 not_at : (c : FileChange) (q : List ℕ) → (c.path ≡ q → ⊥) → (pointwise ◌==◌ c.path q ≡ false) × (eq_by_cmp path_cmp q c.path ≡ false)
 not_at c q apart = (
-  not_true (pointwise ◌==◌ c.path q) (λ t. apart ((bytes_decides c.path q).0 t)),
-  not_true (eq_by_cmp path_cmp q c.path) (λ t. apart (sym (exact_path q c.path t))),
+  false_from_ne_true (pointwise ◌==◌ c.path q) (λ t. apart ((bytes_decides c.path q).0 t)),
+  false_from_ne_true (eq_by_cmp path_cmp q c.path) (λ t. apart (sym (exact_path q c.path t))),
 )
 
 without_from : (cs : List FileChange) (w : Workspace) (q t : List ℕ) → get (without_files cs w) q ≡ Some t → (get w q ≡ Some t) × (change_in cs q ≡ None)

@@ -7,13 +7,13 @@ use Rattle.std.proofs.lemmas.Bool.Decides.{nat_tests}
 use Rattle.std.proofs.lemmas.List.{drop-drop, take_at, drop_at, drop-append-le, take-append-le, take-take, drop-take, length-append, length-drop}
 use Rattle.std.proofs.lemmas.List.Elements.{recursion_from_All}
 use Rattle.std.proofs.lemmas.List.Sums.{sum_by-cons}
+use Rattle.base_lemmas.proofs.Elements.{first_or_later, nothing_in}
 use Rattle.base_edits.specs.Edits.{AreInOrder, edited_from, edited_text}
 use Rattle.base_edits.specs.Laws.{KeepsOrder, KeepsOtherBytes, PutsNewBytes, MovesTheEnd}
 use Rattle.base_edits.specs.Moved.{edits_before, added_by, removed_by, moved_offset}
 use Rattle.base_edits.specs.PassedEdits.{moved_from}
 use Rattle.base_edits.specs.declared.edit.Edit.{Edit}
 use Rattle.base_edits.proofs.EditedText.{EndWithin, ends_within, drop_on, length_range}
-use Rattle.base_edits.proofs.Held.{first_or_later, nothing_in}
 
 le_true : (a b : ℕ) → a ≤ b → nat_le a b ≡ true
 le_true a b h = grind (arith, nat_tests)

@@ -6,6 +6,7 @@ use Rattle.std.specs.FinMap.{get}
 use Rattle.std.proofs.lemmas.Option.{none-some, same_Some}
 use Rattle.std.proofs.lemmas.List.Elements.{Contains-append_left, Contains-append_right, Contains-append_cases, All-contains, All-contains_itself}
 use Rattle.std.proofs.lemmas.List.Elements.{All-weaker, All-nil}
+use Rattle.base_lemmas.proofs.Elements.{is_mapped}
 use Rattle.base_files.specs.Workspace.{Workspace}
 use Rattle.base_edits.specs.Edits.{AreInOrder, LieWithin, edited_text}
 use Rattle.base_edits.specs.EditSet.{FileChanges, path_by, change_of, file_by, file_after, edited}
@@ -13,7 +14,7 @@ use Rattle.base_edits.specs.Fits.{Fits, MovesTo, HasSpans, path_after, path_by_c
 use Rattle.base_edits.specs.Inverse.{AreChanges, IsInverse, reversed, undo_of, drop_of, dropped, inverse}
 use Rattle.base_edits.specs.declared.edit.Edit.{Edit}
 use Rattle.base_edits.specs.declared.change.FileChange.{FileChange}
-use Rattle.base_edits.proofs.Held.{given_from, is_given, mapped_from, is_mapped}
+use Rattle.base_edits.proofs.Held.{given_from, is_given, mapped_from}
 use Rattle.base_edits.proofs.Entries.{same_files, some_is, value_of, none_from}
 use Rattle.base_edits.proofs.Changes.{change_found, change_held, none_changed, mapped_is, some_file}
 use Rattle.base_edits.proofs.EditedText.{reversed_order, reversed_within, reversed_restore, ends_within, lie_within}

@@ -11,22 +11,17 @@ use Rattle.std.proofs.lemmas.List.Sorted.{searchable_from_sorted}
 use Rattle.std.proofs.lemmas.Map.Keys.{Less-from_sorted, sorted_head, sorted_tail}
 use Rattle.std.proofs.lemmas.List.{get_or-map, length-map}
 use Rattle.std.proofs.lemmas.List.Elements.{All-from_recursion, All-contains}
+use Rattle.base_lemmas.proofs.Elements.{nothing_in, first_or_later, is_mapped}
+use Rattle.base_lemmas.proofs.Tests.{less_differs, greater_differs}
 use Rattle.base_files.specs.Workspace.{path_cmp}
 use Rattle.base_files.proofs.WorkspaceLaws.{path_cmp_total, path_cmp_exact}
 use Rattle.base_edits.specs.EditSet.{paths_of, change_in}
 use Rattle.base_edits.specs.declared.change.FileChange.{FileChange}
-use Rattle.base_edits.proofs.Held.{nothing_in, first_or_later, is_mapped}
 use Rattle.base_edits.proofs.Entries.{none_from}
 use Rattle.base_edits.proofs.Changes.{IsOneWay, change_held, change_found}
 
 not_tied : (o : Ordering) (x y : List ℕ) → path_cmp x y ≡ o → (o ≡ Equal → ⊥) → x ≡ y → ⊥
 not_tied o x y is differs same = differs (sym is ∙ ap (path_cmp x) (sym same) ∙ tied_itself path_cmp_total x)
-
-less_differs : Less ≡ Equal → ⊥
-less_differs e = true≢false (ap is_lt e)
-
-greater_differs : Greater ≡ Equal → ⊥
-greater_differs e = true≢false (ap is_gt e)
 
 -- ---- changes in order change each path in one way
 head_apart : (c : FileChange) (cs : List FileChange) (d : FileChange) → IsStrictlySortedBy path_cmp (paths_of (c ∷ cs)) → Contains cs d → c.path ≡ d.path → ⊥

@@ -5,7 +5,8 @@ use Rattle.std.specs.declared.cmp.Ordering.TheVariants.{Greater}
 use Rattle.std.specs.FinMap.{find, put}
 use Rattle.base_files.specs.Workspace.{path_cmp}
 use Rattle.base_files.proofs.WorkspaceLaws.{path_cmp_total}
-use Rattle.base_chunks.proofs.Standing.{all_append, find_parts, put_parts}
+use Rattle.base_lemmas.proofs.EachElement.{all_append}
+use Rattle.base_chunks.proofs.Standing.{find_parts, put_parts}
 use Rattle.base_files.specs.Entries.{IsAfterAllPaths}
 
 -- A path greater than all others is not among them.

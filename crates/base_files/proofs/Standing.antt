@@ -7,20 +7,17 @@ use Rattle.std.specs.declared.cmp.Ordering.TheVariants.{Less, Equal, Greater}
 use Rattle.std.proofs.lemmas.List.{take-append-drop, take_all}
 use Rattle.std.specs.FinMap.{find, put, is_sorted}
 use Rattle.std.specs.FinMap.Entries.{is_sorted-put}
+use Rattle.base_lemmas.proofs.Tests.{true_from_T}
 use Rattle.base_files.specs.Workspace.{path_cmp}
 use Rattle.base_files.proofs.WorkspaceLaws.{path_cmp_total, path_cmp_exact}
 use Rattle.base_chunks.specs.Entries.{Rises, IsAfterAll, is_before, is_at}
 use Rattle.base_chunks.proofs.Standing.{after_upto, after_part, is_at_at, find_there}
 use Rattle.base_files.specs.Entries.{IsEntryNumber}
 
-is_true : (b : Bool) → T b → IsTrue b
-is_true true h = refl
-is_true false h = absurd h
-
 pub stays_sorted : {X : Type 0} (path : List ℕ) (v : X) (old new : List (List ℕ × X)) → new ≡ put path_cmp path v old → IsTrue (is_sorted path_cmp old) →
     IsTrue (is_sorted path_cmp new)
 stays_sorted path v old new e h =
-    ap (is_sorted path_cmp) e ∙ is_true _ (is_sorted-put path_cmp path_cmp_total path v old (subst T (sym h) tt))
+    ap (is_sorted path_cmp) e ∙ true_from_T _ (is_sorted-put path_cmp path_cmp_total path v old (subst T (sym h) tt))
 
 -- a path behind the last entry is behind all
 pub after_last : {X : Type 0} (path : List ℕ) (es : List (List ℕ × X)) (m : ℕ) (d : List ℕ × X) → Rises path_cmp es → suc m ≡ length es →

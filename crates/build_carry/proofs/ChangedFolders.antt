@@ -8,6 +8,7 @@ use Rattle.std.proofs.lemmas.Bool.{true≢false, cases_eq}
 use Rattle.std.proofs.lemmas.List.{take_more, length-set, get_or-set_same, get_or-set_other, map_push, length-replicate, get_or-replicate}
 use Rattle.std.proofs.lemmas.List.Elements.{Contains-append_left, Contains-push, Contains-push_cases}
 use Rattle.std.proofs.lemmas.Option.{slice_get_within, same_Some}
+use Rattle.base_lemmas.proofs.Elements.{nothing_in}
 use Rattle.base_files.specs.Packages.{is_of_package, package_paths, package_files}
 use Rattle.base_files.specs.Workspace.{Workspace}
 use Rattle.workspace_graph.specs.Borrows.{names}
@@ -16,7 +17,7 @@ use Rattle.workspace_graph.specs.Search.{IsMarked}
 use Rattle.workspace_graph.proofs.PackagePaths.{one_number, paths_sorted}
 use Rattle.workspace_graph.proofs.ByPath.{at_contains, number}
 use Rattle.workspace_check.proofs.Closed.{to_package}
-use Rattle.workspace_check.proofs.Members.{nothing_in, passes, passed}
+use Rattle.workspace_check.proofs.Members.{passes, passed}
 use Rattle.build_carry.specs.Changes.{HasSameFiles, AreChanged, MarkChanges, MarkClosures, MarkFolders}
 use Rattle.base_edits.proofs.Entries.{entry_of, get_entry}
 

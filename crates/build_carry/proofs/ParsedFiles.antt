@@ -1,11 +1,11 @@
 -- The files of a package: those that have trees, and the others.
 use Rattle.std.proofs.Common.{◌≡◌, ℕ, ◌↔◌, ◌⊎◌, List, ◌∷◌, map as mapped, sym, subst, ◌∙◌, inl, inr}
 use Rattle.std.specs.List.{Contains}
+use Rattle.base_lemmas.proofs.Elements.{nothing_in, first_in, later_in, first_or_later}
 use Rattle.go_ast.specs.SourceFile.{FileParts}
 use Rattle.workspace_graph.specs.FaultyFiles.{FaultyParts}
 use Rattle.workspace_graph.specs.Parsed.{AreParsed, none, tree, fault}
 use Rattle.workspace_check.specs.Earlier.{tree_file}
-use Rattle.workspace_check.proofs.Members.{nothing_in, first_in, later_in, first_or_later}
 use Rattle.build_carry.specs.Inputs.{faulty_file}
 
 pub parsed_files : {es : List (List ℕ × List ℕ)} {ts : List FileParts} {fs : List FaultyParts} → AreParsed es ts fs → (e : List ℕ × List ℕ) →

@@ -26,15 +26,11 @@ use Rattle.build_object.specs.Sources.{HasQualifier, IsGlobalAt, own, imported, 
 
 -- string literals
 
-text_at : (s : SourceFile) (token : ℕ) (o : Option (Vec ℕ Global)) →
-    HasTokenValue (token_at s.cut token).class (bytes_of s.cut.text (token_at s.cut token)) o → IsTextAt s token (option_map (λ v. v.items) o)
-text_at s token None h = λ v l. h l.is_string
-text_at s token (Some v) h = record { is_string = h.0; stands_for = h.1 }
-
-pub text_from : (s : SourceFile) (cut : CutText) (token : ℕ) (o : Option (Vec ℕ Global)) → cut ≡ s.cut →
-    HasTokenValue (token_at cut token).class (bytes_of cut.text (token_at cut token)) o →
+-- the value of a string literal, as a row of the table of texts
+pub as_text : (s : SourceFile) (token : ℕ) (o : Option (Vec ℕ Global)) → MatchOption o ((v : List ℕ) → HasLiteral s token v → ⊥) (λ v. HasLiteral s token v.items) →
     IsTextAt s token (option_map (λ v. v.items) o)
-text_from s cut token o e h = text_at s token o (subst (λ z. HasTokenValue (token_at z token).class (bytes_of z.text (token_at z token)) o) e h)
+as_text s token None h = h
+as_text s token (Some v) h = h
 
 no_string : IsStringClass (semicolon 0).class → ⊥
 no_string (inl e) = cc

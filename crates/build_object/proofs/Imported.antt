@@ -6,6 +6,7 @@ use Rattle.std.specs.declared.cmp.Ordering.{Ordering}
 use Rattle.std.specs.declared.cmp.Ordering.TheVariants.{Less}
 use Rattle.std.specs.List.{Contains, AllByRecursion}
 use Rattle.std.specs.List.Sorted.{IsStrictlySortedBy}
+use Rattle.base_lemmas.proofs.Elements.{is_mapped}
 use Rattle.base_files.specs.Workspace.{path_cmp}
 use Rattle.go_ast.specs.SourceFile.{SourceFile, FileParts, source_of}
 use Rattle.workspace_graph.specs.ImportPaths.{bytes_of_paths, ListsPaths, AnyImports}
@@ -29,9 +30,6 @@ paths_sorted (k ∷ ks) h = (below_paths k ks h.0, paths_sorted ks h.1)
 
 -- what a list contains, and what one made of it does
 
-in_mapped : {X Y : Type 0} (f : X → Y) (xs : List X) (x : X) → Contains xs x → Contains (map f xs) (f x)
-in_mapped f xs x h = (h.0, subst (λ n. h.0 < n) (sym (length-map xs f)) h.1, get_or-map f xs h.0 x (f x) h.1 ∙ ap f h.2)
-
 at_mapped : {X Y : Type 0} (f : X → Y) (xs : List X) (y : Y) (k : ℕ) → k < length xs → get_or (map f xs) k y ≡ y → (x : X) × (Contains xs x × (f x ≡ y))
 at_mapped f [] y k lt e = let none : ⊥ = omega arith in absurd none
 at_mapped f (x ∷ xs) y zero lt e = (x, ((0, omega arith, refl), e))
@@ -45,7 +43,7 @@ pub imports_listed : (files : List FileParts) (keys : List (Vec ℕ Global)) →
     IsStrictlySortedBy path_cmp (bytes_of_paths keys) → AreImports (map source_of files) (bytes_of_paths keys)
 imports_listed files keys holds sorted = record {
   each = λ path. (
-    λ has. let w = (holds.each path).0 has in (source_of w.0, (in_mapped source_of files w.0 w.1.0, w.1.1)),
+    λ has. let w = (holds.each path).0 has in (source_of w.0, (is_mapped source_of files w.0 w.1.0, w.1.1)),
     λ i. let w = at_mapped source_of files i.0 i.1.0.0 (subst (λ n. i.1.0.0 < n) (length-map files source_of) i.1.0.1) i.1.0.2 in
         (holds.each path).1 (w.0, (w.1.0, subst (λ (f : SourceFile). ImportsPath f path) (sym w.1.1) i.1.1)),
   );

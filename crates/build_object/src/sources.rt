@@ -6,7 +6,7 @@ ghost use Rattle.types_declared.specs.Written.{BindsToken, IsPredeclared};
 ghost use Rattle.types_declared.specs.Written.{ImportsPath as DeclaresImport};
 ghost use Rattle.build_object.specs.LineView.{global_of};
 ghost use Rattle.build_object.specs.ObjectSteps.{uses_of_file};
-ghost use Rattle.build_object.specs.Sources.{HasQualifier, IsGlobal, IsTextAt};
+ghost use Rattle.build_object.specs.Sources.{HasQualifier, IsGlobal};
 ghost use Rattle.build_object.specs.TablesView.{AreNameMarks, AreTexts, IsMarkAt, IsTabledSource};
 
 use crate::instructions::GlobalName;
@@ -21,25 +21,13 @@ use types_expr::found::MemberUse;
 use types_expr::world::World;
 use types_info::is_name_after_dot;
 
-/// The value of the string literal at a token, and `None` where there is no string literal.
-fn literal(alloc: Global, file: &FileTree, token: usize) -> Result<Option<Vec<u8>>, AllocError>
-    ensures { IfOk result (λ value. IsTextAt (plain_file file.now) token (option_map (λ v. v.items) value)) }
-{
-    let pieces = file.pieces();
-    if token < pieces.tokens().len() {
-        pieces.string_value(alloc, token)
-    } else {
-        Ok(None)
-    }
-}
-
 /// The values of the string literals of a file, by their tokens.
 fn texts(alloc: Global, file: &FileTree) -> Result<Vec<Option<Vec<u8>>>, AllocError>
     ensures { IfOk result (λ texts. AreTexts (plain_file file.now) texts.items) }
 {
     let mut texts = Vec::new(alloc);
     for token in 0..file.pieces().tokens().len() {
-        texts.push(literal(alloc, file, token)?)?;
+        texts.push(types_declared::literal(alloc, file, token)?)?;
     }
     Ok(texts)
 }

@@ -4,6 +4,7 @@ use Rattle.std.proofs.Common.{ℕ, ◌≡◌, inl, inr, List, [], map, sym, ap, 
 use Rattle.std.specs.Global.{Vec}
 use Rattle.std.specs.Prelude.{Option, slice_get}
 use Rattle.std.proofs.lemmas.Bool.{cases_Bool}
+use Rattle.base_lemmas.proofs.Elements.{nothing_in}
 use Rattle.base_files.specs.Workspace.{Workspace}
 use Rattle.base_files.specs.Packages.{package_files}
 use Rattle.go_ast.specs.SourceFile.{FileParts}
@@ -26,7 +27,6 @@ use Rattle.workspace_check.specs.KnownFindings.{verdicts_by, verdict_from, IsFin
 use Rattle.workspace_check.specs.Verdicts.{Verdicts, AreSeen, AreVerdictsBelow, HasExportData, IsFaultBy, IsPackageIn, IsVerdict, IsVerdictBy}
 use Rattle.workspace_check.specs.declared.finding.Finding.{Finding}
 use Rattle.workspace_check.proofs.Adding.{finding_as}
-use Rattle.workspace_check.proofs.Members.{nothing_in}
 use Rattle.workspace_check.proofs.OnePackage.{all_read, one_checked}
 use Rattle.workspace_check.proofs.OneVerdict.{checked_as_one, right_alike, verdict_by}
 use Rattle.build_object.specs.declared.packages.ObjectNames.{ObjectNames}

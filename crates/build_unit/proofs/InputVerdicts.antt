@@ -3,13 +3,13 @@
 use Rattle.std.proofs.Common.{◌≡◌, List, ℕ, [], ◌∷◌, ◌++◌, inl, inr, subst}
 use Rattle.std.specs.Prelude.{Contains}
 use Rattle.std.proofs.lemmas.List.Elements.{Contains-push_cases}
+use Rattle.base_lemmas.proofs.Elements.{nothing_in}
 use Rattle.base_files.specs.Packages.{package_paths}
 use Rattle.base_files.specs.Workspace.{Workspace}
 use Rattle.workspace_check.specs.Found.{AreVerdictsOf}
 use Rattle.workspace_check.specs.KnownFindings.{IsKnownVerdict}
 use Rattle.workspace_check.specs.declared.known.KnownVerdict.{KnownVerdict}
 use Rattle.workspace_check.proofs.Local.{own_there, same_back, told_there}
-use Rattle.workspace_check.proofs.Members.{nothing_in}
 use Rattle.build_unit.specs.Inputs.{HasClosuresOf}
 use Rattle.build_unit.specs.declared.unit.Unit.{Unit as PackageUnit}
 use Rattle.build_unit.specs.Units.{IsUnitIn}

@@ -3,6 +3,7 @@ use Rattle.std.proofs.Common.{ℕ, ◌≡◌, ◌<◌, ◌⊎◌, inl, inr, List
 use Rattle.std.specs.Prelude.{Contains, Option, Some, None, slice_get}
 use Rattle.std.specs.FinMap.{find}
 use Rattle.std.proofs.lemmas.Option.{same_Some}
+use Rattle.base_lemmas.proofs.Elements.{nothing_in}
 use Rattle.base_files.specs.Workspace.{Workspace, path_cmp}
 use Rattle.base_files.specs.Packages.{package_paths}
 use Rattle.go_ast.specs.SourceFile.{SourceFile}
@@ -14,7 +15,6 @@ use Rattle.workspace_graph.specs.Packages.{IsInClosure}
 use Rattle.workspace_graph.proofs.ByPath.{number}
 use Rattle.types_declared.proofs.ByteKeys.{cases_bytes}
 use Rattle.workspace_check.proofs.Closed.{to_package}
-use Rattle.workspace_check.proofs.Members.{nothing_in}
 use Rattle.workspace_check.proofs.Rising.{later_path}
 use Rattle.build_object.specs.declared.packages.NamedPackage.{NamedPackage}
 use Rattle.build_object.specs.declared.packages.DeclaredTables.{DeclaredTables}

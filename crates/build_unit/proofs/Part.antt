@@ -10,13 +10,14 @@ use Rattle.std.proofs.lemmas.List.{length-map}
 use Rattle.std.proofs.lemmas.List.Folds.{list_any_at}
 use Rattle.std.proofs.lemmas.Map.Keys.{Less-from_sorted, sorted_from_all_adjacent}
 use Rattle.std.proofs.lemmas.Option.{none-some, slice_get-get_or, slice_get-map, slice_get_within, get_or_from_slice_get}
+use Rattle.base_lemmas.proofs.Elements.{first_in, later_in}
 use Rattle.base_files.specs.Path.{folder}
 use Rattle.base_files.specs.Packages.{is_go, is_of_package, package_paths, package_files}
 use Rattle.base_files.specs.Workspace.{Workspace, path_cmp}
 use Rattle.base_files.proofs.PackageFolders.{of_folder}
 use Rattle.base_files.proofs.WorkspaceLaws.{path_cmp_total, path_cmp_exact}
 use Rattle.base_edits.proofs.Entries.{entry_of, get_entry}
-use Rattle.base_edits.proofs.Held.{first_in, later_in, mapped_from}
+use Rattle.base_edits.proofs.Held.{mapped_from}
 use Rattle.workspace_graph.specs.Graphs.{IsPackage}
 use Rattle.workspace_graph.specs.Parsed.{AreParsed}
 use Rattle.build_unit.specs.Parts.{HasFilesOf, HasNumberIn}

@@ -5,14 +5,14 @@ use Rattle.std.specs.FinMap.{entries, contains_key-keys}
 use Rattle.std.specs.List.{Contains, list_any}
 use Rattle.std.specs.List.Sorted.{IsStrictlySortedBy}
 use Rattle.std.specs.Ordering.{eq_by_cmp}
-use Rattle.std.proofs.lemmas.Bool.{true≢false, and_parts}
+use Rattle.std.proofs.lemmas.Bool.{true≢false, and_parts, false_from_ne_true}
 use Rattle.std.proofs.lemmas.Map.Views.{Contains-from_any}
 use Rattle.base_files.specs.Path.{folder}
 use Rattle.base_files.specs.Packages.{is_go, is_of_package, folders, package_paths, package_files, files_in}
 use Rattle.base_files.specs.Workspace.{Workspace, path_cmp}
 use Rattle.workspace_graph.specs.Changed.{has_some}
 use Rattle.workspace_graph.proofs.ByPath.{at_contains}
-use Rattle.workspace_graph.proofs.FoundFolders.{first_of, folder_found, not_true}
+use Rattle.workspace_graph.proofs.FoundFolders.{first_of, folder_found}
 use Rattle.workspace_graph.proofs.PackagePaths.{go_folders, has_folder, exact_names, paths_are}
 use Rattle.workspace_graph.proofs.SameFiles.{one_list}
 use Rattle.workspace_graph.proofs.StayingPackages.{any_of}
@@ -43,5 +43,5 @@ module _ (w part : Workspace) (numbers : List ℕ) (has : HasFilesOf w numbers p
     pub part_paths : paths ≡ package_paths part
     part_paths = sym (paths_are part paths sorted (λ q. elim (among q paths) as (λ b. among q paths ≡ b → b ≡ among q (go_folders (entries part))) [
       | true ↦ λ is. sym (there q (each q (Contains-from_any exact_names q paths is)))
-      | false ↦ λ is. sym (not_true _ (λ go. true≢false (sym (found q go) ∙ is)))
+      | false ↦ λ is. sym (false_from_ne_true _ (λ go. true≢false (sym (found q go) ∙ is)))
     ] refl))

@@ -3,6 +3,7 @@ use Rattle.std.proofs.Common.{ℕ, ◌≡◌, Bool, true, false, List, [], ◌�
 use Rattle.std.specs.Option.{IsSome}
 use Rattle.std.specs.List.{All}
 use Rattle.std.proofs.lemmas.List.Elements.{All-cons, All-nil, All-map, All-append}
+use Rattle.base_lemmas.proofs.Tests.{none_from_test}
 use Rattle.go_ast.specs.Tree.{Item}
 use Rattle.go_parser.specs.Grouping.{Each}
 use Rattle.go_ast.specs.WellFormed.{IsNonEmpty, IsSeparated, IsJoined, IsList, IsOpenList}
@@ -17,10 +18,6 @@ push_joined f [] x w e = e
 push_joined f (y ∷ []) x w e = (w.0, e)
 push_joined f (y ∷ (z ∷ zs)) x w e = (w.0, push_joined f (z ∷ zs) x w.1 e)
 
-not_some : {X : Type 0} (o : Option X) → is_some o ≡ false → o ≡ None
-not_some None e = refl
-not_some (Some x) e = clash e
-
 pub listed_none : {X Y : Type 0} (P : Y → Type 0) (item : X → Item Y) (xs : List X) → xs ≡ [] → IsListed P item true xs
 listed_none P item xs e = subst (λ xs. IsListed P item true xs) (sym e) (record {
   each = All-nil (λ x. P (item x).value);
@@ -34,7 +31,7 @@ listed_more : {X Y : Type 0} (P : Y → Type 0) (item : X → Item Y) (xs : List
 listed_more P item xs x more b w go h same = record {
   each = All-append (λ x. P (item x).value) xs (x ∷ []) w.each (All-cons (λ x. P (item x).value) x [] h (All-nil (λ x. P (item x).value)));
   complete = λ e. each_push (λ x. IsSome (item x).separator) xs x (w.complete go) (sym same ∙ e);
-  joined = λ e. push_joined (λ x. (item x).separator) xs x (w.complete go) (not_some (item x).separator (sym same ∙ e));
+  joined = λ e. push_joined (λ x. (item x).separator) xs x (w.complete go) (none_from_test (item x).separator (sym same ∙ e));
 }
 
 pub listed_push : {X Y : Type 0} (P : Y → Type 0) (item : X → Item Y) (xs ys : List X) (x : X) (more b : Bool) → IsListed P item more xs → more ≡ true →

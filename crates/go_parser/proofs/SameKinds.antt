@@ -1,7 +1,7 @@
 -- Token lists that the program compares and finds equal.
 use Rattle.std.proofs.Common.{rules, ◌≡◌, Bool, true, false, List, [], ◌∷◌, ap, sym, refl, ◌∙◌}
 use Rattle.std.specs.Prelude.{◌&&◌}
-use Rattle.std.proofs.lemmas.Bool.{true≢false, eqb-true}
+use Rattle.std.proofs.lemmas.Bool.{true≢false, eqb-true, and_parts}
 use Rattle.std.specs.Cmp.Lexicographic.{pointwise}
 use denote.Enum.Bare.{same_true, sameb}
 use Rattle.std.specs.Bool.{nat_eq}
@@ -9,13 +9,9 @@ use Rattle.go_ast.specs.contracts.syntax.Kind.{the_type}
 use Rattle.go_ast.specs.contracts.syntax.TokenPartialEq.TheImpl as equal
 use Rattle.go_ast.specs.declared.syntax.Token.{Token}
 
-both_parts : (a b : Bool) → (a && b) ≡ true → (a ≡ true) × (b ≡ true)
-both_parts true b h = (refl, h)
-both_parts false b h = absurd (true≢false (sym h))
-
 equal_parts : (x y : Token) → equal.ghosts.eq x y ≡ true → (x.kind ≡ y.kind) × (x.place ≡ y.place)
 equal_parts x y e =
-    let parts = both_parts (sameb the_type x.kind y.kind) (nat_eq x.place y.place) e in
+    let parts = and_parts (sameb the_type x.kind y.kind) (nat_eq x.place y.place) e in
     (same_true the_type (search rules) x.kind y.kind parts.0, eqb-true x.place y.place parts.1)
 
 same_token : (x y : Token) → equal.ghosts.eq x y ≡ true → x ≡ y
@@ -26,5 +22,5 @@ same_tokens [] [] e = refl
 same_tokens [] (y ∷ ys) e = absurd (true≢false (sym e))
 same_tokens (x ∷ xs) [] e = absurd (true≢false (sym e))
 same_tokens (x ∷ xs) (y ∷ ys) e =
-    let parts = both_parts (equal.ghosts.eq x y) (pointwise equal.ghosts.eq xs ys) e in
+    let parts = and_parts (equal.ghosts.eq x y) (pointwise equal.ghosts.eq xs ys) e in
     ap (λ z. z ∷ xs) (same_token x y parts.0) ∙ ap (λ zs. y ∷ zs) (same_tokens xs ys parts.1)

@@ -14,7 +14,7 @@ pub fn is_letter(c: char) -> bool
 
 /// Whether `c` is a decimal digit of any script (Unicode category Nd).
 #[tactic(auto, unfolding(crate::specs::Characters::is_decimal_number))]
-pub fn is_decimal_number(c: char) -> bool
+fn is_decimal_number(c: char) -> bool
     ensures { result ≡ is_decimal_number c }
 {
     GeneralCategory::for_char(c) == GeneralCategory::DecimalNumber

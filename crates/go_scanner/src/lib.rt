@@ -22,6 +22,7 @@ mod trail;
 mod trivia;
 mod words;
 
+pub use characters::{continues_name, is_letter};
 pub use integers::integer_value;
 pub use keywords::Keyword;
 pub use operators::Operator;

@@ -84,7 +84,7 @@ impl<'a> Identifiers<'a> {
     }
 
     /// The layout of a package's identifiers has all properties of `IsLaidOut`, as it comes from syntax trees.
-    pub(crate) fn are_laid_out(&self)
+    pub fn are_laid_out(&self)
         ensures { IsLaidOut (layout_in self.now) (length self.now.sites) }
     {
         let _list = &self.list;

@@ -20,7 +20,7 @@ impl Role {
     }
 
     /// Whether the role is that of a left name of `:=`.
-    pub(crate) fn is_left_name(self) -> bool
+    pub fn is_left_name(self) -> bool
         ensures { result ≡ is_left_name self }
     {
         match self {
@@ -52,7 +52,7 @@ impl Role {
 
 impl Scope {
     /// The scope of a declaration in a block: the whole block, or in an inner block from the token `start` to its end.
-    pub(crate) fn in_block(block: Block, start: usize) -> Scope
+    pub fn in_block(block: Block, start: usize) -> Scope
         ensures { result ≡ scope_for block start }
     {
         match block {
@@ -64,7 +64,7 @@ impl Scope {
     }
 
     /// Whether a position is in the scope.
-    pub(crate) fn holds(self, place: Position) -> bool
+    pub fn holds(self, place: Position) -> bool
         ensures { IsTrue result ↔ Holds self place }
     {
         match self {
@@ -80,7 +80,7 @@ impl Scope {
 impl Block {
     /// Whether the block lies in `outer`. The package block counts as inside of each file block, as an import gives way to a package-level
     /// declaration.
-    pub(crate) fn nests(self, outer: Block) -> bool
+    pub fn nests(self, outer: Block) -> bool
         ensures { IsTrue result ↔ Nests self outer }
     {
         match (self, outer) {

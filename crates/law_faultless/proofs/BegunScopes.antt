@@ -3,6 +3,7 @@ use Rattle.std.proofs.Common.{ℕ, suc, ◌≡◌, ◌<◌, ◌≤◌, true, fal
 use Rattle.std.specs.List.{AllByRecursion, flat_map}
 use Rattle.std.specs.Option.{unwrap_or}
 use Rattle.std.proofs.lemmas.Bool.{true≢false}
+use Rattle.base_lemmas.proofs.EachElement.{all_append}
 use Rattle.go_ast.specs.declared.syntax.Kind.TheVariants as kind
 use Rattle.go_ast.specs.Flatten.{sign, sign_if, tokens_if, all_tokens, item_tokens, list_tokens, group_tokens, ident_tokens, type_tokens, expr_tokens}
 use Rattle.go_ast.specs.Flatten.{exprs_tokens, simple_tokens, value_tokens, local_tokens, init_tokens, for_tokens, statement_tokens, block_tokens}
@@ -22,7 +23,6 @@ use Rattle.go_scope.specs.FileSites.{receiver_sites, param_sites, result_sites, 
 use Rattle.go_scope.specs.FileSites.{imports_sites, decl_sites, file_sites}
 use Rattle.go_scope.proofs.PlainSites.{plain_append, plain_list, plain_if, plain_type, plain_expr, plain_exprs, plain_assigned}
 use Rattle.go_scope.proofs.Regions.{Each, inner_file}
-use Rattle.law_tokens.proofs.Elements.{all_append}
 use Rattle.law_faultless.specs.ResolvedNames.{may_be_local}
 use Rattle.law_faultless.proofs.NumberedTokens.{Strung, strung_split, strung_le}
 use Rattle.law_faultless.proofs.KnownLocals.{local_may}

@@ -4,6 +4,7 @@ use Rattle.std.proofs.Common.{ℕ, ◌≡◌, inl, inr, Bool, true, false, List,
 use Rattle.std.specs.Prelude.{bytes_eq, codes}
 use Rattle.std.specs.List.{AllByRecursion, flat_map}
 use Rattle.std.proofs.lemmas.Bool.{true≢false}
+use Rattle.base_lemmas.proofs.EachElement.{all_append, all_front, all_back}
 use Rattle.go_ast.specs.declared.syntax.Kind.{Kind}
 use Rattle.go_ast.specs.declared.syntax.Kind.TheVariants as kind
 use Rattle.go_ast.specs.declared.syntax.Token.{Token}
@@ -32,7 +33,6 @@ use Rattle.go_scope.proofs.PlainSites.{plain_append, plain_list, plain_if, plain
 use Rattle.go_scope.proofs.Regions.{Each}
 use Rattle.types_declared.specs.Files.{group_items}
 use Rattle.types_info.proofs.DeclKinds.{Holds}
-use Rattle.law_tokens.proofs.Elements.{all_append, all_left, all_right}
 
 -- The facts of an identifier at a token of a file, by its role. K: the token is of this kind. G: it is the name of a package-level
 -- declaration. F: the file's block may declare.
@@ -62,10 +62,10 @@ AllOf K ts = AllByRecursion (λ (t : Token). K t.kind t.place) ts
 
 module _ (K : Kind → ℕ → Type 0) where
   pub front : (xs ys : List Token) → AllOf K (xs ++ ys) → AllOf K xs
-  front xs ys h = all_left (λ (t : Token). K t.kind t.place) xs ys h
+  front xs ys h = all_front (λ (t : Token). K t.kind t.place) xs ys h
 
   pub back : (xs ys : List Token) → AllOf K (xs ++ ys) → AllOf K ys
-  back xs ys h = all_right (λ (t : Token). K t.kind t.place) xs ys h
+  back xs ys h = all_back (λ (t : Token). K t.kind t.place) xs ys h
 
   module _ (G : ℕ → Type 0) (F : Type 0) (s : Source) where
     abbrev P : Site → Type 0

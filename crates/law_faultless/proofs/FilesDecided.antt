@@ -2,6 +2,7 @@
 use Rattle.std.proofs.Common.{ℕ, zero, suc, ◌≡◌, List, [], ◌∷◌, ◌++◌, Option, Some, None, map, refl}
 use Rattle.std.specs.Prelude.{slice_get}
 use Rattle.std.specs.List.{AllByRecursion, flat_map}
+use Rattle.base_lemmas.proofs.EachElement.{all_append}
 use Rattle.go_ast.specs.declared.syntax.Kind.{Kind}
 use Rattle.go_ast.specs.declared.syntax.Kind.TheVariants as kind
 use Rattle.go_ast.specs.Flatten.{sign, sign_if, all_tokens, item_tokens, list_tokens, group_tokens, import_tokens, imports_tokens, decl_tokens, flatten}
@@ -17,7 +18,6 @@ use Rattle.go_scope.specs.Site.{Site, Source, site, or_blank}
 use Rattle.go_scope.specs.StatementSites.{separated_sites, group_sites}
 use Rattle.go_scope.specs.FileSites.{import_name, import_purpose, import_sites, imports_sites, spec_sites, decl_sites, file_sites, universe_site}
 use Rattle.types_info.proofs.DeclKinds.{Holds}
-use Rattle.law_tokens.proofs.Elements.{all_append}
 use Rattle.law_faultless.proofs.DeclaringNames.{Told, IsNameIn, AllOf, front, back, decls_told}
 
 -- the token is the name of what one of the declarations declares

@@ -5,6 +5,7 @@ use Rattle.std.specs.Prelude.{Option, Some, None, slice_get, bytes_eq, codes}
 use Rattle.std.specs.List.{AllByRecursion, flat_map}
 use Rattle.std.proofs.lemmas.Bool.{true≢false}
 use Rattle.std.proofs.lemmas.Option.{none-some, same_Some}
+use Rattle.base_lemmas.proofs.EachElement.{all_back}
 use Rattle.base_files.specs.Workspace.{Workspace}
 use Rattle.go_ast.specs.SourceFile.{SourceFile, source_of, spelling_of}
 use Rattle.go_ast.specs.Tree.{ReceiverTree, FuncTree, FuncDecl}
@@ -25,7 +26,6 @@ use Rattle.go_scope.specs.Table.{LiesAt}
 use Rattle.go_scope.specs.WellFormed.{WellFormed}
 use Rattle.types_declared.specs.Files.{ranked_files}
 use Rattle.law_tokens.proofs.Ordered.{one_stands}
-use Rattle.law_tokens.proofs.Elements.{all_right}
 use Rattle.types_expr.specs.Types.{Signature, Meaning, Value, TypeName, Function, BuiltinName, Results, Broken}
 use Rattle.types_expr.specs.Types.{Package as PackageName}
 use Rattle.types_expr.specs.World.{Bound, Means}
@@ -149,7 +149,7 @@ unfolding func_sites
 function_name_kept K s f h =
     let b = func_block s f in
     let o = open_of f.body in
-    (all_right K (sites_if (receiver_sites s b o) f.receiver) (site s f.name (func_role f.receiver (s.spell f.name)) ∷
+    (all_back K (sites_if (receiver_sites s b o) f.receiver) (site s f.name (func_role f.receiver (s.spell f.name)) ∷
     (list_sites (param_sites s b o) f.params ++ (result_sites s f.result ++ block_sites s f.body))) h).0
 
 -- A property of each identifier of a file is one of each identifier of its functions.
@@ -157,7 +157,7 @@ pub function_kept : (K : Site → Type 0) (s : Source) (tree : _) (k : ℕ) (f :
     Holds tree.decls (FuncDecl k f c) → AllByRecursion K (func_sites s f)
 unfolding file_sites decl_sites
 function_kept K s tree k f c h held =
-    all_flat K (decl_sites s) tree.decls (FuncDecl k f c) (all_right K (flat_map (imports_sites s) tree.imports) (flat_map (decl_sites s) tree.decls) h.1) held
+    all_flat K (decl_sites s) tree.decls (FuncDecl k f c) (all_back K (flat_map (imports_sites s) tree.imports) (flat_map (decl_sites s) tree.decls) h.1) held
 
 -- where a function is declared
 pub record IsInFile (p : Package) (f : PlacedFunction) : Type 0 where

@@ -2,6 +2,7 @@
 use Rattle.std.proofs.Common.{ℕ, suc, ◌≡◌, ◌<◌, ◌≤◌, inl, inr, Bool, true, false, List, [], ◌∷◌, sym, subst, refl, arith}
 use Rattle.std.specs.List.{AllByRecursion}
 use Rattle.std.proofs.lemmas.Bool.{true≢false}
+use Rattle.base_lemmas.proofs.EachElement.{all_append, all_front, all_back}
 use Rattle.go_ast.specs.declared.syntax.Kind.TheVariants as kind
 use Rattle.go_ast.specs.Flatten.{sign_if, all_tokens, item_tokens, expr_tokens, exprs_tokens}
 use Rattle.go_ast.specs.Tree.{Item, ExprTree}
@@ -29,7 +30,6 @@ use Rattle.types_stmt.specs.Sides.{no_name, defined_one, defined}
 use Rattle.law_typing.specs.Excused.{IsNoVariable, without_type, constant, AnyUsesBroken, this_one, a_later_one, IsBlank, underscored, IsNewName}
 use Rattle.law_typing.specs.Excused.{bound_to_itself, AssignedIsExcused, assigned_uses, assigned_without_type, later_assigned, DefinedIsExcused}
 use Rattle.law_typing.specs.Excused.{defined_uses, defined_no_variable, later_defined}
-use Rattle.law_tokens.proofs.Elements.{all_append, all_left, all_right}
 use Rattle.law_faultless.proofs.NumberedTokens.{Strung, strung_split, strung_le, stand_below}
 use Rattle.law_faultless.specs.Unbroken.{IsUnbroken}
 use Rattle.law_faultless.proofs.Named.{IsNamed, AreNamed, no_use, assignable_typed}
@@ -113,10 +113,10 @@ module _ (w : World) (B : ℕ → Type 0) (ls : Locals) (s : Source) (u : IsUnbr
   each_fine n m (this_one {i} {is} b) h t =
       let r = strung_split B n (item_tokens kind.Comma expr_tokens i) (exprs_tokens is) m t in
       let own = strung_split B n (expr_tokens i.value) (sign_if kind.Comma i.separator) r.0 r.1.0 in
-      no_use w B ls s u n own.0 b (all_left Says (expr_sites s i.value) (exprs_sites s is) h) own.1.0
+      no_use w B ls s u n own.0 b (all_front Says (expr_sites s i.value) (exprs_sites s is) h) own.1.0
   each_fine n m (a_later_one {i} {is} b) h t =
       let r = strung_split B n (item_tokens kind.Comma expr_tokens i) (exprs_tokens is) m t in
-      each_fine r.0 m b (all_right Says (expr_sites s i.value) (exprs_sites s is) h) r.1.1
+      each_fine r.0 m b (all_back Says (expr_sites s i.value) (exprs_sites s is) h) r.1.1
 
   assigned_fine_one : (n m : ℕ) (e : ExprTree) → (IsBlank e → ⊥) → UsesBroken w ls e → AreNamed w B ls (assigned_sites s e) → Strung B n (expr_tokens e) m → ⊥
   assigned_fine_one n m (tree.Blank p) other b h t = other underscored
@@ -136,11 +136,11 @@ module _ (w : World) (B : ℕ → Type 0) (ls : Locals) (s : Source) (u : IsUnbr
   assigned_fine n m (assigned_uses {i} {is} other b) h t =
       let r = strung_split B n (item_tokens kind.Comma expr_tokens i) (exprs_tokens is) m t in
       let own = strung_split B n (expr_tokens i.value) (sign_if kind.Comma i.separator) r.0 r.1.0 in
-      assigned_fine_one n own.0 i.value other b (all_left Says (assigned_sites s i.value) (list_sites (assigned_sites s) is) h) own.1.0
+      assigned_fine_one n own.0 i.value other b (all_front Says (assigned_sites s i.value) (list_sites (assigned_sites s) is) h) own.1.0
   assigned_fine n m (assigned_without_type {k = k} v un) h t = assignable_typed w ls u v k refl un
   assigned_fine n m (later_assigned {i} {is} b) h t =
       let r = strung_split B n (item_tokens kind.Comma expr_tokens i) (exprs_tokens is) m t in
-      assigned_fine r.0 m b (all_right Says (assigned_sites s i.value) (list_sites (assigned_sites s) is) h) r.1.1
+      assigned_fine r.0 m b (all_back Says (assigned_sites s i.value) (list_sites (assigned_sites s) is) h) r.1.1
 
   -- a left name of `:=`
   left_use : (n m p : ℕ) (b : Block) (q : ℕ) → (IsNewName w (tree.Name p) → ⊥) → UsesBroken w ls (tree.Name p) →
@@ -202,11 +202,11 @@ module _ (w : World) (B : ℕ → Type 0) (ls : Locals) (s : Source) (u : IsUnbr
   defined_fine b q n m (defined_uses {i} {is} blank other x) h t f =
       let r = strung_split B n (item_tokens kind.Comma expr_tokens i) (exprs_tokens is) m t in
       let own = strung_split B n (expr_tokens i.value) (sign_if kind.Comma i.separator) r.0 r.1.0 in
-      defined_use n own.0 b q i.value blank other x (all_left Says (left_sites s b q i.value) (list_sites (left_sites s b q) is) h) own.1.0
+      defined_use n own.0 b q i.value blank other x (all_front Says (left_sites s b q i.value) (list_sites (left_sites s b q) is) h) own.1.0
   defined_fine b q n m (defined_no_variable {i} {is} {k} {a} other v none) h t f =
-      defined_value b q i.value k a other v none (all_left Says (left_sites s b q i.value) (list_sites (left_sites s b q) is) h)
+      defined_value b q i.value k a other v none (all_front Says (left_sites s b q i.value) (list_sites (left_sites s b q) is) h)
       (empty_first (defined_one w ls i.value).faults (defined w ls is).faults f)
   defined_fine b q n m (later_defined {i} {is} x) h t f =
       let r = strung_split B n (item_tokens kind.Comma expr_tokens i) (exprs_tokens is) m t in
-      defined_fine b q r.0 m x (all_right Says (left_sites s b q i.value) (list_sites (left_sites s b q) is) h) r.1.1
+      defined_fine b q r.0 m x (all_back Says (left_sites s b q i.value) (list_sites (left_sites s b q) is) h) r.1.1
       (empty_second (defined_one w ls i.value).faults (defined w ls is).faults f)

@@ -2,9 +2,9 @@
 use Rattle.std.proofs.Common.{inl, inr, List, [], ◌∷◌, subst}
 use Rattle.std.specs.Prelude.{Contains}
 use Rattle.std.specs.List.{AllByRecursion, flat_map}
-use Rattle.law_tokens.proofs.Elements.{all_left, all_right}
+use Rattle.base_lemmas.proofs.Elements.{nothing_in, first_or_later}
+use Rattle.base_lemmas.proofs.EachElement.{all_front, all_back}
 use Rattle.types_info.proofs.DeclKinds.{Holds}
-use Rattle.workspace_check.proofs.Members.{nothing_in, first_or_later}
 
 pub all_held : {X : Type 0} (P : X → Type 0) (xs : List X) (x : X) → AllByRecursion P xs → Holds xs x → P x
 all_held P [] x h i = absurd i
@@ -16,8 +16,8 @@ pub all_flat : {X Y : Type 0} (P : Y → Type 0) (f : X → List Y) (xs : List X
     AllByRecursion P (f x)
 all_flat P f [] x h i = absurd i
 all_flat P f (y ∷ ys) x h i = elim i [
-  | inl e ↦ subst (λ z. AllByRecursion P (f z)) e (all_left P (f y) (flat_map f ys) h)
-  | inr r ↦ all_flat P f ys x (all_right P (f y) (flat_map f ys) h) r
+  | inl e ↦ subst (λ z. AllByRecursion P (f z)) e (all_front P (f y) (flat_map f ys) h)
+  | inr r ↦ all_flat P f ys x (all_back P (f y) (flat_map f ys) h) r
 ]
 
 pub contained : {X : Type 0} (xs : List X) (x : X) → Contains xs x → Holds xs x

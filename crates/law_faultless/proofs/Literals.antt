@@ -3,7 +3,7 @@ use Rattle.std.proofs.Common.{ℕ, zero, suc, ◌≡◌, ◌+◌, ◌-◌, ◌�
 use Rattle.std.proofs.Common.{length, take, drop, Option, Some, None, ap, refl, sym, ◌∙◌, subst, arith, nat_lt, nat_eq}
 use Rattle.std.specs.Prelude.{slice_get, flat_map}
 use Rattle.std.specs.List.{starts_with}
-use Rattle.std.proofs.lemmas.Bool.{ltb-false}
+use Rattle.std.proofs.lemmas.Bool.{ltb-false, false_from_ne_true}
 use Rattle.std.proofs.lemmas.Option.{get_or_from_slice_get}
 use Rattle.base_files.specs.declared.fault_kind.FaultKind.TheVariants as fault
 use Rattle.go_scanner.specs.declared.keywords.Keyword.{Keyword}
@@ -159,16 +159,12 @@ chosen : (b : Bool) (n : ℕ) → (b ≡ false → ⊥) → IsKnown (if b then S
 chosen true n h = (n, refl)
 chosen false n h = absurd (h refl)
 
-not_integer : (b : Bool) → (b ≡ true → ⊥) → b ≡ false
-not_integer true h = absurd (h refl)
-not_integer false h = refl
-
 bad_integer : (text : List ℕ) (n : ℕ) → Stands text class.Integer n → 2 ^ 63 ≤ integer_value (take n text) → IsBadInteger text
 bad_integer text n s le = record {
   size = n;
   fits = s.fits;
   integer = s.piece;
-  longest = λ m more within. not_integer (is_integer (take m text)) (λ e. s.longest class.Integer m more within e);
+  longest = λ m more within. false_from_ne_true (is_integer (take m text)) (λ e. s.longest class.Integer m more within e);
   bad = inr le;
 }
 

@@ -3,6 +3,7 @@ use Rattle.std.proofs.Common.{ℕ, ◌≡◌, inl, inr, Bool, true, false, if◌
 use Rattle.std.specs.Prelude.{bytes_eq, codes}
 use Rattle.std.specs.List.{AllByRecursion, flat_map}
 use Rattle.std.proofs.lemmas.Bool.{true≢false}
+use Rattle.base_lemmas.proofs.EachElement.{all_append}
 use Rattle.go_ast.specs.Tree.{Item, Group, single, several, TypeTree, IdentTree, Named, Underscore, ExprTree, OperandTrees, LinkTrees, ArgumentTrees}
 use Rattle.go_ast.specs.Tree.{LiteralTree, ElementTrees, SimpleTree, LocalTree, InitTree, ForTree, StatementTree, BlockTree, StatementTrees, IfTree}
 use Rattle.go_ast.specs.Tree.{ElseTree, GlobalTree, FieldTree, BodyTree, Other, Struct, TypeSpecTree, ReceiverTree, ParamTree, ResultTree, no_result}
@@ -23,7 +24,6 @@ use Rattle.go_scope.specs.FileSites.{param_sites, result_sites, func_block, func
 use Rattle.go_scope.specs.FileSites.{decl_sites, file_sites}
 use Rattle.types_declared.specs.Files.{group_items}
 use Rattle.types_info.proofs.DeclKinds.{Holds}
-use Rattle.law_tokens.proofs.Elements.{all_append}
 
 abbrev is_member : Role → Bool
 is_member (NotLexical purpose.Member) = true

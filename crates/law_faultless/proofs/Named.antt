@@ -2,6 +2,7 @@
 use Rattle.std.proofs.Common.{ℕ, suc, ◌≡◌, ◌⊎◌, Bool, true, false, List, [], ◌∷◌, ◌++◌, ap, subst, refl, ◌∙◌, arith}
 use Rattle.std.specs.List.{AllByRecursion}
 use Rattle.std.proofs.lemmas.Bool.{true≢false}
+use Rattle.base_lemmas.proofs.EachElement.{all_front, all_back}
 use Rattle.go_ast.specs.declared.syntax.Kind.TheVariants as kind
 use Rattle.go_ast.specs.Flatten.{sign, sign_if, type_tokens, key_tokens, expr_tokens, operand_tokens, link_tokens, argument_tokens, literal_tokens}
 use Rattle.go_ast.specs.Flatten.{element_tokens}
@@ -11,7 +12,6 @@ use Rattle.go_scope.specs.declared.model.Role.TheVariants.{Use, LeftName, NotLex
 use Rattle.go_scope.specs.declared.model.Purpose.TheVariants as purpose
 use Rattle.go_scope.specs.Site.{Site, Source}
 use Rattle.go_scope.specs.ExpressionSites.{type_sites, key_sites, expr_sites, operand_sites, link_sites, argument_sites, literal_sites, element_sites}
-use Rattle.law_tokens.proofs.Elements.{all_left, all_right}
 use Rattle.types_expr.specs.Types.{PlainType, Kind, Typed, Meaning, Value, Package}
 use Rattle.types_expr.specs.World.{World, Locals, Local, Means}
 use Rattle.law_typing.specs.Operators.{IsUntyped, Prefixes}
@@ -134,17 +134,17 @@ mutual
   no_use w B ls s u n k (uses.in_prefix b) h t = no_use w B ls s u (suc n) k b h t.1.1
   no_use w B ls s u n k (uses.in_chain {e} {links = xs} b) h t =
       let x = strung_split B n (expr_tokens e) (link_tokens xs) k t in
-      no_use w B ls s u n x.0 b (all_left (λ y. IsNamed w B ls y.place.index y.role) (expr_sites s e) (link_sites s xs) h) x.1.0
+      no_use w B ls s u n x.0 b (all_front (λ y. IsNamed w B ls y.place.index y.role) (expr_sites s e) (link_sites s xs) h) x.1.0
   no_use w B ls s u n k (uses.in_links {e} {links = xs} v b) h t =
       let x = strung_split B n (expr_tokens e) (link_tokens xs) k t in
-      no_links_use w B ls s u x.0 k b (all_right (λ y. IsNamed w B ls y.place.index y.role) (expr_sites s e) (link_sites s xs) h) x.1.1
+      no_links_use w B ls s u x.0 k b (all_back (λ y. IsNamed w B ls y.place.index y.role) (expr_sites s e) (link_sites s xs) h) x.1.1
       (expr_ends w B ls n x.0 v x.1.0)
   no_use w B ls s u n k (uses.in_binary {e} {rest} b) h t =
       let x = strung_split B n (expr_tokens e) (operand_tokens rest) k t in
-      no_use w B ls s u n x.0 b (all_left (λ y. IsNamed w B ls y.place.index y.role) (expr_sites s e) (operand_sites s rest) h) x.1.0
+      no_use w B ls s u n x.0 b (all_front (λ y. IsNamed w B ls y.place.index y.role) (expr_sites s e) (operand_sites s rest) h) x.1.0
   no_use w B ls s u n k (uses.in_operands {e} {rest} b) h t =
       let x = strung_split B n (expr_tokens e) (operand_tokens rest) k t in
-      no_operands_use w B ls s u x.0 k b (all_right (λ y. IsNamed w B ls y.place.index y.role) (expr_sites s e) (operand_sites s rest) h) x.1.1
+      no_operands_use w B ls s u x.0 k b (all_back (λ y. IsNamed w B ls y.place.index y.role) (expr_sites s e) (operand_sites s rest) h) x.1.1
 
   no_links_use : (w : World) (B : ℕ → Type 0) (ls : Locals) (s : Source) (u : IsUnbroken w) (n k : ℕ) {m : Meaning} {xs : LinkTrees} →
       LinksUseBroken w ls m xs → AreNamed w B ls (link_sites s xs) → Strung B n (link_tokens xs) k → EndsInPackage w m n → ⊥
@@ -156,41 +156,41 @@ mutual
       let m = h.0 b.0 (let same : suc (suc b.0) ≡ name = omega arith in same) b.1.1 in f m.0 m.1
   no_links_use w B ls s u n k (uses.in_index {c = c} {e = e} {rest = rest} b) h t p =
       let x = strung_split B (suc n) (expr_tokens e) (sign kind.RightBracket c ∷ link_tokens rest) k t.1.1 in
-      no_use w B ls s u (suc n) x.0 b (all_left (λ y. IsNamed w B ls y.place.index y.role) (expr_sites s e) (link_sites s rest) h) x.1.0
+      no_use w B ls s u (suc n) x.0 b (all_front (λ y. IsNamed w B ls y.place.index y.role) (expr_sites s e) (link_sites s rest) h) x.1.0
   no_links_use w B ls s u n k (uses.in_call {c = c} {arguments = xs} {rest = rest} b) h t p =
       let x = strung_split B (suc n) (argument_tokens xs) (sign kind.RightParen c ∷ link_tokens rest) k t.1.1 in
-      no_arguments_use w B ls s u (suc n) x.0 b (all_left (λ y. IsNamed w B ls y.place.index y.role) (argument_sites s xs) (link_sites s rest) h) x.1.0
+      no_arguments_use w B ls s u (suc n) x.0 b (all_front (λ y. IsNamed w B ls y.place.index y.role) (argument_sites s xs) (link_sites s rest) h) x.1.0
   no_links_use w B ls s u n k (uses.behind_selector {n = name} {s = r} sel b) h t p =
       let at : name ≡ suc n = t.1.1.0 in
       no_links_use w B ls s u (suc (suc n)) k b h.1 t.1.1.1.1
       (subst (λ i. EndsInPackage w r i) (let same : suc name ≡ suc (suc n) = ap suc at in same) (selection_ends w ls sel))
   no_links_use w B ls s u n k (uses.behind_index {c = c} {e = e} {rest = rest} v i b) h t p =
       let x = strung_split B (suc n) (expr_tokens e) (sign kind.RightBracket c ∷ link_tokens rest) k t.1.1 in
-      no_links_use w B ls s u (suc x.0) k b (all_right (λ y. IsNamed w B ls y.place.index y.role) (expr_sites s e) (link_sites s rest) h) x.1.1.1.1
+      no_links_use w B ls s u (suc x.0) k b (all_back (λ y. IsNamed w B ls y.place.index y.role) (expr_sites s e) (link_sites s rest) h) x.1.1.1.1
       (λ q. absurd (index_ends w i q))
   no_links_use w B ls s u n k (uses.behind_call {c = c} {arguments = xs} {rest = rest} vs d b) h t p =
       let x = strung_split B (suc n) (argument_tokens xs) (sign kind.RightParen c ∷ link_tokens rest) k t.1.1 in
-      no_links_use w B ls s u (suc x.0) k b (all_right (λ y. IsNamed w B ls y.place.index y.role) (argument_sites s xs) (link_sites s rest) h) x.1.1.1.1
+      no_links_use w B ls s u (suc x.0) k b (all_back (λ y. IsNamed w B ls y.place.index y.role) (argument_sites s xs) (link_sites s rest) h) x.1.1.1.1
       (λ q. absurd (call_ends w d q))
 
   no_operands_use : (w : World) (B : ℕ → Type 0) (ls : Locals) (s : Source) (u : IsUnbroken w) (n k : ℕ) {os : OperandTrees} →
       OperandsUseBroken w ls os → AreNamed w B ls (operand_sites s os) → Strung B n (operand_tokens os) k → ⊥
   no_operands_use w B ls s u n k (uses.this_operand {e = e} {rest = rest} b) h t =
       let x = strung_split B (suc n) (expr_tokens e) (operand_tokens rest) k t.1.1 in
-      no_use w B ls s u (suc n) x.0 b (all_left (λ y. IsNamed w B ls y.place.index y.role) (expr_sites s e) (operand_sites s rest) h) x.1.0
+      no_use w B ls s u (suc n) x.0 b (all_front (λ y. IsNamed w B ls y.place.index y.role) (expr_sites s e) (operand_sites s rest) h) x.1.0
   no_operands_use w B ls s u n k (uses.other_operand {e = e} {rest = rest} b) h t =
       let x = strung_split B (suc n) (expr_tokens e) (operand_tokens rest) k t.1.1 in
-      no_operands_use w B ls s u x.0 k b (all_right (λ y. IsNamed w B ls y.place.index y.role) (expr_sites s e) (operand_sites s rest) h) x.1.1
+      no_operands_use w B ls s u x.0 k b (all_back (λ y. IsNamed w B ls y.place.index y.role) (expr_sites s e) (operand_sites s rest) h) x.1.1
 
   no_arguments_use : (w : World) (B : ℕ → Type 0) (ls : Locals) (s : Source) (u : IsUnbroken w) (n k : ℕ) {xs : ArgumentTrees} →
       ArgumentsUseBroken w ls xs → AreNamed w B ls (argument_sites s xs) → Strung B n (argument_tokens xs) k → ⊥
   no_arguments_use w B ls s u n k (uses.this_argument {e} {c} {rest} b) h t =
       let x = strung_split B n (expr_tokens e) (sign_if kind.Comma c ++ argument_tokens rest) k t in
-      no_use w B ls s u n x.0 b (all_left (λ y. IsNamed w B ls y.place.index y.role) (expr_sites s e) (argument_sites s rest) h) x.1.0
+      no_use w B ls s u n x.0 b (all_front (λ y. IsNamed w B ls y.place.index y.role) (expr_sites s e) (argument_sites s rest) h) x.1.0
   no_arguments_use w B ls s u n k (uses.other_argument {e} {c} {rest} b) h t =
       let x = strung_split B n (expr_tokens e) (sign_if kind.Comma c ++ argument_tokens rest) k t in
       let y = strung_split B x.0 (sign_if kind.Comma c) (argument_tokens rest) k x.1.1 in
-      no_arguments_use w B ls s u y.0 k b (all_right (λ z. IsNamed w B ls z.place.index z.role) (expr_sites s e) (argument_sites s rest) h) y.1.1
+      no_arguments_use w B ls s u y.0 k b (all_back (λ z. IsNamed w B ls z.place.index z.role) (expr_sites s e) (argument_sites s rest) h) y.1.1
 
   no_literal_use : (w : World) (B : ℕ → Type 0) (ls : Locals) (s : Source) (u : IsUnbroken w) (n k : ℕ) {l : LiteralTree} → LiteralUsesBroken w ls l →
       AreNamed w B ls (literal_sites s l) → Strung B n (literal_tokens l) k → ⊥
@@ -198,7 +198,7 @@ mutual
   no_literal_use w B ls s u n k (uses.in_elements {x = x} {o} {c} {es} i b) h t =
       let a = strung_split B n (type_tokens x) (sign kind.LeftBrace o ∷ (element_tokens es ++ (sign kind.RightBrace c ∷ []))) k t in
       let y = strung_split B (suc a.0) (element_tokens es) (sign kind.RightBrace c ∷ []) k a.1.1.1.1 in
-      no_elements_use w B ls s u (suc a.0) y.0 b (all_right (λ z. IsNamed w B ls z.place.index z.role) (type_sites s x) (element_sites s es) h) y.1.0
+      no_elements_use w B ls s u (suc a.0) y.0 b (all_back (λ z. IsNamed w B ls z.place.index z.role) (type_sites s x) (element_sites s es) h) y.1.0
 
   no_elements_use : (w : World) (B : ℕ → Type 0) (ls : Locals) (s : Source) (u : IsUnbroken w) (n k : ℕ) {t : PlainType} {es : ElementTrees} →
       ElementsUseBroken w ls t es → AreNamed w B ls (element_sites s es) → Strung B n (element_tokens es) k → ⊥
@@ -207,15 +207,15 @@ mutual
       let a = strung_split B n (key_tokens key) (expr_tokens e ++ (sign_if kind.Comma c ++ element_tokens rest)) k t in
       let x = strung_split B a.0 (expr_tokens e) (sign_if kind.Comma c ++ element_tokens rest) k a.1.1 in
       no_use w B ls s u a.0 x.0 b
-      (all_left (λ z. IsNamed w B ls z.place.index z.role) (expr_sites s e) (element_sites s rest)
-      (all_right (λ z. IsNamed w B ls z.place.index z.role) (key_sites s key) (expr_sites s e ++ element_sites s rest) h)) x.1.0
+      (all_front (λ z. IsNamed w B ls z.place.index z.role) (expr_sites s e) (element_sites s rest)
+      (all_back (λ z. IsNamed w B ls z.place.index z.role) (key_sites s key) (expr_sites s e ++ element_sites s rest) h)) x.1.0
   no_elements_use w B ls s u n k (uses.other_element {key = key} {e} {c} {rest} b) h t =
       let a = strung_split B n (key_tokens key) (expr_tokens e ++ (sign_if kind.Comma c ++ element_tokens rest)) k t in
       let x = strung_split B a.0 (expr_tokens e) (sign_if kind.Comma c ++ element_tokens rest) k a.1.1 in
       let y = strung_split B x.0 (sign_if kind.Comma c) (element_tokens rest) k x.1.1 in
       no_elements_use w B ls s u y.0 k b
-      (all_right (λ z. IsNamed w B ls z.place.index z.role) (expr_sites s e) (element_sites s rest)
-      (all_right (λ z. IsNamed w B ls z.place.index z.role) (key_sites s key) (expr_sites s e ++ element_sites s rest) h)) y.1.1
+      (all_back (λ z. IsNamed w B ls z.place.index z.role) (expr_sites s e) (element_sites s rest)
+      (all_back (λ z. IsNamed w B ls z.place.index z.role) (key_sites s key) (expr_sites s e ++ element_sites s rest) h)) y.1.1
 
 -- what can be assigned has a type
 

@@ -5,6 +5,7 @@ use Rattle.std.specs.Prelude.{Option, Some, None, slice_get, bytes_eq, codes}
 use Rattle.std.specs.List.{AllByRecursion, flat_map}
 use Rattle.std.proofs.lemmas.Bool.{true≢false, cases_lt, cases_eq}
 use Rattle.std.proofs.lemmas.Option.{same_Some}
+use Rattle.base_lemmas.proofs.EachElement.{all_front, all_back}
 use Rattle.base_files.specs.Workspace.{Workspace}
 use Rattle.base_files.specs.declared.fault_kind.FaultKind.TheVariants as fault_kind
 use Rattle.types_declared.specs.declared.fault.Fault.{Fault}
@@ -24,7 +25,6 @@ use Rattle.go_scope.specs.Site.{Site, Source, site}
 use Rattle.go_scope.specs.Table.{LiesAt}
 use Rattle.types_declared.specs.Files.{ranked_files, group_items}
 use Rattle.law_tokens.proofs.Ordered.{one_stands}
-use Rattle.law_tokens.proofs.Elements.{all_left, all_right}
 use Rattle.types_declared.specs.Definitions.{IsMethodOf}
 use Rattle.types_declared.specs.Package.{Package, PlacedType, PlacedFunction, placed_type, decl_types, types_in, package_types, package_functions}
 use Rattle.types_declared.specs.Package.{type_place, function_place, spelled}
@@ -60,8 +60,8 @@ specs_kept K s (y ∷ ys) x h i =
     let rest = flat_map (λ (z : Item TypeSpecTree). type_spec_sites s z.value) ys in
     elim i [
       | inl e ↦ subst (λ (z : TypeSpecTree). K (site s z.name (Declaring PackageBlock 0))) e
-          (spec_kept K s y.value (all_left K (type_spec_sites s y.value) rest h))
-      | inr r ↦ specs_kept K s ys x (all_right K (type_spec_sites s y.value) rest h) r
+          (spec_kept K s y.value (all_front K (type_spec_sites s y.value) rest h))
+      | inr r ↦ specs_kept K s ys x (all_back K (type_spec_sites s y.value) rest h) r
     ]
 
 group_kept : (K : Site → Type 0) (s : Source) (g : Group TypeSpecTree) (x : TypeSpecTree) → AllByRecursion K (spec_sites (type_spec_sites s) g) →
@@ -78,7 +78,7 @@ type_kept : (K : Site → Type 0) (s : Source) (tree : FileTree) (k : ℕ) (g : 
 unfolding file_sites decl_sites
 type_kept K s tree k g c h held x i =
     group_kept K s g x
-    (all_flat K (decl_sites s) tree.decls (TypeDecl k g c) (all_right K (flat_map (imports_sites s) tree.imports) (flat_map (decl_sites s) tree.decls) h.1)
+    (all_flat K (decl_sites s) tree.decls (TypeDecl k g c) (all_back K (flat_map (imports_sites s) tree.imports) (flat_map (decl_sites s) tree.decls) h.1)
     held)
     i
 
@@ -89,11 +89,11 @@ unfolding func_sites receiver_sites
 receiver_kept K s f r e h =
     let b = func_block s f in
     let o = open_of f.body in
-    let front = all_left K (sites_if (receiver_sites s b o) f.receiver) (site s f.name (func_role f.receiver (s.spell f.name)) ∷
+    let front = all_front K (sites_if (receiver_sites s b o) f.receiver) (site s f.name (func_role f.receiver (s.spell f.name)) ∷
     (list_sites (param_sites s b o) f.params ++ (result_sites s f.result ++ block_sites s f.body))) h in
     let own_front : AllByRecursion K (ident_sites s (Declaring b o) r.name ++ (site s r.type_name Use ∷ [])) =
     subst (λ z. AllByRecursion K (sites_if (receiver_sites s b o) z)) e front in
-    (all_right K (ident_sites s (Declaring b o) r.name) (site s r.type_name Use ∷ []) own_front).0
+    (all_back K (ident_sites s (Declaring b o) r.name) (site s r.type_name Use ∷ []) own_front).0
 
 -- where a type is defined
 record IsTypeInFile (p : Package) (t : PlacedType) : Type 0 where

@@ -4,6 +4,7 @@ use Rattle.std.proofs.Common.{◌∙◌, ap, subst, arith}
 use Rattle.std.specs.Prelude.{slice_get}
 use Rattle.std.specs.List.{AllByRecursion}
 use Rattle.std.proofs.lemmas.List.Elements.{All-head, All-tail}
+use Rattle.base_lemmas.proofs.EachElement.{all_append}
 use Rattle.go_scanner.specs.CutText.{CutText}
 use Rattle.go_ast.specs.declared.syntax.Kind.{Kind}
 use Rattle.go_ast.specs.declared.syntax.Kind.TheVariants as kind
@@ -24,7 +25,6 @@ use Rattle.law_tokens.specs.Covered.{AreSourceFiles}
 use Rattle.law_tokens.specs.Roles.{IsOfKind}
 use Rattle.law_tokens.specs.Tokens.{identifiers_among}
 use Rattle.law_tokens.proofs.Covering.{Pairs, file_pairs}
-use Rattle.law_tokens.proofs.Elements.{all_append}
 use Rattle.law_tokens.proofs.Links.{HasKind}
 use Rattle.law_tokens.proofs.Roles.{of_kind}
 use Rattle.law_faultless.proofs.DeclaringNames.{Told, AllOf}

@@ -2,13 +2,14 @@
 use Rattle.std.proofs.Common.{ℕ, suc, ◌≡◌, inl, inr, List, [], ◌∷◌, map, Option, Some, None, refl, sym, subst}
 use Rattle.std.specs.Prelude.{Contains, slice_get}
 use Rattle.std.specs.List.{AllByRecursion}
+use Rattle.base_lemmas.proofs.EachElement.{all_append}
 use Rattle.go_ast.specs.SourceFile.{SourceFile}
 use Rattle.go_ast.specs.Tree.{Item, TypeSpecTree, FuncTree, DeclTree, VarDecl, TypeDecl, FuncDecl}
 use Rattle.types_declared.specs.Files.{group_items}
 use Rattle.types_expr.specs.Types.{PlainType}
 use Rattle.types_declared.specs.Package.{Package}
 use Rattle.types_info.proofs.DeclKinds.{Holds}
-use Rattle.law_tokens.proofs.Elements.{all_append, all_made}
+use Rattle.law_tokens.proofs.Elements.{all_made}
 use Rattle.build_object.specs.Lines.{GlobalName, FunctionName, Line}
 use Rattle.build_object.specs.Names.{function_names}
 use Rattle.build_object.specs.Objects.{Definition, Initial, Declaration, TypeOf, Variable, FunctionOf, Object, type_declarations, declared_type, known_variable, first_initial}

@@ -3,6 +3,7 @@ use Rattle.std.proofs.Common.{ℕ, suc, ◌≡◌, ◌<◌, ◌≤◌, ◌⊎◌
 use Rattle.std.specs.List.{All, AllByRecursion, flat_map}
 use Rattle.std.proofs.lemmas.Bool.{true≢false}
 use Rattle.std.proofs.lemmas.List.Elements.{All-head, All-tail}
+use Rattle.base_lemmas.proofs.EachElement.{all_append, all_front}
 use Rattle.go_ast.specs.declared.syntax.Kind.{Kind}
 use Rattle.go_ast.specs.declared.syntax.Kind.TheVariants as kind
 use Rattle.go_ast.specs.declared.syntax.Token.{Token}
@@ -25,7 +26,6 @@ use Rattle.go_scope.proofs.StatementRegions.{statements_fits}
 use Rattle.go_scope.proofs.Rising.{Rises, rises_le, rises_up, rises_split}
 use Rattle.law_tokens.proofs.Covers.{Covers, ends, skips, takes, selects, keys}
 use Rattle.law_tokens.proofs.CoveredFiles.{decls_named}
-use Rattle.law_tokens.proofs.Elements.{all_append, all_left}
 use Rattle.types_info.proofs.DeclKinds.{Holds}
 use Rattle.refs_lookup.proofs.Apart.{all_as}
 use Rattle.law_faultless.specs.ResolvedNames.{may_be_local}
@@ -68,7 +68,7 @@ rises_end n (t ∷ ts) m h = (h.0, rises_end (suc t.place) ts m h.1)
 
 decl_lies : (s : Source) (n m : ℕ) (d : DeclTree) → Rises n (decl_tokens d) m → AllByRecursion (Lies n m) (decl_sites s d)
 unfolding all_tokens
-decl_lies s n m d h = all_left (Lies n m) (decl_sites s d) [] (covers_lie (decls_named s (d ∷ [])) n m (rises_end n (decl_tokens d) m h))
+decl_lies s n m d h = all_front (Lies n m) (decl_sites s d) [] (covers_lie (decls_named s (d ∷ [])) n m (rises_end n (decl_tokens d) m h))
 
 -- The scope of a local begins at n or later, and its block ends before m.
 abbrev pub IsWithin : ℕ → ℕ → Site → Type 0

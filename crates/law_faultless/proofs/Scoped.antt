@@ -4,6 +4,8 @@ use Rattle.std.specs.Prelude.{Contains, Option, Some, None, slice_get, option_ma
 use Rattle.std.specs.List.{AllByRecursion}
 use Rattle.std.proofs.lemmas.Bool.{true≢false}
 use Rattle.std.proofs.lemmas.Option.{same_Some, slice_get-map}
+use Rattle.base_lemmas.proofs.Elements.{first_in, later_in}
+use Rattle.base_lemmas.proofs.EachElement.{all_append}
 use Rattle.base_files.specs.Workspace.{Workspace}
 use Rattle.go_ast.specs.declared.syntax.Token.{Token}
 use Rattle.go_ast.specs.Flatten.{flatten}
@@ -42,10 +44,8 @@ use Rattle.types_info.specs.Worlds.{IsName, is_bound, is_unbound, by_scope, by_p
 use Rattle.types_info.proofs.DeclKinds.{Holds}
 use Rattle.types_info.proofs.OneMeaning.{one_name}
 use Rattle.workspace_check.specs.Verdicts.{Verdicts, IsPackageIn}
-use Rattle.workspace_check.proofs.Members.{first_in, later_in}
 use Rattle.workspace_check.proofs.OnePackage.{layout_formed, files_in_order}
 use Rattle.refs_lookup.proofs.OnePlace.{names_of, laid_of, same_layout, same_size, same_files}
-use Rattle.law_tokens.proofs.Elements.{all_append}
 use Rattle.refs_lookup.proofs.Apart.{all_as}
 use Rattle.refs_lookup.proofs.BoundUsedMembers.{file_at}
 use Rattle.law_faultless.specs.NameMeanings.{MeansSomething, HaveMeanings}

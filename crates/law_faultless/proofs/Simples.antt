@@ -3,6 +3,7 @@ use Rattle.std.proofs.Common.{ℕ, suc, ◌≡◌, ◌<◌, ◌≤◌, inl, inr,
 use Rattle.std.specs.List.{AllByRecursion}
 use Rattle.std.proofs.lemmas.Bool.{true≢false}
 use Rattle.std.proofs.lemmas.Option.{none-some, same_Some}
+use Rattle.base_lemmas.proofs.EachElement.{all_append, all_front, all_back}
 use Rattle.go_ast.specs.declared.syntax.Kind.TheVariants as kind
 use Rattle.go_ast.specs.Flatten.{sign, sign_if, step_kind, update_kind, tokens_if, all_tokens, item_tokens, list_tokens, ident_tokens, type_tokens}
 use Rattle.go_ast.specs.Flatten.{expr_tokens, exprs_tokens, simple_tokens, value_tokens, local_tokens}
@@ -31,7 +32,6 @@ use Rattle.law_typing.specs.Excused.{in_assignment, in_defined, in_definition, L
 use Rattle.law_typing.proofs.Simple.{simple_settled}
 use Rattle.law_typing.proofs.Locals.{local_settled}
 use Rattle.types_info.proofs.DeclKinds.{Holds}
-use Rattle.law_tokens.proofs.Elements.{all_append, all_left, all_right}
 use Rattle.refs_lookup.proofs.Apart.{all_as}
 use Rattle.law_faultless.proofs.NumberedTokens.{Strung, strung_split, strung_le, stand_below}
 use Rattle.law_faultless.specs.Unbroken.{IsUnbroken}
@@ -114,31 +114,31 @@ module _ (w : World) (B : ℕ → Type 0) (s : Source) (u : IsUnbroken w) where
       let r = strung_split B n (expr_tokens e) (sign (step_kind o) p ∷ []) m t in no_use w B st.locals s u n r.0 x h r.1.0
   simple_fine b q n m st (in_updated {x = x} {y} {o} {p} e) f h t =
       let r = strung_split B n (expr_tokens x) (sign (update_kind o) p ∷ expr_tokens y) m t in
-      no_use w B st.locals s u n r.0 e (all_left (λ z. IsNamed w B st.locals z.place.index z.role) (expr_sites s x) (expr_sites s y) h) r.1.0
+      no_use w B st.locals s u n r.0 e (all_front (λ z. IsNamed w B st.locals z.place.index z.role) (expr_sites s x) (expr_sites s y) h) r.1.0
   simple_fine b q n m st (in_update {x = x} {y} {o} {p} e) f h t =
       let r = strung_split B n (expr_tokens x) (sign (update_kind o) p ∷ expr_tokens y) m t in
-      no_use w B st.locals s u (suc r.0) m e (all_right (λ z. IsNamed w B st.locals z.place.index z.role) (expr_sites s x) (expr_sites s y) h) r.1.1.1.1
+      no_use w B st.locals s u (suc r.0) m e (all_back (λ z. IsNamed w B st.locals z.place.index z.role) (expr_sites s x) (expr_sites s y) h) r.1.1.1.1
   simple_fine b q n m st (updated_without_type {k = k} v un) f h t = assignable_typed w st.locals u v k refl un
   simple_fine b q n m st (in_assigned {xs = xs} {ys} {p} e) f h t =
       let r = strung_split B n (exprs_tokens xs) (sign kind.Assign p ∷ exprs_tokens ys) m t in
       assigned_fine w B st.locals s u n r.0 e
-      (all_left (λ z. IsNamed w B st.locals z.place.index z.role) (list_sites (assigned_sites s) xs) (exprs_sites s ys) h) r.1.0
+      (all_front (λ z. IsNamed w B st.locals z.place.index z.role) (list_sites (assigned_sites s) xs) (exprs_sites s ys) h) r.1.0
   simple_fine b q n m st (in_assignment {xs = xs} {ys} {p} e) f h t =
       let r = strung_split B n (exprs_tokens xs) (sign kind.Assign p ∷ exprs_tokens ys) m t in
       each_fine w B st.locals s u (suc r.0) m e
-      (all_right (λ z. IsNamed w B st.locals z.place.index z.role) (list_sites (assigned_sites s) xs) (exprs_sites s ys) h) r.1.1.1.1
+      (all_back (λ z. IsNamed w B st.locals z.place.index z.role) (list_sites (assigned_sites s) xs) (exprs_sites s ys) h) r.1.1.1.1
   simple_fine b q n m st (in_defined {xs = xs} {ys} {p} e) f h t =
       let r = strung_split B n (exprs_tokens xs) (sign kind.Define p ∷ exprs_tokens ys) m t in
       let l = defined w st.locals xs in
       let v = rhs w st.locals ys in
       let others = v.faults ++ given_faults w (first_of_exprs xs) v.values l.targets in
       defined_fine w B st.locals s u b q n r.0 e
-      (all_left (λ z. IsNamed w B st.locals z.place.index z.role) (list_sites (left_sites s b q) xs) (exprs_sites s ys) h) r.1.0
+      (all_front (λ z. IsNamed w B st.locals z.place.index z.role) (list_sites (left_sites s b q) xs) (exprs_sites s ys) h) r.1.0
       (empty_first l.faults others (empty_second st.faults (l.faults ++ others) f))
   simple_fine b q n m st (in_definition {xs = xs} {ys} {p} e) f h t =
       let r = strung_split B n (exprs_tokens xs) (sign kind.Define p ∷ exprs_tokens ys) m t in
       each_fine w B st.locals s u (suc r.0) m e
-      (all_right (λ z. IsNamed w B st.locals z.place.index z.role) (list_sites (left_sites s b q) xs) (exprs_sites s ys) h) r.1.1.1.1
+      (all_back (λ z. IsNamed w B st.locals z.place.index z.role) (list_sites (left_sites s b q) xs) (exprs_sites s ys) h) r.1.1.1.1
 
 -- new locals are known behind what declares them
 
@@ -321,7 +321,7 @@ module _ (w : World) (B : ℕ → Type 0) (s : Source) (u : IsUnbroken w) where
       let all = all_named w B st.locals q A (names ++ (types ++ values)) known stand later r in
       let P : Site → Type 0 = λ z. IsNamed w B st.locals z.place.index z.role in
       let fine : LocalIsExcused w st.locals l → ⊥ =
-      λ e. excused st.locals l formed y.0 m e (all_right P types values (all_right P names (types ++ values) all)) y.1.1 in
+      λ e. excused st.locals l formed y.0 m e (all_back P types values (all_back P names (types ++ values) all)) y.1.1 in
       let typed : LocalIsTyped w st.locals l after = elim (local_settled w st l f).1 [ inl h ↦ h | inr e ↦ absurd (fine e) ] in
       let own = behind st.locals after l typed b q in (
         typed,

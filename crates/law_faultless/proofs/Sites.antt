@@ -3,6 +3,7 @@ use Rattle.std.proofs.Common.{ℕ, zero, suc, ◌≡◌, ◌+◌, List, [], ◌�
 use Rattle.std.specs.Prelude.{Option, Some, slice_get}
 use Rattle.std.specs.List.{AllByRecursion}
 use Rattle.std.proofs.lemmas.Option.{none-some, same_Some}
+use Rattle.base_lemmas.proofs.EachElement.{all_append}
 use Rattle.go_ast.specs.declared.syntax.Token.{Token}
 use Rattle.go_ast.specs.Flatten.{flatten}
 use Rattle.go_scope.specs.declared.model.Role.{Role}
@@ -15,7 +16,6 @@ use Rattle.go_scope.specs.Named.{is_unnamed_import, named_where, named_sites}
 use Rattle.go_scope.specs.Site.{Site, Source, or_blank}
 use Rattle.law_tokens.specs.Tokens.{identifiers_among}
 use Rattle.law_tokens.proofs.Covering.{Pairs, file_pairs}
-use Rattle.law_tokens.proofs.Elements.{all_append}
 use Rattle.refs_lookup.proofs.Apart.{all_as}
 
 -- each stands in the file

@@ -5,6 +5,7 @@ use Rattle.std.specs.Prelude.{option_to_list}
 use Rattle.std.specs.List.{AllByRecursion, flat_map}
 use Rattle.std.specs.Option.{unwrap_or}
 use Rattle.std.proofs.lemmas.Bool.{eq-eqb, true≢false}
+use Rattle.base_lemmas.proofs.EachElement.{all_append}
 use Rattle.go_ast.specs.Tree.{Item, Group, single, several, IdentTree, Named, Underscore, ExprTree, SimpleTree, LocalTree, InitTree, ForTree}
 use Rattle.go_ast.specs.Tree.{StatementTree, BlockTree, StatementTrees, IfTree, ElseTree, ReceiverTree, ParamTree, FuncTree}
 use Rattle.go_ast.specs.Tree as tree
@@ -21,7 +22,6 @@ use Rattle.go_scope.proofs.Regions.{Plain}
 use Rattle.types_declared.specs.Files.{group_items}
 use Rattle.types_expr.specs.World.{World, Local}
 use Rattle.types_stmt.specs.Sides.{named, ident_place, is_own, declares, defined_name}
-use Rattle.law_tokens.proofs.Elements.{all_append}
 use Rattle.types_info.proofs.DeclKinds.{Holds, held_left, held_right}
 use Rattle.build_object.specs.Numbering.{slot_from, slot_of}
 use Rattle.build_object.specs.Slots.{receiver_places, parameter_places, local_places, simple_places, optional_places, init_places, header_places}

@@ -2,6 +2,7 @@
 use Rattle.std.proofs.Common.{ℕ, ◌≡◌, inl, inr, Bool, List, [], ◌∷◌, ◌++◌, map, Option, Some, None, sym, subst, refl, ◌∙◌}
 use Rattle.std.specs.List.{AllByRecursion, flat_map}
 use Rattle.std.proofs.lemmas.Option.{none-some, same_Some}
+use Rattle.base_lemmas.proofs.EachElement.{all_append}
 use Rattle.go_ast.specs.Tree.{Item, Group, single, several, TypeTree, ReceiverTree, ParamTree, ResultTree, FuncTree, GlobalTree, FieldTree, BodyTree}
 use Rattle.go_ast.specs.Tree.{TypeSpecTree, DeclTree, FileTree}
 use Rattle.go_ast.specs.Tree as tree
@@ -18,7 +19,6 @@ use Rattle.law_typing.proofs.Declarations.{decl_settled}
 use Rattle.types_declared.specs.MeaningOf.{result_types}
 use Rattle.types_declared.specs.Written.{written_types}
 use Rattle.types_info.proofs.DeclKinds.{Holds}
-use Rattle.law_tokens.proofs.Elements.{all_append}
 
 -- the Types that are written in a declaration, before the body of a function
 abbrev pub types_of : DeclTree → List TypeTree

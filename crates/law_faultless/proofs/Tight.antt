@@ -1,6 +1,7 @@
 -- In the Types of declarations the name behind a dot is the second token behind that before it.
 use Rattle.std.proofs.Common.{ℕ, suc, ◌≡◌, inl, inr, List, [], ◌∷◌, ◌++◌, map, ap, sym, subst, ◌∙◌}
 use Rattle.std.specs.List.{AllByRecursion, flat_map}
+use Rattle.base_lemmas.proofs.EachElement.{all_append}
 use Rattle.go_ast.specs.declared.syntax.Kind.{Kind}
 use Rattle.go_ast.specs.declared.syntax.Kind.TheVariants as kind
 use Rattle.go_ast.specs.declared.syntax.Token.{Token}
@@ -18,7 +19,6 @@ use Rattle.law_tokens.proofs.Roles.{consecutive}
 use Rattle.types_declared.specs.MeaningOf.{result_types}
 use Rattle.types_declared.specs.Written.{written_types}
 use Rattle.types_info.proofs.DeclKinds.{Holds}
-use Rattle.law_tokens.proofs.Elements.{all_append}
 use Rattle.law_faultless.proofs.Sound.{types_of}
 
 abbrev pub IsTight : TypeTree → Type 0

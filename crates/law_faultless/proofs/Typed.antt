@@ -3,6 +3,7 @@ use Rattle.std.proofs.Common.{ℕ, suc, ◌≡◌, ◌⊎◌, inl, inr, Bool, tr
 use Rattle.std.specs.Prelude.{codes, bytes_eq}
 use Rattle.std.specs.List.{All, AllByRecursion, flat_map}
 use Rattle.std.proofs.lemmas.List.Elements.{All-head, All-tail}
+use Rattle.base_lemmas.proofs.EachElement.{all_append}
 use Rattle.go_ast.specs.declared.syntax.Kind.TheVariants as kind
 use Rattle.go_ast.specs.Flatten.{sign, tokens_if, all_tokens, list_tokens, receiver_tokens, param_tokens, result_tokens, block_tokens, func_tokens}
 use Rattle.go_ast.specs.Flatten.{imports_tokens, decl_tokens, flatten}
@@ -42,7 +43,6 @@ use Rattle.law_typing.proofs.Statements.{AreTargets}
 use Rattle.law_typing.proofs.Headers.{receiver_true, param_true, function_settled}
 use Rattle.law_typing.proofs.Declarations.{decl_settled}
 use Rattle.law_typing.proofs.TypedNotExcused.{block_not}
-use Rattle.law_tokens.proofs.Elements.{all_append}
 use Rattle.law_faultless.proofs.Sound.{decls_first}
 use Rattle.law_faultless.proofs.NumberedTokens.{Strung, strung_split}
 use Rattle.law_faultless.specs.Unbroken.{IsUnbroken}

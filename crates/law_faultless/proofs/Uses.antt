@@ -2,6 +2,7 @@
 use Rattle.std.proofs.Common.{ℕ, ◌≡◌, List, [], ◌∷◌, ◌++◌, map, Option, Some, None, subst}
 use Rattle.std.specs.List.{AllByRecursion, flat_map}
 use Rattle.std.proofs.lemmas.Option.{none-some, same_Some}
+use Rattle.base_lemmas.proofs.EachElement.{all_append, all_front, all_back}
 use Rattle.go_ast.specs.Tree.{Item, Group, single, several, TypeTree, ReceiverTree, ParamTree, ResultTree, FuncTree, GlobalTree, FieldTree, BodyTree}
 use Rattle.go_ast.specs.Tree.{TypeSpecTree, DeclTree, FileTree}
 use Rattle.go_ast.specs.Tree as tree
@@ -16,7 +17,6 @@ use Rattle.go_scope.specs.FileSites.{param_sites, result_sites, func_block, func
 use Rattle.types_declared.specs.MeaningOf.{result_types}
 use Rattle.types_declared.specs.Written.{written_types}
 use Rattle.types_info.proofs.DeclKinds.{Holds}
-use Rattle.law_tokens.proofs.Elements.{all_append, all_left, all_right}
 use Rattle.law_faultless.proofs.Lists.{all_flat}
 use Rattle.law_faultless.proofs.Sound.{types_of}
 
@@ -29,7 +29,7 @@ module _ (s : Source) (P : Site → Type 0) where
   items_of : {X : Type 0} (f : X → List Site) (is : List (Item X)) → AllByRecursion P (list_sites f is) →
       AllByRecursion (λ x. AllByRecursion P (f x)) (map (λ i. i.value) is)
   items_of f [] h = tt
-  items_of f (i ∷ is) h = (all_left P (f i.value) (list_sites f is) h, items_of f is (all_right P (f i.value) (list_sites f is) h))
+  items_of f (i ∷ is) h = (all_front P (f i.value) (list_sites f is) h, items_of f is (all_back P (f i.value) (list_sites f is) h))
 
   group_of : {X : Type 0} (f : X → List Site) (g : Group X) → AllByRecursion P (spec_sites f g) → AllByRecursion (λ x. AllByRecursion P (f x)) (group_items g)
   unfolding group_sites separated_sites
@@ -39,15 +39,15 @@ module _ (s : Source) (P : Site → Type 0) where
   variables_of : (gs : List GlobalTree) → AllByRecursion (λ g. AllByRecursion P (global_sites s g)) gs → AllByRecursion (OfType s P) (map (λ g. g.type_use) gs)
   unfolding global_sites
   variables_of [] h = tt
-  variables_of (g ∷ gs) h = (all_right P (list_sites (global_name s) g.names) (type_sites s g.type_use) h.0, variables_of gs h.1)
+  variables_of (g ∷ gs) h = (all_back P (list_sites (global_name s) g.names) (type_sites s g.type_use) h.0, variables_of gs h.1)
 
   fields_of : (fs : List (Item FieldTree)) → AllByRecursion P (list_sites (field_sites s) fs) → AllByRecursion (OfType s P) (map (λ f. f.value.type_use) fs)
   unfolding field_sites
   fields_of [] h = tt
   fields_of (f ∷ fs) h = (
-    all_right P (list_sites (member_name s) f.value.names) (type_sites s f.value.type_use) (all_left P (field_sites s f.value) (list_sites
+    all_back P (list_sites (member_name s) f.value.names) (type_sites s f.value.type_use) (all_front P (field_sites s f.value) (list_sites
         (field_sites s) fs) h),
-    fields_of fs (all_right P (field_sites s f.value) (list_sites (field_sites s) fs) h),
+    fields_of fs (all_back P (field_sites s f.value) (list_sites (field_sites s) fs) h),
   )
 
   body_of : (b : BodyTree) → AllByRecursion P (body_sites s b) → AllByRecursion (OfType s P) (written_types b)
@@ -67,9 +67,9 @@ module _ (s : Source) (P : Site → Type 0) where
   unfolding param_sites
   params_of b q [] h = tt
   params_of b q (p ∷ ps) h = (
-    all_right P (list_sites (ident_sites s (Declaring b q)) p.value.names) (type_sites s p.value.type_use)
-        (all_left P (param_sites s b q p.value) (list_sites (param_sites s b q) ps) h),
-    params_of b q ps (all_right P (param_sites s b q p.value) (list_sites (param_sites s b q) ps) h),
+    all_back P (list_sites (ident_sites s (Declaring b q)) p.value.names) (type_sites s p.value.type_use)
+        (all_front P (param_sites s b q p.value) (list_sites (param_sites s b q) ps) h),
+    params_of b q ps (all_back P (param_sites s b q p.value) (list_sites (param_sites s b q) ps) h),
   )
 
   results_of : (r : ResultTree) → AllByRecursion P (result_sites s r) → AllByRecursion (OfType s P) (result_types r)
@@ -86,9 +86,9 @@ module _ (s : Source) (P : Site → Type 0) where
       let receiver = sites_if (receiver_sites s b q) f.receiver in
       let params = list_sites (param_sites s b q) f.params in
       let rest = result_sites s f.result ++ block_sites s f.body in
-      let behind = (all_right P receiver (site s f.name (func_role f.receiver (s.spell f.name)) ∷ (params ++ rest)) h).1 in
-      all_append (OfType s P) (map (λ i. i.value.type_use) f.params) (result_types f.result) (params_of b q f.params (all_left P params rest behind))
-      (results_of f.result (all_left P (result_sites s f.result) (block_sites s f.body) (all_right P params rest behind)))
+      let behind = (all_back P receiver (site s f.name (func_role f.receiver (s.spell f.name)) ∷ (params ++ rest)) h).1 in
+      all_append (OfType s P) (map (λ i. i.value.type_use) f.params) (result_types f.result) (params_of b q f.params (all_front P params rest behind))
+      (results_of f.result (all_front P (result_sites s f.result) (block_sites s f.body) (all_back P params rest behind)))
 
   decl_of : (d : DeclTree) → AllByRecursion P (decl_sites s d) → AllByRecursion (OfType s P) (types_of d)
   unfolding decl_sites
@@ -98,7 +98,7 @@ module _ (s : Source) (P : Site → Type 0) where
 
   decl_in : (f : FileTree) → AllByRecursion P (file_sites s f) → (d : DeclTree) → Holds f.decls d → AllByRecursion P (decl_sites s d)
   unfolding file_sites
-  decl_in f h d i = all_flat P (decl_sites s) f.decls d (all_right P (flat_map (imports_sites s) f.imports) (flat_map (decl_sites s) f.decls) h.1) i
+  decl_in f h d i = all_flat P (decl_sites s) f.decls d (all_back P (flat_map (imports_sites s) f.imports) (flat_map (decl_sites s) f.decls) h.1) i
 
   pub types_in : (f : FileTree) → AllByRecursion P (file_sites s f) → (d : DeclTree) → Holds f.decls d → AllByRecursion (OfType s P) (types_of d)
   types_in f h d i = decl_of d (decl_in f h d i)
@@ -111,7 +111,7 @@ module _ (s : Source) (P : Site → Type 0) where
   received_in b q None h r e = absurd (none-some r e)
   received_in b q (Some x) h r e =
       subst (λ (z : ReceiverTree). P (site s z.type_name Use)) (same_Some x r e)
-      (all_right P (ident_sites s (Declaring b q) x.name) (site s x.type_name Use ∷ []) h).0
+      (all_back P (ident_sites s (Declaring b q) x.name) (site s x.type_name Use ∷ []) h).0
 
   pub receiver_in : (f : FileTree) → AllByRecursion P (file_sites s f) → (k c : ℕ) (g : FuncTree) → Holds f.decls (tree.FuncDecl k g c) → (r : ReceiverTree) →
       g.receiver ≡ Some r → P (site s r.type_name Use)
@@ -121,5 +121,5 @@ module _ (s : Source) (P : Site → Type 0) where
       let q = open_of g.body in
       let rest = list_sites (param_sites s b q) g.params ++ (result_sites s g.result ++ block_sites s g.body) in
       received_in b q g.receiver
-      (all_left P (sites_if (receiver_sites s b q) g.receiver) (site s g.name (func_role g.receiver (s.spell g.name)) ∷ rest)
+      (all_front P (sites_if (receiver_sites s b q) g.receiver) (site s g.name (func_role g.receiver (s.spell g.name)) ∷ rest)
       (decl_in f h (tree.FuncDecl k g c) i)) r e

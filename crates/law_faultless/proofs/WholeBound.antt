@@ -2,6 +2,7 @@
 use Rattle.std.proofs.Common.{ℕ, ◌≡◌, ◌+◌, inl, inr, List, [], ◌∷◌, ◌++◌, map, ap, sym, subst, refl, arith}
 use Rattle.std.specs.Prelude.{Some, slice_get}
 use Rattle.std.specs.List.{AllByRecursion}
+use Rattle.base_lemmas.proofs.EachElement.{all_append, all_front, all_back}
 use Rattle.base_files.specs.Workspace.{Workspace}
 use Rattle.go_ast.specs.SourceFile.{SourceFile, spelling_of}
 use Rattle.go_ast.specs.Tree.{Item, TypeTree, TypeSpecTree, GlobalTree, ReceiverTree, ParamTree, FuncTree, DeclTree}
@@ -23,7 +24,6 @@ use Rattle.types_info.specs.Worlds.{IsWorldOf, is_init}
 use Rattle.workspace_check.specs.FaultLists.{ListsFaults}
 use Rattle.workspace_check.specs.Verdicts.{Verdicts, AreVerdicts}
 use Rattle.refs_binding.specs.Uses.{IsPackage}
-use Rattle.law_tokens.proofs.Elements.{all_append, all_left, all_right}
 use Rattle.law_faultless.specs.Worlds.{HaveWorlds}
 use Rattle.law_faultless.proofs.NoFaults.{no_fault_in}
 use Rattle.law_faultless.proofs.LinksBound.{source_is}
@@ -179,8 +179,8 @@ module _ (w : Workspace) (sound : ListsFaults w []) (known : Verdicts) (right : 
       let P : TypeTree → Type 0 = λ x. (t : PlainType) × IsTypeOf p f.file x t in
       let all : AllByRecursion P (params ++ results) = all_whole f.file (params ++ results) named in
       let ps = types_for p f.file (IsTypeOf p f.file) (parameter_types f.function.params) (each_parameter P f.function.params
-      (all_left P params results all)) in
-      let rs = types_for p f.file (IsTypeOf p f.file) results (all_right P params results all) in
+      (all_front P params results all)) in
+      let rs = types_for p f.file (IsTypeOf p f.file) results (all_back P params results all) in
       (record { parameters = ps.0; results = rs.0 }, record { parameters = ps.1; results = rs.1 })
 
   -- methods

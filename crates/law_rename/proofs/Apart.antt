@@ -11,6 +11,8 @@ use Rattle.std.specs.declared.cmp.Ordering.TheVariants.{Equal, Greater, Less}
 use Rattle.std.proofs.lemmas.Bool.{cases_order}
 use Rattle.std.proofs.lemmas.List.Elements.{All-contains, All-from_recursion}
 use Rattle.std.proofs.lemmas.Option.{none-some, same_Some, slice_get-map, slice_get-get_or}
+use Rattle.base_lemmas.proofs.EachElement.{all_from_each}
+use Rattle.base_lemmas.proofs.Elements.{first_in, first_or_later, later_in, nothing_in}
 use Rattle.go_scanner.specs.declared.keywords.Keyword.{Keyword}
 use Rattle.go_scanner.specs.declared.keywords.Keyword.TheVariants as word
 use Rattle.go_scanner.specs.declared.operators.Operator.TheVariants as operators
@@ -23,7 +25,6 @@ use Rattle.go_scanner.specs.Pieces.{IsPiece}
 use Rattle.go_scanner.specs.Spans.{FollowFrom, IsTokenText, starts}
 use Rattle.go_scanner.specs.Tokens.{ends_statement, is_trivia, line_ends, semicolon, tokens_of}
 use Rattle.go_scanner.proofs.SpanLemmas.{cut_covers, cut_tokens, tokens_in_order}
-use Rattle.base_edits.proofs.Held.{first_in, first_or_later, later_in, nothing_in}
 use Rattle.go_ast.specs.declared.syntax.Kind.{Kind}
 use Rattle.go_ast.specs.declared.syntax.Kind.TheVariants as kind
 use Rattle.go_ast.specs.declared.syntax.Token.{Token}
@@ -35,7 +36,6 @@ use Rattle.go_ast.specs.WellFormed.{Any, IsFile, IsGroup, IsImports, IsSeparated
 use Rattle.types_declared.specs.Files.{imports_in}
 use Rattle.law_rename.proofs.Places.{begins_behind}
 use Rattle.law_rename.proofs.Spelled.{held_at}
-use Rattle.law_rename.proofs.MovedTokens.{each_in}
 use Rattle.law_rename.specs.Around.{AroundImport, AroundItem, alone, among, bare_import, file_with, group_with, imports_with}
 use Rattle.law_rename.specs.Put.{IsNoWord, NoWordEndsAt}
 use Rattle.law_rename.proofs.Behind.{LiesBehind}
@@ -294,7 +294,7 @@ module _ (f : SourceFile) (number : ℕ) (a : AroundImport) (is : IsSourceFile f
   stands_apart : NoWordEndsAt (offset_of f number) f.cut.pieces
   stands_apart =
       let P : Piece → Type 0 = λ p. p.span.end ≡ offset_of f number → IsNoWord p.class in
-      All-from_recursion P f.cut.pieces (each_in P f.cut.pieces (λ p has ends. record {
+      All-from_recursion P f.cut.pieces (all_from_each P f.cut.pieces (λ p has ends. record {
         no_name = λ e. no_word_ends p has ends (inl e);
         no_keyword = λ k e. no_word_ends p has ends (inr (inr (k, e)));
         no_number = λ e. no_word_ends p has ends (inr (inl e));

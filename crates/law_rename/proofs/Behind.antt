@@ -9,6 +9,7 @@ use Rattle.std.specs.Ordering.{nat_cmp}
 use Rattle.std.specs.declared.cmp.Ordering.TheVariants.{Equal, Less}
 use Rattle.std.proofs.lemmas.List.{drop-append-le, length-drop, take-append-le}
 use Rattle.std.proofs.lemmas.Option.{same_Some, slice_get-map}
+use Rattle.base_lemmas.proofs.EachElement.{all_append}
 use Rattle.go_scanner.specs.declared.piece.Piece.{Piece}
 use Rattle.go_scanner.specs.Cuts.{bytes_of}
 use Rattle.go_scanner.specs.Spans.{CoversFrom, starts}
@@ -72,10 +73,6 @@ behind_bytes a b text other q lies same =
     ap (λ (k : ℕ). take k (drop (start - a + b) other)) size ∙ ap (take (q.span.end - start)) bytes
 
 -- A fact on each element of two lists is one on each element of their concatenation.
-
-pub all_of_both : {X : Type 0} (P : X → Type 0) (xs ys : List X) → AllByRecursion P xs → AllByRecursion P ys → AllByRecursion P (xs ++ ys)
-all_of_both P [] ys one other = other
-all_of_both P (x ∷ xs) ys one other = (one.0, all_of_both P xs ys one.1 other)
 
 pub all_by : {X : Type 0} (P Q : X → Type 0) (xs : List X) → ((x : X) → P x → Q x) → AllByRecursion P xs → AllByRecursion Q xs
 all_by P Q [] by all = tt

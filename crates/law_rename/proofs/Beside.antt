@@ -5,6 +5,7 @@ use Rattle.std.specs.Prelude.{slice_get}
 use Rattle.std.specs.List.{All, AllByRecursion, slice_range}
 use Rattle.std.proofs.lemmas.List.{drop_at, take_at}
 use Rattle.std.proofs.lemmas.List.Elements.{recursion_from_All}
+use Rattle.base_lemmas.proofs.EachElement.{all_back}
 use Rattle.go_scanner.specs.Cuts.{IsCut}
 use Rattle.go_scanner.specs.CutText.{CutText, tokens_in}
 use Rattle.base_edits.specs.Edits.{AreInOrder, LieWithin, edited_from, edited_text}
@@ -103,10 +104,6 @@ module _ (text put : List ℕ) (at : ℕ) (behind : List Edit) where
       let second : rest ≡ drop place new = sym (ap (drop place) split ∙ drop_at front rest place size) in
       whole_split 0 before ∙ (λ j. first j ++ (put ++ second j))
 
-last_all : {X : Type 0} (P : X → Type 0) (xs ys : List X) → AllByRecursion P (xs ++ ys) → AllByRecursion P ys
-last_all P [] ys all = all
-last_all P (x ∷ xs) ys all = last_all P xs ys all.1
-
 pub inserted_beside : (text put : List ℕ) (at : ℕ) (before behind : List Edit) → AreInOrder 0 (before ++ inserted at put ∷ behind) →
     LieWithin (length text) (before ++ inserted at put ∷ behind) → All (λ d. at < d.span.end) behind →
     (let new = edited_text (before ++ behind) text in
@@ -115,7 +112,7 @@ pub inserted_beside : (text put : List ℕ) (at : ℕ) (before behind : List Edi
 inserted_beside text put at before behind order within ends =
     let P : Edit → Type 0 = λ d. d.span.end ≤ length text in
     let whole : List Edit = before ++ inserted at put ∷ behind in
-    let fits = last_all P before (inserted at put ∷ behind) (recursion_from_All P whole within) in
+    let fits = all_back P before (inserted at put ∷ behind) (recursion_from_All P whole within) in
     put_beside text put at behind before order (recursion_from_All (λ (d : Edit). at < d.span.end) behind ends) fits.0
 
 -- an import's name
@@ -142,9 +139,9 @@ gains_beside f number name blank_first before behind cut are g order within =
     let new : List ℕ = edited_text others f.cut.text in
     let tail : List ℕ = p.literal ++ p.rest in
     let some = have_bytes f.cut.text f.cut.pieces others cut (recursion_from_All (IsNameEdit f.cut.pieces) others are.each) in
-    let ends = begins_behind at behind (behind_order 0 at put before behind order) (last_all (λ (d : Edit). d.span.start < d.span.end) before behind some) in
+    let ends = begins_behind at behind (behind_order 0 at put before behind order) (all_back (λ (d : Edit). d.span.start < d.span.end) before behind some) in
     let P : Edit → Type 0 = λ d. d.span.end ≤ length f.cut.text in
-    let fits = last_all P before (inserted at put ∷ behind) (recursion_from_All P (before ++ inserted at put ∷ behind) within) in
+    let fits = all_back P before (inserted at put ∷ behind) (recursion_from_All P (before ++ inserted at put ∷ behind) within) in
     let whole = put_beside f.cut.text put at behind before order ends fits.0 in
     let text : new ≡ p.front ++ tail = ap (λ (c : CutText). c.text) g.cut_is in
     let begins : offset_of (renamed_file others f) number ≡ length p.front =

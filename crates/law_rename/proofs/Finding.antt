@@ -7,6 +7,7 @@ use Rattle.std.specs.List.{AllByRecursion, Contains}
 use Rattle.std.proofs.lemmas.List.{length-drop, length-take-le, take-append-drop}
 use Rattle.std.proofs.lemmas.List.Elements.{All-from_recursion, recursion_from_All}
 use Rattle.std.proofs.lemmas.Option.{none-some, same_Some}
+use Rattle.base_lemmas.proofs.EachElement.{all_front, all_from_each}
 use Rattle.go_scanner.specs.declared.keywords.Keyword.{Keyword}
 use Rattle.go_scanner.specs.declared.keywords.Keyword.TheVariants as word
 use Rattle.go_scanner.specs.declared.operators.Operator.{Operator}
@@ -30,7 +31,6 @@ use Rattle.go_ast.specs.Tree.{ImportTree}
 use Rattle.types_declared.specs.Files.{imports_in}
 use Rattle.law_rename.proofs.Places.{Parts, parts}
 use Rattle.law_rename.proofs.Spelled.{held_at}
-use Rattle.law_rename.proofs.MovedTokens.{each_in}
 use Rattle.law_rename.proofs.Trees.{each_token}
 use Rattle.law_rename.specs.Around.{AroundImport, bare_import, file_with}
 use Rattle.law_rename.specs.Named.{NamePut, before_put, literal_piece}
@@ -84,12 +84,8 @@ among_pieces : (c : CutText) (n : ℕ) (t : Piece) → slice_get (tokens_in c) n
 among_pieces c n t at is =
     let P : Piece → Type 0 = λ q. IsStringClass q.class → Contains c.pieces q in
     let all : AllByRecursion P (tokens_in c) = each_token P (λ place wrong. absurd (no_sign wrong)) c.text c.pieces
-    (each_in P c.pieces (λ q has string. has)) in
+    (all_from_each P c.pieces (λ q has string. has)) in
     held_at P (tokens_in c) n t all at is
-
-first_all : {X : Type 0} (P : X → Type 0) (xs ys : List X) → AllByRecursion P (xs ++ ys) → AllByRecursion P xs
-first_all P [] ys all = tt
-first_all P (x ∷ xs) ys all = (all.0, first_all P xs ys all.1)
 
 -- a text, cut at a piece
 
@@ -173,7 +169,7 @@ gains_by f number a name blank_first q split held cut at string tree is_word apa
         is_string = string;
         apart = λ joined.
             let all = recursion_from_All P f.cut.pieces (subst (λ (n : ℕ). NoWordEndsAt n f.cut.pieces) begins (apart joined)) in
-            All-from_recursion P split.before (first_all P split.before (q ∷ split.after) (subst (AllByRecursion P) split.whole all));
+            All-from_recursion P split.before (all_front P split.before (q ∷ split.after) (subst (AllByRecursion P) split.whole all));
         is_cut = subst (λ (c : CutText). IsCut c.text c.pieces) same cut;
       };
       named = refl;

@@ -2,6 +2,7 @@
 use Rattle.std.proofs.Common.{ℕ, ◌≡◌, ◌⊎◌, ◌+◌, ◌-◌, ◌<◌, ◌≤◌, List, [], ◌∷◌, length, take, drop, sym, ap, ◌∙◌, subst, arith, inl, inr, ⊎_elim}
 use Rattle.std.specs.List.{AllByRecursion, Contains}
 use Rattle.std.proofs.lemmas.List.Elements.{All-from_recursion, recursion_from_All}
+use Rattle.base_lemmas.proofs.Elements.{first_in, first_or_later, later_in, nothing_in}
 use Rattle.go_scanner.specs.declared.piece.Piece.{Piece}
 use Rattle.go_scanner.specs.Cuts.{IsCut, bytes_of}
 use Rattle.go_scanner.specs.CutText.{CutText}
@@ -11,7 +12,6 @@ use Rattle.base_edits.specs.Laws.{AreUntouched}
 use Rattle.base_edits.specs.Moved.{moved_offset}
 use Rattle.base_edits.specs.PassedEdits.{moved_from}
 use Rattle.base_edits.specs.declared.edit.Edit.{Edit}
-use Rattle.base_edits.proofs.Held.{first_in, first_or_later, later_in, nothing_in}
 use Rattle.base_edits.proofs.MovedPlaces.{keeps_bytes, moves_all, puts_bytes, step_past, stop_before}
 use Rattle.law_rename.specs.Renamings.{AreNameEdits, IsNameEdit, moved_piece, recut, replaced_piece}
 use Rattle.law_rename.proofs.Many.{have_bytes}

@@ -3,6 +3,7 @@ use Rattle.std.proofs.Common.{ℕ, ◌≡◌, ◌<◌, List, [], ◌∷◌, Opti
 use Rattle.std.specs.Prelude.{◌≢◌, Bool, false, true, IsSome, option_map}
 use Rattle.std.specs.List.{All, AllByRecursion}
 use Rattle.std.proofs.lemmas.List.Elements.{All-from_recursion, recursion_from_All}
+use Rattle.base_lemmas.proofs.Tests.{none_from_map}
 use Rattle.go_ast.specs.Tree.{Item, Group, single, several, TypeTree, Local, Imported, Pointer}
 use Rattle.go_ast.specs.Tree.{Slice, ExprTree, Number, Text, Name, Blank, Composite, Paren, Prefix, Address, Chain, Binary, OperandTrees, no_operand}
 use Rattle.go_ast.specs.Tree.{operand, LinkTrees, no_link, selector, index, call, ArgumentTrees, no_argument, argument, LiteralTree, literal, ElementTrees}
@@ -19,10 +20,6 @@ use Rattle.law_rename.specs.Renumbered.{item_by, items_by, group_by, ident_by, b
 use Rattle.law_rename.specs.Renumbered.{arguments_by, literal_by, elements_by, simple_by, values_by, local_by, init_by, for_by, statement_by}
 use Rattle.law_rename.specs.Renumbered.{block_by, statements_by, if_by, else_by, import_by, global_by, field_by, body_by, type_spec_by}
 use Rattle.law_rename.specs.Renumbered.{param_by, result_by, func_by, imports_by, decl_by, renumbered}
-
-none_of : {X Y : Type 0} (f : X → Y) (o : Option X) → option_map f o ≡ None → o ≡ None
-none_of f None is = refl
-none_of f (Some x) is = cc
 
 mapped : {X : Type 0} (P : X → Type 0) (by : X → X) → ((x : X) → P x → P (by x)) → (xs : List X) → AllByRecursion P xs → AllByRecursion P (map by xs)
 mapped P by each [] w = tt
@@ -47,7 +44,7 @@ module _ (g : ℕ → ℕ) where
 
   separated_kept : {X : Type 0} (by : X → X) (xs : List (Item X)) → IsSeparated xs → IsSeparated (items_by g by xs)
   separated_kept by [] w = tt
-  separated_kept by (x ∷ xs) w = ((λ none. ap (items_by g by) (w.0 (none_of g x.separator none))), separated_kept by xs w.1)
+  separated_kept by (x ∷ xs) w = ((λ none. ap (items_by g by) (w.0 (none_from_map g x.separator none))), separated_kept by xs w.1)
 
   list_kept : {X : Type 0} (P : X → Type 0) (by : X → X) → ((x : X) → P x → P (by x)) → (xs : List (Item X)) → IsList P xs → IsList P (items_by g by xs)
   list_kept P by each xs w = record {
@@ -151,7 +148,7 @@ module _ (g : ℕ → ℕ) where
     arguments_kept : (xs : ArgumentTrees) → AreArguments xs → AreArguments (arguments_by g xs)
     arguments_kept no_argument w = tt
     arguments_kept (argument e comma rest) w =
-        ((λ none. ap (arguments_by g) (w.0 (none_of g comma none))), expr_kept e w.1, arguments_kept rest w.2)
+        ((λ none. ap (arguments_by g) (w.0 (none_from_map g comma none))), expr_kept e w.1, arguments_kept rest w.2)
 
     literal_kept : (l : LiteralTree) → IsLiteral l → IsLiteral (literal_by g l)
     literal_kept (literal t o es c) w = (literal_type t w.0, elements_kept es w.1)
@@ -159,7 +156,7 @@ module _ (g : ℕ → ℕ) where
     elements_kept : (es : ElementTrees) → AreElements es → AreElements (elements_by g es)
     elements_kept no_element w = tt
     elements_kept (element key e comma rest) w =
-        ((λ none. ap (elements_by g) (w.0 (none_of g comma none))), expr_kept e w.1, elements_kept rest w.2)
+        ((λ none. ap (elements_by g) (w.0 (none_from_map g comma none))), expr_kept e w.1, elements_kept rest w.2)
 
   unnamed_literal : (l : LiteralTree) → IsUnnamed l → IsUnnamed (literal_by g l)
   unfolding literal_by type_by
@@ -221,7 +218,7 @@ module _ (g : ℕ → ℕ) where
   local_kept : (l : LocalTree) → IsLocal l → IsLocal (local_by g l)
   local_kept l w = record {
     names = list_kept Any (ident_by g) (λ x is. tt) l.names w.names;
-    told = λ none has. w.told (none_of (type_by g) l.type_use none) (none_of (values_by g (expr_by g)) l.values has);
+    told = λ none has. w.told (none_from_map (type_by g) l.type_use none) (none_from_map (values_by g (expr_by g)) l.values has);
     values = perhaps_kept (λ v. IsList (IsExprIn false) v.1) (values_by g (expr_by g))
         (λ v is. list_kept (IsExprIn false) (expr_by g) (in_kept false) v.1 is) l.values w.values;
   }

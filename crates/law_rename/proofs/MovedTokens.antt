@@ -3,6 +3,8 @@ use Rattle.std.proofs.Common.{ℕ, ◌≡◌, List, [], ◌∷◌, ◌||◌, ◌
 use Rattle.std.specs.Prelude.{map}
 use Rattle.std.specs.List.{AllByRecursion, Contains, list_any}
 use Rattle.std.proofs.Common.{eqb}
+use Rattle.base_lemmas.proofs.Elements.{first_in, later_in}
+use Rattle.base_lemmas.proofs.EachElement.{all_from_each}
 use Rattle.go_scanner.specs.declared.piece.Class.{Class}
 use Rattle.go_scanner.specs.declared.piece.Class.TheVariants as class
 use Rattle.go_scanner.specs.declared.piece.Piece.{Piece}
@@ -12,14 +14,10 @@ use Rattle.go_scanner.specs.Tokens.{ends_line, ends_line_by, ends_statement, has
 use Rattle.go_scanner.proofs.IntegerLemmas.{by_test}
 use Rattle.base_edits.specs.Edits.{edited_text}
 use Rattle.base_edits.specs.declared.edit.Edit.{Edit}
-use Rattle.base_edits.proofs.Held.{first_in, later_in}
 use Rattle.law_rename.specs.Renamings.{AreNameEdits, moved_piece, recut}
 use Rattle.law_rename.proofs.KeptBytes.{other_bytes}
 
 -- A fact on each element of a list is one on all.
-pub each_in : {X : Type 0} (P : X → Type 0) (xs : List X) → ((x : X) → Contains xs x → P x) → AllByRecursion P xs
-each_in P [] each = tt
-each_in P (x ∷ xs) each = (each x (first_in x xs), each_in P xs (λ y has. each y (later_in x xs y has)))
 
 -- where lines end
 
@@ -59,7 +57,7 @@ pub tokens_moved : (c : CutText) (edits : List Edit) → IsCut c.text c.pieces �
     tokens_in (recut edits c) ≡ map (moved_piece edits) (tokens_in c)
 tokens_moved c edits cut are =
     let new : List ℕ = edited_text edits c.text in
-    tokens_same edits c.text new c.pieces (each_in (λ p. ends_line new (moved_piece edits p) ≡ ends_line c.text p) c.pieces
+    tokens_same edits c.text new c.pieces (all_from_each (λ p. ends_line new (moved_piece edits p) ≡ ends_line c.text p) c.pieces
     (λ p has. line_by p.class (has_line_end new (moved_piece edits p)) (has_line_end c.text p)
     (λ other. ap (λ l. list_any (λ b. eqb b 10) l)
     (other_bytes c edits cut are p has (λ e at is. other (ap (λ (q : Piece). q.class) is))))))

@@ -4,9 +4,9 @@ use Rattle.std.proofs.Common.{take-append-drop}
 use Rattle.std.specs.Prelude.{map}
 use Rattle.std.specs.List.{Contains}
 use Rattle.std.proofs.lemmas.List.{drop_more}
+use Rattle.base_lemmas.proofs.Elements.{first_or_later, nothing_in}
 use Rattle.go_scanner.specs.declared.piece.Piece.{Piece}
 use Rattle.go_scanner.specs.Spans.{CoversFrom}
-use Rattle.base_edits.proofs.Held.{first_or_later, nothing_in}
 
 -- what is before one of a list, and what is behind it
 pub record Parts {X : Type 0} (xs : List X) (x : X) : Type 0 where

@@ -3,6 +3,7 @@ use Rattle.std.proofs.Common.{ℕ, zero, suc, ◌≡◌, ◌-◌, List, [], ◌�
 use Rattle.std.specs.Prelude.{slice_get, option_map}
 use Rattle.std.specs.List.{AllByRecursion, Contains}
 use Rattle.std.proofs.lemmas.Option.{none-some, same_Some, slice_get-map}
+use Rattle.base_lemmas.proofs.EachElement.{all_from_each}
 use Rattle.go_scanner.specs.declared.piece.Piece.{Piece}
 use Rattle.go_scanner.specs.Cuts.{IsCut, bytes_of}
 use Rattle.go_scanner.specs.CutText.{tokens_in}
@@ -13,7 +14,7 @@ use Rattle.go_ast.specs.SourceFile.{SourceFile, spelling_at, spelling_of}
 use Rattle.law_rename.specs.Renamings.{AreNameEdits, moved_piece, replaced_piece}
 use Rattle.law_rename.specs.Trees.{renamed_file}
 use Rattle.law_rename.proofs.KeptBytes.{other_bytes, put_bytes}
-use Rattle.law_rename.proofs.MovedTokens.{each_in, tokens_moved}
+use Rattle.law_rename.proofs.MovedTokens.{tokens_moved}
 use Rattle.law_rename.proofs.Trees.{each_token}
 
 pub held_at : {X : Type 0} (P : X → Type 0) (xs : List X) (n : ℕ) (x : X) → AllByRecursion P xs → slice_get xs n ≡ Some x → P x
@@ -44,7 +45,7 @@ module _ (f : SourceFile) (edits : List Edit) (cut : IsCut f.cut.text f.cut.piec
 
   all_stay : AllByRecursion StaysIfOther (tokens_in f.cut)
   all_stay = each_token StaysIfOther (λ at other. empty new _ ∙ sym (empty f.cut.text at)) f.cut.text f.cut.pieces
-      (each_in StaysIfOther f.cut.pieces (λ p has other. other_bytes f.cut edits cut are p has other))
+      (all_from_each StaysIfOther f.cut.pieces (λ p has other. other_bytes f.cut edits cut are p has other))
 
   by_token : (n : ℕ) (o : Option Piece) → old_token n ≡ o → ((e : Edit) → Contains edits e → old_token n ≡ Some (replaced_piece e) → ⊥) →
       spelling_at new (option_map (moved_piece edits) o) ≡ spelling_at f.cut.text o

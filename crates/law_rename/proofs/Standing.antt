@@ -2,11 +2,12 @@
 use Rattle.std.proofs.Common.{ℕ, ◌≡◌, List, [], ◌∷◌, ◌++◌, map, refl, ap, subst, append_assoc}
 use Rattle.std.specs.List.{AllByRecursion, Contains, flat_map}
 use Rattle.std.proofs.lemmas.List.Elements.{All-contains, All-from_recursion, Contains-append_left, Contains-append_right}
-use Rattle.base_edits.proofs.Held.{first_in}
+use Rattle.base_lemmas.proofs.EachElement.{all_append}
+use Rattle.base_lemmas.proofs.Elements.{first_in}
 use Rattle.go_ast.specs.Tree.{DeclTree, FileTree, Group, ImportTree, ImportsTree, Item, several, single}
 use Rattle.types_declared.specs.Files.{group_items, imports_in}
 use Rattle.law_rename.specs.Around.{AroundImport, AroundItem, alone, among, file_with, group_with, imports_with}
-use Rattle.law_rename.proofs.Behind.{all_by, all_of_both}
+use Rattle.law_rename.proofs.Behind.{all_by}
 
 abbrev StandsIn : Group ImportTree → ImportTree → Type 0
 StandsIn g i = (x : AroundItem) × (g ≡ group_with i x)
@@ -51,7 +52,7 @@ module _ (keyword name semicolon : ℕ) (decls : List DeclTree) where
   groups_stand before [] = tt
   groups_stand before (d ∷ after) =
       let same : (before ++ d ∷ []) ++ after ≡ before ++ d ∷ after = append_assoc before (d ∷ []) after in
-      all_of_both (InFile (before ++ d ∷ after)) (group_items d.imports) (flat_map (λ e. group_items e.imports) after)
+      all_append (InFile (before ++ d ∷ after)) (group_items d.imports) (flat_map (λ e. group_items e.imports) after)
       (all_by (StandsIn d.imports) (InFile (before ++ d ∷ after)) (group_items d.imports) (stands_within before after d) (group_stands d.imports))
       (subst (λ (ys : List ImportsTree). AllByRecursion (InFile ys) (flat_map (λ e. group_items e.imports) after)) same
       (groups_stand (before ++ d ∷ []) after))

@@ -4,6 +4,7 @@ use Rattle.std.specs.Prelude.{slice_get, option_map}
 use Rattle.std.specs.List.{AllByRecursion, Contains, slice_range}
 use Rattle.std.proofs.lemmas.List.Elements.{All-contains}
 use Rattle.std.proofs.lemmas.Option.{slice_get-map}
+use Rattle.base_lemmas.proofs.EachElement.{all_from_each}
 use Rattle.go_scanner.specs.declared.piece.Class.{Class}
 use Rattle.go_scanner.specs.declared.piece.Class.TheVariants as class
 use Rattle.go_scanner.specs.declared.piece.Piece.{Piece}
@@ -23,7 +24,7 @@ use Rattle.law_rename.specs.Renamings.{AreNameEdits, moved_piece, recut}
 use Rattle.law_rename.specs.Trees.{KeepKinds, renamed_file}
 use Rattle.law_rename.proofs.KeptBytes.{IsEdited, each_edit, edited_or_kept, kept, kept_bytes, put, put_bytes, within}
 use Rattle.law_rename.proofs.Many.{recut_cut}
-use Rattle.law_rename.proofs.MovedTokens.{each_in, tokens_moved}
+use Rattle.law_rename.proofs.MovedTokens.{tokens_moved}
 
 -- A fact on each piece, and on semicolons, is one on each token.
 pub each_token : (P : Piece → Type 0) → ((at : ℕ) → P (semicolon at)) → (text : List ℕ) (ps : List Piece) → AllByRecursion P ps →
@@ -59,7 +60,7 @@ pub kinds_stay : (c : CutText) (edits : List Edit) → IsCut c.text c.pieces →
 kinds_stay c edits cut are keep =
     let new : List ℕ = edited_text edits c.text in
     let P : Piece → Type 0 = λ t. kind_of t.class (bytes_of new (moved_piece edits t)) ≡ kind_of t.class (bytes_of c.text t) in
-    let pieces : AllByRecursion P c.pieces = each_in P c.pieces (λ p has. kind_by p.class (bytes_of new (moved_piece edits p)) (bytes_of c.text p)
+    let pieces : AllByRecursion P c.pieces = all_from_each P c.pieces (λ p has. kind_by p.class (bytes_of new (moved_piece edits p)) (bytes_of c.text p)
     (λ name. by_edit p has (edited_or_kept c.text c.pieces edits p cut (each_edit c edits cut are) has))) in
     ap (kinds_from 0 new) (tokens_moved c edits cut are)
     ∙ kinds_same 0 edits c.text new (tokens_in c) (each_token P (λ at. refl) c.text c.pieces pieces)

@@ -2,6 +2,7 @@
 use Rattle.std.proofs.Common.{ℕ, zero, suc, ◌≡◌, List, [], ◌∷◌, false, refl, ap}
 use Rattle.std.specs.Prelude.{slice_get}
 use Rattle.std.specs.List.{AllByRecursion}
+use Rattle.base_lemmas.proofs.EachElement.{all_append}
 use Rattle.go_ast.specs.declared.syntax.Token.{Token}
 use Rattle.go_ast.specs.Flatten.{flatten}
 use Rattle.go_scope.specs.declared.model.Role.{Role}
@@ -10,7 +11,6 @@ use Rattle.go_scope.specs.FileSites.{SpelledFile, file_sites, files_sites}
 use Rattle.go_scope.specs.Site.{Site, Source, or_blank}
 use Rattle.law_tokens.specs.Tokens.{identifiers_among}
 use Rattle.law_tokens.proofs.Covering.{Pairs, file_pairs}
-use Rattle.law_tokens.proofs.Elements.{all_append}
 
 abbrev pub AreIdentifiers : List Site → Type 0
 AreIdentifiers xs = AllByRecursion (λ (x : Site). is_implied x.role ≡ false) xs

@@ -1,7 +1,7 @@
 -- The dots and colons beside the identifiers of a file.
 use Rattle.std.proofs.Common.{ℕ, suc, ◌≡◌, ◌<◌, ◌≤◌, ◌⊎◌, inl, inr, List, [], ◌∷◌, ◌++◌, true, false, not, ap, sym, ◌∙◌, refl, subst, Bool, arith}
 use Rattle.std.specs.List.{flat_map, AllByRecursion}
-use Rattle.std.proofs.lemmas.Bool.{and_parts, true≢false}
+use Rattle.std.proofs.lemmas.Bool.{and_parts, true≢false, not-true}
 use Rattle.go_ast.specs.declared.syntax.Kind.{Kind}
 use Rattle.go_ast.specs.declared.syntax.Kind.TheVariants as kind
 use Rattle.go_ast.specs.declared.syntax.Token.{Token}
@@ -30,20 +30,16 @@ data Linked (s : Source) : List Site → List Token → Type 0 where
       x.role ≡ NotLexical purpose.Key →
       Linked s xs ts → Linked s (x ∷ xs) (t ∷ (c ∷ ts))
 
-no_link : (b : Bool) → not b ≡ true → b ≡ false
-no_link true e = sym e
-no_link false e = refl
-
 linked : (P : Kind → Bool) (s : Source) (xs : List Site) (ts : List Token) → Covers P s xs ts → Linked s xs ts
 linked P s _ _ ends = stop
 linked P s xs _ (skips {t = t} {ts = ts} k a) = skip (neither (P t.kind) (is_link t.kind) k).1 (linked P s xs ts a)
 linked P s _ _ (takes {x = x} {xs = xs} {t = t} {ts = ts} k i e a) =
-    take (no_link (is_link t.kind) (and_parts (P t.kind) (not (is_link t.kind)) k).1) i (ap (λ (y : Site). y.place.index) e) (linked P s xs ts a)
+    take (not-true (is_link t.kind) (and_parts (P t.kind) (not (is_link t.kind)) k).1) i (ap (λ (y : Site). y.place.index) e) (linked P s xs ts a)
 linked P s _ _ (selects {x = x} {xs = xs} {t = t} {ts = ts} d out k e a) =
-    select d (no_link (is_link t.kind) (and_parts (P t.kind) (not (is_link t.kind)) k).1) (ap (λ (y : Site). y.place.index) e)
+    select d (not-true (is_link t.kind) (and_parts (P t.kind) (not (is_link t.kind)) k).1) (ap (λ (y : Site). y.place.index) e)
     (ap (λ (y : Site). y.role) e) (linked P s xs ts a)
 linked P s _ _ (keys {x = x} {xs = xs} {t = t} {ts = ts} c out k e a) =
-    key c (no_link (is_link t.kind) (and_parts (P t.kind) (not (is_link t.kind)) k).1) (ap (λ (y : Site). y.place.index) e) (ap (λ (y : Site). y.role) e)
+    key c (not-true (is_link t.kind) (and_parts (P t.kind) (not (is_link t.kind)) k).1) (ap (λ (y : Site). y.place.index) e) (ap (λ (y : Site). y.role) e)
     (linked P s xs ts a)
 
 linked_append : (s : Source) (xs ys : List Site) (ts us : List Token) → Linked s xs ts → Linked s ys us → Linked s (xs ++ ys) (ts ++ us)

@@ -14,6 +14,7 @@ use Rattle.std.proofs.lemmas.Bool.{and_parts, true≢false}
 use Rattle.std.proofs.lemmas.List.Elements.{All-nil, All-cons}
 use Rattle.std.proofs.lemmas.List.Kept.{IsStrictlySortedBy-filter}
 use Rattle.std.proofs.lemmas.Option.{none-some, same_Some}
+use Rattle.base_lemmas.proofs.Tests.{true_from_T, less_from_test}
 use Rattle.base_files.specs.Packages.{is_of_package, package_files}
 use Rattle.base_files.specs.Workspace.{Workspace, path_cmp}
 use Rattle.go_scanner.specs.Cuts.{IsCut}
@@ -33,18 +34,9 @@ use Rattle.law_tokens.proofs.Ordered.{package_ordered, named_ordered}
 abbrev pub entry_cmp : List ℕ × List ℕ → List ℕ × List ℕ → Ordering
 entry_cmp d e = path_cmp d.0 e.0
 
-is_true : (b : Bool) → T b → b ≡ true
-is_true true h = refl
-is_true false h = absurd h
-
-is_less : (o : Ordering) → is_lt o ≡ true → o ≡ Less
-is_less Less h = refl
-is_less Equal h = absurd (true≢false (sym h))
-is_less Greater h = absurd (true≢false (sym h))
-
 below_entries : (d : List ℕ × List ℕ) (es : List (List ℕ × List ℕ)) → below_all path_cmp d.0 es ≡ true → AllByRecursion (λ e. entry_cmp d e ≡ Less) es
 below_entries d [] h = tt
-below_entries d (e ∷ es) h = let b = and_parts _ _ h in (is_less _ b.0, below_entries d es b.1)
+below_entries d (e ∷ es) h = let b = and_parts _ _ h in (less_from_test _ b.0, below_entries d es b.1)
 
 sorted_entries : (es : List (List ℕ × List ℕ)) → is_sorted path_cmp es ≡ true → IsStrictlySortedBy entry_cmp es
 unfolding IsStrictlySortedBy
@@ -52,7 +44,7 @@ sorted_entries [] h = tt
 sorted_entries (e ∷ es) h = let b = and_parts _ _ h in (below_entries e es b.0, sorted_entries es b.1)
 
 pub files_sorted : (w : Workspace) (p : List ℕ) → IsStrictlySortedBy entry_cmp (package_files w p)
-files_sorted w p = IsStrictlySortedBy-filter entry_cmp (λ e. is_of_package p e.0) (entries w) (sorted_entries (entries w) (is_true _ (entries_sorted w)))
+files_sorted w p = IsStrictlySortedBy-filter entry_cmp (λ e. is_of_package p e.0) (entries w) (sorted_entries (entries w) (true_from_T _ (entries_sorted w)))
 
 abbrev paths_of : List FileParts → List (List ℕ)
 paths_of ts = map (λ (s : SourceFile). s.path) (map source_of ts)

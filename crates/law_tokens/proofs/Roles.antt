@@ -5,6 +5,7 @@ use Rattle.std.specs.List.{AllByRecursion}
 use Rattle.std.proofs.lemmas.Bool.{true≢false}
 use Rattle.std.proofs.lemmas.List.Elements.{All-head, All-tail}
 use Rattle.std.proofs.lemmas.Option.{none-some, same_Some}
+use Rattle.base_lemmas.proofs.EachElement.{all_append}
 use Rattle.go_scanner.specs.declared.piece.Piece.{Piece}
 use Rattle.go_scanner.specs.CutText.{CutText, tokens_in}
 use Rattle.go_ast.specs.declared.syntax.Kind.{Kind}
@@ -31,7 +32,6 @@ use Rattle.law_tokens.specs.Covered.{AreSourceFiles}
 use Rattle.law_tokens.specs.Roles.{IsOfKind, FitsTokens}
 use Rattle.law_tokens.specs.Tokens.{identifiers_among}
 use Rattle.law_tokens.proofs.Covering.{file_pairs}
-use Rattle.law_tokens.proofs.Elements.{all_append}
 use Rattle.law_tokens.proofs.FileIdentifiers.{paired_files}
 use Rattle.law_tokens.proofs.Links.{AreConsecutive, HasKind, Told, ToldIn, file_told}
 use Rattle.law_tokens.proofs.Ordered.{identifier_stays, same_length}

@@ -1,6 +1,7 @@
 -- The sums of what several calls in turn add to what was found.
 use Rattle.std.proofs.Common.{ℕ, ◌≡◌, ◌∷◌, ◌++◌, [], List, ap, sym, ◌∙◌, refl, append_assoc, append-nil, subst, Option, option_map, map, Bool, true, false}
 use Rattle.std.proofs.Common.{◌&&◌, ◌||◌}
+use Rattle.std.proofs.Math.Bool.{or-false}
 use Rattle.types_expr.specs.declared.found.FoundInFile.{FoundInFile}
 use Rattle.types_expr.specs.declared.keys.ElementKey.{ElementKey}
 use Rattle.types_expr.specs.Types.{Meaning, Kind, PlainType}
@@ -229,10 +230,6 @@ pub reached_elements_as : {total rest : JudgedElements} {before now : FoundInFil
 reached_elements_as {total} {rest} {before} {now} {a} {b} {c} {d} e f r =
     subst (λ (x : Bool). ReachedElements total rest before now c x) (sym f) (subst (λ (x : Bool). ReachedElements total rest before now x b) (sym e) r)
 
-or_end : (a : Bool) → (a || false) ≡ a
-or_end true = refl
-or_end false = refl
-
 and_end : (a : Bool) → (a && true) ≡ a
 and_end true = refl
 and_end false = refl
@@ -244,7 +241,7 @@ reached_elements_end {total} {rest} {before} {now} {whole} {unkeyed} c e =
     let t : elements_then c.so_far no_elements ≡ total = ap (λ r. elements_then c.so_far r) (sym e) ∙ c.goes_on in
     record {
       whole = c.adds.whole ∙ (sym (and_end c.so_far.whole) ∙ ap (λ x. x.whole) t);
-      unkeyed = c.adds.unkeyed ∙ (sym (or_end c.so_far.unkeyed) ∙ ap (λ x. x.unkeyed) t);
+      unkeyed = c.adds.unkeyed ∙ (sym (or-false c.so_far.unkeyed) ∙ ap (λ x. x.unkeyed) t);
       faults = c.adds.faults ∙ (ap (λ x. before.faults.items ++ x) (sym (append-nil c.so_far.faults)) ∙ ap (λ x. before.faults.items ++ x.faults) t);
       uses = c.adds.uses ∙ (ap (λ x. map use_of before.uses.items ++ x) (sym (append-nil c.so_far.uses)) ∙ ap (λ x. map use_of before.uses.items ++ x.uses) t);
     }

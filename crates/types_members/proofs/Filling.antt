@@ -5,6 +5,7 @@ use Rattle.std.proofs.Math.ListN.{set}
 use Rattle.std.proofs.lemmas.Bool.{cases_lt, cases_eq}
 use Rattle.std.proofs.lemmas.List.{get_or-set_same, get_or-set_other, length-set}
 use Rattle.std.proofs.lemmas.Option.{same_Some, none-some, slice_get_within, slice_get-get_or}
+use Rattle.base_lemmas.proofs.Tests.{none_from_map}
 use Rattle.go_scope.specs.WellFormed.{WellFormed}
 use Rattle.go_ast.specs.Tree.{TypeTree, BodyTree, Other, Struct}
 use Rattle.types_expr.specs.declared.world.Underlying.{Underlying}
@@ -32,10 +33,6 @@ mapped_some : {X Y : Type 0} (f : X → Y) (o : Option X) (y : Y) → option_map
 mapped_some f None y e = absurd (none-some y e)
 mapped_some f (Some x) y e = (x, (refl, same_Some (f x) y e))
 
-mapped_none : {X Y : Type 0} (f : X → Y) (o : Option X) → option_map f o ≡ None → o ≡ None
-mapped_none f None e = refl
-mapped_none f (Some x) e = absurd (none-some (f x) (sym e))
-
 abbrev Sound : Package → List (Option Underlying) → Type 0
 Sound p found = (rank : ℕ) (u : Underlying) → get_or found rank None ≡ Some u → HasUnderlying p (Defined (symbol_in p rank)) (underlying_of u)
 
@@ -51,7 +48,7 @@ taken_there : (p : Package) (order : List ℕ) (count : ℕ) (s : NameStep) (fou
     ComesAfterTarget s order count → reached_type s found ≡ None → ⊥
 taken_there p order count (Ends w) found h behind e = none-some (underlying_of w) (sym e)
 taken_there p order count (Continues to) found h behind e =
-    h.filled behind.0 behind.1.0 (ap (λ k. get_or found k None) behind.1.1 ∙ mapped_none underlying_of (get_or found to None) e)
+    h.filled behind.0 behind.1.0 (ap (λ k. get_or found k None) behind.1.1 ∙ none_from_map underlying_of (get_or found to None) e)
 taken_there p order count Nothing found h behind e = behind
 
 pub none_filled : (p : Package) (order : List ℕ) (found : List (Option Underlying)) → length found ≡ length (package_types p) →

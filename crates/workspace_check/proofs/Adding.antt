@@ -5,6 +5,7 @@ use Rattle.std.specs.Global.{Vec}
 use Rattle.std.proofs.lemmas.Bool.{true≢false, false≢true}
 use Rattle.std.proofs.lemmas.List.{length-take, get_or-take}
 use Rattle.std.proofs.lemmas.Option.{none-some, slice_get_within, get_or_from_slice_get}
+use Rattle.base_lemmas.proofs.Elements.{nothing_in}
 use Rattle.base_files.specs.Workspace.{Workspace}
 use Rattle.base_files.specs.Packages.{package_paths}
 use Rattle.types_expr.specs.declared.found.MemberUse.{MemberUse}
@@ -24,7 +25,7 @@ use Rattle.workspace_check.specs.Steps.{IsBuildOrder, IsJudged, AddsOptional, Le
 use Rattle.workspace_check.proofs.Alike.{KnowsAlike, alike_back, package_as, fault_as}
 use Rattle.workspace_check.proofs.Closed.{to_package}
 use Rattle.workspace_check.proofs.Knowing.{same_known}
-use Rattle.workspace_check.proofs.Members.{nothing_in, some_in}
+use Rattle.workspace_check.proofs.Members.{some_in}
 
 -- one package
 

@@ -3,6 +3,7 @@ use Rattle.std.proofs.Common.{ℕ, ◌≡◌, true, List, [], refl, subst}
 use Rattle.std.specs.Prelude.{Contains, None, codes}
 use Rattle.std.specs.List.Sorted.{IsStrictlySortedBy}
 use Rattle.std.specs.declared.cmp.Ordering.TheVariants.{Less}
+use Rattle.base_lemmas.proofs.Elements.{nothing_in}
 use Rattle.base_files.specs.Workspace.{Workspace}
 use Rattle.base_files.specs.Packages.{package_paths}
 use Rattle.base_files.specs.declared.fault_kind.FaultKind.{FaultKind}
@@ -16,7 +17,6 @@ use Rattle.workspace_check.specs.Faults.{fault_cmp}
 use Rattle.workspace_check.specs.Verdicts.{BuildsOn, Verdicts, IsStateOf, is_missing, is_on_cycle, IsSeenAs, unseen}
 use Rattle.workspace_check.specs.FaultLists.{ListsFaults}
 use Rattle.workspace_check.proofs.Closed.{to_package, not_on_itself}
-use Rattle.workspace_check.proofs.Members.{nothing_in}
 
 abbrev fault_at : List ℕ → ℕ → FaultKind → FileFault
 fault_at path offset k = record { place = record { path = path; offset = offset }; kind = k }

@@ -6,6 +6,7 @@ use Rattle.std.proofs.lemmas.Bool.{cases_eq}
 use Rattle.std.proofs.Math.Path.{ap₂}
 use Rattle.std.proofs.lemmas.List.{length-map, length-set, map-append, take_more}
 use Rattle.std.proofs.lemmas.Option.{same_Some, slice_get_within, slice_get-map}
+use Rattle.base_lemmas.proofs.Elements.{nothing_in}
 use Rattle.base_files.specs.Workspace.{Workspace}
 use Rattle.base_files.specs.Packages.{package_paths}
 use Rattle.workspace_graph.proofs.ByPath.{number}
@@ -19,7 +20,6 @@ use Rattle.workspace_check.specs.KnownFindings.{verdicts_by, AreNamedEntries, Is
 use Rattle.workspace_check.specs.Steps.{AreKnown, AreGathered, AreAllGathered, AreKnownBelow, IsGathered, IsBuildOrder, KnowsAllFindings, AddsFinding, LearnsIfMissing, somes}
 use Rattle.workspace_check.proofs.Adding.{finding_as}
 use Rattle.workspace_check.proofs.Knowing.{learnt_next}
-use Rattle.workspace_check.proofs.Members.{nothing_in}
 use Rattle.workspace_check.proofs.OneVerdict.{right_alike, right_below}
 
 -- one finding more

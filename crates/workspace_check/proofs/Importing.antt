@@ -6,6 +6,7 @@ use Rattle.std.proofs.Math.Path.{ap₂}
 use Rattle.std.proofs.lemmas.Bool.{cases_lt}
 use Rattle.std.proofs.lemmas.List.{get_or_past, map-append}
 use Rattle.std.proofs.lemmas.Option.{slice_get-get_or}
+use Rattle.base_lemmas.proofs.Elements.{is_mapped, nothing_in, first_in, later_in, first_or_later}
 use Rattle.base_files.specs.Workspace.{Workspace}
 use Rattle.base_files.specs.Packages.{package_files}
 use Rattle.go_scanner.specs.declared.piece.Piece.{Piece}
@@ -27,7 +28,6 @@ use Rattle.types_declared.specs.States.{import_fault}
 use Rattle.types_resolve.specs.Stages.{IsOuterFault}
 use Rattle.workspace_check.specs.Verdicts.{Verdicts, AreStates}
 use Rattle.workspace_check.proofs.Alike.{first_as}
-use Rattle.workspace_check.proofs.Members.{nothing_in, first_in, later_in, first_or_later}
 use Rattle.workspace_check.proofs.OneSeen.{one_state}
 use Rattle.workspace_check.proofs.PackageFiles.{file_among}
 
@@ -49,15 +49,8 @@ literals_agree (d ∷ ds) =
     map-append (λ (i : ImportTree). i.path) (group_items d.imports) (flat_map (λ (e : ImportsTree). group_items e.imports) ds)
     ∙ ap₂ (λ xs ys. xs ++ ys) (group_literals d.imports) (literals_agree ds)
 
-map_contains : {X Y : Type 0} (f : X → Y) (xs : List X) (x : X) → Contains xs x → Contains (map f xs) (f x)
-map_contains f [] x h = absurd (nothing_in x h)
-map_contains f (y ∷ ys) x h = elim (first_or_later y ys x h) [
-  | inl e ↦ subst (Contains (map f (y ∷ ys))) (ap f e) (first_in (f y) (map f ys))
-  | inr c ↦ later_in (f y) (map f ys) (f x) (map_contains f ys x c)
-]
-
 literal_there : (t : FileTree) (i : ImportTree) → Contains (imports_in t) i → Contains (import_literals t) i.path
-literal_there t i h = subst (λ l. Contains l i.path) (literals_agree t.imports) (map_contains (λ (j : ImportTree). j.path) (imports_in t) i h)
+literal_there t i h = subst (λ l. Contains l i.path) (literals_agree t.imports) (is_mapped (λ (j : ImportTree). j.path) (imports_in t) i h)
 
 -- an empty piece is no literal
 not_string : IsStringClass (semicolon 0).class → ⊥

@@ -3,6 +3,7 @@ use Rattle.std.proofs.Common.{ℕ, ◌≡◌, ◌<◌, ◌↔◌, inl, inr, List
 use Rattle.std.specs.Prelude.{Contains, Option, Some, None, slice_get}
 use Rattle.std.specs.Global.{Vec}
 use Rattle.std.specs.List.Sorted.{IsStrictlySortedBy}
+use Rattle.base_lemmas.proofs.Elements.{nothing_in}
 use Rattle.base_files.specs.Workspace.{Workspace}
 use Rattle.base_files.specs.Packages.{package_paths, package_files}
 use Rattle.types_declared.specs.declared.fault.Fault.{Fault}
@@ -30,7 +31,7 @@ use Rattle.workspace_check.specs.Verdicts.{Verdicts, AreStates, AreSeen, IsPacka
 use Rattle.workspace_check.specs.Steps.{IsPlacedFault, IsSomePlacedFault, IsJudged}
 use Rattle.workspace_check.proofs.FaultFiles.{in_outer, in_later, identifiers_stand, some_source}
 use Rattle.workspace_check.proofs.Importing.{outer_as}
-use Rattle.workspace_check.proofs.Members.{nothing_in, some_in, empty_by, not_empty_by}
+use Rattle.workspace_check.proofs.Members.{some_in, empty_by, not_empty_by}
 use Rattle.workspace_check.proofs.OnePackage.{one_sources, one_checked}
 use Rattle.workspace_check.proofs.PackageFiles.{package_file, some_tree}
 use Rattle.workspace_check.proofs.Unread.{none_unread}

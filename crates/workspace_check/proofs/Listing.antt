@@ -5,6 +5,7 @@ use Rattle.std.specs.List.{flat_map}
 use Rattle.std.specs.List.Sorted.{IsStrictlySortedBy}
 use Rattle.std.proofs.lemmas.List.Elements.{Contains-append_left, Contains-append_right, Contains-append_cases}
 use Rattle.std.proofs.lemmas.Option.{same_Some, none-some, slice_get_within}
+use Rattle.base_lemmas.proofs.Elements.{nothing_in}
 use Rattle.base_files.specs.Workspace.{Workspace}
 use Rattle.base_files.specs.Packages.{package_paths}
 use Rattle.workspace_graph.proofs.ByPath.{number, at_contains}
@@ -16,7 +17,6 @@ use Rattle.workspace_check.specs.Faults.{fault_cmp}
 use Rattle.workspace_check.specs.FaultLists.{IsFaultOfSome, ListsFaults}
 use Rattle.workspace_check.specs.Found.{AreFindings}
 use Rattle.workspace_check.specs.KnownFindings.{verdicts_by}
-use Rattle.workspace_check.proofs.Members.{nothing_in}
 
 abbrev pub faults_in : Finding → List FileFault
 faults_in f = f.faults.items

@@ -2,10 +2,11 @@
 use Rattle.std.proofs.Common.{ℕ, suc, ◌≡◌, ◌<◌, List, [], ◌∷◌, length, map, arith}
 use Rattle.std.specs.Prelude.{Some, slice_get}
 use Rattle.std.specs.List.{AllByRecursion}
+use Rattle.base_lemmas.proofs.EachElement.{all_append}
 use Rattle.go_ast.specs.Tree.{Item, FieldTree, BodyTree, Other, Struct, DeclTree, VarDecl, TypeDecl, FuncDecl}
 use Rattle.go_ast.specs.SourceFile.{SourceFile}
 use Rattle.types_declared.specs.Files.{RankedSource, ranked_files, group_items}
-use Rattle.law_tokens.proofs.Elements.{all_append, all_got, all_flat, all_made, all_map, all_numbered}
+use Rattle.law_tokens.proofs.Elements.{all_got, all_flat, all_made, all_map, all_numbered}
 use Rattle.types_declared.specs.Package.{Package, PlacedType, PlacedFunction, placed_type, decl_types, decl_functions, types_in, functions_in, package_types}
 use Rattle.types_declared.specs.Package.{package_functions}
 use Rattle.types_declared.specs.Definitions.{PlacedField, body_fields, fields_from, package_fields}

@@ -7,13 +7,12 @@ use Rattle.std.proofs.lemmas.Bool.{true≢false, cases_lt, eqb-true, eqb-false}
 use Rattle.std.proofs.lemmas.List.{take_more, nil_from_length}
 use Rattle.std.proofs.lemmas.List.Elements.{Contains-append_left, Contains-push}
 pub use Rattle.workspace_graph.proofs.Collected.{more_cases as taken_or_next}
-pub use Rattle.workspace_graph.proofs.SortedLists.{first_in, later_in, first_or_later, one_sorted}
+pub use Rattle.workspace_graph.proofs.SortedLists.{one_sorted}
+use Rattle.base_lemmas.proofs.Tests.{not_below}
+use Rattle.base_lemmas.proofs.Elements.{nothing_in, first_in, first_or_later, later_in}
 use Rattle.types_declared.proofs.ByteKeys.{cases_bytes}
 
 -- nothing, or something
-
-pub nothing_in : {X : Type 0} (x : X) → Contains [] x → ⊥
-nothing_in x h = let lt : h.0 < 0 = h.1 in omega arith
 
 pub some_in : {X : Type 0} (xs : List X) → (xs ≡ [] → ⊥) → (x : X) × Contains xs x
 some_in [] ne = absurd (ne refl)
@@ -82,5 +81,3 @@ pub vec_empty : {X : Type 0} (xs : Vec X) (b : Bool) → b ≡ nat_eq (vec_len x
 vec_empty xs b is passed_it = nil_from_length xs.items (sym xs.ok.0 ∙ eqb-true (vec_len xs) 0 (sym is ∙ passed_it))
 
 -- a test that fails
-pub not_below : (i n : ℕ) → (i < n → false ≡ true) → n ≤ i
-not_below i n h = elim (cases_lt i n) [ inl lt ↦ absurd (true≢false (sym (h lt))) | inr ge ↦ ge ]

@@ -2,6 +2,7 @@
 use Rattle.std.proofs.Common.{ℕ, ◌≡◌, ◌⊎◌, inl, inr, true, false, List, [], sym, ap, subst, ◌∙◌}
 use Rattle.std.specs.Prelude.{Contains, Some, None, slice_get}
 use Rattle.std.proofs.lemmas.Option.{same_Some}
+use Rattle.base_lemmas.proofs.Elements.{nothing_in}
 use Rattle.base_files.specs.Workspace.{Workspace}
 use Rattle.base_files.specs.Packages.{package_paths}
 use Rattle.workspace_graph.specs.Graphs.{ListsPackages}
@@ -16,7 +17,7 @@ use Rattle.workspace_check.specs.KnownFindings.{is_unknown, verdicts_by}
 use Rattle.workspace_check.specs.Verdicts.{BuildsOn, Verdicts, IsStateOf, is_missing, AreStates, IsSeenAs, AreSeen}
 use Rattle.workspace_check.specs.Steps.{HasSameEntries}
 use Rattle.workspace_check.proofs.Closed.{imports_closed}
-use Rattle.workspace_check.proofs.Members.{nothing_in, cases_contains}
+use Rattle.workspace_check.proofs.Members.{cases_contains}
 
 -- the packages of some numbers are noted, and what is no package is missing
 pub record AreNoted (w : Workspace) (known : Verdicts) (p : List ℕ) (numbers : List ℕ) (state : List ℕ → ImportState) : Type 0 where

@@ -2,6 +2,7 @@
 use Rattle.std.proofs.Common.{ℕ, ◌≡◌, inl, inr, false, List, []}
 use Rattle.std.specs.Prelude.{Contains}
 use Rattle.std.proofs.lemmas.Bool.{cases_Bool}
+use Rattle.base_lemmas.proofs.Elements.{nothing_in}
 use Rattle.base_files.specs.Workspace.{Workspace}
 use Rattle.base_files.specs.Packages.{package_paths}
 use Rattle.workspace_check.specs.declared.fault.FileFault.{FileFault}
@@ -9,7 +10,7 @@ use Rattle.workspace_check.specs.Faults.{fault_cmp_total}
 use Rattle.workspace_check.specs.Verdicts.{Verdicts, IsFaultBy, HasExportData, AreVerdictsBelow, AreVerdicts}
 use Rattle.workspace_check.specs.FaultLists.{AreListed, IsFaultOfSome, ListsPackageFaults, ListsFaults}
 use Rattle.workspace_check.proofs.Alike.{fault_as}
-use Rattle.workspace_check.proofs.Members.{nothing_in, one_sorted}
+use Rattle.workspace_check.proofs.Members.{one_sorted}
 use Rattle.workspace_check.proofs.OneVerdict.{right_alike, right_below, verdict_by}
 
 one_listed : (P Q : FileFault → Type 0) (a b : List FileFault) → ((f : FileFault) → P f → Q f) → ((f : FileFault) → Q f → P f) → AreListed P a →

@@ -11,6 +11,7 @@ use Rattle.std.proofs.lemmas.Bool.{and_from, and_parts}
 use Rattle.std.proofs.lemmas.Map.Keys.{any_passes_from_place}
 use Rattle.std.proofs.lemmas.Map.Views.{Contains-from_any}
 use Rattle.std.proofs.lemmas.Option.{slice_get_read, slice_get_within, get_or_from_slice_get}
+use Rattle.base_lemmas.proofs.Elements.{nothing_in, first_in, later_in, first_or_later}
 use Rattle.base_files.specs.Path.{folder}
 use Rattle.base_files.specs.Packages.{is_go, is_of_package, package_paths, package_files}
 use Rattle.base_files.specs.Workspace.{Workspace, path_cmp}
@@ -20,7 +21,7 @@ use Rattle.workspace_graph.specs.Packages.{IsParsed}
 use Rattle.workspace_graph.specs.Parsed.{AreParsed, none, tree}
 use Rattle.types_declared.specs.Package.{Package}
 use Rattle.workspace_check.specs.Verdicts.{Verdicts, IsPackageIn}
-use Rattle.workspace_check.proofs.Members.{nothing_in, first_in, later_in, first_or_later, passes, passed}
+use Rattle.workspace_check.proofs.Members.{passes, passed}
 
 -- what a mapped list holds
 pub mapped : {X Y : Type 0} (f : X → Y) (xs : List X) (y : Y) → Contains (map f xs) y → (x : X) × (Contains xs x × (f x ≡ y))

@@ -3,12 +3,13 @@ use Rattle.std.proofs.Common.{ℕ, ◌≡◌, ◌+◌, ◌<◌, ◌↔◌, inl, 
 use Rattle.std.specs.Prelude.{Contains, Some, None, slice_get, option_map}
 use Rattle.std.proofs.lemmas.List.Elements.{Contains-append_left, Contains-push, Contains-push_cases}
 use Rattle.std.proofs.lemmas.Option.{none-some, same_Some, slice_get-map}
+use Rattle.base_lemmas.proofs.Elements.{nothing_in}
 use Rattle.types_declared.specs.declared.fault.Fault.{Fault}
 use Rattle.go_ast.specs.SourceFile.{SourceFile, FileParts, source_of, offset_of}
 use Rattle.workspace_check.specs.declared.fault.FileFault.{FileFault}
 use Rattle.workspace_check.specs.Faults.{placed_in}
 use Rattle.workspace_check.specs.Steps.{IsPlacedFault, IsSomePlacedFault, AddsPlaced}
-use Rattle.workspace_check.proofs.Members.{nothing_in, taken_or_next, still_taken, next_taken}
+use Rattle.workspace_check.proofs.Members.{taken_or_next, still_taken, next_taken}
 
 -- one fault
 

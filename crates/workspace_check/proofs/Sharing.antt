@@ -2,6 +2,7 @@
 use Rattle.std.proofs.Common.{ℕ, ◌≡◌, ◌⊎◌, inl, inr, List, [], refl, sym, ap, subst, ◌∙◌}
 use Rattle.std.specs.Prelude.{Contains, Option, Some, None, slice_get}
 use Rattle.std.proofs.lemmas.Option.{same_Some}
+use Rattle.base_lemmas.proofs.Elements.{nothing_in}
 use Rattle.base_files.specs.Workspace.{Workspace}
 use Rattle.base_files.specs.Packages.{package_paths}
 use Rattle.workspace_graph.specs.Graphs.{ListsPackages}
@@ -14,7 +15,6 @@ use Rattle.types_declared.proofs.ByteKeys.{cases_bytes}
 use Rattle.workspace_check.specs.Verdicts.{BuildsOn, IsSeenAs, seen, unseen, AreSeen}
 use Rattle.workspace_check.specs.KnownFindings.{is_unknown, verdicts_by, AreNamedEntries}
 use Rattle.workspace_check.proofs.Closed.{to_package}
-use Rattle.workspace_check.proofs.Members.{nothing_in}
 
 -- one of some packages, by their numbers, on which p builds
 pub record IsSharedOf (w : Workspace) (p : List ℕ) (numbers : List ℕ) (q : List ℕ) : Type 0 where

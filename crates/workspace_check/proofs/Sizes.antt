@@ -14,6 +14,7 @@ use Rattle.std.proofs.lemmas.Map.Keys.{IsDistinct-IsPermutation, IsDistinct-cons
 use Rattle.std.proofs.lemmas.Map.Keys.{IsDistinct-from_apart, below_from_sorted}
 use Rattle.std.proofs.lemmas.Map.Made.{length-le_from_is_member, is_member-Decides}
 use Rattle.std.proofs.lemmas.Option.{same_Some, get_or_from_slice_get, slice_get-get_or, slice_get_within}
+use Rattle.base_lemmas.proofs.Elements.{first_or_later}
 use Rattle.base_files.specs.Workspace.{Workspace}
 use Rattle.base_files.specs.Packages.{package_paths}
 use Rattle.workspace_graph.specs.Imports.{LinkTable, ListsBelow}
@@ -23,7 +24,6 @@ use Rattle.workspace_graph.proofs.ByPath.{number, reaches_are}
 use Rattle.workspace_check.specs.Verdicts.{BuildsOn}
 use Rattle.workspace_check.specs.Steps.{IsClosureSize, AreClosureSizes, IsBuildOrder}
 use Rattle.workspace_check.proofs.Closed.{from_package, in_closure_then}
-use Rattle.workspace_check.proofs.Members.{first_or_later}
 
 -- numbers in order differ
 distinct_rising : (xs : List ℕ) → IsStrictlyIncreasing xs → IsDistinct nat_eq xs

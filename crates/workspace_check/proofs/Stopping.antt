@@ -4,6 +4,7 @@ use Rattle.std.specs.Prelude.{Contains, Option, Some}
 use Rattle.std.specs.List.{flat_map, enumerate_from}
 use Rattle.std.proofs.lemmas.Bool.{true≢false}
 use Rattle.std.proofs.lemmas.Option.{get_or_from_slice_get}
+use Rattle.base_lemmas.proofs.Elements.{nothing_in, first_in, later_in, first_or_later}
 use Rattle.base_files.specs.Workspace.{Workspace}
 use Rattle.base_files.specs.Packages.{package_files}
 use Rattle.base_files.specs.declared.fault_kind.FaultKind.{FaultKind}
@@ -33,7 +34,6 @@ use Rattle.types_declared.specs.Package.{ExportData}
 use Rattle.workspace_check.specs.Verdicts.{Verdicts, IsStateOf, is_missing, is_on_cycle, is_faulty, is_good, AreStates}
 use Rattle.workspace_check.specs.Steps.{ImportsFaulty, IsStoppedResult}
 use Rattle.workspace_check.proofs.Importing.{literals_agree}
-use Rattle.workspace_check.proofs.Members.{nothing_in, first_in, later_in, first_or_later}
 use Rattle.workspace_check.proofs.PackageFiles.{mapped}
 
 -- an import of a path, among a file's

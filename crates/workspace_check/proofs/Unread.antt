@@ -2,6 +2,7 @@
 use Rattle.std.proofs.Common.{ℕ, ◌≡◌, ◌↔◌, inl, inr, List, [], ◌∷◌, refl, sym, ap, subst, ◌∙◌, MatchOption}
 use Rattle.std.specs.Prelude.{Contains, None}
 use Rattle.std.specs.List.Sorted.{IsStrictlySortedBy}
+use Rattle.base_lemmas.proofs.Elements.{nothing_in, first_in, later_in, first_or_later}
 use Rattle.base_files.specs.Workspace.{Workspace}
 use Rattle.base_files.specs.Packages.{package_files}
 use Rattle.go_scanner.specs.declared.refusal.TextFault.{TextFault as TextFault}
@@ -24,7 +25,7 @@ use Rattle.workspace_check.specs.Faults.{placed, fault_cmp}
 use Rattle.types_declared.specs.ExportTablesView.{export_data_of}
 use Rattle.workspace_check.specs.Verdicts.{Verdicts, IsUnreadFault, HasExportData}
 use Rattle.workspace_check.specs.Steps.{unread_faults, IsJudged}
-use Rattle.workspace_check.proofs.Members.{nothing_in, first_in, later_in, first_or_later, not_empty_by}
+use Rattle.workspace_check.proofs.Members.{not_empty_by}
 
 -- a text has one first fault
 

@@ -7,11 +7,11 @@ use Rattle.std.proofs.Math.ListN.{set}
 use Rattle.std.proofs.lemmas.Bool.{cases_eq, false≢true}
 use Rattle.std.proofs.lemmas.List.{get_or-set_other, get_or-set_same, get_or-take, get_or_default, length-replicate, length-take-le, take_more}
 use Rattle.std.proofs.lemmas.List.Elements.{Contains-append_left, Contains-push, Contains-push_cases}
+use Rattle.base_lemmas.proofs.Elements.{nothing_in}
 use Rattle.workspace_graph.specs.Closures.{IsBuiltOnList}
 use Rattle.workspace_graph.specs.Imports.{AreImporterRows, LinkTable, Imports, Reaches, row_of, itself, through}
 use Rattle.workspace_graph.specs.Search.{ListsMarked, IsMarked, MarksWayBack}
 use Rattle.workspace_graph.proofs.KeptImporters.{importer_below}
-use Rattle.workspace_graph.proofs.Collected.{none_held}
 use Rattle.workspace_graph.proofs.OrderedPackages.{rising_by, rising_push}
 use Rattle.workspace_graph.proofs.Reached.{Reaches-trans, none_in}
 use Rattle.workspace_graph.proofs.SearchSteps.{marked_within}
@@ -32,7 +32,7 @@ pub record IsWithout (ns : List ℕ) (one k : ℕ) (rest : List ℕ) : Type 0 wh
 
 pub without_none : (ns : List ℕ) (one : ℕ) (rest : List ℕ) → rest ≡ [] → IsWithout ns one 0 rest
 without_none ns one rest empty = subst (IsWithout ns one 0) (sym empty) (record {
-  each = λ q. (λ has. absurd (none_held q has), λ h. absurd (none_held q h.0));
+  each = λ q. (λ has. absurd (nothing_in q has), λ h. absurd (nothing_in q h.0));
   rising = λ k h. absurd (omega (arith, h));
 })
 

@@ -6,11 +6,13 @@ use Rattle.std.specs.Cmp.{tied_itself}
 use Rattle.std.specs.FinMap.{entries, get, get-insert, get-remove, insert, remove}
 use Rattle.std.specs.List.{Contains, list_any}
 use Rattle.std.specs.Ordering.{eq_by_cmp, is_eq}
-use Rattle.std.proofs.lemmas.Bool.{true≢false}
+use Rattle.std.proofs.lemmas.Bool.{true≢false, false_from_ne_true}
 use Rattle.std.proofs.lemmas.List.Elements.{All-contains, All-from_recursion, Contains-append_cases, Contains-append_left, Contains-append_right}
 use Rattle.std.proofs.lemmas.List.Elements.{Contains-push_cases}
 use Rattle.std.proofs.lemmas.List.{map_push, take_more}
 use Rattle.std.proofs.lemmas.Map.Views.{Contains-from_any}
+use Rattle.std.proofs.Math.Bool.{or-true}
+use Rattle.base_lemmas.proofs.Elements.{nothing_in, first_in, first_or_later, later_in}
 use Rattle.base_files.specs.Path.{folder}
 use Rattle.base_files.specs.Packages.{is_go, is_of_package, package_files, package_paths}
 use Rattle.base_files.specs.Workspace.{Workspace, path_cmp}
@@ -20,10 +22,7 @@ use Rattle.workspace_graph.specs.Borrows.{names}
 use Rattle.workspace_graph.specs.Graphs.{paths_of}
 use Rattle.workspace_graph.specs.ChangedFiles.{HaveFolders, SetsAt}
 use Rattle.workspace_graph.specs.declared.package.ParsedPackage.{ParsedPackage}
-use Rattle.workspace_graph.proofs.Collected.{none_held}
 use Rattle.workspace_graph.proofs.PackagePaths.{all_there, exact_names, folder_cmp, has_inserted}
-use Rattle.workspace_graph.proofs.FoundFolders.{not_true}
-use Rattle.workspace_graph.proofs.SortedLists.{first_in, first_or_later, later_in}
 use Rattle.workspace_graph.proofs.StayingPackages.{any_of}
 
 abbrev Entry : Type 0
@@ -39,14 +38,10 @@ is_among {P} q ks there apart = elim (list_any (eq_by_cmp path_cmp q) ks) as (λ
   | false ↦ λ is. apart (λ has. true≢false (sym (any_of q ks has) ∙ is))
 ] refl
 
-or_true : (a : Bool) → (a || true) ≡ true
-or_true true = refl
-or_true false = refl
-
 -- ---- the folders of paths
 pub folder_kept : (ks : List (Bor (List ℕ))) (k : Bor (List ℕ)) (q : List ℕ) → Contains (names ks) q → Contains (names (insert_key folder_cmp ks k)) q
 folder_kept ks k q has = Contains-from_any exact_names q (names (insert_key folder_cmp ks k))
-    (has_inserted ks k q ∙ ap (λ b. eq_by_cmp path_cmp q k.now || b) (any_of q ks_names has) ∙ or_true (eq_by_cmp path_cmp q k.now))
+    (has_inserted ks k q ∙ ap (λ b. eq_by_cmp path_cmp q k.now || b) (any_of q ks_names has) ∙ or-true (eq_by_cmp path_cmp q k.now))
   where
     ks_names : List (List ℕ)
     ks_names = names ks
@@ -56,7 +51,7 @@ folder_added ks k = Contains-from_any exact_names k.now (names (insert_key folde
     (has_inserted ks k k.now ∙ ap (λ b. b || list_any (eq_by_cmp path_cmp k.now) (names ks)) (same_path k.now k.now refl))
 
 pub folders_none : (ks : List (List ℕ)) → HaveFolders [] ks
-folders_none ks path has = absurd (none_held path has)
+folders_none ks path has = absurd (nothing_in path has)
 
 pub folders_more : (paths : List (List ℕ)) (path : List ℕ) (ks : List (Bor (List ℕ))) (k : Bor (List ℕ)) → HaveFolders paths (names ks) → k.now ≡ folder path →
     HaveFolders (paths ++ path ∷ []) (names (insert_key folder_cmp ks k))
@@ -74,7 +69,7 @@ names_more paths k item below is =
 
 -- ---- the files that pass a test
 in_filter : (test : Entry → Bool) (es : List Entry) (e : Entry) → Contains es e → test e ≡ true → Contains (filter test es) e
-in_filter test [] e has is = absurd (none_held e has)
+in_filter test [] e has is = absurd (nothing_in e has)
 in_filter test (d ∷ es) e has is = ⊎_elim
     (λ (here : d ≡ e). subst (λ b. Contains (cond b (d ∷ filter test es) (filter test es)) e) (sym (ap test here ∙ is))
     (subst (Contains (d ∷ filter test es)) here (first_in d (filter test es))))
@@ -85,7 +80,7 @@ in_filter test (d ∷ es) e has is = ⊎_elim
     (first_or_later d es e has)
 
 of_filter : (test : Entry → Bool) (es : List Entry) (e : Entry) → Contains (filter test es) e → Contains es e
-of_filter test [] e has = absurd (none_held e has)
+of_filter test [] e has = absurd (nothing_in e has)
 of_filter test (d ∷ es) e has = elim (test d) as (λ b. Contains (cond b (d ∷ filter test es) (filter test es)) e → Contains (d ∷ es) e) [
   | true ↦ λ among. ⊎_elim
       (λ (here : d ≡ e). subst (Contains (d ∷ es)) here (first_in d es))
@@ -95,7 +90,7 @@ of_filter test (d ∷ es) e has = elim (test d) as (λ b. Contains (cond b (d �
 ] has
 
 passes_filter : (test : Entry → Bool) (es : List Entry) (e : Entry) → Contains (filter test es) e → test e ≡ true
-passes_filter test [] e has = absurd (none_held e has)
+passes_filter test [] e has = absurd (nothing_in e has)
 passes_filter test (d ∷ es) e has = elim (test d) as (λ b. test d ≡ b → Contains (cond b (d ∷ filter test es) (filter test es)) e → test e ≡ true) [
   | true ↦ λ is among. ⊎_elim
       (λ (here : d ≡ e). ap test (sym here) ∙ is)
@@ -120,14 +115,14 @@ has_package v path text go at =
     (All-from_recursion (λ (e : Entry). is_go e.0 ≡ true → Contains (package_paths v) (folder e.0)) (entries v) (all_there v)) (entry_of v path text at) go
 
 pub path_in : (ps : List ParsedPackage) (p : ParsedPackage) → Contains ps p → Contains (paths_of ps) p.path.items
-path_in [] p has = absurd (none_held p has)
+path_in [] p has = absurd (nothing_in p has)
 path_in (q ∷ ps) p has = ⊎_elim
     (λ (is : q ≡ p). subst (λ (x : ParsedPackage). Contains (q.path.items ∷ paths_of ps) x.path.items) is (first_in q.path.items (paths_of ps)))
     (λ (later : Contains ps p). later_in q.path.items (paths_of ps) p.path.items (path_in ps p later))
     (first_or_later q ps p has)
 
 pub one_in : (x y : List ℕ) → Contains (x ∷ []) y → x ≡ y
-one_in x y has = ⊎_elim (λ (is : x ≡ y). is) (λ (rest : Contains [] y). absurd (none_held y rest)) (first_or_later x [] y has)
+one_in x y has = ⊎_elim (λ (is : x ≡ y). is) (λ (rest : Contains [] y). absurd (nothing_in y rest)) (first_or_later x [] y has)
 
 -- ---- paths are set to what other files have there
 at_set : (o : Option (List ℕ)) (part new : Workspace) (q path : List ℕ) → (o ≡ None → new ≡ remove part q) →
@@ -142,11 +137,11 @@ resets_one w part new q gone set = record {
       let same = one_in q path has in
       at_set (get w q) part new q path gone set ∙ ap (λ b. cond b (get w q) (get part path)) (same_path path q (sym same)) ∙ ap (get w) same;
   others = λ path apart. at_set (get w q) part new q path gone set ∙ ap (λ b. cond b (get w q) (get part path))
-      (not_true (eq_by_cmp path_cmp path q) (λ tied. apart (subst (Contains (q ∷ [])) (sym (exact_names path q tied)) (first_in q []))));
+      (false_from_ne_true (eq_by_cmp path_cmp path q) (λ tied. apart (subst (Contains (q ∷ [])) (sym (exact_names path q tied)) (first_in q []))));
 }
 
 pub resets_none : (w part : Workspace) → SetsAt w [] part part
-resets_none w part = record { own = λ path has. absurd (none_held path has); others = λ path apart. refl }
+resets_none w part = record { own = λ path has. absurd (nothing_in path has); others = λ path apart. refl }
 
 pub resets_more : (w : Workspace) (first second : List (List ℕ)) (a b c : Workspace) → SetsAt w first a b → SetsAt w second b c →
     SetsAt w (first ++ second) a c

@@ -7,11 +7,13 @@ use Rattle.std.specs.FinMap.{entries, contains_key-keys}
 use Rattle.std.specs.List.{All, AllZip, Contains, list_any}
 use Rattle.std.specs.List.Sorted.{IsStrictlySortedBy}
 use Rattle.std.specs.Ordering.{eq_by_cmp}
-use Rattle.std.proofs.lemmas.Bool.{true≢false, cases_eq, eqb-true}
+use Rattle.std.proofs.lemmas.Bool.{true≢false, cases_eq, eqb-true, not-true}
 use Rattle.std.proofs.lemmas.List.{take_more, map_push}
 use Rattle.std.proofs.lemmas.List.Elements.{All-contains, All-push, Contains-append_left, Contains-push, Contains-push_cases}
 use Rattle.std.proofs.lemmas.Map.Views.{Contains-from_any}
 use Rattle.std.proofs.lemmas.Option.{same_Some, slice_get_within, get_or_from_slice_get}
+use Rattle.std.proofs.Math.Bool.{or-true}
+use Rattle.base_lemmas.proofs.Elements.{nothing_in}
 use Rattle.base_files.specs.Packages.{folders, package_paths, package_files}
 use Rattle.base_files.specs.Workspace.{Workspace, path_cmp}
 use Rattle.go_ast.specs.SourceFile.{FileParts}
@@ -23,7 +25,6 @@ use Rattle.workspace_graph.specs.Packages.{PackageImports}
 use Rattle.workspace_graph.specs.Parsed.{AreParsed, none, tree, fault}
 use Rattle.workspace_graph.specs.SameGoFiles.{DiffersOnlyIn, HasFiles}
 use Rattle.workspace_graph.specs.declared.package.ParsedPackage.{ParsedPackage}
-use Rattle.workspace_graph.proofs.Collected.{none_held}
 use Rattle.workspace_graph.proofs.Filled.{path_at, set_there, set_elsewhere}
 use Rattle.workspace_graph.proofs.Linked.{package_at, row_imports}
 use Rattle.workspace_graph.proofs.PackagePaths.{exact_names, has_folder, one_number, paths_are, paths_sorted}
@@ -42,18 +43,10 @@ some_by (x ∷ xs) n is = elim (nat_eq n 0) as (λ b. nat_eq n 0 ≡ b → not b
 pub vec_some : {X : Type 0} (xs : Vec X) (b : Bool) → b ≡ nat_eq (vec_len xs) 0 → not b ≡ has_some xs.items
 vec_some xs b is = ap not is ∙ some_by xs.items (vec_len xs) xs.ok.0
 
-or_true : (a : Bool) → (a || true) ≡ true
-or_true true = refl
-or_true false = refl
-
 pub some_parsed : {es : List (List ℕ × List ℕ)} {ts : List FileParts} {fs : List FaultyParts} → AreParsed es ts fs → has_some es ≡ (has_some ts || has_some fs)
 some_parsed none = refl
 some_parsed (tree is rest) = refl
-some_parsed (fault {ts = ts} is rest) = sym (or_true (has_some ts))
-
-pub not_false : (b : Bool) → not b ≡ true → b ≡ false
-not_false true h = sym h
-not_false false h = refl
+some_parsed (fault {ts = ts} is rest) = sym (or-true (has_some ts))
 
 pub at_path : (paths : List (List ℕ)) (n : ℕ) (q : List ℕ) → slice_get paths n ≡ Some q → Contains paths q
 at_path paths n q at = (n, slice_get_within paths n q at, get_or_from_slice_get paths n q q at)
@@ -80,7 +73,7 @@ clones_are (x ∷ xs) (y ∷ ys) are = ap (λ z. z ∷ ys) are.0 ∙ ap (λ zs. 
 pub none_replaced : (before packages : List ParsedPackage) → packages ≡ before → AreReplaced before [] packages
 none_replaced before packages same = record {
   paths = ap paths_of same;
-  each = λ i p at. inr (ap (λ ps. slice_get ps i) (sym same) ∙ at, λ has. none_held p.path.items has);
+  each = λ i p at. inr (ap (λ ps. slice_get ps i) (sym same) ∙ at, λ has. nothing_in p.path.items has);
 }
 
 -- one more of the others
@@ -140,7 +133,7 @@ moved x y p q same pi = record {
 
 -- a path among theirs is that of one of them
 pub with_path : (ps : List ParsedPackage) (q : List ℕ) → Contains (paths_of ps) q → (p : ParsedPackage) × Contains ps p × (p.path.items ≡ q)
-with_path [] q has = absurd (none_held q has)
+with_path [] q has = absurd (nothing_in q has)
 with_path (p ∷ ps) q (zero, within, is) = (p, (0, omega arith, refl), is)
 with_path (p ∷ ps) q (suc k, within, is) =
     let r = with_path ps q (k, omega (arith, within), is) in

@@ -13,6 +13,7 @@ use Rattle.std.proofs.lemmas.List.Sorted.{Contains-permutation, IsPermutation-sy
 use Rattle.std.proofs.lemmas.List.Kept.{Contains-dedup_nat, Contains-from_dedup}
 use Rattle.std.proofs.lemmas.Map.Keys.{IsStrictlyIncreasing-dedup}
 use Rattle.std.proofs.lemmas.Option.{none-some}
+use Rattle.base_lemmas.proofs.Elements.{nothing_in}
 use Rattle.go_scanner.specs.declared.piece.Piece.{Piece}
 use Rattle.go_scanner.specs.Cuts.{bytes_of}
 use Rattle.go_scanner.specs.CutText.{tokens_in}
@@ -37,9 +38,6 @@ adds_one P old n here only j = (
 
 pub adds_none : (P : ℕ → Type 0) (old : List ℕ) → ((j : ℕ) → P j → ⊥) → AddsNumbers P old old
 adds_none P old not j = (λ has. inl has, λ either. ⊎_elim (λ (o : Contains old j). o) (λ (p : P j). absurd (not j p)) either)
-
-pub none_held : {X : Type 0} (x : X) → Contains [] x → ⊥
-none_held x has = absurd (omega (arith, has.1))
 
 -- ---- one element more of a list
 pub more_cases : {X : Type 0} (xs : List X) (k : ℕ) (d x : X) → k < length xs → Contains (take (k + 1) xs) x → Contains (take k xs) x ⊎ (get_or xs k d ≡ x)
@@ -156,7 +154,7 @@ pub left_all : (paths some : List (List ℕ)) (numbers : List ℕ) → numbers �
 left_all paths some numbers empty j = (
   λ one. inr one,
   λ either.
-      ⊎_elim (λ (has : Contains numbers j). absurd (none_held j (subst (λ (l : List ℕ). Contains l j) empty has))) (λ (one : IsOneOf paths some j). one) either,
+      ⊎_elim (λ (has : Contains numbers j). absurd (nothing_in j (subst (λ (l : List ℕ). Contains l j) empty has))) (λ (one : IsOneOf paths some j). one) either,
 )
 
 one_later : (paths : List (List ℕ)) (path : List ℕ) (left : List (List ℕ)) (j : ℕ) → IsOneOf paths left j → IsOneOf paths (path ∷ left) j
@@ -169,7 +167,7 @@ one_cases : (paths : List (List ℕ)) (path : List ℕ) (left : List (List ℕ))
     IsOneOf paths left j
 one_cases paths path left j one = ⊎_elim
     (λ (first : Contains (path ∷ []) one.0). ⊎_elim
-    (λ (none : Contains [] one.0). absurd (none_held one.0 none))
+    (λ (none : Contains [] one.0). absurd (nothing_in one.0 none))
     (λ (same : path ≡ one.0). inl (one.1.1 ∙ ap Some (sym same)))
     (Contains-push_cases [] path one.0 first))
     (λ (later : Contains left one.0). inr (one.0, (later, one.1.1)))
@@ -193,7 +191,7 @@ left_more paths some path left old new are adds j = (
 pub left_none : (paths some : List (List ℕ)) (row : List ℕ) → AreLeft paths some [] row → ListsExactly row (IsOneOf paths some)
 left_none paths some row are j = (
   λ has. (are j).1 (inl has),
-  λ one. ⊎_elim (λ (has : Contains row j). has) (λ (none : IsOneOf paths [] j). absurd (none_held none.0 none.1.0)) ((are j).0 one),
+  λ one. ⊎_elim (λ (has : Contains row j). has) (λ (none : IsOneOf paths [] j). absurd (nothing_in none.0 none.1.0)) ((are j).0 one),
 )
 
 -- the packages of the paths that files import are those that the files import

@@ -12,6 +12,8 @@ use Rattle.std.proofs.lemmas.Map.Keys.{IsDistinct-from_apart}
 use Rattle.std.proofs.lemmas.Map.Made.{length-le_from_is_member}
 use Rattle.std.proofs.lemmas.Map.Views.{Contains-from_any}
 use Rattle.std.proofs.lemmas.Option.{get_or_from_slice_get, slice_get-get_or, slice_get_within}
+use Rattle.std.proofs.lemmas.Bool.{false_from_ne_true}
+use Rattle.base_lemmas.proofs.Elements.{first_or_later}
 use Rattle.base_files.specs.Workspace.{path_cmp}
 use Rattle.base_files.proofs.WorkspaceLaws.{path_cmp_total}
 use Rattle.workspace_graph.specs.Graphs.{paths_of}
@@ -21,13 +23,11 @@ use Rattle.workspace_graph.specs.Imports.{LinkTable, row_of}
 use Rattle.workspace_graph.specs.Rows.{IsRow}
 use Rattle.workspace_graph.specs.Shifts.{row_shifted, shifted}
 use Rattle.workspace_graph.specs.declared.package.ParsedPackage.{ParsedPackage}
-use Rattle.workspace_graph.proofs.FoundFolders.{not_true}
 use Rattle.workspace_graph.proofs.GrownLinks.{ks_within, package_shifted, paths_are, some_shifted}
 use Rattle.workspace_graph.proofs.OrderedPackages.{rising_by}
 use Rattle.workspace_graph.proofs.Linked.{row_at}
 use Rattle.workspace_graph.proofs.PackagePaths.{exact_names, one_number}
 use Rattle.workspace_graph.proofs.Shifted.{rising_shifted, shifted_apart, shifted_from}
-use Rattle.workspace_graph.proofs.SortedLists.{first_or_later}
 use Rattle.workspace_graph.proofs.StayingPackages.{any_of}
 
 -- ---- numbers that differ
@@ -47,7 +47,7 @@ module _ (ks : List (List ℕ)) (sorted : IsStrictlySortedBy path_cmp ks) where
   path_by j = get_or ks j []
 
   apart : (i j : ℕ) → i < length ks → j < length ks → (i ≡ j → ⊥) → eq_by_cmp path_cmp (path_by i) (path_by j) ≡ false
-  apart i j in_i in_j other = not_true (eq_by_cmp path_cmp (path_by i) (path_by j)) (λ tied.
+  apart i j in_i in_j other = false_from_ne_true (eq_by_cmp path_cmp (path_by i) (path_by j)) (λ tied.
       other (one_number ks sorted i j (path_by j) (slice_get-get_or ks i [] in_i ∙ ap Some (exact_names (path_by i) (path_by j) tied))
       (slice_get-get_or ks j [] in_j)))
 

@@ -5,7 +5,7 @@ use Rattle.std.specs.Cmp.{tied_itself}
 use Rattle.std.specs.Cmp.Lexicographic.{pointwise, bytes_decides}
 use Rattle.std.specs.List.{Contains, list_any}
 use Rattle.std.specs.Ordering.{eq_by_cmp, is_eq}
-use Rattle.std.proofs.lemmas.Bool.{true≢false}
+use Rattle.std.proofs.lemmas.Bool.{true≢false, false_from_ne_true}
 use Rattle.base_files.specs.Path.{folder}
 use Rattle.base_files.specs.Packages.{is_go, files_in}
 use Rattle.base_files.specs.Workspace.{path_cmp}
@@ -18,10 +18,6 @@ pub first_of : {X : Type 0} (xs : List X) → has_some xs ≡ true → (x : X) �
 first_of [] h = absurd (true≢false (sym h))
 first_of (x ∷ xs) h = (x, (0, omega arith, refl))
 
-pub not_true : (b : Bool) → (b ≡ true → ⊥) → b ≡ false
-not_true true h = absurd (h refl)
-not_true false h = refl
-
 pub folder_found : (q : List ℕ) (es : List (List ℕ × List ℕ)) → list_any (eq_by_cmp path_cmp q) (go_folders es) ≡ has_some (files_in q es)
 folder_found q [] = refl
 folder_found q (e ∷ es) =
@@ -33,7 +29,7 @@ folder_found q (e ∷ es) =
           (cond t (e ∷ files_in q es) (files_in q es))) [
             | true ↦ λ is. ap (λ b. b || list_any (eq_by_cmp path_cmp q) (go_folders es)) (tied ((bytes_decides (folder e.0) q).0 is))
             | false ↦ λ is. ap (λ b. b || list_any (eq_by_cmp path_cmp q) (go_folders es))
-                (not_true _ (λ t. true≢false (sym ((bytes_decides (folder e.0) q).1 (sym (exact_names q (folder e.0) t))) ∙ is))) ∙ folder_found q es
+                (false_from_ne_true _ (λ t. true≢false (sym ((bytes_decides (folder e.0) q).1 (sym (exact_names q (folder e.0) t))) ∙ is))) ∙ folder_found q es
           ] refl
       | false ↦ folder_found q es
     ]

@@ -10,13 +10,14 @@ use Rattle.std.specs.List.{Contains, list_any}
 use Rattle.std.proofs.lemmas.List.Elements.{Contains-push, Contains-push_cases, Contains-append_left, Contains-append_right, Contains-append_cases}
 use Rattle.std.proofs.lemmas.Map.Views.{Contains-from_any}
 use Rattle.std.proofs.lemmas.Option.{same_Some}
+use Rattle.base_lemmas.proofs.Elements.{nothing_in}
 use Rattle.base_files.specs.Workspace.{path_cmp}
 use Rattle.base_files.proofs.WorkspaceLaws.{path_cmp_exact}
 use Rattle.go_ast.specs.SourceFile.{FileParts, source_of}
 use Rattle.workspace_graph.specs.FileImports.{ListsImports}
 use Rattle.workspace_graph.specs.Packages.{ImportsPath}
 use Rattle.workspace_graph.specs.declared.file_imports.FileImport.{FileImport}
-use Rattle.workspace_graph.proofs.Collected.{HasNumber, are_imports, none_held}
+use Rattle.workspace_graph.proofs.Collected.{HasNumber, are_imports}
 use Rattle.workspace_graph.specs.ImportPaths.{bytes_of_paths, AddsPaths, ListsPaths, AnyIsOfPath, IsPathValue}
 use Rattle.workspace_graph.proofs.PackagePaths.{exact_names}
 use Rattle.workspace_graph.proofs.StayingPackages.{any_of}
@@ -25,7 +26,7 @@ use Rattle.workspace_graph.proofs.StayingPackages.{any_of}
 
 cons_cases : (x : List ℕ) (xs : List (List ℕ)) (q : List ℕ) → Contains (x ∷ xs) q → (x ≡ q) ⊎ Contains xs q
 cons_cases x xs q h = ⊎_elim
-    (λ (a : Contains (x ∷ []) q). ⊎_elim (λ (n : Contains [] q). absurd (none_held q n)) (λ (e : x ≡ q). inl e) (Contains-push_cases [] x q a))
+    (λ (a : Contains (x ∷ []) q). ⊎_elim (λ (n : Contains [] q). absurd (nothing_in q n)) (λ (e : x ≡ q). inl e) (Contains-push_cases [] x q a))
     (λ (b : Contains xs q). inr b)
     (Contains-append_cases (x ∷ []) xs q h)
 
@@ -44,7 +45,7 @@ inserted : (ks : List (Vec ℕ Global)) (k : Vec ℕ Global) (q : List ℕ) →
     Contains (bytes_of_paths (insert_key bytes_cmp ks k)) q ↔ (Contains (bytes_of_paths ks) q ⊎ (k.items ≡ q))
 inserted [] k q = (
   λ h. Contains-push_cases [] k.items q h,
-  λ either. ⊎_elim (λ (n : Contains [] q). absurd (none_held q n)) (λ (e : k.items ≡ q). cons_here k.items [] q e) either,
+  λ either. ⊎_elim (λ (n : Contains [] q). absurd (nothing_in q n)) (λ (e : k.items ≡ q). cons_here k.items [] q e) either,
 )
 inserted (x ∷ xs) k q =
     elim (path_cmp k.items x.items) as (λ order. path_cmp k.items x.items ≡ order
@@ -122,7 +123,7 @@ adds_as P Q a b are adds = record {
 
 pub holds_none : (P : List ℕ → Type 0) (ks : List (Vec ℕ Global)) → ks ≡ [] → ((q : List ℕ) → P q → ⊥) → ListsPaths P ks
 holds_none P ks e none = subst (λ (z : List (Vec ℕ Global)). ListsPaths P z) (sym e)
-    (record { each = λ q. (λ h. absurd (none_held q h), λ s. absurd (none q s)) })
+    (record { each = λ q. (λ h. absurd (nothing_in q h), λ s. absurd (none q s)) })
 
 pub holds_more : (P Q S : List ℕ → Type 0) (a b : List (Vec ℕ Global)) → ((q : List ℕ) → S q ↔ (P q ⊎ Q q)) → ListsPaths P a → AddsPaths Q a b → ListsPaths S b
 holds_more P Q S a b are holds adds = record {
@@ -177,5 +178,5 @@ pub among_paths : (keys : List (Vec ℕ Global)) (path : List ℕ) → Contains 
 among_paths keys path has = looked_for keys path ∙ any_of path (bytes_of_paths keys) has
 
 pub none_among : (keys : List (Vec ℕ Global)) (path : List ℕ) → length keys ≡ 0 → Contains (bytes_of_paths keys) path → ⊥
-none_among [] path empty has = none_held path has
+none_among [] path empty has = nothing_in path has
 none_among (k ∷ ks) path empty has = absurd (omega (arith, empty))

@@ -8,11 +8,12 @@ use Rattle.std.specs.List.Sorted.{IsStrictlySortedBy}
 use Rattle.std.proofs.lemmas.Bool.{true≢false, and_parts}
 use Rattle.std.proofs.lemmas.Map.Keys.{sorted_tail}
 use Rattle.std.proofs.lemmas.Option.{none-some, same_Some}
+use Rattle.base_lemmas.proofs.Elements.{is_mapped, nothing_in, first_in, first_or_later, later_in}
 use Rattle.base_files.specs.Packages.{is_go, is_of_package, package_files}
 use Rattle.base_files.specs.Path.{folder}
 use Rattle.base_files.specs.Workspace.{Workspace, path_cmp}
 use Rattle.base_files.proofs.WorkspaceLaws.{path_cmp_total}
-use Rattle.base_edits.proofs.Held.{is_mapped, mapped_from}
+use Rattle.base_edits.proofs.Held.{mapped_from}
 use Rattle.go_ast.specs.Faults.{IsFaultOf}
 use Rattle.go_ast.specs.SourceFile.{FileParts, source_of}
 use Rattle.workspace_graph.specs.FaultyFiles.{FaultyParts}
@@ -24,11 +25,10 @@ use Rattle.workspace_graph.specs.Parsed.{AreParsed, IsFaulty, none, tree, fault}
 use Rattle.workspace_graph.specs.SameGoFiles.{DiffersOnlyAt, HasFiles}
 use Rattle.workspace_graph.specs.Updated.{SetsIn, Removes}
 use Rattle.workspace_graph.specs.declared.package.ParsedPackage.{ParsedPackage}
-use Rattle.workspace_graph.proofs.Collected.{none_held}
 use Rattle.workspace_graph.proofs.ChangedFiles.{file_of, has_package, in_package, is_among, of_package, one_in, resets_one}
 use Rattle.workspace_graph.proofs.PackagePaths.{T_true, sorted_keys}
 use Rattle.workspace_graph.proofs.SameFiles.{sorted_passed}
-use Rattle.workspace_graph.proofs.SortedLists.{above, first_in, first_or_later, later_in, not_itself, same_first, sorted_more}
+use Rattle.workspace_graph.proofs.SortedLists.{above, not_itself, same_first, sorted_more}
 use Rattle.workspace_graph.proofs.UpdatedPackages.{out_apart}
 
 abbrev Entry : Type 0
@@ -228,10 +228,10 @@ parsed_held : {es : List Entry} {ts : List FileParts} {fs : List FaultyParts} �
 parsed_held sorted none = record {
   trees_sorted = sorted;
   faulty_sorted = sorted;
-  sound = λ t has. absurd (none_held t has);
-  faulty = λ f has. absurd (none_held f has);
-  apart = λ q has has_too. none_held q has;
-  all = λ e has. absurd (none_held e has);
+  sound = λ t has. absurd (nothing_in t has);
+  faulty = λ f has. absurd (nothing_in f has);
+  apart = λ q has has_too. nothing_in q has;
+  all = λ e has. absurd (nothing_in e has);
 }
 parsed_held sorted (tree {e = e} {es = es} {t = t} {ts = ts} {fs = fs} is rest) =
     tree_more e es sorted t ts fs is (parsed_held (sorted_tail path_cmp e.0 (entry_paths es) sorted) rest)
@@ -242,18 +242,18 @@ parsed_held sorted (fault {e = e} {es = es} {ts = ts} {f = f} {fs = fs} is rest)
 module _ (e : Entry) (es : List Entry) (sorted : IsStrictlySortedBy path_cmp (entry_paths (e ∷ es)))
     (rest : (ts : List FileParts) (fs : List FaultyParts) → AreHeld es ts fs → AreParsed es ts fs) where
   from_tree : (ts : List FileParts) (fs : List FaultyParts) → AreHeld (e ∷ es) ts fs → Contains (tree_paths ts) e.0 → AreParsed (e ∷ es) ts fs
-  from_tree [] fs h x = absurd (none_held e.0 x)
+  from_tree [] fs h x = absurd (nothing_in e.0 x)
   from_tree (t ∷ ts) fs h x = tree (tree_is e es sorted t ts fs h x) (rest ts fs (tree_rest e es sorted t ts fs h x))
 
   from_fault : (ts : List FileParts) (fs : List FaultyParts) → AreHeld (e ∷ es) ts fs → Contains (fault_paths fs) e.0 → AreParsed (e ∷ es) ts fs
-  from_fault ts [] h y = absurd (none_held e.0 y)
+  from_fault ts [] h y = absurd (nothing_in e.0 y)
   from_fault ts (f ∷ fs) h y = fault (fault_is e es sorted f ts fs h y) (rest ts fs (fault_rest e es sorted f ts fs h y))
 
 held_parsed : (es : List Entry) (ts : List FileParts) (fs : List FaultyParts) → IsStrictlySortedBy path_cmp (entry_paths es) → AreHeld es ts fs →
     AreParsed es ts fs
 held_parsed [] [] [] sorted h = none
-held_parsed [] [] (f ∷ fs) sorted h = absurd (none_held (fault_entry f) (h.faulty f (first_in f fs)).0)
-held_parsed [] (t ∷ ts) fs sorted h = absurd (none_held (tree_entry t) (h.sound t (first_in t ts)).0)
+held_parsed [] [] (f ∷ fs) sorted h = absurd (nothing_in (fault_entry f) (h.faulty f (first_in f fs)).0)
+held_parsed [] (t ∷ ts) fs sorted h = absurd (nothing_in (tree_entry t) (h.sound t (first_in t ts)).0)
 held_parsed (e ∷ es) ts fs sorted h =
     let rest = λ (us : List FileParts) (gs : List FaultyParts). held_parsed es us gs (sorted_tail path_cmp e.0 (entry_paths es) sorted) in
     ⊎_elim
@@ -317,9 +317,9 @@ pub held_none : (v : Workspace) (ps : List ParsedPackage) (q : List ℕ) → Are
 held_none v ps q are never = record {
   trees_sorted = sorted_none;
   faulty_sorted = sorted_none;
-  tree = λ t has. absurd (none_held t has);
-  fault = λ f has. absurd (none_held f has);
-  apart = λ path has has_too. none_held path has;
+  tree = λ t has. absurd (nothing_in t has);
+  fault = λ f has. absurd (nothing_in f has);
+  apart = λ path has has_too. nothing_in path has;
   all = λ path text of at.
       let is = folder_is q path of in
       absurd (never (subst (Contains (paths_of ps)) is.1 (subst (λ ks. Contains ks (folder path)) (sym are.paths) (has_package v path text is.0 at))));

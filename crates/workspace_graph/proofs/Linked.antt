@@ -5,6 +5,7 @@ use Rattle.std.specs.List.Sorted.{IsStrictlyIncreasing}
 use Rattle.std.proofs.lemmas.List.{length-map}
 use Rattle.std.proofs.lemmas.List.Elements.{All-contains, All-from_get_or, Contains-get_or}
 use Rattle.std.proofs.lemmas.Option.{same_Some, none-some, slice_get_within, get_or_from_slice_get, slice_get-get_or}
+use Rattle.base_lemmas.proofs.Elements.{later_in, first_in, nothing_in}
 use Rattle.base_files.specs.Workspace.{Workspace}
 use Rattle.go_ast.specs.SourceFile.{SourceFile, FileParts, source_of}
 use Rattle.workspace_graph.specs.FaultyFiles.{FaultyParts}
@@ -17,16 +18,11 @@ use Rattle.workspace_graph.specs.Parsed.{AreParsed, none, tree, fault}
 use Rattle.workspace_graph.specs.Graphs.{paths_of, IsGraph}
 use Rattle.workspace_graph.specs.Rows.{IsRow}
 use Rattle.workspace_graph.specs.declared.package.ParsedPackage.{ParsedPackage}
-use Rattle.workspace_graph.proofs.Collected.{zip_at, zip_length, none_held}
+use Rattle.workspace_graph.proofs.Collected.{zip_at, zip_length}
 use Rattle.workspace_graph.proofs.Filled.{path_at}
 use Rattle.workspace_graph.proofs.OneFile.{one_file, file_or_fault}
 
 -- ---- one element more at the front
-has_later : {X : Type 0} (x : X) (xs : List X) (y : X) → Contains xs y → Contains (x ∷ xs) y
-has_later x xs y h = (suc h.0, omega (arith, h.1), h.2)
-
-has_first : {X : Type 0} (x : X) (xs : List X) → Contains (x ∷ xs) x
-has_first x xs = (0, omega arith, refl)
 
 first_or_later : {X : Type 0} (P : X → Type 0) (x : X) (xs : List X) → P x → ((y : X) → Contains xs y → P y) → (y : X) → Contains (x ∷ xs) y → P y
 first_or_later P x xs first later y (zero, within, is) = subst P is first
@@ -35,21 +31,21 @@ first_or_later P x xs first later y (suc k, within, is) = later y (k, omega (ari
 -- ---- files and their trees
 pub tree_is_of : {es : List (List ℕ × List ℕ)} {ts : List FileParts} {fs : List FaultyParts} → AreParsed es ts fs → (t : FileParts) → Contains ts t →
     (e : List ℕ × List ℕ) × Contains es e × IsParsed e.0 e.1 (source_of t)
-tree_is_of none t has = absurd (none_held t has)
+tree_is_of none t has = absurd (nothing_in t has)
 tree_is_of (tree {e = e} {es = es} {t = s} {ts = ts} is parsed) t has =
     first_or_later (λ t. (d : List ℕ × List ℕ) × Contains (e ∷ es) d × IsParsed d.0 d.1 (source_of t)) s ts
-    (e, has_first e es, is)
-    (λ y h. let w = tree_is_of parsed y h in (w.0, has_later e es w.0 w.1, w.2))
+    (e, first_in e es, is)
+    (λ y h. let w = tree_is_of parsed y h in (w.0, later_in e es w.0 w.1, w.2))
     t has
-tree_is_of (fault {e = e} {es = es} is parsed) t has = let w = tree_is_of parsed t has in (w.0, has_later e es w.0 w.1, w.2)
+tree_is_of (fault {e = e} {es = es} is parsed) t has = let w = tree_is_of parsed t has in (w.0, later_in e es w.0 w.1, w.2)
 
 pub tree_of : {es : List (List ℕ × List ℕ)} {ts : List FileParts} {fs : List FaultyParts} → AreParsed es ts fs → (e : List ℕ × List ℕ) → Contains es e →
     (file : SourceFile) → IsParsed e.0 e.1 file → (t : FileParts) × Contains ts t × (file ≡ source_of t)
-tree_of none e has file parsed = absurd (none_held e has)
+tree_of none e has file parsed = absurd (nothing_in e has)
 tree_of (tree {e = d} {es = es} {t = s} {ts = ts} is rest) e has file parsed =
     first_or_later (λ e. IsParsed e.0 e.1 file → (t : FileParts) × Contains (s ∷ ts) t × (file ≡ source_of t)) d es
-    (λ here. (s, has_first s ts, one_file d.0 d.1 file (source_of s) here is))
-    (λ y h here. let w = tree_of rest y h file here in (w.0, has_later s ts w.0 w.1, w.2))
+    (λ here. (s, first_in s ts, one_file d.0 d.1 file (source_of s) here is))
+    (λ y h here. let w = tree_of rest y h file here in (w.0, later_in s ts w.0 w.1, w.2))
     e has parsed
 tree_of (fault {e = d} {es = es} {ts = ts} {f = f} is rest) e has file parsed =
     first_or_later (λ e. IsParsed e.0 e.1 file → (t : FileParts) × Contains ts t × (file ≡ source_of t)) d es

@@ -13,6 +13,7 @@ use Rattle.std.proofs.lemmas.List.Sorted.{searchable_from_sorted}
 use Rattle.std.proofs.lemmas.Map.Keys.{Less-from_sorted}
 use Rattle.std.proofs.lemmas.Option.{slice_get-get_or, slice_get-map}
 use Rattle.std.proofs.lemmas.List.{get_or-map, length-map}
+use Rattle.base_lemmas.proofs.Tests.{less_differs, greater_differs}
 use Rattle.base_files.specs.Workspace.{path_cmp}
 use Rattle.base_files.proofs.WorkspaceLaws.{path_cmp_total, path_cmp_exact}
 use Rattle.workspace_graph.specs.Updated.{IsPlace}
@@ -23,12 +24,6 @@ path_of_package p = p.path.items
 
 not_tied : (o : Ordering) (x y : List ℕ) → path_cmp x y ≡ o → (o ≡ Equal → ⊥) → x ≡ y → ⊥
 not_tied o x y is differs same = differs (sym is ∙ ap (path_cmp x) (sym same) ∙ tied_itself path_cmp_total x)
-
-less_differs : Less ≡ Equal → ⊥
-less_differs e = true≢false (ap is_lt e)
-
-greater_differs : Greater ≡ Equal → ⊥
-greater_differs e = true≢false (ap is_gt e)
 
 module _ {X : Type 0} (path_of : X → List ℕ) where
   -- how the path of one compares with another path

@@ -12,10 +12,12 @@ use Rattle.std.specs.List.Sorted.{IsStrictlySortedBy}
 use Rattle.std.specs.FinMap.{FinMap, entries, keys, contains_key, entries_sorted, from_sorted, entries-from_sorted, is_sorted, same_map, contains_key-keys}
 use Rattle.std.specs.FinMap.{get-from_entries}
 use Rattle.std.specs.FinMap.Entries.{below_all, is_some-find}
-use Rattle.std.proofs.lemmas.Bool.{true≢false, cases_lt}
+use Rattle.std.proofs.lemmas.Bool.{true≢false, cases_lt, and_parts}
 use Rattle.std.proofs.lemmas.Option.{slice_get_within, get_or_from_slice_get}
 use Rattle.std.proofs.lemmas.Map.Keys.{Less-from_sorted}
 use Rattle.std.proofs.lemmas.Map.Views.{Contains-from_any}
+use Rattle.std.proofs.Math.Bool.{or-true, or-false}
+use Rattle.base_lemmas.proofs.Tests.{less_from_test}
 use Rattle.base_files.specs.Path.{folder}
 use Rattle.base_files.specs.Workspace.{Workspace, path_cmp}
 use Rattle.base_files.proofs.WorkspaceLaws.{path_cmp_total, path_cmp_exact}
@@ -26,28 +28,15 @@ pub T_true : (b : Bool) → T b → b ≡ true
 T_true true h = refl
 T_true false h = absurd h
 
-both_true : (a b : Bool) → (a && b) ≡ true → (a ≡ true) × (b ≡ true)
-both_true true b h = (refl, h)
-both_true false b h = absurd (true≢false (sym h))
-
-or_true : (a : Bool) → (a || true) ≡ true
-or_true true = refl
-or_true false = refl
-
-lt_is_less : (o : Ordering) → is_lt o ≡ true → o ≡ Less
-lt_is_less Less h = refl
-lt_is_less Equal h = absurd (true≢false (sym h))
-lt_is_less Greater h = absurd (true≢false (sym h))
-
 -- ---- the keys of a finite map
 below_keys : {X : Type 0} (k : List ℕ) (es : List (List ℕ × X)) → below_all path_cmp k es ≡ true → AllByRecursion (λ y. path_cmp k y ≡ Less) (map (λ e. e.0) es)
 below_keys k [] h = tt
-below_keys k (e ∷ es) h = let w = both_true _ _ h in (lt_is_less _ w.0, below_keys k es w.1)
+below_keys k (e ∷ es) h = let w = and_parts _ _ h in (less_from_test _ w.0, below_keys k es w.1)
 
 pub sorted_keys : {X : Type 0} (es : List (List ℕ × X)) → is_sorted path_cmp es ≡ true → IsStrictlySortedBy path_cmp (map (λ e. e.0) es)
 unfolding IsStrictlySortedBy
 sorted_keys [] h = tt
-sorted_keys (e ∷ es) h = let w = both_true _ _ h in (below_keys e.0 es w.0, sorted_keys es w.1)
+sorted_keys (e ∷ es) h = let w = and_parts _ _ h in (below_keys e.0 es w.0, sorted_keys es w.1)
 
 pub paths_sorted : (w : Workspace) → IsStrictlySortedBy path_cmp (package_paths w)
 paths_sorted w = sorted_keys (entries (folders w)) (T_true _ (entries_sorted (folders w)))
@@ -123,10 +112,6 @@ or_regroup true true c = refl
 or_regroup true false c = refl
 or_regroup false b c = refl
 
-or_false : (a : Bool) → (a || false) ≡ a
-or_false true = refl
-or_false false = refl
-
 abbrev pub folder_cmp : Bor (List ℕ) → Bor (List ℕ) → Ordering
 folder_cmp x y = path_cmp x.now y.now
 
@@ -170,7 +155,7 @@ found_add all e left ks k go same found q =
     ∙ found q
 
 pub found_all : (w : Workspace) (ks : List (Bor (List ℕ))) → AreFound (entries w) [] ks → IsStrictlySortedBy path_cmp (names ks) → names ks ≡ package_paths w
-found_all w ks found sorted = sym (paths_are w (names ks) sorted (λ q. sym (or_false _) ∙ found q))
+found_all w ks found sorted = sym (paths_are w (names ks) sorted (λ q. sym (or-false _) ∙ found q))
 
 below_names : (k : Bor (List ℕ)) (ks : List (Bor (List ℕ))) → AllByRecursion (λ y. folder_cmp k y ≡ Less) ks →
     AllByRecursion (λ y. path_cmp k.now y ≡ Less) (names ks)
@@ -223,7 +208,7 @@ there_by paths (e ∷ es) all = (
     more : (q : List ℕ) → list_any (eq_by_cmp path_cmp q) (go_folders es) ≡ true → list_any (eq_by_cmp path_cmp q) (go_folders (e ∷ es)) ≡ true
     more q one = elim (is_go e.0) as (λ b. list_any (eq_by_cmp path_cmp q)
         (map folder (cond b (e.0 ∷ filter is_go (map (λ d. d.0) es)) (filter is_go (map (λ d. d.0) es)))) ≡ true) [
-          | true ↦ ap (λ b. eq_by_cmp path_cmp q (folder e.0) || b) one ∙ or_true _
+          | true ↦ ap (λ b. eq_by_cmp path_cmp q (folder e.0) || b) one ∙ or-true _
           | false ↦ one
         ]
 

@@ -2,6 +2,7 @@
 use Rattle.std.proofs.Common.{None, Some, ℕ, ◌≡◌, ◌∷◌, [], List, inl, inr, ⊎_elim, sym, subst, Option}
 use Rattle.std.specs.Prelude.{IfSome, Vec}
 use Rattle.std.specs.List.{Contains}
+use Rattle.base_lemmas.proofs.Elements.{nothing_in, first_in, first_or_later}
 use Rattle.go_ast.specs.SourceFile.{FileParts, source_of}
 use Rattle.workspace_graph.specs.Drafts.{Survive, GoneImports, WasTaken, WereImports}
 use Rattle.workspace_graph.specs.InFolder.{tree_path}
@@ -9,14 +10,12 @@ use Rattle.workspace_graph.specs.ImportPaths.{ListsPaths, AnyImports, AnyIsOfPat
 use Rattle.workspace_graph.specs.Packages.{ImportsPath}
 use Rattle.workspace_graph.specs.Updated.{SetsIn, Removes}
 use Rattle.workspace_graph.specs.declared.file_imports.FileImport.{FileImport}
-use Rattle.workspace_graph.proofs.Collected.{none_held}
 use Rattle.workspace_graph.proofs.ChangedFiles.{is_among}
-use Rattle.workspace_graph.proofs.SortedLists.{first_in, first_or_later}
 
 -- a path is another one or it is not
 pub is_path : {P : Type 0} (q path : List ℕ) → (q ≡ path → P) → ((q ≡ path → ⊥) → P) → P
 is_path q path same apart = is_among q (path ∷ [])
-    (λ has. ⊎_elim (λ (e : path ≡ q). same (sym e)) (λ (rest : Contains [] q). absurd (none_held q rest)) (first_or_later path [] q has))
+    (λ has. ⊎_elim (λ (e : path ≡ q). same (sym e)) (λ (rest : Contains [] q). absurd (nothing_in q rest)) (first_or_later path [] q has))
     (λ never. apart (λ e. never (subst (Contains (path ∷ [])) (sym e) (first_in path []))))
 
 -- a tree that was taken out or not
@@ -52,7 +51,7 @@ module _ {Z : Type 0} (keys : List (Vec ℕ Z)) (old new : List FileParts) (gone
         (λ same. inr (gone_imports path old gone some.0 q is some.1.0 same some.1.1))
         (λ apart. inl (some.0, (out.kept some.0 some.1.0 apart, some.1.1)));
     now = λ q some. inl ((held.each q).1 (some.0, (out.from some.0 some.1.0, some.1.1)));
-    came = λ q stands. absurd (none_held stands.0 (subst (λ (l : List FileImport). Contains l stands.0) none stands.1.0));
+    came = λ q stands. absurd (nothing_in stands.0 (subst (λ (l : List FileImport). Contains l stands.0) none stands.1.0));
   }
 
 -- all that was imported stays, and no more came

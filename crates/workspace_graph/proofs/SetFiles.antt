@@ -6,10 +6,11 @@ use Rattle.std.specs.FinMap.{get}
 use Rattle.std.specs.Cmp.Lexicographic.{pointwise, bytes_decides}
 use Rattle.std.specs.List.{All, Contains}
 use Rattle.std.specs.List.Sorted.{IsStrictlySortedBy}
-use Rattle.std.proofs.lemmas.Bool.{and_parts, cases_eq}
+use Rattle.std.proofs.lemmas.Bool.{and_parts, cases_eq, false_from_ne_true}
 use Rattle.std.proofs.lemmas.List.{length-map}
 use Rattle.std.proofs.lemmas.List.Elements.{All-contains, Contains-append_left, Contains-append_right, Contains-get_or, Contains-push, Contains-push_cases}
 use Rattle.std.proofs.lemmas.Option.{get_or_from_slice_get, same_Some, slice_get_read, slice_get_within}
+use Rattle.base_lemmas.proofs.Elements.{nothing_in}
 use Rattle.base_files.specs.Path.{folder}
 use Rattle.base_files.specs.Packages.{is_go, is_of_package}
 use Rattle.base_files.specs.Workspace.{Workspace, path_cmp}
@@ -26,9 +27,7 @@ use Rattle.workspace_graph.specs.Parsed.{IsFaulty}
 use Rattle.workspace_graph.specs.Updated.{IsPlace, Removes}
 use Rattle.workspace_graph.specs.declared.package.ParsedPackage.{ParsedPackage}
 use Rattle.workspace_graph.specs.declared.drafts.Draft.{Draft}
-use Rattle.workspace_graph.proofs.Collected.{none_held}
 use Rattle.base_edits.proofs.Held.{mapped_from}
-use Rattle.workspace_graph.proofs.FoundFolders.{not_true}
 use Rattle.workspace_graph.proofs.Filled.{set_elsewhere, set_there}
 use Rattle.workspace_graph.proofs.InFolder.{has_held, held, held_none, held_apart, held_fault, held_all, held_final, held_gone, held_same, held_tree, reset_next}
 use Rattle.workspace_graph.proofs.ChangedFiles.{is_among, resets_none, resets_more}
@@ -134,7 +133,7 @@ sets_none w ds drafts = record {
   same_paths = refl;
   drafts = drafts;
   files = λ v u resets held. all_from ds (λ d has.
-      held_final (All-contains (HasFolderFiles v) ds d held has) (λ path _. resets.others path (λ none. none_held path none)));
+      held_final (All-contains (HasFolderFiles v) ds d held has) (λ path _. resets.others path (λ none. nothing_in path none)));
 }
 
 pub sets_more : (w : Workspace) (paths : List (List ℕ)) (path : List ℕ) (a b c : List Draft) → SetsFiles w paths a b → SetsFiles w (path ∷ []) b c →
@@ -189,7 +188,7 @@ paths_push (x ∷ ds) d rest = ap (λ paths. draft_path x ∷ paths) (paths_push
 
 -- ---- one path in several packages
 of_other : (p path : List ℕ) → (folder path ≡ p → ⊥) → is_of_package p path ≡ false
-of_other p path apart = not_true (is_of_package p path)
+of_other p path apart = false_from_ne_true (is_of_package p path)
     (λ is. apart ((bytes_decides (folder path) p).0 (and_parts (is_go path) (pointwise ◌==◌ (folder path) p) is).1))
 
 paths_same : (ds : List Draft) → paths_of (packages_of ds) ≡ draft_paths ds

@@ -9,9 +9,9 @@ use Rattle.std.proofs.lemmas.List.Edits.{get_or-insert_above, get_or-insert_at, 
 use Rattle.std.proofs.lemmas.List.Elements.{Contains-get_or}
 use Rattle.std.proofs.lemmas.List.Sorted.{Contains-permutation, IsPermutation-insert, IsPermutation-sym}
 use Rattle.std.proofs.lemmas.Option.{get_or_from_slice_get, slice_get-get_or, slice_get_past}
+use Rattle.base_lemmas.proofs.Elements.{first_in, first_or_later, later_in}
 use Rattle.workspace_graph.specs.Shifts.{Splits, ShiftsRow, row_shifted, shifted}
 use Rattle.workspace_graph.proofs.OrderedPackages.{rising_by}
-use Rattle.workspace_graph.proofs.SortedLists.{first_in, first_or_later, later_in}
 
 -- ---- one number
 pub shifted_below : (place q : ℕ) → q < place → shifted place q ≡ q

@@ -11,29 +11,16 @@ use Rattle.std.proofs.Math.Path.{ap₂}
 use Rattle.std.proofs.lemmas.Bool.{true≢false}
 use Rattle.std.proofs.lemmas.List.Elements.{All-from_recursion, All-contains}
 use Rattle.std.proofs.lemmas.Map.Keys.{sorted_head, sorted_tail}
-use Rattle.workspace_graph.proofs.Collected.{none_held}
+use Rattle.base_lemmas.proofs.EachElement.{all_from_each}
+use Rattle.base_lemmas.proofs.Elements.{first_in, later_in, first_or_later, nothing_in}
 
 -- the first, or one behind it
-
-pub first_in : {X : Type 0} (x : X) (xs : List X) → Contains (x ∷ xs) x
-first_in x xs = (0, omega arith, refl)
-
-pub later_in : {X : Type 0} (x : X) (xs : List X) (y : X) → Contains xs y → Contains (x ∷ xs) y
-later_in x xs y h = (suc h.0, (let lt : h.0 < length xs = h.1 in omega arith), h.2)
-
-pub first_or_later : {X : Type 0} (x : X) (xs : List X) (y : X) → Contains (x ∷ xs) y → (x ≡ y) ⊎ Contains xs y
-first_or_later x xs y (zero, lt, e) = inl e
-first_or_later x xs y (suc k, lt, e) = inr (k, omega arith, e)
-
-by_recursion : {X : Type 0} (P : X → Type 0) (xs : List X) → ((x : X) → Contains xs x → P x) → AllByRecursion P xs
-by_recursion P [] each = tt
-by_recursion P (x ∷ xs) each = (each x (first_in x xs), by_recursion P xs (λ y has. each y (later_in x xs y has)))
 
 -- in order
 pub sorted_more : {K : Type 0} (R : K → K → Ordering) (x : K) (xs : List K) → ((y : K) → Contains xs y → R x y ≡ Less) → IsStrictlySortedBy R xs →
     IsStrictlySortedBy R (x ∷ xs)
 unfolding IsStrictlySortedBy
-sorted_more R x xs each s = (by_recursion (λ y. R x y ≡ Less) xs each, s)
+sorted_more R x xs each s = (all_from_each (λ y. R x y ≡ Less) xs each, s)
 
 module _ {K : Type 0} {R : K → K → Ordering} (o : IsTotalOrder R) where
   pub above : (x : K) (xs : List K) (y : K) → IsStrictlySortedBy R (x ∷ xs) → Contains xs y → R x y ≡ Less
@@ -60,8 +47,8 @@ module _ {K : Type 0} {R : K → K → Ordering} (o : IsTotalOrder R) where
   pub one_sorted : (xs ys : List K) → IsStrictlySortedBy R xs → IsStrictlySortedBy R ys → ((x : K) → Contains xs x → Contains ys x) →
       ((x : K) → Contains ys x → Contains xs x) → xs ≡ ys
   one_sorted [] [] s t f g = refl
-  one_sorted [] (y ∷ ys) s t f g = absurd (none_held y (g y (first_in y ys)))
-  one_sorted (x ∷ xs) [] s t f g = absurd (none_held x (f x (first_in x xs)))
+  one_sorted [] (y ∷ ys) s t f g = absurd (nothing_in y (g y (first_in y ys)))
+  one_sorted (x ∷ xs) [] s t f g = absurd (nothing_in x (f x (first_in x xs)))
   one_sorted (x ∷ xs) (y ∷ ys) s t f g =
       let e : x ≡ y = same_first x xs y ys s t (f x (first_in x xs)) (g y (first_in y ys)) in
       ap₂ (λ z zs. z ∷ zs) e

@@ -7,7 +7,7 @@ use Rattle.std.specs.FinMap.{contains_key-keys, empty, entries, get-empty}
 use Rattle.std.specs.List.{Contains, insert, list_any, remove}
 use Rattle.std.specs.List.Sorted.{IsPermutation, IsStrictlySortedBy}
 use Rattle.std.specs.Ordering.{eq_by_cmp, is_lt}
-use Rattle.std.proofs.lemmas.Bool.{true≢false, cases_lt}
+use Rattle.std.proofs.lemmas.Bool.{true≢false, cases_lt, false_from_ne_true}
 use Rattle.std.proofs.lemmas.List.{length-map, take_more}
 use Rattle.std.proofs.lemmas.List.Edits.{get_or-insert_above, get_or-insert_at, get_or-insert_below, get_or-remove_above, get_or-remove_below}
 use Rattle.std.proofs.lemmas.List.Edits.{length-insert, length-remove}
@@ -16,10 +16,10 @@ use Rattle.std.proofs.lemmas.List.Sorted.{Contains-permutation, IsPermutation-in
 use Rattle.std.proofs.lemmas.Map.Keys.{Less-from_sorted, sorted_from_all_adjacent, sorted_tail}
 use Rattle.std.proofs.lemmas.Map.Views.{Contains-from_any}
 use Rattle.std.proofs.lemmas.Option.{get_or_from_slice_get, none-some, same_Some, slice_get-get_or, slice_get_within}
+use Rattle.base_lemmas.proofs.Elements.{is_mapped, nothing_in, first_in, first_or_later, later_in}
 use Rattle.base_files.specs.Packages.{folders, package_files, package_paths}
 use Rattle.base_files.specs.Workspace.{Workspace, path_cmp}
 use Rattle.base_files.proofs.WorkspaceLaws.{path_cmp_total}
-use Rattle.base_edits.proofs.Held.{is_mapped}
 use Rattle.workspace_graph.specs.Changed.{has_file, has_some}
 use Rattle.workspace_graph.specs.Graphs.{paths_of}
 use Rattle.workspace_graph.specs.ChangedFiles.{CoverChanges, ArePackages}
@@ -28,14 +28,12 @@ use Rattle.workspace_graph.specs.SameGoFiles.{HasFiles}
 use Rattle.workspace_graph.specs.Updated.{AreUpdated, IsPlace, SetsPackage, SetsIn, Removes}
 use Rattle.workspace_graph.specs.declared.package.ParsedPackage.{ParsedPackage}
 use Rattle.workspace_graph.proofs.ChangedPackages.{some_parsed, with_path}
-use Rattle.workspace_graph.proofs.Collected.{none_held}
 use Rattle.workspace_graph.proofs.Filled.{path_at}
 use Rattle.workspace_graph.proofs.ChangedFiles.{file_of, is_among, path_in}
 use Rattle.workspace_graph.proofs.Numbers.{path_of_package, path_there}
 use Rattle.workspace_graph.proofs.PackagePaths.{exact_names, has_folder, one_number, paths_are}
-use Rattle.workspace_graph.proofs.FoundFolders.{first_of, folder_found, not_true}
+use Rattle.workspace_graph.proofs.FoundFolders.{first_of, folder_found}
 use Rattle.workspace_graph.proofs.SameFiles.{same_files}
-use Rattle.workspace_graph.proofs.SortedLists.{first_in, first_or_later, later_in}
 use Rattle.workspace_graph.proofs.StayingPackages.{any_of}
 
 -- ---- paths after an edit
@@ -242,17 +240,17 @@ module _ (one : ParsedPackage) (old middle : List ParsedPackage) (place : ℕ) (
 pub updated_none : (before packages : List ParsedPackage) → IsStrictlySortedBy path_cmp (paths_of before) → packages ≡ before → AreUpdated before [] packages
 updated_none before packages sorted same = subst (AreUpdated before []) (sym same) (record {
   sorted = sorted;
-  each = λ p has. inr (has, λ none. none_held p.path.items none);
-  own = λ p none some. absurd (none_held p none);
+  each = λ p has. inr (has, λ none. nothing_in p.path.items none);
+  own = λ p none some. absurd (nothing_in p none);
   kept = λ p has apart. has;
 })
 
 -- the first ones have other paths than the next
 take_apart : (ps : List ParsedPackage) (k : ℕ) (q : List ℕ) → IsStrictlySortedBy path_cmp (paths_of ps) → slice_get (paths_of ps) k ≡ Some q →
     Contains (paths_of (take k ps)) q → ⊥
-take_apart [] zero q sorted at has = none_held q has
-take_apart [] (suc k) q sorted at has = none_held q has
-take_apart (p ∷ ps) zero q sorted at has = none_held q has
+take_apart [] zero q sorted at has = nothing_in q has
+take_apart [] (suc k) q sorted at has = nothing_in q has
+take_apart (p ∷ ps) zero q sorted at has = nothing_in q has
 take_apart (p ∷ ps) (suc k) q sorted at has = ⊎_elim
     (λ (here : p.path.items ≡ q). zero_apart k (one_number (paths_of (p ∷ ps)) sorted 0 (suc k) q (ap Some here) at))
     (λ (later : Contains (paths_of (take k ps)) q). take_apart ps k q (sorted_tail path_cmp p.path.items (paths_of ps) sorted) at later)
@@ -323,7 +321,7 @@ module _ (v w : Workspace) (before fresh packages : List ParsedPackage) (are : A
 
   among_is : (q : List ℕ) (ks : List (List ℕ)) (b : Bool) → (b ≡ true → Contains ks q) → (Contains ks q → b ≡ true) → among q ks ≡ b
   among_is q ks true has is = any_of q ks (has refl)
-  among_is q ks false has is = not_true (among q ks) (λ t. true≢false (sym (is (Contains-from_any exact_names q ks t))))
+  among_is q ks false has is = false_from_ne_true (among q ks) (λ t. true≢false (sym (is (Contains-from_any exact_names q ks t))))
 
   fresh_some : (p : ParsedPackage) → Contains fresh p → has_some (package_files w p.path.items) ≡ has_file p
   fresh_some p has = some_parsed (All-contains (HasFiles w) fresh p fresh_are.files has)
@@ -380,12 +378,12 @@ module _ (v w : Workspace) (before fresh packages : List ParsedPackage) (are : A
 abbrev no_files : Workspace
 no_files = empty
 
-nothing_in : (paths : List (List ℕ)) → ((path : List ℕ) → Contains paths path → ⊥) → paths ≡ []
-nothing_in [] never = refl
-nothing_in (path ∷ paths) never = absurd (never path (first_in path paths))
+none_from_absence : (paths : List (List ℕ)) → ((path : List ℕ) → Contains paths path → ⊥) → paths ≡ []
+none_from_absence [] never = refl
+none_from_absence (path ∷ paths) never = absurd (never path (first_in path paths))
 
 pub no_paths : package_paths empty ≡ []
-no_paths = nothing_in (package_paths no_files) (λ path has.
+no_paths = none_from_absence (package_paths no_files) (λ path has.
     let found : has_some (package_files no_files path) ≡ true =
     sym (folder_found path (entries no_files)) ∙ sym (has_folder no_files path) ∙ contains_key-keys (folders no_files) path
     ∙ any_of path (package_paths no_files) has in

@@ -6,9 +6,10 @@ use Rattle.std.specs.Ordering.{eq_by_cmp}
 use Rattle.std.specs.List.{Contains, All, IsDistinct}
 use Rattle.std.specs.List.Sorted.{IsStrictlySortedBy}
 use Rattle.std.specs.FinMap.{get, insert, remove, get-insert, get-remove}
-use Rattle.std.proofs.lemmas.Bool.{true≢false}
+use Rattle.std.proofs.lemmas.Bool.{true≢false, false_from_ne_true}
 use Rattle.std.proofs.lemmas.Option.{none-some, same_Some}
 use Rattle.std.proofs.lemmas.List.Elements.{All-cons, All-nil}
+use Rattle.base_lemmas.proofs.Elements.{nothing_in, first_in, first_or_later}
 use Rattle.base_files.specs.Workspace.{Workspace, path_cmp}
 use Rattle.base_files.proofs.WorkspaceLaws.{path_cmp_total}
 use Rattle.base_edits.specs.Edits.{AreInOrder}
@@ -17,8 +18,7 @@ use Rattle.base_edits.specs.Fits.{IsEditSet, HasSpans, Fits, MovesTo, path_by_ch
 use Rattle.base_edits.specs.Inverse.{dropped}
 use Rattle.base_edits.specs.declared.edit.Edit.{Edit}
 use Rattle.base_edits.specs.declared.change.FileChange.{FileChange}
-use Rattle.base_edits.proofs.Held.{nothing_in, first_in, first_or_later}
-use Rattle.base_edits.proofs.Entries.{exact_path, same_path, same_files, some_is, not_true, value_of}
+use Rattle.base_edits.proofs.Entries.{exact_path, same_path, same_files, some_is, value_of}
 use Rattle.base_edits.proofs.FilesAfter.{IsOldFile, comes_from, has_file, gets}
 use Rattle.base_edits.proofs.Turned.{is_there}
 use Rattle.workspace_snapshot.specs.Plan.{drop_changes, put_changes, del_changes}
@@ -45,7 +45,7 @@ old_kept s w path one q t o =
 
 -- ---- one path that is dropped
 other_path : (path old q : List ℕ) → (path ≡ q → ⊥) → change_in (dropped (path, old) ∷ []) q ≡ None
-other_path path old q apart = ap (λ b. cond b (Some (dropped (path, old))) None) (not_true (pointwise ◌==◌ path q) (λ t. apart ((bytes_decides path q).0 t)))
+other_path path old q apart = ap (λ b. cond b (Some (dropped (path, old))) None) (false_from_ne_true (pointwise ◌==◌ path q) (λ t. apart ((bytes_decides path q).0 t)))
 
 own_path : (path old : List ℕ) → change_in (dropped (path, old) ∷ []) path ≡ Some (dropped (path, old))
 own_path path old = ap (λ b. cond b (Some (dropped (path, old))) None) ((bytes_decides path path).1 refl)
@@ -146,7 +146,7 @@ module _ (w : Workspace) (path text : List ℕ) where
       (λ (o : IsOldFile put_set w q t).
       let r = old_kept put_set w path (put_goes w path text) q t o in
       get-insert path_cmp_total w path text q ∙ ap (λ b. cond b (Some text) (get w q))
-      (not_true (eq_by_cmp path_cmp q path) (λ tied. r.0 (sym (exact_path q path tied)))) ∙ r.1)
+      (false_from_ne_true (eq_by_cmp path_cmp q path) (λ tied. r.0 (sym (exact_path q path tied)))) ∙ r.1)
       (comes_from put_set w q t h)
 
   put_from : (q t : List ℕ) → get (insert w path text) q ≡ Some t → IsSome (get (edited put_set w) q)
@@ -189,7 +189,7 @@ module _ (w : Workspace) (path : List ℕ) (some : IsSome (get w path)) where
       (λ (o : IsOldFile del_set w q t).
       let r = old_kept del_set w path (del_goes w path) q t o in
       get-remove path_cmp_total w path q ∙ ap (λ b. cond b None (get w q))
-      (not_true (eq_by_cmp path_cmp q path) (λ tied. r.0 (sym (exact_path q path tied)))) ∙ r.1)
+      (false_from_ne_true (eq_by_cmp path_cmp q path) (λ tied. r.0 (sym (exact_path q path tied)))) ∙ r.1)
       (comes_from del_set w q t h)
 
   del_from : (q t : List ℕ) → get (remove w path) q ≡ Some t → IsSome (get (edited del_set w) q)

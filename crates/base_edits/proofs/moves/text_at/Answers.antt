@@ -3,11 +3,9 @@ use Rattle.std.proofs.Common.{◌≡◌, ◌≤◌, ◌<◌, ℕ, false, true, i
 use Rattle.std.specs.Prelude.{Some}
 use Rattle.std.proofs.lemmas.Option.{slice_get-get_or, slice_get_past}
 use Rattle.std.proofs.lemmas.Bool.{cases_lt, false≢true}
+use Rattle.base_lemmas.proofs.Tests.{not_below}
 use Rattle.base_edits.proofs.Called.{no_text, some_text, other_text}
 use Rattle.base_edits.proofs.moves.text_at.Goals as goal
-
-not_below : (i n : ℕ) → (i < n → false ≡ true) → n ≤ i
-not_below i n h = elim (cases_lt i n) [ inl lt ↦ absurd (false≢true (h lt)) | inr ge ↦ ge ]
 
 pub returns-in-None : goal.returns-in-None
 returns-in-None c = λ ends order are last.

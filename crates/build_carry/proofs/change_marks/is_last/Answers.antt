@@ -2,7 +2,7 @@
 use Rattle.std.proofs.Common.{◌-◌, ℕ, List, Bor, length, sym, subst, ◌∙◌}
 use Rattle.std.specs.Cmp.Lexicographic.{bytes_decides}
 use Rattle.std.specs.List.{Contains}
-use Rattle.base_edits.proofs.Held.{is_mapped}
+use Rattle.base_lemmas.proofs.Elements.{is_mapped}
 use Rattle.workspace_graph.specs.Borrows.{names}
 use Rattle.workspace_check.proofs.PackageFiles.{at_rank}
 use Rattle.build_carry.proofs.change_marks.is_last.Goals as goal

@@ -2,8 +2,8 @@
 use Rattle.std.proofs.Common.{◌≡◌, [], ◌∙◌, ap, sym, subst}
 use Rattle.std.specs.Prelude.{Some, Contains}
 use Rattle.std.proofs.lemmas.Result.{IfOk-weaker}
+use Rattle.base_lemmas.proofs.Elements.{nothing_in}
 use Rattle.base_files.specs.Packages.{package_paths}
-use Rattle.workspace_check.proofs.Members.{nothing_in}
 use Rattle.build_unit.specs.declared.compiling.MadeUnit.{MadeUnit}
 use Rattle.build_unit.specs.Compiling.{IsMadeUnit, IsMadeUnitIn}
 use Rattle.build_unit.proofs.compiling.unit_in.Goals as goal

@@ -2,8 +2,9 @@
 use Rattle.std.proofs.Common.{◌≡◌, ◌<◌, inl, inr, get_or, sym, subst, arith}
 use Rattle.std.specs.Prelude.{Contains}
 use Rattle.std.proofs.lemmas.List.{take_all}
+use Rattle.base_lemmas.proofs.Elements.{nothing_in}
 use Rattle.workspace_check.specs.Cycles.{ComesAfter}
-use Rattle.workspace_check.proofs.Members.{nothing_in, taken_or_next}
+use Rattle.workspace_check.proofs.Members.{taken_or_next}
 use Rattle.workspace_check.proofs.cycles.is_behind_imports.Goals as goal
 
 pub loop-import-init : goal.loop-import-init

@@ -3,6 +3,7 @@ use Rattle.std.proofs.Common.{◌+◌, ◌<◌, take, length, get_or, refl, sym,
 use Rattle.std.proofs.lemmas.List.{take_all}
 use Rattle.std.proofs.lemmas.List.Elements.{Contains-get_or}
 use Rattle.std.proofs.lemmas.Option.{slice_get-get_or}
+use Rattle.base_lemmas.proofs.Elements.{nothing_in}
 use Rattle.base_files.specs.Packages.{package_paths}
 use Rattle.types_info.proofs.MeaningLists.{slice_get_some}
 use Rattle.workspace_check.specs.Earlier.{KeepExportData}
@@ -10,7 +11,7 @@ use Rattle.workspace_check.specs.Steps.{AreAllGathered}
 use Rattle.workspace_check.proofs.Adding.{below_before}
 use Rattle.workspace_check.proofs.Gathering.{none_passed, gathered_next}
 use Rattle.workspace_check.proofs.Keeping.{none_steady, steady_next}
-use Rattle.workspace_check.proofs.Members.{taken_or_next, next_taken, nothing_in}
+use Rattle.workspace_check.proofs.Members.{taken_or_next, next_taken}
 use Rattle.workspace_check.proofs.Passing.{passed_below, passed_next}
 use Rattle.workspace_check.proofs.findings.judge_changed.Goals as goal
 

@@ -2,7 +2,7 @@
 use Rattle.std.proofs.Common.{get_or, subst, arith}
 use Rattle.std.specs.Prelude.{Contains}
 use Rattle.std.proofs.lemmas.List.Elements.{Contains-get_or}
-use Rattle.workspace_check.proofs.Members.{nothing_in}
+use Rattle.base_lemmas.proofs.Elements.{nothing_in}
 use Rattle.workspace_check.proofs.Underway.{verdicts_next}
 use Rattle.workspace_check.proofs.found_package.new_verdicts.Goals as goal
 

@@ -4,10 +4,11 @@ use Rattle.std.specs.Prelude.{Contains}
 use Rattle.std.proofs.lemmas.Bool.{cases_eq}
 use Rattle.std.proofs.lemmas.List.{take_all}
 use Rattle.std.proofs.lemmas.List.Elements.{Contains-get_or}
+use Rattle.base_lemmas.proofs.Elements.{nothing_in}
 use Rattle.base_files.specs.Packages.{package_paths}
 use Rattle.types_info.proofs.MeaningLists.{slice_get_some}
 use Rattle.workspace_check.specs.Steps.{AreTakenOf, IsGathered}
-use Rattle.workspace_check.proofs.Members.{next_taken, nothing_in, still_taken, taken_or_next}
+use Rattle.workspace_check.proofs.Members.{next_taken, still_taken, taken_or_next}
 use Rattle.workspace_check.proofs.Rising.{later_path}
 use Rattle.workspace_check.proofs.Taking.{none_gathered}
 use Rattle.workspace_check.proofs.Underway.{above_taken}

@@ -2,8 +2,8 @@
 use Rattle.std.proofs.Common.{refl, sym, ap, ◌∙◌}
 use Rattle.std.specs.Prelude.{Some, length}
 use Rattle.std.proofs.lemmas.Option.{slice_get-get_or, slice_get_past}
+use Rattle.base_lemmas.proofs.Tests.{not_below}
 use Rattle.go_ast.specs.SourceFile.{source_of}
-use Rattle.workspace_check.proofs.Members.{not_below}
 use Rattle.workspace_check.proofs.Placed.{placed_as, placed_nowhere, placed_here}
 use Rattle.workspace_check.proofs.placing.add_placed.Goals as goal
 

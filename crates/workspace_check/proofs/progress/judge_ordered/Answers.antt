@@ -3,10 +3,11 @@ use Rattle.std.proofs.Common.{◌+◌, ◌<◌, take, length, get_or, subst, ari
 use Rattle.std.proofs.lemmas.List.{take_all}
 use Rattle.std.proofs.lemmas.List.Elements.{Contains-get_or}
 use Rattle.std.proofs.lemmas.Option.{slice_get-get_or}
+use Rattle.base_lemmas.proofs.Elements.{nothing_in}
 use Rattle.base_files.specs.Packages.{package_paths}
 use Rattle.types_info.proofs.MeaningLists.{slice_get_some}
 use Rattle.workspace_check.proofs.Adding.{below_before}
-use Rattle.workspace_check.proofs.Members.{nothing_in, taken_or_next}
+use Rattle.workspace_check.proofs.Members.{taken_or_next}
 use Rattle.workspace_check.proofs.Underway.{AreJudgedTo, all_judged, judged_next}
 use Rattle.workspace_check.proofs.progress.judge_ordered.Goals as goal
 

@@ -3,11 +3,12 @@ use Rattle.std.proofs.Common.{ℕ, List, inl, inr, sym, subst, ◌∙◌, arith}
 use Rattle.std.specs.List.{Contains}
 use Rattle.std.proofs.lemmas.Bool.{false≢true}
 use Rattle.std.proofs.lemmas.List.{take_all}
-use Rattle.workspace_graph.proofs.Collected.{more_cases, none_held}
+use Rattle.base_lemmas.proofs.Elements.{nothing_in}
+use Rattle.workspace_graph.proofs.Collected.{more_cases}
 use Rattle.workspace_graph.proofs.among.share_none.Goals as goal
 
 pub loop-number-init : goal.loop-number-init
-loop-number-init c = λ q has there. none_held q has
+loop-number-init c = λ q has there. nothing_in q has
 
 pub loop-number-preserved : goal.loop-number-preserved
 loop-number-preserved c = λ q has there.

@@ -1,14 +1,14 @@
 -- The answers to the goals of `import_paths::add_imports`.
 use Rattle.std.proofs.Common.{◌+◌, ◌∷◌, ◌++◌, [], ap, sym, subst, ◌∙◌, take, arith}
 use Rattle.std.proofs.lemmas.List.{take_more, take_all}
+use Rattle.base_lemmas.proofs.Elements.{nothing_in}
 use Rattle.workspace_graph.specs.declared.file_imports.FileImport.{FileImport}
-use Rattle.workspace_graph.proofs.Collected.{none_held}
 use Rattle.workspace_graph.specs.ImportPaths.{AddsPaths, AnyIsOfPath, IsPathValue}
 use Rattle.workspace_graph.proofs.ImportedPaths.{adds_none, adds_more, some_more}
 use Rattle.workspace_graph.proofs.import_paths.add_imports.Goals as goal
 
 pub loop-import-init : goal.loop-import-init
-loop-import-init c = adds_none (AnyIsOfPath []) c.args.paths.now.keys (λ q w. none_held w.0 w.1.0)
+loop-import-init c = adds_none (AnyIsOfPath []) c.args.paths.now.keys (λ q w. nothing_in w.0 w.1.0)
 
 pub loop-import-preserved : goal.loop-import-preserved
 loop-import-preserved c =

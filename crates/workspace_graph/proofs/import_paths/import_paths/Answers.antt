@@ -1,15 +1,15 @@
 -- One more file, and all of them at the end.
 use Rattle.std.proofs.Common.{◌+◌, ◌∷◌, ◌++◌, [], ap, sym, subst, ◌∙◌, take, arith}
 use Rattle.std.proofs.lemmas.List.{take_more, take_all}
+use Rattle.base_lemmas.proofs.Elements.{nothing_in}
 use Rattle.go_ast.specs.SourceFile.{FileParts, source_of}
 use Rattle.workspace_graph.specs.Packages.{ImportsPath}
 use Rattle.workspace_graph.specs.ImportPaths.{ListsPaths, AnyImports}
-use Rattle.workspace_graph.proofs.Collected.{none_held}
 use Rattle.workspace_graph.proofs.ImportedPaths.{holds_none, holds_more, some_more}
 use Rattle.workspace_graph.proofs.import_paths.import_paths.Goals as goal
 
 pub loop-file-init : goal.loop-file-init
-loop-file-init c = holds_none (AnyImports []) c.new-paths.result.keys c.new-paths.ensures.empty (λ q w. none_held w.0 w.1.0)
+loop-file-init c = holds_none (AnyImports []) c.new-paths.result.keys c.new-paths.ensures.empty (λ q w. nothing_in w.0 w.1.0)
 
 pub loop-file-preserved : goal.loop-file-preserved
 loop-file-preserved c =

@@ -1,7 +1,7 @@
 -- One more change, and all of them at the end.
 use Rattle.std.proofs.Common.{◌+◌, [], take, subst, arith}
 use Rattle.std.proofs.lemmas.List.{take_all}
-use Rattle.base_edits.proofs.Held.{nothing_in}
+use Rattle.base_lemmas.proofs.Elements.{nothing_in}
 use Rattle.workspace_graph.specs.Borrows.{names}
 use Rattle.workspace_snapshot.specs.Named.{AddsAll, IsPathOfChange, IsPathOfChanges}
 use Rattle.workspace_snapshot.proofs.NamedPaths.{adds_none, adds_more, one_more}

@@ -1,0 +1,4 @@
+-- The lemmas of this crate.
+pub mod Tests
+pub mod Elements
+pub mod EachElement
